@@ -1,2 +1,5 @@
+pub mod Board
+pub mod Changes
 pub mod Names
 pub mod Refusal
+pub mod World

@@ -4,12 +4,28 @@
 //! makes. It stands on `tb_task` for tasks and identifiers and on `tb_values` for lists.
 #![tactic(auto)]
 
+mod board;
+mod change;
+mod command;
+mod draft;
+mod gone;
+mod incoming;
 mod key;
+mod look;
 mod name;
 mod refusal;
 mod title;
+mod waking;
+mod world;
 
+pub use board::Board;
+pub use change::Change;
+pub use command::{Answer, BoardAnswer, Command, Told};
+pub use gone::Gone;
+pub use incoming::Incoming;
 pub use key::Key;
+pub use look::{Seen, SeenBoard, SeenPerson};
 pub use name::Name;
 pub use refusal::Refusal;
 pub use title::Title;
+pub use world::{Person, Role, RoleOn, World};
