@@ -1,2 +1,5 @@
-pub mod Drafts
 pub mod Awake
+pub mod Drafts
+pub mod Fresh
+pub mod KnownNumbers
+pub mod Marking

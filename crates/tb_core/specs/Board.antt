@@ -1,5 +1,5 @@
 -- A board at a moment.
-use Rattle.std.specs.Prelude.{ℕ, Bool, true, false, ◌&&◌, List, Option, Some, None, if◌then◌else◌, nat_le, map, ◌==◌}
+use Rattle.std.specs.Prelude.{ℕ, Bool, true, false, ◌&&◌, List, [], ◌∷◌, ◌++◌, Option, Some, None, if◌then◌else◌, nat_le, map, ◌==◌}
 use Rattle.std.specs.List.{list_any}
 use Rattle.tb_task.specs.declared.task.Task.{Task}
 use Rattle.tb_task.specs.declared.task.Status.{Status}
@@ -38,3 +38,10 @@ has_id id t = t.id == id
 
 abbrev pub is_on : Board → ℕ → Bool
 is_on b id = list_any (has_id id) b.tasks
+
+-- the board with one more task
+abbrev pub with_task : Board → Task → Board
+with_task b t = record b { tasks = b.tasks ++ t ∷ [] }
+
+abbrev pub ids : List Task → List ℕ
+ids ts = map (λ (t : Task). t.id) ts

@@ -1,5 +1,9 @@
+pub mod Add
 pub mod Board
 pub mod Changes
+pub mod Marks
 pub mod Names
+pub mod Numbers
 pub mod Refusal
+pub mod Refusals
 pub mod World

@@ -4,15 +4,18 @@
 //! makes. It stands on `tb_task` for tasks and identifiers and on `tb_values` for lists.
 #![tactic(auto)]
 
+mod add;
 mod board;
 mod change;
 mod command;
 mod draft;
 mod gone;
 mod incoming;
+mod judged;
 mod key;
 mod look;
 mod name;
+mod numbers;
 mod refusal;
 mod title;
 mod waking;
