@@ -1,6 +1,8 @@
 pub mod Add
+pub mod Apply
 pub mod Board
 pub mod Changes
+pub mod Decisions
 pub mod Marks
 pub mod Names
 pub mod Numbers
