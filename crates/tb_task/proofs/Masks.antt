@@ -19,9 +19,9 @@ pub mark_ascii : (c : ℕ) → is_mark c ≡ true → c < 128
 unfolding is_mark
 mark_ascii c h =
     one_of ((c == 45) || (c == 43) || (c == 88) || (c == 87)) c 63 h (λ h4.
-      one_of ((c == 45) || (c == 43) || (c == 88)) c 87 h4 (λ h3.
-        one_of ((c == 45) || (c == 43)) c 88 h3 (λ h2.
-          one_of (c == 45) c 43 h2 (λ h1. omega (arith, eqb-true c 45 h1)) (omega arith)) (omega arith)) (omega arith)) (omega arith)
+    one_of ((c == 45) || (c == 43) || (c == 88)) c 87 h4 (λ h3.
+    one_of ((c == 45) || (c == 43)) c 88 h3 (λ h2.
+    one_of (c == 45) c 43 h2 (λ h1. omega (arith, eqb-true c 45 h1)) (omega arith)) (omega arith)) (omega arith)) (omega arith)
 
 -- a mark more
 pub marks-push : (s : List ℕ) (c : ℕ) → list_all is_mark s ≡ true → is_mark c ≡ true → list_all is_mark (s ++ c ∷ []) ≡ true

@@ -7,6 +7,27 @@ pub fn is_attribute(name: &str) -> bool
 {
     matches!(
         name,
-        "annotations" | "depends" | "description" | "due" | "end" | "entry" | "id" | "imask" | "mask" | "modified" | "parent" | "priority" | "project" | "recur" | "scheduled" | "start" | "status" | "tags" | "until" | "urgency" | "uuid" | "wait"
+        "annotations"
+            | "depends"
+            | "description"
+            | "due"
+            | "end"
+            | "entry"
+            | "id"
+            | "imask"
+            | "mask"
+            | "modified"
+            | "parent"
+            | "priority"
+            | "project"
+            | "recur"
+            | "scheduled"
+            | "start"
+            | "status"
+            | "tags"
+            | "until"
+            | "urgency"
+            | "uuid"
+            | "wait"
     )
 }

@@ -2,7 +2,7 @@ ghost use Rattle.std.specs.Prelude.{◌≡◌, true};
 ghost use Rattle.tb_task.specs.Mask.{is_mark, mark_in};
 ghost use Rattle.tb_task.specs.Status.{mark_of};
 
-use crate::status::{char_of, Status};
+use crate::status::{Status, char_of};
 use std::alloc::AllocError;
 use std::marker::Model;
 use tb_values::{Duplicate, Same};

@@ -2,7 +2,7 @@ ghost use Rattle.std.specs.Prelude.{◌≡◌, ◌<◌, [], ◌∷◌, ◌++◌,
 ghost use Rattle.std.specs.List.{list_all};
 ghost use Rattle.tb_task.specs.Mask.{is_mark, mask_in};
 
-use crate::mark::{is_known, Mark};
+use crate::mark::{Mark, is_known};
 use std::alloc::{AllocError, Global};
 use std::marker::Model;
 use tb_values::{Duplicate, Same};
