@@ -2,7 +2,7 @@
 use Rattle.std.proofs.Common.{◌≡◌, ℕ, zero, suc, ◌+◌, ◌-◌, ◌<◌, ◌≤◌, Bool, true, false, List, [], ◌∷◌, ◌++◌, length, get_or, set, take, drop, map, refl, sym, ◌∙◌, ap, arith, append_assoc, drop-cons, if◌then◌else◌}
 use Rattle.std.proofs.lemmas.List.{take_more, take_all, length-take-le, length-map, map-append, set-append_right, get_or-append_right, drop_all, append-nil}
 use Rattle.tb_task.specs.declared.task.Task.{Task}
-use Rattle.tb_task.specs.declared.task.Status.TheVariants.{Pending}
+use Rattle.tb_task.specs.declared.status.Status.TheVariants.{Pending}
 use Rattle.tb_core.specs.declared.board.Board.{Board}
 use Rattle.tb_core.specs.Board.{wakes, woken}
 

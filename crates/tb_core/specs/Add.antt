@@ -2,13 +2,13 @@
 use Rattle.std.specs.Prelude.{ℕ, Bool, not, ◌&&◌, ◌||◌, List, [], ◌∷◌, Option, Some, None, is_some, Result, if◌then◌else◌, length, nat_le}
 use Rattle.std.specs.List.{list_any}
 use Rattle.tb_task.specs.declared.task.Task.{Task}
-use Rattle.tb_task.specs.declared.task.Field.{Field}
-use Rattle.tb_task.specs.declared.task.Field.TheVariants.{BadPair}
+use Rattle.tb_task.specs.declared.checks.Field.{Field}
+use Rattle.tb_task.specs.declared.checks.Field.TheVariants.{BadPair}
 use Rattle.tb_task.specs.Check.{fault_of}
 use Rattle.tb_core.specs.declared.board.Board.{Board}
 use Rattle.tb_core.specs.declared.command.Told.{Told}
 use Rattle.tb_core.specs.declared.command.Told.TheVariants.{Added}
-use Rattle.tb_core.specs.declared.incoming.Incoming.{Incoming}
+use Rattle.tb_task.specs.declared.incoming.Incoming.{Incoming}
 use Rattle.tb_core.specs.declared.refusal.Refusal.{Refusal}
 use Rattle.tb_core.specs.declared.refusal.Refusal.TheVariants.{NoTask, UuidTaken, Full}
 use Rattle.tb_core.specs.Board.{is_on, with_task}

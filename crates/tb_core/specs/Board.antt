@@ -2,8 +2,8 @@
 use Rattle.std.specs.Prelude.{ℕ, Bool, true, false, ◌&&◌, List, [], ◌∷◌, ◌++◌, Option, Some, None, if◌then◌else◌, nat_le, map, ◌==◌}
 use Rattle.std.specs.List.{list_any}
 use Rattle.tb_task.specs.declared.task.Task.{Task}
-use Rattle.tb_task.specs.declared.task.Status.{Status}
-use Rattle.tb_task.specs.declared.task.Status.TheVariants.{Pending, Waiting, Recurring, Completed, Deleted}
+use Rattle.tb_task.specs.declared.status.Status.{Status}
+use Rattle.tb_task.specs.declared.status.Status.TheVariants.{Pending, Waiting, Recurring, Completed, Deleted}
 use Rattle.tb_core.specs.declared.board.Board.{Board}
 
 -- a wait that is over at m

@@ -7,12 +7,11 @@ ghost use Rattle.tb_core.specs.Refusals.{Gives};
 use crate::board::Board;
 use crate::command::Told;
 use crate::draft::Draft;
-use crate::incoming::Incoming;
 use crate::judged::{Judged, Stop};
 use crate::numbers::{next_number, taken_numbers};
 use crate::refusal::Refusal;
 use std::alloc::{AllocError, Global};
-use tb_task::{Field, Moment, Task, TaskId, check};
+use tb_task::{Field, Incoming, Moment, Task, TaskId, check};
 use tb_values::Duplicate;
 
 const MOST_TASKS: usize = 10000;

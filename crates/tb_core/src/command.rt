@@ -1,5 +1,5 @@
-use crate::incoming::Incoming;
-use tb_task::TaskId;
+
+use tb_task::{Incoming, TaskId};
 
 /// What a person asks for.
 #[derive(Drop)]

@@ -1,8 +1,9 @@
-ghost use Rattle.std.specs.Prelude.{◌≡◌, ℕ, [], List, IfOk, Err};
+ghost use Rattle.std.specs.Prelude.{◌≡◌, ℕ, [], List, IfOk, Ok, Err};
 ghost use Rattle.tb_core.specs.Apply.{apply, judged, outcome, seen_of, IsDecision};
 ghost use Rattle.tb_core.specs.Changes.{Follows, IsDraft};
 ghost use Rattle.tb_core.specs.Refusals.{Gives};
 ghost use Rattle.tb_core.specs.Decisions.{GivesOutcome};
+ghost use Rattle.tb_core.specs.declared.command.Answer.TheVariants.{OnBoard};
 ghost use Rattle.tb_core.specs.declared.world.World.{World};
 
 use crate::add::add;
@@ -32,6 +33,18 @@ pub struct Accepted {
     pub answer: BoardAnswer,
 }
 
+impl Accepted {
+    fn into_decision(self) -> Decision
+        ensures { result ≡ record { changes = self.draft.changes; answer = Ok (OnBoard self.answer) } }
+    {
+        let Accepted { draft, answer } = self;
+        Decision {
+            changes: draft.into_changes(),
+            answer: Ok(Answer::OnBoard(answer)),
+        }
+    }
+}
+
 /// Decides a command by what it looks at.
 pub fn decide(
     alloc: Global,
@@ -48,10 +61,7 @@ pub fn decide(
         return Ok(refused(alloc, Refusal::NoBoard));
     };
     match decide_on(alloc, found.board.get(), command, at) {
-        Ok(accepted) => Ok(Decision {
-            changes: accepted.draft.changes,
-            answer: Ok(Answer::OnBoard(accepted.answer)),
-        }),
+        Ok(accepted) => Ok(accepted.into_decision()),
         Err(Stop::Refused(refusal)) => Ok(refused(alloc, refusal)),
         Err(Stop::Memory) => Err(AllocError),
     }

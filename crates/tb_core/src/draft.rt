@@ -44,6 +44,14 @@ impl Draft {
         Ok(Draft { board, changes })
     }
 
+    /// The changes that made the board.
+    pub fn into_changes(self) -> Items<Change>
+        ensures { result ≡ self.changes }
+    {
+        let Draft { changes, .. } = self;
+        changes
+    }
+
     /// Puts a task last.
     pub fn push(self, alloc: Global, task: Task) -> Result<Draft, AllocError>
         ensures board { IfOk result (λ draft. draft.board ≡ record self.board { tasks = self.board.tasks ++ task ∷ [] }) }

@@ -1,13 +1,13 @@
 use std::alloc::AllocError;
-use tb_task::TaskId;
+use tb_task::{Mark, TaskId};
 use tb_values::{Duplicate, Same};
 
-/// A place of a template's mask without an instance on the board, with its character. Places of a mask count from 0.
+/// A place of a template's mask without an instance on the board, with its mark. Places of a mask count from 0.
 #[derive(Clone, Copy, Debug, PartialEq, Eq)]
 pub struct Gone {
     pub template: TaskId,
     pub place: u32,
-    pub mark: u8,
+    pub mark: Mark,
 }
 
 impl Duplicate for Gone {

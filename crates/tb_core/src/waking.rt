@@ -1,7 +1,7 @@
 ghost use Rattle.std.specs.Prelude.{◌≡◌, ◌<◌, length, IfOk, slice_index_or, slice_set};
 ghost use Rattle.tb_core.specs.Board.{wake, wakes, woken, has_come, is_waiting};
 ghost use Rattle.tb_core.specs.Changes.{Follows};
-ghost use Rattle.tb_task.specs.declared.task.Status.TheVariants.{Pending};
+ghost use Rattle.tb_task.specs.declared.status.Status.TheVariants.{Pending};
 ghost use Rattle.tb_task.specs.declared.task.Task.{Task};
 
 use crate::draft::Draft;
