@@ -4,4 +4,5 @@ pub mod Drafts
 pub mod Fresh
 pub mod KnownNumbers
 pub mod Marking
+pub mod Places
 pub mod Worlds

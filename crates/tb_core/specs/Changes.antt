@@ -7,6 +7,7 @@ use Rattle.tb_core.specs.declared.change.Change.{Change}
 use Rattle.tb_core.specs.declared.change.Change.TheVariants.{PutTask}
 use Rattle.tb_core.specs.declared.draft.Draft.{Draft}
 use Rattle.tb_core.specs.declared.world.World.{World}
+use Rattle.tb_core.specs.First.{change_first}
 use Rattle.tb_core.specs.World.{has_number}
 
 -- a task at its place, or last where the list has no such place
@@ -18,8 +19,7 @@ with_task_at place t b = record b { tasks = put b.tasks place t }
 
 -- the first board with this number is changed by f, and nothing else
 abbrev pub change_board : ℕ → (Board → Board) → List Board → List Board
-change_board n f [] = []
-change_board n f (b ∷ bs) = if has_number n b then f b ∷ bs else b ∷ change_board n f bs
+change_board n f bs = change_first (has_number n) f bs
 
 abbrev pub changed_by : World → Change → World
 changed_by w (PutTask n place t) = record w { boards = change_board n (with_task_at place t) w.boards }

@@ -3,6 +3,8 @@ pub mod Apply
 pub mod Board
 pub mod Changes
 pub mod Decisions
+pub mod First
+pub mod Good
 pub mod Marks
 pub mod Names
 pub mod Numbers

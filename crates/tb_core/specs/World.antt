@@ -21,6 +21,14 @@ number_of w name = option_map (λ place. place + 1) (position (has_name name) w.
 abbrev pub key_of : World → List ℕ → Option (List ℕ)
 key_of w name = option_map (λ (p : Person). p.key) (find (has_name name) w.people)
 
+abbrev pub is_key_of : Option Person → List ℕ → Bool
+is_key_of None key = false
+is_key_of (Some p) key = bytes_eq p.key key
+
+-- the first person of this name has this key
+abbrev pub is_known : World → List ℕ → List ℕ → Bool
+is_known w name key = is_key_of (find (has_name name) w.people) key
+
 abbrev pub has_number : ℕ → Board → Bool
 has_number n b = b.number == n
 

@@ -10,6 +10,7 @@ mod change;
 mod command;
 mod deciding;
 mod draft;
+mod first;
 mod gone;
 mod judged;
 mod key;

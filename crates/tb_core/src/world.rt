@@ -1,7 +1,9 @@
 ghost use Rattle.std.specs.Prelude.{◌≡◌, IfOk, codes};
-ghost use Rattle.tb_core.specs.World.{opening};
+ghost use Rattle.std.specs.Str.{bytes_eq};
+ghost use Rattle.tb_core.specs.World.{find_board, is_known, number_of, opening, owners, owns, role_of};
 
 use crate::board::Board;
+use crate::first::{place_of_board, place_of_person};
 use crate::key::Key;
 use crate::name::Name;
 use crate::title::Title;
@@ -62,6 +64,74 @@ impl World {
             roles,
         })
     }
+
+    /// The number of the person of that name.
+    pub fn number_of(&self, name: &Name) -> Option<usize>
+        ensures { result ≡ number_of self.now name.now }
+    {
+        match place_of_person(self.people.as_slice(), name) {
+            Some(place) => Some(place + 1),
+            None => None,
+        }
+    }
+
+    /// Whether the person of that name has that key.
+    pub fn knows(&self, name: &Name, key: &Key) -> bool
+        ensures { result ≡ is_known self.now name.now key.now }
+    {
+        match place_of_person(self.people.as_slice(), name) {
+            Some(place) => has_key(&self.people.as_slice()[place], key),
+            None => false,
+        }
+    }
+
+    /// The board of that number, shared.
+    pub fn board(&self, number: u32) -> Result<Option<Shared<Board>>, AllocError>
+        ensures { IfOk result (λ board. board ≡ find_board self.now number) }
+    {
+        match place_of_board(self.boards.as_slice(), number) {
+            Some(place) => Ok(Some(self.boards.as_slice()[place].share()?)),
+            None => Ok(None),
+        }
+    }
+
+    /// The role of a person on a board, both by their numbers.
+    pub fn role_of(&self, board: u32, person: usize) -> Option<Role>
+        ensures { result ≡ role_of self.now board person }
+    {
+        match self
+            .roles
+            .as_slice()
+            .iter()
+            .find(|role| role.board == board && role.person == person)
+        {
+            Some(role) => Some(role.role),
+            None => None,
+        }
+    }
+
+    /// How many owners a board has.
+    pub fn owners(&self, board: u32) -> usize
+        ensures { result ≡ owners self.now board }
+    {
+        self.roles
+            .as_slice()
+            .iter()
+            .filter(|role| is_owned(role, board))
+            .count()
+    }
+}
+
+fn has_key(person: &Person, key: &Key) -> bool
+    ensures { result ≡ bytes_eq person.now.key key.now }
+{
+    person.key.as_str() == key.as_str()
+}
+
+fn is_owned(role: &RoleOn, board: u32) -> bool
+    ensures { result ≡ owns board role.now }
+{
+    role.board == board && matches!(role.role, Role::Owner)
 }
 
 #[tactic(auto, unfolding(crate::specs::Names::is_title))]
