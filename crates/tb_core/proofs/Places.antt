@@ -66,3 +66,7 @@ pub place : {A : Type 0} (test : A → Bool) (xs : List A) → MatchOption (posi
 place test xs =
     from_zero test xs (position test xs)
     (subst (λ o. MatchOption o (IsNone test xs) (IsFrom test 0 xs)) (sym (position_from-zero test xs)) (place_from test 0 xs))
+
+pub changed_there : {A : Type 0} (test : A → Bool) (f : A → A) (xs : List A) (k : ℕ) (x : A) → IsFirst test xs k → x ≡ get_or xs k x
+    → set xs k (f x) ≡ change_first test f xs
+changed_there test f xs k x first is = sym (first.changed f x ∙ ap (λ y. set xs k (f y)) (sym is))

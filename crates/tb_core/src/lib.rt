@@ -7,6 +7,7 @@
 mod add;
 mod board;
 mod change;
+mod changing;
 mod command;
 mod deciding;
 mod draft;
@@ -14,6 +15,7 @@ mod first;
 mod gone;
 mod judged;
 mod key;
+pub mod laws;
 mod look;
 mod name;
 mod numbers;
