@@ -175,11 +175,15 @@ impl Write for Narrow {
 fn a_cut_write_tells_how_far_it_came(rt: HostRuntime) -> Result<(), Fail> {
     for (room, written) in [(5, None), (4, None), (3, Some(3)), (0, Some(0))] {
         let mut narrow = Narrow {
-            taken: Vec::new(rt.alloc()),
+            taken: Vec::with_capacity(rt.alloc(), 4)?,
             room,
         };
         let outcome = write_whole(&mut narrow, b"text");
-        assert_eq!(rt; outcome.err().map(|fault| fault.written), written, "with room for {room}");
+        assert_eq!(rt;
+            outcome.err().map(|fault| fault.written),
+            written,
+            "with room for {room}"
+        );
         assert_eq!(rt; narrow.taken.len(), written.unwrap_or(4));
     }
     Ok(())
