@@ -59,6 +59,13 @@ impl NonEmptyText {
         self.text.as_str()
     }
 
+    pub fn as_bytes(&self) -> &[u8]
+        ensures bytes { result.now ≡ self.now }
+        ensures has_byte { 1 ≤ length self.now }
+    {
+        self.text.as_bytes()
+    }
+
     pub fn len(&self) -> usize
         ensures count { result ≡ length self.now }
         ensures has_byte { 1 ≤ length self.now }

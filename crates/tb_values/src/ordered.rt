@@ -2,6 +2,7 @@ ghost use Rattle.std.specs.Prelude.{◌≡◌, ◌↔◌, ◌<◌, ◌≤◌, []
 ghost use Rattle.std.specs.BTreeMap.{is_at};
 ghost use Rattle.std.specs.BTreeSet.{replace_key};
 ghost use Rattle.std.specs.List.{find, list_any};
+ghost use Rattle.std.specs.Option.{option_copied};
 ghost use Rattle.std.specs.Set.{remove_key};
 ghost use Rattle.std.specs.List.Sorted.{IsStrictlySortedBy};
 ghost use Rattle.std.specs.declared.cmp.Ordering.TheVariants.{Equal};
@@ -105,6 +106,17 @@ impl<T: Keyed> Ordered<T> {
             return None;
         }
         Some(self.items.remove(place))
+    }
+
+    /// The item of the same key, if there is one.
+    pub fn find(&self, item: &T) -> Option<&T>
+        ensures { option_copied result ≡ find (is_at (T.order item.now)) self.now }
+    {
+        let place = place_of(self.items.as_slice(), item);
+        if !is_key_at(self.items.as_slice(), place, item) {
+            return None;
+        }
+        Some(&self.items[place])
     }
 
     /// Whether there is an item of the same key.
