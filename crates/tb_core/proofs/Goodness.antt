@@ -1,5 +1,5 @@
 -- What waking and one task more keep of a good board.
-use Rattle.std.proofs.Common.{◌≡◌, ℕ, zero, suc, ◌+◌, ◌<◌, ◌≤◌, ◌==◌, ◌||◌, nat_eq, Bool, true, false, not, List, [], ◌∷◌, ◌++◌, length, map, refl, sym, ◌∙◌, ap, arith, subst, ◌⊎◌, inl, inr, true≢false, length-append, if◌then◌else◌}
+use Rattle.std.proofs.Common.{◌≡◌, ℕ, zero, suc, ◌+◌, ◌<◌, ◌≤◌, ◌==◌, ◌||◌, ◌&&◌, nat_eq, Bool, true, false, not, List, [], ◌∷◌, ◌++◌, length, map, refl, sym, ◌∙◌, ap, arith, subst, ◌⊎◌, inl, inr, true≢false, length-append, if◌then◌else◌}
 use Rattle.std.specs.List.{IsDistinct, AllByRecursion, list_any}
 use Rattle.std.specs.Cmp.{nat_eq_equiv}
 use Rattle.std.proofs.Math.Bool.{or-false}
@@ -7,11 +7,13 @@ use Rattle.std.proofs.lemmas.Bool.{cases_Bool}
 use Rattle.std.proofs.lemmas.List.{map-append, length-map}
 use Rattle.std.proofs.lemmas.List.Folds.{list_any-append}
 use Rattle.std.proofs.lemmas.Map.Keys.{IsDistinct-push}
+use Rattle.tb_task.specs.declared.status.Status.{Status}
+use Rattle.tb_task.specs.declared.status.Status.TheVariants.{Pending, Waiting, Recurring, Completed, Deleted}
 use Rattle.tb_task.specs.declared.task.Task.{Task}
-use Rattle.tb_task.specs.Check.{fault_of, has_bad_text, has_bad_pair}
+use Rattle.tb_task.specs.Check.{fault_of, has_bad_text, has_bad_pair, has_bad_recurrence, is_recurring}
 use Rattle.tb_core.specs.declared.board.Board.{Board}
 use Rattle.tb_core.specs.Add.{lacks_depends}
-use Rattle.tb_core.specs.Board.{ids, is_on, wake, woken, with_task}
+use Rattle.tb_core.specs.Board.{has_come, ids, is_on, is_waiting, status_at, wake, wakes, woken, with_task}
 use Rattle.tb_core.specs.Good.{IsGood, IsSound, IsLinkedOn}
 use Rattle.tb_core.proofs.Fresh.{on_ids, among-swapped}
 
@@ -26,9 +28,31 @@ lacks-wake : (b : Board) (m : ℕ) (is : List ℕ) → lacks_depends (wake b m) 
 lacks-wake b m [] = refl
 lacks-wake b m (i ∷ is) = rw (on-wake b m i) (ap (λ q. not (is_on b i) || q) (lacks-wake b m is))
 
+waits_not_recurring : (s : Status) → is_waiting s ≡ true → is_recurring s ≡ false
+waits_not_recurring Pending h = refl
+waits_not_recurring Waiting h = refl
+waits_not_recurring Recurring h = absurd (true≢false (sym h))
+waits_not_recurring Completed h = refl
+waits_not_recurring Deleted h = refl
+
+wakes_waiting : (m : ℕ) (t : Task) → wakes m t ≡ true → is_waiting t.status ≡ true
+unfolding wakes
+wakes_waiting m t h = and-true_left (is_waiting t.status) (has_come t.wait m) h
+  where
+    and-true_left : (p q : Bool) → (p && q) ≡ true → p ≡ true
+    and-true_left true q h = refl
+    and-true_left false q h = h
+
+recurring_woken : (m : ℕ) (t : Task) → is_recurring (status_at m t) ≡ is_recurring t.status
+recurring_woken m t =
+    elim (cases_Bool (wakes m t)) [
+      | inl wakes ↦ rw wakes (sym (waits_not_recurring t.status (wakes_waiting m t wakes)))
+      | inr sleeps ↦ rw sleeps refl
+    ]
+
 sound_woken : (m : ℕ) (t : Task) → fault_of (woken m t) ≡ fault_of t
-unfolding fault_of has_bad_text has_bad_pair
-sound_woken m t = refl
+unfolding fault_of has_bad_text has_bad_pair has_bad_recurrence
+sound_woken m t = rw (recurring_woken m t) refl
 
 sound-wake : (m : ℕ) (ts : List Task) → AllByRecursion IsSound ts → AllByRecursion IsSound (map (woken m) ts)
 sound-wake m [] h = tt

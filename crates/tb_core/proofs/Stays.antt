@@ -4,7 +4,7 @@ use Rattle.std.proofs.lemmas.Bool.{cases_Bool, leb-false}
 use Rattle.tb_task.specs.declared.incoming.Incoming.{Incoming}
 use Rattle.tb_task.specs.declared.task.Task.{Task}
 use Rattle.tb_task.specs.declared.checks.Field.{Field}
-use Rattle.tb_task.specs.Check.{fault_of, has_bad_text, has_bad_pair}
+use Rattle.tb_task.specs.Check.{fault_of, has_bad_text, has_bad_pair, has_bad_recurrence}
 use Rattle.tb_core.specs.declared.board.Board.{Board}
 use Rattle.tb_core.specs.declared.command.BoardAnswer.{BoardAnswer}
 use Rattle.tb_core.specs.declared.command.Command.{Command}
@@ -50,7 +50,7 @@ new_id b true id free given made = given
 new_id b false id free given made = made
 
 sound_entered : (b : Board) (i : Incoming) (m : ℕ) → fault_of (entered b i m) ≡ fault_of i.task
-unfolding fault_of has_bad_text has_bad_pair
+unfolding fault_of has_bad_text has_bad_pair has_bad_recurrence
 sound_entered b i m = refl
 
 good-add : (b : Board) (i : Incoming) (m : ℕ) → IsGood b → least (add_refusals b i) ≡ None → IsGood (with_task b (entered b i m))
