@@ -35,3 +35,6 @@ pub use name::Name;
 pub use refusal::Refusal;
 pub use title::Title;
 pub use world::{Person, Role, RoleOn, World};
+
+#[cfg(test)]
+mod tests;
