@@ -6,8 +6,8 @@ use tb_task::{Field, Incoming, Moment, Status, Task, TaskId};
 use tb_values::{NonEmptyText, Ordered, Shared, Text};
 
 use crate::{
-    Answer, Board, BoardAnswer, Change, Command, Decision, Key, Name, Refusal, Title, Told, World,
-    decide,
+    Action, Answer, Board, BoardAnswer, Change, Command, Decision, Key, Name, Refusal, Title, Told,
+    World, decide,
 };
 
 const ROOT: &str = "root";
@@ -88,7 +88,7 @@ fn added_id(answer: Result<Answer, Refusal>) -> Result<TaskId, Fail> {
             told: Told::Added { id, .. },
             ..
         })) => Ok(id),
-        Err(_) => Err(Fail::from("an accepted command")),
+        _ => Err(Fail::from("an added task")),
     }
 }
 
@@ -297,5 +297,117 @@ fn boards_are_copied(rt: HostRuntime) -> Result<(), Fail> {
     let copied = board.copy()?;
     assert_eq!(rt; copied.tasks.len(), 3);
     assert_eq!(rt; copied.number, 1);
+    Ok(())
+}
+
+fn on_first(action: Action) -> Result<Command, Fail> {
+    Ok(Command::OnTask {
+        board: 1,
+        id: made(1)?,
+        action,
+    })
+}
+
+/// The world after an action on the first task, which is accepted and changes that task alone.
+fn acted(alloc: Global, world: &World, action: Action) -> Result<World, Fail> {
+    let decision = decided(alloc, world, &on_first(action)?)?;
+    let told = Told::Changed { id: made(1)? };
+    match decision.answer {
+        Ok(Answer::OnBoard(answer)) if answer.told == told && answer.board == 1 => {}
+        _ => return Err(Fail::from("an accepted action")),
+    }
+    if decision.changes.len() != 1 {
+        return Err(Fail::from("one task is changed"));
+    }
+    after(alloc, world, &decision)
+}
+
+fn first_task(world: &World) -> Result<Task, Fail> {
+    let board = world.board(1)?.ok_or("a board")?;
+    let tasks = board.get().tasks.as_slice();
+    Ok(tasks.first().ok_or("a task")?.get().copy()?)
+}
+
+#[test]
+fn tasks_are_completed_and_reopened(rt: HostRuntime) -> Result<(), Fail> {
+    let alloc = rt.alloc();
+    let world = world_with(alloc, board_of(alloc, 2)?)?;
+    let world = acted(alloc, &world, Action::Start)?;
+    assert_eq!(rt; first_task(&world)?.start, Some(at(9)?));
+    let again = refusal(alloc, &world, &on_first(Action::Start)?)?;
+    assert_eq!(rt; again, Refusal::WrongStatus);
+    let world = acted(alloc, &world, Action::Done)?;
+    let task = first_task(&world)?;
+    assert_eq!(rt; task.status, Status::Completed);
+    assert_eq!(rt; (task.start, task.end, task.modified), (None, Some(at(9)?), Some(at(9)?)));
+    let again = refusal(alloc, &world, &on_first(Action::Delete)?)?;
+    assert_eq!(rt; again, Refusal::WrongStatus);
+    let world = acted(alloc, &world, Action::Reopen)?;
+    let task = first_task(&world)?;
+    assert_eq!(rt; (task.status, task.end), (Status::Pending, None));
+    let world = acted(alloc, &world, Action::Delete)?;
+    assert_eq!(rt; first_task(&world)?.status, Status::Deleted);
+    Ok(())
+}
+
+#[test]
+fn started_tasks_are_stopped(rt: HostRuntime) -> Result<(), Fail> {
+    let alloc = rt.alloc();
+    let world = world_with(alloc, board_of(alloc, 1)?)?;
+    let early = refusal(alloc, &world, &on_first(Action::Stop)?)?;
+    assert_eq!(rt; early, Refusal::WrongStatus);
+    let world = acted(alloc, &world, Action::Start)?;
+    let world = acted(alloc, &world, Action::Stop)?;
+    assert_eq!(rt; first_task(&world)?.start, None);
+    Ok(())
+}
+
+#[test]
+fn tasks_that_are_not_there_are_refused(rt: HostRuntime) -> Result<(), Fail> {
+    let alloc = rt.alloc();
+    let world = opening(alloc)?;
+    let done = refusal(alloc, &world, &on_first(Action::Done)?)?;
+    assert_eq!(rt; done, Refusal::NoTask);
+    let empty = Action::Annotate(Text::from_str(alloc, "")?);
+    let noted = refusal(alloc, &world, &on_first(empty)?)?;
+    assert_eq!(rt; noted, Refusal::NoTask);
+    Ok(())
+}
+
+#[test]
+fn notes_are_added_and_removed(rt: HostRuntime) -> Result<(), Fail> {
+    let alloc = rt.alloc();
+    let world = world_with(alloc, board_of(alloc, 1)?)?;
+    let empty = Action::Annotate(Text::from_str(alloc, "")?);
+    let no_text = Refusal::BadTask(Field::EmptyDescription);
+    assert_eq!(rt; refusal(alloc, &world, &on_first(empty)?)?, no_text);
+    let note = Action::Annotate(Text::from_str(alloc, "red")?);
+    let world = acted(alloc, &world, note)?;
+    let note = Action::Annotate(Text::from_str(alloc, "blue")?);
+    let world = acted(alloc, &world, note)?;
+    let note = Action::Denotate(Text::from_str(alloc, "red")?);
+    let world = acted(alloc, &world, note)?;
+    let task = first_task(&world)?;
+    assert_eq!(rt; task.annotations.len(), 1);
+    let left = task.annotations.as_slice().first().ok_or("a note")?;
+    assert_eq!(rt; left.description.as_str(), "blue");
+    let note = Action::Denotate(Text::from_str(alloc, "red")?);
+    assert_eq!(rt; refusal(alloc, &world, &on_first(note)?)?, Refusal::NoLink);
+    Ok(())
+}
+
+#[test]
+fn sweeps_wake(rt: HostRuntime) -> Result<(), Fail> {
+    let alloc = rt.alloc();
+    let world = world_with(alloc, waiting_board(alloc)?)?;
+    let decision = decided(alloc, &world, &Command::Sweep { board: 1 })?;
+    assert_eq!(rt; decision.changes.len(), 1);
+    let answer = BoardAnswer {
+        board: 1,
+        added: 0,
+        more: false,
+        told: Told::Swept,
+    };
+    assert_eq!(rt; decision.answer, Ok(Answer::OnBoard(answer)));
     Ok(())
 }
