@@ -1,3 +1,4 @@
 pub mod Sorting
 pub mod RankOrder
 pub mod Columns
+pub mod Waking

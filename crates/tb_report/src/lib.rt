@@ -1,9 +1,12 @@
-//! What a board shows: its tasks in the order of the listing.
-//! Stands on tb_values and tb_task.
+//! What a board shows: the listing of its tasks.
+//!
+//! It owns the order of the listing and the form of its lines. It stands on `tb_core` for boards, on `tb_task` and on `tb_values`.
 #![tactic(auto)]
 
+mod lists;
 mod rank;
 mod row;
 
-pub use rank::{Rank, in_order};
-pub use row::{Row, URGENCY_UNIT, decimals, push_row, without_controls};
+pub use lists::listing;
+pub use rank::{in_order, Rank};
+pub use row::{decimals, push_row, without_controls, Row, URGENCY_UNIT};

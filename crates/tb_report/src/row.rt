@@ -9,6 +9,7 @@ use std::fmt::Write;
 pub const URGENCY_UNIT: u64 = 110_376_000;
 
 /// What a line of the listing shows. The urgency is in parts.
+#[derive(Drop)]
 pub struct Row<'a> {
     pub place: usize,
     pub urgency: i64,
