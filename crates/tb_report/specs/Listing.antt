@@ -1,8 +1,8 @@
 -- The listing of a board at a moment.
 use Rattle.std.specs.Prelude.{ℕ, ℤ, pos, Bool, true, false, List, [], ◌∷◌, ◌++◌, ◌+◌, ◌-◌, ◌*◌, min, Option, Some, None, map, codes, decimal, length, slice_get, if◌then◌else◌}
 use Rattle.tb_task.specs.declared.task.Task.{Task}
-use Rattle.tb_task.specs.declared.task.Status.{Status}
-use Rattle.tb_task.specs.declared.task.Status.TheVariants.{Pending, Waiting, Recurring, Completed, Deleted}
+use Rattle.tb_task.specs.declared.status.Status.{Status}
+use Rattle.tb_task.specs.declared.status.Status.TheVariants.{Pending, Waiting, Recurring, Completed, Deleted}
 use Rattle.tb_core.specs.declared.board.Board.{Board}
 use Rattle.tb_core.specs.Board.{wake}
 use Rattle.tb_report.specs.Ranking.{Rank, rank_order, ordered}
