@@ -1,0 +1,4 @@
+pub mod Attribute
+pub mod Lists
+pub mod Numbers
+pub mod Outcome

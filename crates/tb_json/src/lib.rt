@@ -1,0 +1,10 @@
+//! Tasks as JSON, both ways: the attributes of Taskwarrior's format, imports, edits and stored texts.
+//! It stands on tb_task's tasks and on serde_json, whose definition says which text is which value.
+#![tactic(auto)]
+
+mod attribute;
+mod fault;
+mod lists;
+mod numbers;
+
+pub use fault::JsonFault;
