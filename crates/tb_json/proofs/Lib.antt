@@ -1,1 +1,4 @@
+pub mod Bytes
+pub mod Names
+pub mod ReadBack
 pub mod TextLists

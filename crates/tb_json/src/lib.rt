@@ -4,7 +4,9 @@
 
 mod attribute;
 mod fault;
+mod lines;
 mod lists;
 mod numbers;
+mod parse;
 
 pub use fault::JsonFault;
