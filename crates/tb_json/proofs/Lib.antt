@@ -1,4 +1,5 @@
 pub mod Bytes
+pub mod ExtraSteps
 pub mod Names
 pub mod ReadBack
 pub mod TextLists

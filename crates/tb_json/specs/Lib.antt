@@ -1,4 +1,7 @@
+pub mod Annotations
 pub mod Attribute
+pub mod Extras
+pub mod Fields
 pub mod Lines
 pub mod Lists
 pub mod Numbers

@@ -2,8 +2,11 @@
 //! It stands on tb_task's tasks and on serde_json, whose definition says which text is which value.
 #![tactic(auto)]
 
+mod annotations;
 mod attribute;
+mod extras;
 mod fault;
+mod fields;
 mod lines;
 mod lists;
 mod numbers;

@@ -1,18 +1,22 @@
 //! Lists of texts: an array, or one text that is split at commas.
 
-ghost use Rattle.std.specs.Prelude.{◌≡◌, [], map, IfOk, OnOk, option_map, string_bytes};
+ghost use Rattle.std.specs.Prelude.{◌≡◌, [], codes, map, IfOk, OnOk, option_map, string_bytes};
 ghost use Rattle.std.specs.List.Sorted.{IsStrictlySortedBy};
 ghost use Rattle.std.specs.BTreeSet.{insert_key};
 ghost use Rattle.std.specs.Cmp.Lexicographic.{slice_cmp};
 ghost use Rattle.std.specs.Ordering.{nat_cmp};
 ghost use Rattle.serde_json.specs.View.{view, items_view};
+ghost use Rattle.tb_json.specs.Attribute.{attribute};
 ghost use Rattle.tb_json.specs.Lists.{texts_of as all_texts, parts_of as parts, filled, with_texts, ids_of as all_ids, with_ids, tags_form, depends_form};
+ghost use Rattle.tb_json.specs.Outcome.{Gives};
 
+use crate::attribute::given;
+use crate::fault::{JsonFault, bad_field};
 use serde_json::Value;
 use std::alloc::{AllocError, Global};
 use std::collections::BTreeSet;
 use tb_task::TaskId;
-use tb_values::{Items, Text};
+use tb_values::{Items, Ordered, Text};
 
 /// The texts of an array, or nothing where it has something else.
 fn texts_of<'v>(alloc: Global, list: &'v Vec<Value>) -> Result<Option<Vec<&'v str>>, AllocError>
@@ -60,6 +64,7 @@ fn set_of(alloc: Global, texts: &[&str]) -> Result<BTreeSet<String>, AllocError>
     Ok(set)
 }
 
+/// The texts of a set, which are in byte order.
 fn listed(alloc: Global, set: BTreeSet<String>) -> Result<Items<Text>, AllocError>
     ensures texts { IfOk result (λ list. list ≡ map string_bytes set.keys) }
     ensures increasing { IfOk result (λ list. IsStrictlySortedBy (slice_cmp nat_cmp) list) }
@@ -72,10 +77,11 @@ fn listed(alloc: Global, set: BTreeSet<String>) -> Result<Items<Text>, AllocErro
 }
 
 /// The texts in byte order, each once.
-pub(crate) fn ordered_texts(alloc: Global, texts: &[&str]) -> Result<Items<Text>, AllocError>
-    ensures texts { IfOk result (λ list. list ≡ with_texts [] (map (λ text. text.now) texts.now)) }
+fn ordered_texts(alloc: Global, texts: &[&str]) -> Result<Ordered<Text>, AllocError>
+    ensures { IfOk result (λ list. list ≡ with_texts [] (map (λ text. text.now) texts.now)) }
 {
-    listed(alloc, set_of(alloc, texts)?)
+    let list = listed(alloc, set_of(alloc, texts)?)?;
+    Ok(Ordered::from_increasing(list))
 }
 
 fn ids_of(alloc: Global, texts: &[&str]) -> Result<Option<Vec<TaskId>>, AllocError>
@@ -113,13 +119,14 @@ fn listed_ids(alloc: Global, set: BTreeSet<TaskId>) -> Result<Items<TaskId>, All
 }
 
 /// The identifiers in order, each once.
-pub(crate) fn ordered_ids(alloc: Global, ids: &[TaskId]) -> Result<Items<TaskId>, AllocError>
+fn ordered_ids(alloc: Global, ids: &[TaskId]) -> Result<Ordered<TaskId>, AllocError>
     ensures { IfOk result (λ list. list ≡ with_ids [] ids.now) }
 {
-    listed_ids(alloc, id_set_of(alloc, ids)?)
+    let list = listed_ids(alloc, id_set_of(alloc, ids)?)?;
+    Ok(Ordered::from_increasing(list))
 }
 
-pub(crate) fn tags_of(alloc: Global, value: &Value) -> Result<Option<Items<Text>>, AllocError>
+pub(crate) fn tags_of(alloc: Global, value: &Value) -> Result<Option<Ordered<Text>>, AllocError>
     ensures { IfOk result (λ tags. tags ≡ tags_form (view value.now)) }
 {
     let texts = match value {
@@ -133,7 +140,7 @@ pub(crate) fn tags_of(alloc: Global, value: &Value) -> Result<Option<Items<Text>
     Ok(Some(ordered_texts(alloc, &texts)?))
 }
 
-pub(crate) fn depends_of(alloc: Global, value: &Value) -> Result<Option<Items<TaskId>>, AllocError>
+pub(crate) fn depends_in(alloc: Global, value: &Value) -> Result<Option<Ordered<TaskId>>, AllocError>
     ensures { IfOk result (λ ids. ids ≡ depends_form (view value.now)) }
 {
     let texts = match value {
@@ -148,4 +155,33 @@ pub(crate) fn depends_of(alloc: Global, value: &Value) -> Result<Option<Items<Ta
         Some(ids) => Ok(Some(ordered_ids(alloc, &ids)?)),
         None => Ok(None),
     }
+}
+
+pub(crate) fn tags_at(alloc: Global, object: &Value) -> Result<Option<Ordered<Text>>, JsonFault>
+    ensures { Gives result (attribute tags_form (codes "tags") (view object.now)) }
+{
+    let Some(member) = given(object, "tags") else {
+        return Ok(None);
+    };
+    let tags = tags_of(alloc, member)?;
+    if tags.is_none() {
+        return Err(bad_field(alloc, "tags"));
+    }
+    Ok(tags)
+}
+
+pub(crate) fn depends_at(
+    alloc: Global,
+    object: &Value,
+) -> Result<Option<Ordered<TaskId>>, JsonFault>
+    ensures { Gives result (attribute depends_form (codes "depends") (view object.now)) }
+{
+    let Some(member) = given(object, "depends") else {
+        return Ok(None);
+    };
+    let depends = depends_in(alloc, member)?;
+    if depends.is_none() {
+        return Err(bad_field(alloc, "depends"));
+    }
+    Ok(depends)
 }
