@@ -9,7 +9,7 @@ use Rattle.tb_task.specs.Status.{status_of}
 use Rattle.tb_task.specs.TaskId.{read_id}
 use Rattle.tb_task.specs.declared.priority.Priority.{Priority}
 use Rattle.tb_task.specs.declared.status.Status.{Status}
-use Rattle.tb_json.specs.Outcome.{◌>>=◌}
+use Rattle.tb_values.specs.Outcome.{◌>>=◌}
 use Rattle.tb_json.specs.declared.fault.JsonFault.{JsonFault}
 use Rattle.tb_json.specs.declared.fault.JsonFault.TheVariants.{BadField}
 

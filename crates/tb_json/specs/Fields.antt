@@ -6,7 +6,7 @@ use Rattle.tb_json.specs.Attribute.{given, attribute, required, text_form, momen
 use Rattle.tb_json.specs.Extras.{extras_of, dropped_of, capped}
 use Rattle.tb_json.specs.Lists.{tags_form, depends_form}
 use Rattle.tb_json.specs.Numbers.{imask_form}
-use Rattle.tb_json.specs.Outcome.{◌>>=◌}
+use Rattle.tb_values.specs.Outcome.{◌>>=◌}
 use Rattle.tb_json.specs.declared.fault.JsonFault.{JsonFault}
 use Rattle.tb_json.specs.declared.fault.JsonFault.TheVariants.{NotObject}
 use Rattle.tb_json.specs.declared.fields.FieldsToEntry.{FieldsToEntry}

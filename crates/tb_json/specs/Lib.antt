@@ -6,4 +6,5 @@ pub mod Lines
 pub mod Lists
 pub mod Numbers
 pub mod Outcome
+pub mod Reading
 pub mod Parse

@@ -4,7 +4,7 @@ ghost use Rattle.std.specs.Prelude.{◌≡◌, [], codes, IfOk};
 ghost use Rattle.serde_json.specs.View.{view, items_view};
 ghost use Rattle.tb_json.specs.Annotations.{annotation_form, annotations_of as all_annotations, annotations_form};
 ghost use Rattle.tb_json.specs.Attribute.{attribute};
-ghost use Rattle.tb_json.specs.Outcome.{Gives};
+ghost use Rattle.tb_json.specs.Outcome.{Reads};
 
 use crate::attribute::given;
 use crate::fault::{JsonFault, bad_field};
@@ -53,7 +53,7 @@ pub(crate) fn annotations_at(
     alloc: Global,
     object: &Value,
 ) -> Result<Option<Items<Annotation>>, JsonFault>
-    ensures { Gives result (attribute annotations_form (codes "annotations") (view object.now)) }
+    ensures { Reads result (attribute annotations_form (codes "annotations") (view object.now)) }
 {
     let Some(member) = given(object, "annotations") else {
         return Ok(None);

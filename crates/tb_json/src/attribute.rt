@@ -3,7 +3,7 @@
 ghost use Rattle.std.specs.Prelude.{◌≡◌, codes, option_map, IfOk};
 ghost use Rattle.serde_json.specs.View.{view};
 ghost use Rattle.tb_json.specs.Attribute.{unless_blank as unless_empty, given, attribute, required, moment_form, id_form, text_form, status_form, mask_form, priority_in};
-ghost use Rattle.tb_json.specs.Outcome.{Gives};
+ghost use Rattle.tb_json.specs.Outcome.{Reads};
 
 use crate::fault::{JsonFault, bad_field};
 use serde_json::Value;
@@ -37,7 +37,7 @@ pub(crate) fn moment_at(
     object: &Value,
     name: &str,
 ) -> Result<Option<Moment>, JsonFault>
-    ensures { Gives result (attribute moment_form name.now (view object.now)) }
+    ensures { Reads result (attribute moment_form name.now (view object.now)) }
 {
     let Some(member) = given(object, name) else {
         return Ok(None);
@@ -50,7 +50,7 @@ pub(crate) fn moment_at(
 }
 
 pub(crate) fn id_at(alloc: Global, object: &Value, name: &str) -> Result<Option<TaskId>, JsonFault>
-    ensures { Gives result (attribute id_form name.now (view object.now)) }
+    ensures { Reads result (attribute id_form name.now (view object.now)) }
 {
     let Some(member) = given(object, name) else {
         return Ok(None);
@@ -64,7 +64,7 @@ pub(crate) fn id_at(alloc: Global, object: &Value, name: &str) -> Result<Option<
 
 /// The description, which may be empty but not absent.
 pub(crate) fn description_at(alloc: Global, object: &Value) -> Result<Text, JsonFault>
-    ensures { Gives result (required text_form (codes "description") (view object.now)) }
+    ensures { Reads result (required text_form (codes "description") (view object.now)) }
 {
     match object.get("description").and_then(Value::as_str) {
         Some(text) => Ok(Text::from_str(alloc, text)?),
@@ -77,7 +77,7 @@ pub(crate) fn text_at(
     object: &Value,
     name: &str,
 ) -> Result<Option<NonEmptyText>, JsonFault>
-    ensures { Gives result (attribute text_form name.now (view object.now)) }
+    ensures { Reads result (attribute text_form name.now (view object.now)) }
 {
     let Some(member) = given(object, name) else {
         return Ok(None);
@@ -89,7 +89,7 @@ pub(crate) fn text_at(
 }
 
 pub(crate) fn status_at(alloc: Global, object: &Value) -> Result<Option<Status>, JsonFault>
-    ensures { Gives result (attribute status_form (codes "status") (view object.now)) }
+    ensures { Reads result (attribute status_form (codes "status") (view object.now)) }
 {
     let Some(member) = given(object, "status") else {
         return Ok(None);
@@ -111,7 +111,7 @@ fn mask_of(alloc: Global, value: &Value) -> Result<Option<Mask>, AllocError>
 }
 
 pub(crate) fn mask_at(alloc: Global, object: &Value) -> Result<Option<Mask>, JsonFault>
-    ensures { Gives result (attribute mask_form (codes "mask") (view object.now)) }
+    ensures { Reads result (attribute mask_form (codes "mask") (view object.now)) }
 {
     let Some(member) = given(object, "mask") else {
         return Ok(None);
@@ -128,7 +128,7 @@ pub(crate) fn priority_at(
     alloc: Global,
     object: &Value,
 ) -> Result<(Option<Priority>, u32), JsonFault>
-    ensures { Gives result (priority_in (view object.now)) }
+    ensures { Reads result (priority_in (view object.now)) }
 {
     let Some(member) = given(object, "priority") else {
         return Ok((None, 0));

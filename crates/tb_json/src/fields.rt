@@ -2,7 +2,7 @@
 
 ghost use Rattle.serde_json.specs.View.{view};
 ghost use Rattle.tb_json.specs.Fields.{fields_to_entry as to_entry, fields_to_recur as to_recur, fields_to_wait as to_wait, fields_of as all_fields};
-ghost use Rattle.tb_json.specs.Outcome.{Gives};
+ghost use Rattle.tb_json.specs.Outcome.{Reads};
 
 use crate::annotations::annotations_at;
 use crate::attribute::{
@@ -65,7 +65,7 @@ pub(crate) struct Fields {
 
 #[tactic(auto, unfolding(crate::specs::Fields::fields_to_entry))]
 fn fields_to_entry(alloc: Global, object: &Value) -> Result<FieldsToEntry, JsonFault>
-    ensures { Gives result (to_entry (view object.now)) }
+    ensures { Reads result (to_entry (view object.now)) }
 {
     let annotations = annotations_at(alloc, object)?.unwrap_or(Items::new(alloc));
     let depends = depends_at(alloc, object)?.unwrap_or(Ordered::new(alloc));
@@ -85,7 +85,7 @@ fn fields_to_entry(alloc: Global, object: &Value) -> Result<FieldsToEntry, JsonF
 
 #[tactic(auto, unfolding(crate::specs::Fields::fields_to_recur))]
 fn fields_to_recur(alloc: Global, object: &Value) -> Result<FieldsToRecur, JsonFault>
-    ensures { Gives result (to_recur (view object.now)) }
+    ensures { Reads result (to_recur (view object.now)) }
 {
     let imask = imask_at(object);
     let mask = mask_at(alloc, object)?;
@@ -108,7 +108,7 @@ fn fields_to_recur(alloc: Global, object: &Value) -> Result<FieldsToRecur, JsonF
 
 #[tactic(auto, unfolding(crate::specs::Fields::fields_to_wait))]
 fn fields_to_wait(alloc: Global, object: &Value) -> Result<FieldsToWait, JsonFault>
-    ensures { Gives result (to_wait (view object.now)) }
+    ensures { Reads result (to_wait (view object.now)) }
 {
     let scheduled = moment_at(alloc, object, "scheduled")?;
     let start = moment_at(alloc, object, "start")?;
@@ -130,7 +130,7 @@ fn fields_to_wait(alloc: Global, object: &Value) -> Result<FieldsToWait, JsonFau
 
 #[tactic(auto, unfolding(crate::specs::Fields::fields_in))]
 pub(crate) fn fields_of(alloc: Global, value: &Value) -> Result<Fields, JsonFault>
-    ensures { Gives result (all_fields (view value.now)) }
+    ensures { Reads result (all_fields (view value.now)) }
 {
     let Some(members) = value.as_object() else {
         return Err(JsonFault::NotObject);

@@ -11,5 +11,7 @@ mod lines;
 mod lists;
 mod numbers;
 mod parse;
+mod reading;
 
 pub use fault::JsonFault;
+pub use reading::read_task;

@@ -8,7 +8,7 @@ ghost use Rattle.std.specs.Ordering.{nat_cmp};
 ghost use Rattle.serde_json.specs.View.{view, items_view};
 ghost use Rattle.tb_json.specs.Attribute.{attribute};
 ghost use Rattle.tb_json.specs.Lists.{texts_of as all_texts, parts_of as parts, filled, with_texts, ids_of as all_ids, with_ids, tags_form, depends_form};
-ghost use Rattle.tb_json.specs.Outcome.{Gives};
+ghost use Rattle.tb_json.specs.Outcome.{Reads};
 
 use crate::attribute::given;
 use crate::fault::{JsonFault, bad_field};
@@ -158,7 +158,7 @@ pub(crate) fn depends_in(alloc: Global, value: &Value) -> Result<Option<Ordered<
 }
 
 pub(crate) fn tags_at(alloc: Global, object: &Value) -> Result<Option<Ordered<Text>>, JsonFault>
-    ensures { Gives result (attribute tags_form (codes "tags") (view object.now)) }
+    ensures { Reads result (attribute tags_form (codes "tags") (view object.now)) }
 {
     let Some(member) = given(object, "tags") else {
         return Ok(None);
@@ -174,7 +174,7 @@ pub(crate) fn depends_at(
     alloc: Global,
     object: &Value,
 ) -> Result<Option<Ordered<TaskId>>, JsonFault>
-    ensures { Gives result (attribute depends_form (codes "depends") (view object.now)) }
+    ensures { Reads result (attribute depends_form (codes "depends") (view object.now)) }
 {
     let Some(member) = given(object, "depends") else {
         return Ok(None);
