@@ -48,7 +48,7 @@ step_extra (Some value) es n name rest all kept count small ordered =
       kept = rw last (append_assoc es _ _ ∙ kept);
       count = omega arith;
       small = small;
-      ordered = rw (last, map-append, append_assoc) ordered
+      ordered = rw (last, map-append, append_assoc) ordered;
     }
 
 step_at : (b : Bool) (o : Option ExtraValue) (es : List Extra) (n : ℕ) (name : List ℕ) (rest all : Members)

@@ -35,8 +35,14 @@ fields_to_recur d = do
   project ← attribute text_form (codes "project") d
   recur ← attribute text_form (codes "recur") d
   Ok (record {
-    imask = option_and_then imask_form (given (codes "imask") d); mask = mask; modified = modified; parent = parent;
-    priority = priority.0; priorities_dropped = priority.1; project = project; recur = recur
+    imask = option_and_then imask_form (given (codes "imask") d);
+    mask = mask;
+    modified = modified;
+    parent = parent;
+    priority = priority.0;
+    priorities_dropped = priority.1;
+    project = project;
+    recur = recur;
   })
 
 -- from scheduled to wait

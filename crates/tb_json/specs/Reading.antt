@@ -52,13 +52,13 @@ drafted m f = record {
     recur = f.second.recur;
     parent = None;
     imask = None;
-    extras = f.extras
+    extras = f.extras;
   };
   named = is_some f.third.uuid;
   raw_parent = f.second.parent;
   raw_imask = f.second.imask;
   raw_mask = f.second.mask;
-  dropped = f.dropped
+  dropped = f.dropped;
 }
 
 -- one more is dropped where there was one

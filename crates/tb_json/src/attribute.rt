@@ -42,7 +42,9 @@ pub(crate) fn moment_at(
     let Some(member) = given(object, name) else {
         return Ok(None);
     };
-    let moment = member.as_str().and_then(|text| Moment::read(text.as_bytes()));
+    let moment = member
+        .as_str()
+        .and_then(|text| Moment::read(text.as_bytes()));
     if moment.is_none() {
         return Err(bad_field(alloc, name));
     }

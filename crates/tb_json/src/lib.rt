@@ -9,9 +9,13 @@ mod fault;
 mod fields;
 mod lines;
 mod lists;
+mod members;
 mod numbers;
 mod parse;
 mod reading;
+mod values;
+mod writing;
 
 pub use fault::JsonFault;
 pub use reading::read_task;
+pub use writing::{write_task, write_tasks};

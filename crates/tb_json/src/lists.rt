@@ -140,7 +140,10 @@ pub(crate) fn tags_of(alloc: Global, value: &Value) -> Result<Option<Ordered<Tex
     Ok(Some(ordered_texts(alloc, &texts)?))
 }
 
-pub(crate) fn depends_in(alloc: Global, value: &Value) -> Result<Option<Ordered<TaskId>>, AllocError>
+pub(crate) fn depends_in(
+    alloc: Global,
+    value: &Value,
+) -> Result<Option<Ordered<TaskId>>, AllocError>
     ensures { IfOk result (λ ids. ids ≡ depends_form (view value.now)) }
 {
     let texts = match value {
