@@ -62,9 +62,9 @@ module _ {X : Type 0} (cmp : X → X → Ordering) (order : IsExactOrder cmp) wh
   all_inserted : (P : X → Type 0) (x : X) (ys : List X) → P x → AllByRecursion P ys → AllByRecursion P (inserted cmp x ys)
   all_inserted P x [] p a = (p, tt)
   all_inserted P x (y ∷ ys) p a = elim (cases_Bool (is_lt (cmp y x))) [
-      | inl e ↦ rw e (a.0, all_inserted P x ys p a.1)
-      | inr e ↦ rw e (p, (a.0, a.1))
-    ]
+    | inl e ↦ rw e (a.0, all_inserted P x ys p a.1)
+    | inr e ↦ rw e (p, (a.0, a.1))
+  ]
 
   less_of : (o : Ordering) → is_lt o ≡ true → o ≡ Less
   less_of Less e = refl
@@ -74,9 +74,9 @@ module _ {X : Type 0} (cmp : X → X → Ordering) (order : IsExactOrder cmp) wh
   ascends_inserted : (x : X) (ys : List X) → Ascends ys → Ascends (inserted cmp x ys)
   ascends_inserted x [] a = (tt, tt)
   ascends_inserted x (y ∷ ys) a = elim (cases_Bool (is_lt (cmp y x))) [
-      | inl e ↦ rw e (all_inserted (Goes y) x ys (inl (less_of (cmp y x) e)) a.0, ascends_inserted x ys a.1)
-      | inr e ↦ rw e ((goes_of x y e, all_goes x y ys (goes_of x y e) a.0), a)
-    ]
+    | inl e ↦ rw e (all_inserted (Goes y) x ys (inl (less_of (cmp y x) e)) a.0, ascends_inserted x ys a.1)
+    | inr e ↦ rw e ((goes_of x y e, all_goes x y ys (goes_of x y e) a.0), a)
+  ]
 
   ascends_ordered : (xs : List X) → Ascends (ordered cmp xs)
   ascends_ordered [] = tt
@@ -85,9 +85,9 @@ module _ {X : Type 0} (cmp : X → X → Ordering) (order : IsExactOrder cmp) wh
   count_inserted : (f : X → ℕ) (x : X) (ys : List X) → sum_by f (inserted cmp x ys) ≡ f x + sum_by f ys
   count_inserted f x [] = sum_by-cons f x []
   count_inserted f x (y ∷ ys) = elim (cases_Bool (is_lt (cmp y x))) [
-      | inl e ↦ rw (e, sum_by-cons f y (inserted cmp x ys), sum_by-cons f y ys, count_inserted f x ys) (omega arith)
-      | inr e ↦ rw e (sum_by-cons f x (y ∷ ys))
-    ]
+    | inl e ↦ rw (e, sum_by-cons f y (inserted cmp x ys), sum_by-cons f y ys, count_inserted f x ys) (omega arith)
+    | inr e ↦ rw e (sum_by-cons f x (y ∷ ys))
+  ]
 
   count_ordered : (f : X → ℕ) (xs : List X) → sum_by f (ordered cmp xs) ≡ sum_by f xs
   count_ordered f [] = refl

@@ -12,3 +12,6 @@ pub use lists::listing;
 pub use rank::{Rank, in_order};
 pub use row::{Row, URGENCY_UNIT, decimals, push_row, without_controls};
 pub use showing::{shown, shown_task};
+
+#[cfg(test)]
+mod tests;

@@ -3,8 +3,8 @@ ghost use Rattle.tb_core.specs.Board.{woken};
 ghost use Rattle.tb_report.specs.Listing.{is_listed as is_listed_status, listing as listing_of, header, lines, line, last_line, rank, rank_if_listed, ranks_from, urgency};
 ghost use Rattle.tb_report.specs.Ranking.{Rank as RankValue};
 
-use crate::rank::{in_order, Rank};
-use crate::row::{push_row, without_controls, Row, URGENCY_UNIT};
+use crate::rank::{Rank, in_order};
+use crate::row::{Row, URGENCY_UNIT, push_row, without_controls};
 use std::alloc::{AllocError, Global};
 use std::cmp::Reverse;
 use std::fmt::Write;
@@ -16,6 +16,7 @@ const HEADER: &str = "place  urgency flg due              project      descripti
 
 /// The longest age that adds to urgency is that of 2 units, at 7 parts a second.
 const AGE_PARTS_PER_SECOND: u64 = 7;
+
 const MOST_AGE_PARTS: u64 = 2 * URGENCY_UNIT;
 
 /// The board's listing at a moment: a header, a line for each pending or waiting task, the most urgent first, and a count.
@@ -46,12 +47,7 @@ fn ranks_of(alloc: Global, tasks: &[Shared<Task>], at: Moment) -> Result<Vec<Ran
     Ok(ranks)
 }
 
-fn add_rank(
-    ranks: &mut Vec<Rank>,
-    task: &Task,
-    place: usize,
-    at: Moment,
-) -> Result<(), AllocError>
+fn add_rank(ranks: &mut Vec<Rank>, task: &Task, place: usize, at: Moment) -> Result<(), AllocError>
     ensures { OnOk result (ranks.new.items ≡ ranks.old.items ++ rank_if_listed at place task.now) }
 {
     if is_listed(task.status) {
