@@ -24,6 +24,7 @@ mod numbers;
 mod refusal;
 mod statuses;
 mod title;
+mod viewing;
 mod waking;
 mod world;
 
@@ -38,6 +39,7 @@ pub use look::{Seen, SeenBoard, SeenPerson};
 pub use name::Name;
 pub use refusal::Refusal;
 pub use title::Title;
+pub use viewing::woken_task;
 pub use world::{Person, Role, RoleOn, World};
 
 #[cfg(test)]
