@@ -54,7 +54,7 @@ removable_form name d =
 abbrev pub is_removable : List ℕ → Bool
 is_removable name =
     list_any (bytes_eq name)
-      (codes "due" ∷ codes "priority" ∷ codes "project" ∷ codes "recur" ∷ codes "scheduled" ∷ codes "tags" ∷ codes "until" ∷ codes "wait" ∷ [])
+    (codes "due" ∷ codes "priority" ∷ codes "project" ∷ codes "recur" ∷ codes "scheduled" ∷ codes "tags" ∷ codes "until" ∷ codes "wait" ∷ [])
 
 -- null and the empty text remove it
 abbrev pub unless_removed : List ℕ → Option Data → Option (Option Given)

@@ -41,7 +41,7 @@ stored_task f = do
     recur = f.second.recur;
     parent = f.second.parent;
     imask = f.second.imask;
-    extras = f.extras
+    extras = f.extras;
   })
 
 -- a text that is no JSON is no object

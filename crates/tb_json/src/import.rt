@@ -88,11 +88,7 @@ fn named_task_of(
     Ok(incoming)
 }
 
-fn tasks_of(
-    alloc: Global,
-    items: &[Value],
-    moment: Moment,
-) -> Result<Items<Incoming>, ImportFault>
+fn tasks_of(alloc: Global, items: &[Value], moment: Moment) -> Result<Items<Incoming>, ImportFault>
     ensures { ReadsImport result (all_tasks moment [] (map view items.now)) }
 {
     let mut tasks = Items::new(alloc);

@@ -25,5 +25,8 @@ pub use import::read_import;
 pub use import_fault::ImportFault;
 pub use modify::read_modify;
 pub use reading::read_task;
-pub use stored::write_stored;
+pub use stored::{read_stored, write_stored};
 pub use writing::{write_task, write_tasks};
+
+#[cfg(test)]
+mod tests;

@@ -72,11 +72,7 @@ fn is_moment_name(name: &str) -> bool
 
 /// What a member of an attribute that may be removed says.
 #[tactic(auto, unfolding(crate::specs::Modify::removable_form))]
-fn removable_setting(
-    alloc: Global,
-    name: &str,
-    value: &Value,
-) -> Result<Option<Given>, AllocError>
+fn removable_setting(alloc: Global, name: &str, value: &Value) -> Result<Option<Given>, AllocError>
     ensures { IfOk result (λ given. given ≡ removable_form name.now (view value.now)) }
 {
     if is_text_name(name) {
@@ -102,11 +98,7 @@ fn is_removable(name: &str) -> bool
 
 /// What a member says: nothing where its value is wrong, and no setting where it is removed.
 #[tactic(auto, unfolding(crate::specs::Modify::setting_of))]
-fn setting_of(
-    alloc: Global,
-    name: &str,
-    value: &Value,
-) -> Result<Option<Option<Given>>, AllocError>
+fn setting_of(alloc: Global, name: &str, value: &Value) -> Result<Option<Option<Given>>, AllocError>
     ensures { IfOk result (λ given. given ≡ setting_at name.now (view value.now)) }
 {
     if name == "description" {

@@ -11,7 +11,7 @@ use crate::fields::{Fields, fields_of};
 use crate::parse::parse;
 use crate::writing::text_of;
 use std::alloc::{AllocError, Global};
-use tb_task::Task;
+use tb_task::{Task, ids_are_read};
 use tb_values::Text;
 
 /// The text under which a task is stored: its JSON without a mask.
@@ -72,4 +72,17 @@ fn read_text(alloc: Global, text: &str) -> Result<Task, JsonFault>
     let value = parse(alloc, text)?.ok_or(JsonFault::NotObject)?;
     let fields = fields_of(alloc, &value)?;
     stored_task(alloc, fields)
+}
+
+/// The task that is stored under a text. The fault names the first attribute, by byte order, in a wrong
+/// form, and else the first of `entry`, `status` and `uuid` that is missing; a text that is no JSON is
+/// no object.
+pub fn read_stored(alloc: Global, text: &str) -> Result<Task, JsonFault>
+    ensures exact { Reads result (stored_of text.now) }
+    // What was written of a task that a board takes is that task.
+    ensures again { (t : StoredTask) → IsStorable t → text.now ≡ stored_text t → Reads result (Ok t) }
+{
+    // The proof of `again` needs that an identifier's text is read as that identifier.
+    ids_are_read();
+    read_text(alloc, text)
 }
