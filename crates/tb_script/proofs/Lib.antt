@@ -1,0 +1,4 @@
+pub mod LineLaws
+pub mod Readable
+pub mod Known
+pub mod Runs

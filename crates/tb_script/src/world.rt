@@ -1,0 +1,5 @@
+/// A stub.
+#[derive(Drop)]
+pub struct World {
+    pub count: u64,
+}
