@@ -1,8 +1,11 @@
 //! Runs a script of lines: each is answered, in order, whatever pieces the reader gives them in.
 #![tactic(auto)]
 
+mod asked;
 mod fault;
+mod line_fault;
 mod output;
+mod reading;
 mod session;
 mod world;
 

@@ -1,0 +1,72 @@
+-- What a line asks: a moment, a name, a key, an identifier, a word and its arguments, separated by tabs.
+use Rattle.std.specs.Prelude.{ℕ, Bool, List, [], ◌∷◌, ◌&&◌, ◌==◌, ◌^◌, Option, Some, None, Result, Ok, Err, if◌then◌else◌, codes, nat_lt, slice_index}
+use Rattle.std.specs.List.{slice_split}
+use Rattle.std.specs.Str.{bytes_eq, all_ascii_digits}
+use Rattle.std.specs.Str.Parse.{digits_value}
+use Rattle.tb_task.specs.MomentText.{moment_of}
+use Rattle.tb_task.specs.TaskId.{read_id}
+use Rattle.tb_core.specs.Names.{read_name, read_key}
+use Rattle.tb_script.specs.declared.line_fault.LineFault.{LineFault}
+use Rattle.tb_script.specs.declared.line_fault.LineFault.TheVariants.{BadLine}
+use Rattle.tb_script.specs.declared.asked.Asked.{Asked}
+use Rattle.tb_script.specs.declared.asked.Request.{Request}
+use Rattle.tb_script.specs.declared.asked.Request.TheVariants.{Listing, Export, One}
+use Rattle.tb_script.specs.Outcome.{or_bad_line, ◌>>=◌}
+
+-- the fields of a line: a tab ends one
+abbrev pub fields_of : List ℕ → List (List ℕ)
+fields_of line = slice_split (λ b. b == 9) line
+
+-- a decimal number from 1 to 4294967295 without a leading zero
+unfoldable pub board_number : List ℕ → Option ℕ
+board_number text =
+    if nat_lt 48 (slice_index text 0) && all_ascii_digits text && nat_lt (digits_value 10 text) (2 ^ 32) then Some (digits_value 10 text)
+    else None
+
+unfoldable pub listing_in : List (List ℕ) → Result Request LineFault
+listing_in (board ∷ []) = do
+  number ← or_bad_line (board_number board)
+  Ok (Listing number)
+listing_in [] = Err BadLine
+listing_in (board ∷ more ∷ rest) = Err BadLine
+
+unfoldable pub export_in : List (List ℕ) → Result Request LineFault
+export_in (board ∷ []) = do
+  number ← or_bad_line (board_number board)
+  Ok (Export number)
+export_in [] = Err BadLine
+export_in (board ∷ more ∷ rest) = Err BadLine
+
+unfoldable pub one_in : List (List ℕ) → Result Request LineFault
+one_in (board ∷ uuid ∷ []) = do
+  number ← or_bad_line (board_number board)
+  id ← or_bad_line (read_id uuid)
+  Ok (One number id)
+one_in [] = Err BadLine
+one_in (board ∷ []) = Err BadLine
+one_in (board ∷ uuid ∷ more ∷ rest) = Err BadLine
+
+-- what a word asks of its arguments
+unfoldable pub request_in : List ℕ → List (List ℕ) → ℕ → Result Request LineFault
+request_in word arguments at =
+    if bytes_eq word (codes "list") then listing_in arguments
+    else if bytes_eq word (codes "export") then export_in arguments
+    else if bytes_eq word (codes "task") then one_in arguments
+    else Err BadLine
+
+unfoldable pub asked_in : List (List ℕ) → Result Asked LineFault
+asked_in (moment ∷ member ∷ key ∷ id ∷ word ∷ arguments) = do
+  at ← or_bad_line (moment_of moment)
+  name ← or_bad_line (read_name member)
+  secret ← or_bad_line (read_key key)
+  number ← or_bad_line (read_id id)
+  request ← request_in word arguments at
+  Ok (record { at = at; member = name; key = secret; id = number; request = request })
+asked_in [] = Err BadLine
+asked_in (moment ∷ []) = Err BadLine
+asked_in (moment ∷ member ∷ []) = Err BadLine
+asked_in (moment ∷ member ∷ key ∷ []) = Err BadLine
+asked_in (moment ∷ member ∷ key ∷ id ∷ []) = Err BadLine
+
+abbrev pub asked : List ℕ → Result Asked LineFault
+asked line = asked_in (fields_of line)
