@@ -1,5 +1,4 @@
 pub mod LineLaws
-pub mod Readable
-pub mod Known
-pub mod Runs
 pub mod Numerals
+pub mod BoardPlaces
+pub mod Bodies

@@ -1,5 +1,5 @@
 pub mod Lines
-pub mod Written
-pub mod Answer
 pub mod Outcome
+pub mod Boards
 pub mod Reading
+pub mod Replies

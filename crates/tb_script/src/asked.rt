@@ -1,5 +1,5 @@
 //! What a line asks.
-use tb_core::{Key, Name};
+use tb_core::{Command, Key, Name};
 use tb_task::{Moment, TaskId};
 
 /// What is asked, by whom, when, and under which identifier.
@@ -12,13 +12,21 @@ pub struct Asked {
     pub request: Request,
 }
 
-/// A command, or a view of a board.
 #[derive(Drop)]
 pub enum Request {
-    /// The open tasks by urgency.
+    /// A command, which may change the world.
+    Call(Command),
+    /// A look at a board, which changes nothing.
+    View(View),
+}
+
+/// What is looked at.
+#[derive(Clone, Copy, Debug, PartialEq, Eq)]
+pub enum View {
+    /// The open tasks of a board by urgency.
     Listing(u32),
-    /// All tasks as JSON.
+    /// All tasks of a board as JSON.
     Export(u32),
-    /// One task as JSON.
+    /// One task of a board as JSON.
     One(u32, TaskId),
 }

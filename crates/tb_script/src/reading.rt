@@ -3,10 +3,10 @@ ghost use Rattle.std.specs.Prelude.{◌≡◌, IfOk, map, nat_lt, slice_index};
 ghost use Rattle.tb_core.specs.Names.{read_name, read_key};
 ghost use Rattle.tb_task.specs.MomentText.{moment_of};
 ghost use Rattle.tb_task.specs.TaskId.{read_id};
-ghost use Rattle.tb_script.specs.Outcome.{Gives, or_bad_line};
+ghost use Rattle.tb_script.specs.Outcome.{Reads, or_bad_line};
 ghost use Rattle.tb_script.specs.Reading.{asked, fields_of, asked_in, request_in, listing_in, export_in, one_in, board_number};
 
-use crate::asked::{Asked, Request};
+use crate::asked::{Asked, Request, View};
 use crate::line_fault::LineFault;
 use std::alloc::{AllocError, Global};
 use tb_core::{Key, Name};
@@ -14,7 +14,7 @@ use tb_task::{Moment, TaskId};
 
 /// What a line asks.
 pub(crate) fn read_line(alloc: Global, line: &str) -> Result<Asked, LineFault>
-    ensures { Gives result (asked line.now) }
+    ensures { Reads result (asked line.now) }
 {
     let fields = split_fields(alloc, line)?;
     read_fields(alloc, fields.as_slice())
@@ -28,10 +28,10 @@ fn split_fields(alloc: Global, line: &str) -> Result<Vec<&str>, AllocError>
 
 #[tactic(auto, unfolding(crate::specs::Reading::asked_in))]
 fn read_fields(alloc: Global, fields: &[&str]) -> Result<Asked, LineFault>
-    ensures { Gives result (asked_in (map (λ field. field.now) fields.entry.now)) }
+    ensures { Reads result (asked_in (map (λ field. field.now) fields.entry.now)) }
 {
     let [moment, member, key, id, word, arguments @ ..] = fields else {
-        return Err(LineFault::BadLine);
+        return Err(LineFault::bad_line());
     };
     let at = read_moment(moment)?;
     let member = read_member(alloc, member)?;
@@ -48,91 +48,91 @@ fn read_fields(alloc: Global, fields: &[&str]) -> Result<Asked, LineFault>
 }
 
 fn read_moment(text: &str) -> Result<Moment, LineFault>
-    ensures { Gives result (or_bad_line (moment_of text.now)) }
+    ensures { Reads result (or_bad_line (moment_of text.now)) }
 {
     match Moment::read(text.as_bytes()) {
         Some(moment) => Ok(moment),
-        None => Err(LineFault::BadLine),
+        None => Err(LineFault::bad_line()),
     }
 }
 
 fn read_member(alloc: Global, text: &str) -> Result<Name, LineFault>
-    ensures { Gives result (or_bad_line (read_name text.now)) }
+    ensures { Reads result (or_bad_line (read_name text.now)) }
 {
     match Name::read(alloc, text)? {
         Some(name) => Ok(name),
-        None => Err(LineFault::BadLine),
+        None => Err(LineFault::bad_line()),
     }
 }
 
 fn read_secret(alloc: Global, text: &str) -> Result<Key, LineFault>
-    ensures { Gives result (or_bad_line (read_key text.now)) }
+    ensures { Reads result (or_bad_line (read_key text.now)) }
 {
     match Key::read(alloc, text)? {
         Some(key) => Ok(key),
-        None => Err(LineFault::BadLine),
+        None => Err(LineFault::bad_line()),
     }
 }
 
 fn read_uuid(text: &str) -> Result<TaskId, LineFault>
-    ensures { Gives result (or_bad_line (read_id text.now)) }
+    ensures { Reads result (or_bad_line (read_id text.now)) }
 {
     match TaskId::read(text) {
         Some(id) => Ok(id),
-        None => Err(LineFault::BadLine),
+        None => Err(LineFault::bad_line()),
     }
 }
 
 #[tactic(auto, unfolding(crate::specs::Reading::request_in))]
 fn read_request(word: &str, arguments: &[&str], at: Moment) -> Result<Request, LineFault>
-    ensures { Gives result (request_in word.now (map (λ argument. argument.now) arguments.entry.now) at) }
+    ensures { Reads result (request_in word.now (map (λ argument. argument.now) arguments.entry.now) at) }
 {
     match word {
         "list" => read_listing(arguments),
         "export" => read_export(arguments),
         "task" => read_one(arguments),
-        _ => Err(LineFault::BadLine),
+        _ => Err(LineFault::bad_line()),
     }
 }
 
 #[tactic(auto, unfolding(crate::specs::Reading::listing_in))]
 fn read_listing(arguments: &[&str]) -> Result<Request, LineFault>
-    ensures { Gives result (listing_in (map (λ argument. argument.now) arguments.entry.now)) }
+    ensures { Reads result (listing_in (map (λ argument. argument.now) arguments.entry.now)) }
 {
     let [board] = arguments else {
-        return Err(LineFault::BadLine);
+        return Err(LineFault::bad_line());
     };
-    Ok(Request::Listing(read_board(board)?))
+    Ok(Request::View(View::Listing(read_board(board)?)))
 }
 
 #[tactic(auto, unfolding(crate::specs::Reading::export_in))]
 fn read_export(arguments: &[&str]) -> Result<Request, LineFault>
-    ensures { Gives result (export_in (map (λ argument. argument.now) arguments.entry.now)) }
+    ensures { Reads result (export_in (map (λ argument. argument.now) arguments.entry.now)) }
 {
     let [board] = arguments else {
-        return Err(LineFault::BadLine);
+        return Err(LineFault::bad_line());
     };
-    Ok(Request::Export(read_board(board)?))
+    Ok(Request::View(View::Export(read_board(board)?)))
 }
 
 #[tactic(auto, unfolding(crate::specs::Reading::one_in))]
 fn read_one(arguments: &[&str]) -> Result<Request, LineFault>
-    ensures { Gives result (one_in (map (λ argument. argument.now) arguments.entry.now)) }
+    ensures { Reads result (one_in (map (λ argument. argument.now) arguments.entry.now)) }
 {
     let [board, uuid] = arguments else {
-        return Err(LineFault::BadLine);
+        return Err(LineFault::bad_line());
     };
     let board = read_board(board)?;
     let id = read_uuid(uuid)?;
-    Ok(Request::One(board, id))
+    Ok(Request::View(View::One(board, id)))
 }
 
 fn read_board(text: &str) -> Result<u32, LineFault>
-    ensures { Gives result (or_bad_line (board_number text.now)) }
+    ensures { Reads result (or_bad_line (board_number text.now)) }
 {
     match board_of(text) {
         Some(board) => Ok(board),
-        None => Err(LineFault::BadLine),
+        None => Err(LineFault::bad_line()),
     }
 }
 

@@ -1,5 +1,0 @@
-/// A stub.
-#[derive(Drop)]
-pub struct World {
-    pub count: u64,
-}
