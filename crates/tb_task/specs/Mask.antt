@@ -2,7 +2,7 @@
 use Rattle.std.specs.Prelude.{ℕ, Bool, ◌||◌, ◌==◌, if◌then◌else◌, List, Option, Some, None}
 use Rattle.std.specs.List.{list_all}
 
--- -, +, X, W and ?
+-- a hyphen, a plus sign, X, W and a question mark
 unfoldable pub is_mark : ℕ → Bool
 is_mark c = (c == 45) || (c == 43) || (c == 88) || (c == 87) || (c == 63)
 

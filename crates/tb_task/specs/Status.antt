@@ -3,7 +3,7 @@ use Rattle.std.specs.Prelude.{◌≡◌, ℕ, if◌then◌else◌, List, Option,
 use Rattle.tb_task.specs.declared.status.Status.{Status}
 use Rattle.tb_task.specs.declared.status.Status.TheVariants.{Pending, Waiting, Recurring, Completed, Deleted}
 
--- -, W, + and X
+-- a hyphen, W, a plus sign and X
 abbrev pub mark_of : Status → Option ℕ
 mark_of Pending = Some 45
 mark_of Waiting = Some 87

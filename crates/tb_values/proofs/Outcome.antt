@@ -1,5 +1,5 @@
 -- Steps of what a call that may fail returned.
-use Rattle.std.proofs.Common.{◌≡◌, Result, Ok, Err, refl, sym, ap, ◌∙◌, subst}
+use Rattle.std.proofs.Common.{◌≡◌, Result, Ok, Err, ap, subst}
 use Rattle.tb_values.specs.Outcome.{Gives, ◌>>=◌}
 
 -- what is expected goes by another name

@@ -1,5 +1,5 @@
 -- The place of an item in a list that increases, and what putting it there or taking it out gives.
-use Rattle.std.proofs.Common.{◌≡◌, ℕ, zero, suc, ◌<◌, ◌≤◌, List, [], ◌∷◌, ◌++◌, length, get_or, set, take, drop, Bool, true, false, cond, ◌||◌, Option, Some, None, Ordering, Less, Equal, Greater, refl, sym, ap, ◌∙◌, subst, arith, inl, inr}
+use Rattle.std.proofs.Common.{◌≡◌, ℕ, zero, suc, ◌<◌, ◌≤◌, List, [], ◌∷◌, ◌++◌, length, get_or, set, Bool, true, false, cond, ◌||◌, Some, None, Ordering, Less, Equal, Greater, refl, sym, ap, ◌∙◌, arith}
 use Rattle.std.proofs.lemmas.Bool.{both_ways}
 use Rattle.std.specs.Prelude.{IsTrue, ◌↔◌, not}
 use Rattle.std.specs.BTreeMap.{is_at}
@@ -222,3 +222,18 @@ module _ {T : Type 0} (R : T → T → Ordering) (k : T) (xs : List T) (p : ℕ)
 
   pub found_when : IsHit R k xs p → (x : T) → x ≡ get_or xs p x → Some x ≡ find (is_at (R k)) xs
   found_when h x is = ap Some (is ∙ ap (λ n. get_or xs n x) h.place) ∙ sym (found_at R k xs x h.within h.same)
+
+-- a key above those before it goes last
+pub replaced_last : {T : Type 0} (R : T → T → Ordering) → IsTotalOrder R → (xs : List T) (k : T) → AllByRecursion (λ x. R x k ≡ Less) xs → replace_key R xs k ≡ xs ++ k ∷ []
+replaced_last R o [] k h = refl
+replaced_last R o (x ∷ xs) k h = rw (turned R o x k Less h.0) (ap (λ ys. x ∷ ys) (replaced_last R o xs k h.1))
+
+all_before : {T : Type 0} (P : T → Type 0) (xs : List T) (k : T) (ys : List T) → AllByRecursion P (xs ++ k ∷ ys) → P k
+all_before P [] k ys h = h.0
+all_before P (x ∷ xs) k ys h = all_before P xs k ys h.1
+
+-- in a list that increases, each item is put after those before it
+pub replaced_next : {T : Type 0} (R : T → T → Ordering) → IsTotalOrder R → (xs : List T) (k : T) (ys : List T) → IsStrictlySortedBy R (xs ++ k ∷ ys) → replace_key R xs k ≡ xs ++ k ∷ []
+unfolding IsStrictlySortedBy
+replaced_next R o [] k ys s = refl
+replaced_next R o (x ∷ xs) k ys s = rw (turned R o x k Less (all_before (λ y. R x y ≡ Less) xs k ys s.0)) (ap (λ zs. x ∷ zs) (replaced_next R o xs k ys s.1))

@@ -1,4 +1,4 @@
-use Rattle.std.proofs.Common.{arith, length, ◌≤◌, ◌+◌}
+use Rattle.std.proofs.Common.{arith}
 use Rattle.std.proofs.lemmas.List.{length-drop, take_rest}
 use Rattle.tb_values.proofs.Appends.{Appends-take}
 use Rattle.tb_values.proofs.output.write_whole.Goals as goal

@@ -1,4 +1,4 @@
-use Rattle.std.proofs.Common.{◌≡◌, ◌∙◌, ap, sym, false}
+use Rattle.std.proofs.Common.{◌∙◌, ap, sym}
 use Rattle.std.proofs.lemmas.Bool.{both_ways}
 use Rattle.std.specs.BTreeMap.{is_at}
 use Rattle.std.specs.List.{find}

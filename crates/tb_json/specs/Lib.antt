@@ -1,0 +1,12 @@
+pub mod Annotations
+pub mod Attribute
+pub mod Extras
+pub mod Fields
+pub mod Lines
+pub mod ListText
+pub mod Lists
+pub mod Numbers
+pub mod Outcome
+pub mod Reading
+pub mod Parse
+pub mod Writing
