@@ -1,4 +1,4 @@
 pub mod LineLaws
 pub mod Numerals
 pub mod BoardPlaces
-pub mod Bodies
+pub mod NoFloats

@@ -1,5 +1,6 @@
 pub mod Lines
 pub mod Outcome
+pub mod Bodies
 pub mod Boards
 pub mod Reading
 pub mod Replies

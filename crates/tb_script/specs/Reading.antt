@@ -13,7 +13,9 @@ use Rattle.tb_script.specs.declared.asked.Request.{Request}
 use Rattle.tb_script.specs.declared.asked.Request.TheVariants.{Call, View as ViewOf}
 use Rattle.tb_script.specs.declared.asked.View.TheVariants.{Listing, Export, One}
 use Rattle.tb_values.specs.Outcome.{◌>>=◌}
+use Rattle.tb_core.specs.declared.command.Command.TheVariants.{Add}
 use Rattle.tb_script.specs.Outcome.{or_bad_line}
+use Rattle.tb_script.specs.Bodies.{incoming_in}
 
 -- the fields of a line: a tab ends one
 abbrev pub fields_of : List ℕ → List (List ℕ)
@@ -24,6 +26,15 @@ unfoldable pub board_number : List ℕ → Option ℕ
 board_number text =
     if nat_lt 48 (slice_index text 0) && all_ascii_digits text && nat_lt (digits_value 10 text) (2 ^ 32) then Some (digits_value 10 text)
     else None
+
+unfoldable pub add_in : List (List ℕ) → ℕ → Result Request Unreadable
+add_in (board ∷ body ∷ []) at = do
+  number ← or_bad_line (board_number board)
+  incoming ← incoming_in body at
+  Ok (Call (Add number incoming))
+add_in [] at = Err BadLine
+add_in (board ∷ []) at = Err BadLine
+add_in (board ∷ body ∷ more ∷ rest) at = Err BadLine
 
 unfoldable pub listing_in : List (List ℕ) → Result Request Unreadable
 listing_in (board ∷ []) = do
@@ -51,7 +62,8 @@ one_in (board ∷ uuid ∷ more ∷ rest) = Err BadLine
 -- what a word asks of its arguments
 unfoldable pub request_in : List ℕ → List (List ℕ) → ℕ → Result Request Unreadable
 request_in word arguments at =
-    if bytes_eq word (codes "list") then listing_in arguments
+    if bytes_eq word (codes "add") then add_in arguments at
+    else if bytes_eq word (codes "list") then listing_in arguments
     else if bytes_eq word (codes "export") then export_in arguments
     else if bytes_eq word (codes "task") then one_in arguments
     else Err BadLine

@@ -3,6 +3,7 @@
 
 mod asked;
 mod bodies;
+mod body;
 mod changing;
 mod line_fault;
 mod reading;

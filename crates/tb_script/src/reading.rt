@@ -4,12 +4,13 @@ ghost use Rattle.tb_core.specs.Names.{read_name, read_key};
 ghost use Rattle.tb_task.specs.MomentText.{moment_of};
 ghost use Rattle.tb_task.specs.TaskId.{read_id};
 ghost use Rattle.tb_script.specs.Outcome.{Reads, or_bad_line};
-ghost use Rattle.tb_script.specs.Reading.{asked, fields_of, asked_in, request_in, listing_in, export_in, one_in, board_number};
+ghost use Rattle.tb_script.specs.Reading.{add_in, asked, fields_of, asked_in, request_in, listing_in, export_in, one_in, board_number};
 
 use crate::asked::{Asked, Request, View};
+use crate::body::read_incoming;
 use crate::line_fault::LineFault;
 use std::alloc::{AllocError, Global};
-use tb_core::{Key, Name};
+use tb_core::{Command, Key, Name};
 use tb_task::{Moment, TaskId};
 
 /// What a line asks.
@@ -37,7 +38,7 @@ fn read_fields(alloc: Global, fields: &[&str]) -> Result<Asked, LineFault>
     let member = read_member(alloc, member)?;
     let key = read_secret(alloc, key)?;
     let id = read_uuid(id)?;
-    let request = read_request(word, arguments, at)?;
+    let request = read_request(alloc, word, arguments, at)?;
     Ok(Asked {
         at,
         member,
@@ -84,15 +85,33 @@ fn read_uuid(text: &str) -> Result<TaskId, LineFault>
 }
 
 #[tactic(auto, unfolding(crate::specs::Reading::request_in))]
-fn read_request(word: &str, arguments: &[&str], at: Moment) -> Result<Request, LineFault>
+fn read_request(
+    alloc: Global,
+    word: &str,
+    arguments: &[&str],
+    at: Moment,
+) -> Result<Request, LineFault>
     ensures { Reads result (request_in word.now (map (λ argument. argument.now) arguments.entry.now) at) }
 {
     match word {
+        "add" => read_add(alloc, arguments, at),
         "list" => read_listing(arguments),
         "export" => read_export(arguments),
         "task" => read_one(arguments),
         _ => Err(LineFault::bad_line()),
     }
+}
+
+#[tactic(auto, unfolding(crate::specs::Reading::add_in))]
+fn read_add(alloc: Global, arguments: &[&str], at: Moment) -> Result<Request, LineFault>
+    ensures { Reads result (add_in (map (λ argument. argument.now) arguments.entry.now) at) }
+{
+    let [board, body] = arguments else {
+        return Err(LineFault::bad_line());
+    };
+    let board = read_board(board)?;
+    let incoming = read_incoming(alloc, body, at)?;
+    Ok(Request::Call(Command::Add { board, incoming }))
 }
 
 #[tactic(auto, unfolding(crate::specs::Reading::listing_in))]
