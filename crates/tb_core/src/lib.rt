@@ -21,6 +21,7 @@ mod name;
 mod numbers;
 mod refusal;
 mod title;
+mod viewing;
 mod waking;
 mod world;
 
@@ -34,4 +35,5 @@ pub use look::{Seen, SeenBoard, SeenPerson};
 pub use name::Name;
 pub use refusal::Refusal;
 pub use title::Title;
+pub use viewing::woken_task;
 pub use world::{Person, Role, RoleOn, World};
