@@ -1,4 +1,6 @@
-pub mod LineLaws
-pub mod Numerals
 pub mod BoardPlaces
+pub mod LineLaws
 pub mod NoFloats
+pub mod Numerals
+pub mod Readable
+pub mod Runs

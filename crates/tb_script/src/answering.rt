@@ -3,14 +3,13 @@ ghost use Rattle.std.specs.Prelude.{◌≡◌, true, false, IfOk, OnOk, MatchOpt
 ghost use Rattle.tb_core.specs.Apply.{apply, IsDecision};
 ghost use Rattle.tb_script.specs.Answer.{answered, called, carried_out, first_world, is_readable, request_of, view_text, viewed};
 ghost use Rattle.tb_script.specs.Outcome.{Reads};
-ghost use Rattle.tb_script.specs.Views.{board_of as board_of_view};
 
 use crate::asked::{Asked, Request, View};
 use crate::changing::apply_changes;
 use crate::line_fault::LineFault;
 use crate::reading::read_line;
 use crate::replies::{write_call, write_refusal, write_unreadable};
-use crate::viewing::{board_for, show};
+use crate::viewing::show;
 use std::alloc::{AllocError, Global};
 use tb_core::{Command, Decision, Key, Name, Refusal, World, decide};
 use tb_values::Text;
@@ -83,7 +82,7 @@ fn carry_out(
 {
     match request {
         Request::Call(command) => call(alloc, world, asked, command),
-        Request::View(view) => write_view(alloc, world, asked, *view),
+        Request::View(view) => write_view(alloc, world, asked, view),
     }
 }
 
@@ -124,9 +123,9 @@ fn write_view(
     alloc: Global,
     world: &World,
     asked: &Asked,
-    view: View,
+    view: &View,
 ) -> Result<Text, AllocError>
-    ensures { IfOk result (λ text. text ≡ view_text (viewed world.now asked.now view)) }
+    ensures { IfOk result (λ text. text ≡ view_text (viewed world.now asked.now view.now)) }
 {
     match show_to(alloc, world, asked, view)? {
         Ok(text) => Ok(text),
@@ -139,21 +138,12 @@ fn show_to(
     alloc: Global,
     world: &World,
     asked: &Asked,
-    view: View,
+    view: &View,
 ) -> Result<Result<Text, Refusal>, AllocError>
-    ensures { IfOk result (λ shown. shown ≡ viewed world.now asked.now view) }
+    ensures { IfOk result (λ shown. shown ≡ viewed world.now asked.now view.now) }
 {
     if !world.knows(&asked.member, &asked.key) {
         return Ok(Err(Refusal::UnknownCaller));
     }
-    let board = board_for(world, &asked.member, board_of(view))?;
-    show(alloc, &board, view, asked.at)
-}
-
-fn board_of(view: View) -> u32
-    ensures { result ≡ board_of_view view }
-{
-    match view {
-        View::Listing(board) | View::Export(board) | View::One(board, _) => board,
-    }
+    show(alloc, world, &asked.member, view, asked.at)
 }

@@ -3,7 +3,7 @@ ghost use Rattle.std.specs.Prelude.{◌≡◌, ◌∷◌, ◌++◌, [], IfOk, fi
 ghost use Rattle.tb_core.specs.Board.{has_id};
 ghost use Rattle.tb_json.specs.Writing.{shown_text};
 ghost use Rattle.tb_report.specs.Shown.{shown_task as shown_task_of};
-ghost use Rattle.tb_script.specs.Views.{board_view, export_text, one_text, shown_view, viewed_board};
+ghost use Rattle.tb_script.specs.Views.{board_of as board_of_view, board_view, export_text, one_text, shown_view, viewed_board};
 
 use crate::asked::View;
 use std::alloc::{AllocError, Global};
@@ -15,7 +15,7 @@ use tb_values::{Shared, Text};
 
 /// The board that a person may look at, if there is one and the person has a role on it.
 #[tactic(auto, unfolding(crate::specs::Views::viewed_board))]
-pub(crate) fn board_for(
+fn board_for(
     world: &World,
     member: &Name,
     number: u32,
@@ -31,33 +31,42 @@ pub(crate) fn board_for(
     world.board(number)
 }
 
-/// What a view of a board shows at a moment, or why it is refused.
+/// What a view shows to a person at a moment, or why it is refused.
 pub(crate) fn show(
     alloc: Global,
-    board: &Option<Shared<Board>>,
-    view: View,
+    world: &World,
+    member: &Name,
+    view: &View,
     at: Moment,
 ) -> Result<Result<Text, Refusal>, AllocError>
-    ensures { IfOk result (λ shown. shown ≡ shown_view board.now view at) }
+    ensures { IfOk result (λ shown. shown ≡ shown_view (viewed_board world.now member.now (board_of_view view.now)) view.now at) }
 {
-    match board {
+    match board_for(world, member, board_of(view))? {
         Some(board) => show_board(alloc, board.get(), view, at),
         None => Ok(Err(Refusal::NoBoard)),
+    }
+}
+
+fn board_of(view: &View) -> u32
+    ensures { result ≡ board_of_view view.now }
+{
+    match view {
+        View::Listing(board) | View::Export(board) | View::One(board, _) => *board,
     }
 }
 
 fn show_board(
     alloc: Global,
     board: &Board,
-    view: View,
+    view: &View,
     at: Moment,
 ) -> Result<Result<Text, Refusal>, AllocError>
-    ensures { IfOk result (λ shown. shown ≡ board_view board.now view at) }
+    ensures { IfOk result (λ shown. shown ≡ board_view board.now view.now at) }
 {
     match view {
         View::Listing(_) => Ok(Ok(listing(alloc, board, at)?)),
         View::Export(_) => Ok(Ok(export(alloc, board, at)?)),
-        View::One(_, id) => show_one(alloc, task_on(board, id), at),
+        View::One(_, id) => show_one(alloc, task_on(board, *id), at),
     }
 }
 
