@@ -1,0 +1,25 @@
+-- The JSON argument of a line.
+use Rattle.std.specs.Prelude.{ℕ, List, Option, Some, None, Result, Ok, Err}
+use Rattle.serde_json.specs.Data.{Data}
+use Rattle.serde_json.specs.Read.{read}
+use Rattle.tb_task.specs.declared.incoming.Incoming.{Incoming}
+use Rattle.tb_json.specs.declared.fault.JsonFault.{JsonFault}
+use Rattle.tb_json.specs.declared.fault.JsonFault.TheVariants.{NotObject, BadField, Memory}
+use Rattle.tb_json.specs.Reading.{task_of}
+use Rattle.tb_script.specs.declared.line_fault.Unreadable.{Unreadable}
+use Rattle.tb_script.specs.declared.line_fault.Unreadable.TheVariants.{BadBody}
+
+-- what isn't the JSON of a task is a bad body, with the name of the member that is in a wrong form
+abbrev pub or_bad_body : {A : Type 0} → Result A JsonFault → Result A Unreadable
+or_bad_body (Ok x) = Ok x
+or_bad_body (Err NotObject) = Err (BadBody None)
+or_bad_body (Err (BadField name)) = Err (BadBody (Some name))
+or_bad_body (Err Memory) = Err (BadBody None)
+
+abbrev pub incoming_of : Option Data → ℕ → Result Incoming Unreadable
+incoming_of None at = Err (BadBody None)
+incoming_of (Some json) at = or_bad_body (task_of at json)
+
+-- the task that a text is when it comes in at a moment
+abbrev pub incoming_in : List ℕ → ℕ → Result Incoming Unreadable
+incoming_in text at = incoming_of (read text) at
