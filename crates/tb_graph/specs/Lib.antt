@@ -1,0 +1,5 @@
+pub mod Walk
+pub mod Marks
+pub mod Search
+pub mod Taking
+pub mod Blocked
