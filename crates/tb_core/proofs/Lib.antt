@@ -1,0 +1,12 @@
+pub mod Awake
+pub mod Decided
+pub mod Drafts
+pub mod Fresh
+pub mod GoodWorlds
+pub mod Goodness
+pub mod KnownNumbers
+pub mod Marking
+pub mod Opening
+pub mod Places
+pub mod Stays
+pub mod Worlds

@@ -1,0 +1,13 @@
+pub mod Add
+pub mod Apply
+pub mod Board
+pub mod Changes
+pub mod Decisions
+pub mod First
+pub mod Good
+pub mod Marks
+pub mod Names
+pub mod Numbers
+pub mod Refusal
+pub mod Refusals
+pub mod World

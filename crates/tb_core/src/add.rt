@@ -1,0 +1,107 @@
+ghost use Rattle.std.specs.Prelude.{◌≡◌, ◌<◌, ◌||◌, Some, length, is_some, IfOk};
+ghost use Rattle.std.specs.List.{list_any};
+ghost use Rattle.tb_core.specs.Add.{add_fault, entered_id, is_full, is_linked, judged_add, lacks_depends};
+ghost use Rattle.tb_core.specs.Changes.{Follows};
+ghost use Rattle.tb_core.specs.Refusals.{Gives};
+
+use crate::board::Board;
+use crate::command::Told;
+use crate::draft::Draft;
+use crate::judged::{Judged, Stop};
+use crate::numbers::{next_number, taken_numbers};
+use crate::refusal::Refusal;
+use std::alloc::{AllocError, Global};
+use tb_task::{Field, Incoming, Moment, Task, TaskId, check};
+use tb_values::Duplicate;
+
+const MOST_TASKS: usize = 10000;
+
+/// Adds a task to a board that is awake.
+pub fn add(
+    alloc: Global,
+    draft: Draft,
+    incoming: &Incoming,
+    at: Moment,
+) -> Result<Judged, Stop>
+    ensures gives { Gives result (judged_add draft.board incoming.now at) }
+    ensures follows { IfOk result (λ judged. Follows draft judged.draft) }
+{
+    if lacks_one(&draft.board, incoming.task.depends.as_slice()) {
+        return Err(Stop::Refused(Refusal::NoTask));
+    }
+    if incoming.named && draft.board.has(incoming.task.id) {
+        return Err(Stop::Refused(Refusal::UuidTaken));
+    }
+    if let Some(fault) = fault_in(incoming) {
+        return Err(Stop::Refused(Refusal::BadTask(fault)));
+    }
+    if has_no_room(&draft.board) {
+        return Err(Stop::Refused(Refusal::Full));
+    }
+    let id = id_for(alloc, &draft.board, incoming)?;
+    let task = entered_task(&incoming.task, id, at)?;
+    let draft = draft.push(alloc, task)?;
+    let told = Told::Added {
+        id,
+        dropped: incoming.dropped,
+    };
+    Ok(Judged { draft, told })
+}
+
+fn lacks_one(board: &Board, ids: &[TaskId]) -> bool
+    ensures { result ≡ lacks_depends board.now ids.now }
+{
+    ids.iter().any(|id| !board.has(*id))
+}
+
+fn fault_in(incoming: &Incoming) -> Option<Field>
+    ensures { result ≡ add_fault incoming.now }
+{
+    if let Err(fault) = check(&incoming.task) {
+        return Some(fault);
+    }
+    if is_linked_task(incoming) {
+        return Some(Field::BadPair);
+    }
+    None
+}
+
+fn is_linked_task(incoming: &Incoming) -> bool
+    ensures { result ≡ is_linked incoming.now }
+{
+    incoming.raw_parent.is_some()
+        || incoming.raw_imask.is_some()
+        || incoming.raw_mask.is_some()
+        || incoming.task.recur.is_some()
+}
+
+/// Whether the board has as many tasks as a board can have.
+fn has_no_room(board: &Board) -> bool
+    ensures { result ≡ is_full board.now }
+{
+    board.tasks.len() >= MOST_TASKS
+}
+
+fn id_for(alloc: Global, board: &Board, incoming: &Incoming) -> Result<TaskId, AllocError>
+    requires { length board.now.tasks < 10000 }
+    ensures { IfOk result (λ id. id ≡ entered_id board.now incoming.now) }
+{
+    if incoming.named {
+        return Ok(incoming.task.id);
+    }
+    let marks = taken_numbers(alloc, board)?;
+    let number = next_number(board, &marks, 1);
+    match TaskId::made(board.number, number as u64) {
+        Some(id) => Ok(id),
+        None => unreachable!(),
+    }
+}
+
+fn entered_task(task: &Task, id: TaskId, at: Moment) -> Result<Task, AllocError>
+    ensures { IfOk result (λ t. t ≡ record task.now { id = id; modified = Some at }) }
+{
+    let mut task = task.duplicate()?;
+    task.id = id;
+    task.modified = Some(at);
+    Ok(task)
+}

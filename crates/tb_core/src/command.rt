@@ -1,0 +1,31 @@
+
+use tb_task::{Incoming, TaskId};
+
+/// What a person asks for.
+#[derive(Drop)]
+pub enum Command {
+    /// Adds a task to a board.
+    Add { board: u32, incoming: Incoming },
+}
+
+/// What the reply to an accepted command says.
+#[derive(Clone, Copy, Debug, PartialEq, Eq)]
+pub enum Answer {
+    OnBoard(BoardAnswer),
+}
+
+/// What the reply to an accepted command on a board says: how many instances came by themselves, and whether some are still wanted.
+#[derive(Clone, Copy, Debug, PartialEq, Eq)]
+pub struct BoardAnswer {
+    pub board: u32,
+    pub added: usize,
+    pub more: bool,
+    pub told: Told,
+}
+
+/// What an accepted command on a board tells besides.
+#[derive(Clone, Copy, Debug, PartialEq, Eq)]
+pub enum Told {
+    /// The identifier of the task that was added, and how many of its members were dropped.
+    Added { id: TaskId, dropped: u32 },
+}

@@ -1,0 +1,109 @@
+ghost use Rattle.std.specs.Prelude.{◌≡◌, ℕ, [], List, IfOk, Ok, Err};
+ghost use Rattle.tb_core.specs.Apply.{apply, judged, outcome, seen_of, IsDecision};
+ghost use Rattle.tb_core.specs.Changes.{Follows, IsDraft};
+ghost use Rattle.tb_core.specs.Refusals.{Gives};
+ghost use Rattle.tb_core.specs.Decisions.{GivesOutcome};
+ghost use Rattle.tb_core.specs.declared.command.Answer.TheVariants.{OnBoard};
+ghost use Rattle.tb_core.specs.declared.world.World.{World};
+
+use crate::add::add;
+use crate::board::Board;
+use crate::change::Change;
+use crate::command::{Answer, BoardAnswer, Command};
+use crate::draft::Draft;
+use crate::judged::{Judged, Stop};
+use crate::look::Seen;
+use crate::refusal::Refusal;
+use crate::waking::wake_draft;
+use std::alloc::{AllocError, Global};
+use tb_task::Moment;
+use tb_values::Items;
+
+/// What becomes of a command: how the world changes, and the answer. A refusal has no changes.
+#[derive(Drop)]
+pub struct Decision {
+    pub changes: Items<Change>,
+    pub answer: Result<Answer, Refusal>,
+}
+
+/// What an accepted command makes of a board.
+#[derive(Drop)]
+pub struct Accepted {
+    pub draft: Draft,
+    pub answer: BoardAnswer,
+}
+
+impl Accepted {
+    fn into_decision(self) -> Decision
+        ensures { result ≡ record { changes = self.draft.changes; answer = Ok (OnBoard self.answer) } }
+    {
+        let Accepted { draft, answer } = self;
+        Decision {
+            changes: draft.into_changes(),
+            answer: Ok(Answer::OnBoard(answer)),
+        }
+    }
+}
+
+/// Decides a command by what it looks at.
+pub fn decide(
+    alloc: Global,
+    seen: &Seen,
+    command: &Command,
+    at: Moment,
+) -> Result<Decision, AllocError>
+    ensures { IfOk result (λ d. (w : World) (name : List ℕ) → seen.now ≡ seen_of w name command.now → IsDecision w d (apply w name command.now at)) }
+{
+    if seen.caller.is_none() {
+        return Ok(refused(alloc, Refusal::UnknownCaller));
+    }
+    let Some(found) = &seen.board else {
+        return Ok(refused(alloc, Refusal::NoBoard));
+    };
+    match decide_on(alloc, found.board.get(), command, at) {
+        Ok(accepted) => Ok(accepted.into_decision()),
+        Err(Stop::Refused(refusal)) => Ok(refused(alloc, refusal)),
+        Err(Stop::Memory) => Err(AllocError),
+    }
+}
+
+fn refused(alloc: Global, refusal: Refusal) -> Decision
+    ensures { result ≡ record { changes = []; answer = Err refusal } }
+{
+    Decision {
+        changes: Items::new(alloc),
+        answer: Err(refusal),
+    }
+}
+
+/// What a command makes of a board at a moment.
+fn decide_on(
+    alloc: Global,
+    board: &Board,
+    command: &Command,
+    at: Moment,
+) -> Result<Accepted, Stop>
+    ensures gives { GivesOutcome result (outcome board.now command.now at) }
+    ensures made { IfOk result (λ accepted. IsDraft board.now accepted.draft) }
+{
+    let draft = Draft::of(alloc, board)?;
+    let draft = wake_draft(alloc, draft, at)?;
+    let Judged { draft, told } = judge(alloc, draft, command, at)?;
+    let answer = BoardAnswer {
+        board: draft.board.number,
+        added: 0,
+        more: false,
+        told,
+    };
+    Ok(Accepted { draft, answer })
+}
+
+/// What a command makes of a board that is awake.
+fn judge(alloc: Global, draft: Draft, command: &Command, at: Moment) -> Result<Judged, Stop>
+    ensures gives { Gives result (judged draft.board command.now at) }
+    ensures follows { IfOk result (λ judged. Follows draft judged.draft) }
+{
+    match command {
+        Command::Add { incoming, .. } => add(alloc, draft, incoming, at),
+    }
+}
