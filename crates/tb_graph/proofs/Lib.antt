@@ -1,5 +1,6 @@
 pub mod Lists
 pub mod Walks
+pub mod Leading
 pub mod WellFormed
 pub mod Marking
 pub mod Growing

@@ -1,4 +1,5 @@
 pub mod Walk
+pub mod Leads
 pub mod Marks
 pub mod Search
 pub mod Taking

@@ -5,9 +5,11 @@
 
 mod acyclic;
 mod blocked;
+mod laws;
 mod links;
 mod search;
 
+pub use laws::{acyclic_is_decided, walks_are_decided};
 pub use links::Links;
 
 #[cfg(test)]
