@@ -1,0 +1,12 @@
+pub mod Lists
+pub mod Walks
+pub mod Leading
+pub mod WellFormed
+pub mod Marking
+pub mod Growing
+pub mod Searching
+pub mod Blocking
+pub mod Sources
+pub mod Counting
+pub mod TakingLinks
+pub mod Taking

@@ -1,0 +1,13 @@
+use Rattle.std.proofs.Common.{arith}
+use Rattle.tb_graph.proofs.Lists.{IsIn-at}
+use Rattle.tb_graph.proofs.search.mark_targets.Goals as goal
+
+pub bounds-marks-target : goal.bounds-marks-target
+bounds-marks-target c =
+    let fits = c.requires _ (IsIn-at c.args.targets.now c.loop-target.target-index c.loop-target-test.true) in
+    omega (arith, c.loop-target.invariant.size, fits)
+
+pub bounds-marks-target-then-not-marks-target : goal.bounds-marks-target-then-not-marks-target
+bounds-marks-target-then-not-marks-target c =
+    let fits = c.requires _ (IsIn-at c.args.targets.now c.loop-target.target-index c.loop-target-test.true) in
+    omega (arith, c.loop-target.invariant.size, fits)

@@ -1,0 +1,5 @@
+pub mod WeekdayLemmas
+pub mod MonthLemmas
+pub mod DueLemmas
+pub mod StepLemmas
+pub mod Needs

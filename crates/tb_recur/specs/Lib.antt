@@ -1,0 +1,5 @@
+pub mod Weekdays
+pub mod Months
+pub mod Due
+pub mod Wanted
+pub mod Instance

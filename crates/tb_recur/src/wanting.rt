@@ -1,0 +1,70 @@
+ghost use Rattle.std.specs.Prelude.{◌≡◌};
+ghost use Rattle.tb_recur.specs.Wanted.{is_by, is_inside, has_come, has_begun, wanted, NeedIsLeast};
+
+use crate::dues::due;
+use crate::plan::Plan;
+use tb_task::{Moment, Step};
+
+/// Whether the k-th instance of a template is wanted at a moment: it has a due that is not past `until`, and the due
+/// before it has come.
+pub fn wanted(first: Moment, step: Step, until: Option<Moment>, k: u32, at: Moment) -> bool
+    ensures { result ≡ wanted (record { due = first; step = step; until = until }) k at }
+{
+    let plan = Plan {
+        due: first,
+        step,
+        until,
+    };
+    plan.wants(k, at)
+}
+
+impl Plan {
+    /// Whether the k-th instance is wanted at a moment.
+    #[tactic(auto, unfolding(crate::specs::Wanted::wanted))]
+    pub fn wants(&self, k: u32, at: Moment) -> bool
+        ensures { result ≡ wanted self.now k at }
+    {
+        is_inside(self.until, due(self.due, self.step, k)) && has_begun(self, k, at)
+    }
+}
+
+fn is_inside(until: Option<Moment>, due: Option<Moment>) -> bool
+    ensures { result ≡ is_inside until due }
+{
+    match due {
+        Some(moment) => is_by(moment, until),
+        None => false,
+    }
+}
+
+fn is_by(moment: Moment, until: Option<Moment>) -> bool
+    ensures { result ≡ is_by moment until }
+{
+    match until {
+        Some(last) => moment <= last,
+        None => true,
+    }
+}
+
+fn has_begun(plan: &Plan, k: u32, at: Moment) -> bool
+    ensures { result ≡ has_begun plan.now k at }
+{
+    if k == 0 {
+        return true;
+    }
+    has_come(due(plan.due, plan.step, k - 1), at)
+}
+
+fn has_come(due: Option<Moment>, at: Moment) -> bool
+    ensures { result ≡ has_come due at }
+{
+    match due {
+        Some(moment) => moment <= at,
+        None => false,
+    }
+}
+
+/// The need of a plan isn't wanted, and all before it are.
+pub fn need_is_least()
+    ensures { NeedIsLeast }
+{}
