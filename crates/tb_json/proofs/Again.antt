@@ -1,5 +1,5 @@
 -- What is written in each form is read again.
-use Rattle.std.proofs.Common.{◌≡◌, ℕ, ℤ, pos, negsuc, zero, suc, ◌^◌, ◌<◌, ◌≤◌, ◌==◌, nat_le, List, [], ◌∷◌, ◌++◌, length, map, Bool, true, false, inl, inr, Option, Some, None, option_map, option_and_then, Ok, Less, Greater, nat_cmp, codes, unwrap_or, refl, sym, ap, ◌∙◌, append_assoc, append-nil, arith, Ordering}
+use Rattle.std.proofs.Common.{◌≡◌, ℕ, pos, negsuc, ◌^◌, ◌<◌, ◌≤◌, ◌==◌, List, [], ◌∷◌, ◌++◌, length, map, false, inl, inr, Option, Some, None, option_map, option_and_then, Ok, Less, Greater, nat_cmp, unwrap_or, refl, sym, ap, ◌∙◌, append_assoc, append-nil, arith, Ordering}
 use Rattle.std.specs.Prelude.{IfSome}
 use Rattle.std.specs.Cmp.{IsTotalOrder}
 use Rattle.std.proofs.lemmas.Bool.{cases_Bool, eqb-true, le-leb, lt-ltb}
@@ -8,7 +8,7 @@ use Rattle.std.specs.BTreeSet.{insert_key}
 use Rattle.std.specs.List.{AllByRecursion}
 use Rattle.std.specs.List.Sorted.{IsStrictlySortedBy}
 use Rattle.std.specs.Ordering.{ordering_reverse}
-use Rattle.serde_json.specs.Data.{Data, null, boolean, number, string, array, object, Items, no_items, item, Members, no_members, member}
+use Rattle.serde_json.specs.Data.{Data, string, Members, no_members, member}
 use Rattle.tb_task.proofs.Ids.{length-id_text}
 use Rattle.tb_task.proofs.MomentTexts.{read_text, length-moment_text}
 use Rattle.tb_task.specs.MomentText.{moment_text}

@@ -3,7 +3,7 @@ use Rattle.std.proofs.Common.{◌≡◌, ℕ, pos, negsuc, ◌^◌, ◌<◌, ◌
 use Rattle.std.specs.List.{AllByRecursion}
 use Rattle.std.specs.List.Sorted.{IsStrictlySortedBy}
 use Rattle.std.specs.Prelude.{IfSome}
-use Rattle.serde_json.specs.Data.{Data, string, object, Items, no_items, item, Members, no_members, member, depth, items_depth, members_depth}
+use Rattle.serde_json.specs.Data.{Data, string, Members, no_members, depth, items_depth, members_depth}
 use Rattle.serde_json.specs.Read.{read}
 use Rattle.tb_task.specs.Storable.{IsStorable, IsStorableExtra, IsValue}
 use Rattle.tb_task.specs.TaskId.{IsRead}

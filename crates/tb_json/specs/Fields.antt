@@ -1,5 +1,5 @@
 -- The attributes of a task in JSON, read in byte order of their names, so that the first fault is the first faulty name.
-use Rattle.std.specs.Prelude.{ℕ, ◌+◌, List, [], Option, Some, None, option_and_then, Result, Ok, Err, codes, unwrap_or}
+use Rattle.std.specs.Prelude.{◌+◌, [], option_and_then, Result, Ok, Err, codes, unwrap_or}
 use Rattle.serde_json.specs.Data.{Data, null, boolean, number, string, array, object, Members}
 use Rattle.tb_json.specs.Annotations.{annotations_form}
 use Rattle.tb_json.specs.Attribute.{given, attribute, required, text_form, moment_form, id_form, status_form, mask_form, priority_in}

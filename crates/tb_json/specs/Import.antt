@@ -9,7 +9,7 @@ use Rattle.tb_json.specs.Reading.{task_of}
 use Rattle.tb_json.specs.declared.fault.JsonFault.{JsonFault}
 use Rattle.tb_json.specs.declared.fault.JsonFault.TheVariants.{NotObject, BadField, Memory as NoMemory}
 use Rattle.tb_json.specs.declared.import_fault.ImportFault.{ImportFault}
-use Rattle.tb_json.specs.declared.import_fault.ImportFault.TheVariants.{NotJson, TooMany, BadTask, Memory}
+use Rattle.tb_json.specs.declared.import_fault.ImportFault.TheVariants.{NotJson, TooMany, BadTask}
 
 -- ---- the items
 

@@ -1,5 +1,5 @@
 -- What a reader of an import answered, beside what its definition gives.
-use Rattle.std.specs.Prelude.{◌≡◌, Result, Ok, Err}
+use Rattle.std.specs.Prelude.{◌≡◌, Result, Err}
 use Rattle.tb_values.specs.Outcome.{Gives}
 use Rattle.tb_json.specs.declared.import_fault.ImportFault.{ImportFault}
 use Rattle.tb_json.specs.declared.import_fault.ImportFault.TheVariants.{NotJson, TooMany, BadTask, Memory}

@@ -3,6 +3,7 @@
 ghost use Rattle.std.specs.Prelude.{◌≡◌, IfOk, Ok};
 ghost use Rattle.tb_task.specs.Storable.{IsStorable};
 ghost use Rattle.tb_task.specs.declared.task.Task.{Task as StoredTask};
+ghost use Rattle.tb_json.specs.Attribute.{well_formed};
 ghost use Rattle.tb_json.specs.Outcome.{Reads};
 ghost use Rattle.tb_json.specs.Stored.{stored_text, stored_task as task_in, stored_of};
 
@@ -21,6 +22,16 @@ pub fn write_stored(alloc: Global, task: &Task) -> Result<Text, AllocError>
     text_of(alloc, task, &None)
 }
 
+/// The value, or the fault of its name.
+fn required<T: Drop>(alloc: Global, name: &str, value: Option<T>) -> Result<T, JsonFault>
+    ensures { Reads result (well_formed name.now value) }
+{
+    match value {
+        Some(value) => Ok(value),
+        None => Err(bad_field(alloc, name)),
+    }
+}
+
 /// The task of the attributes, of which none is made up.
 #[tactic(auto, unfolding(crate::specs::Stored::stored_task))]
 fn stored_task(alloc: Global, fields: Fields) -> Result<Task, JsonFault>
@@ -33,15 +44,9 @@ fn stored_task(alloc: Global, fields: Fields) -> Result<Task, JsonFault>
         extras,
         ..
     } = fields;
-    let Some(entry) = first.entry else {
-        return Err(bad_field(alloc, "entry"));
-    };
-    let Some(status) = third.status else {
-        return Err(bad_field(alloc, "status"));
-    };
-    let Some(id) = third.uuid else {
-        return Err(bad_field(alloc, "uuid"));
-    };
+    let entry = required(alloc, "entry", first.entry)?;
+    let status = required(alloc, "status", third.status)?;
+    let id = required(alloc, "uuid", third.uuid)?;
     Ok(Task {
         id,
         status,

@@ -1,6 +1,5 @@
-use Rattle.std.proofs.Common.{sym, ◌∙◌, subst, append-nil, rules, map, string_bytes}
-use Rattle.std.specs.List.Sorted.{IsStrictlySortedBy}
-use Rattle.tb_json.proofs.TextLists.{text_cmp, sorted_texts}
+use Rattle.std.proofs.Common.{append-nil}
+use Rattle.tb_json.proofs.TextLists.{sorted_texts}
 use Rattle.tb_json.proofs.lists.listed.Goals as goal
 
 pub returns-clause-increasing : goal.returns-clause-increasing

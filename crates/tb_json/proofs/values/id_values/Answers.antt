@@ -1,6 +1,4 @@
-use Rattle.std.proofs.Common.{◌≡◌, sym, ◌∙◌, drop, add-one, arith, rules}
-use Rattle.serde_json.specs.View.{view}
-use Rattle.tb_json.specs.Writing.{items_of_ids}
+use Rattle.std.proofs.Common.{add-one, rules}
 use Rattle.tb_json.proofs.WriteSteps.{ids-more, ids-done}
 use Rattle.tb_json.proofs.values.id_values.Goals as goal
 

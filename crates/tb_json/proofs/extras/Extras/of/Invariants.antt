@@ -1,4 +1,3 @@
-use Rattle.std.proofs.Common.{◌≡◌}
 use Rattle.serde_json.specs.View.{members_view}
 use Rattle.tb_json.proofs.ExtraSteps.{SoFar}
 use Rattle.tb_json.proofs.extras.Extras.of.Given as goal
