@@ -1,0 +1,5 @@
+pub mod ClosingLemmas
+pub mod FramingLemmas
+pub mod HeadLemmas
+pub mod ReadingLemmas
+pub mod WireLemmas
