@@ -1,5 +1,6 @@
 pub mod ClosingLemmas
-pub mod FramingLemmas
 pub mod HeadLemmas
+pub mod NumeralLemmas
 pub mod ReadingLemmas
+pub mod RouteLemmas
 pub mod WireLemmas

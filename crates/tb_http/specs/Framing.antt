@@ -3,11 +3,11 @@ use Rattle.std.specs.Prelude.{ℕ, ◌==◌, nat_lt, Bool, not, ◌&&◌, ◌||�
 use Rattle.std.specs.List.{list_all, list_any}
 use Rattle.std.specs.Str.{bytes_eq}
 use Rattle.std.specs.Str.Parse.{digits_value}
-use Rattle.std.specs.Char.{is_ascii_digit}
 use Rattle.tb_http.specs.declared.fault.WireFault.{WireFault}
 use Rattle.tb_http.specs.declared.fault.WireFault.TheVariants.{BadHead, HeadTooLong, Coding, NoLength, BodyTooLong}
 use Rattle.tb_http.specs.declared.message.Field.{Field}
 use Rattle.tb_http.specs.declared.message.Head.{Head}
+use Rattle.tb_http.specs.Numerals.{is_number, same_number}
 use Rattle.tb_http.specs.Message.{is_named, count_named}
 
 -- the most fields, and the longest body
@@ -16,19 +16,6 @@ field_limit = 64
 
 abbrev pub body_limit : ℕ
 body_limit = 1048576
-
--- decimal digits, and at least one
-abbrev pub is_number : List ℕ → Bool
-is_number text = not (length text == 0) && list_all is_ascii_digit text
-
--- the digits from the first that is no zero
-abbrev pub significant : List ℕ → List ℕ
-significant [] = []
-significant (digit ∷ digits) = if digit == 48 then significant digits else digit ∷ digits
-
--- two numerals of one number
-abbrev pub same_number : List ℕ → List ℕ → Bool
-same_number a b = bytes_eq (significant a) (significant b)
 
 -- a Content-Length line, if it is one, has the number of the first
 unfoldable pub agrees : List ℕ → Field → Bool

@@ -2,17 +2,16 @@
 ghost use Rattle.std.specs.Prelude.{◌≡◌, ◌<◌, ◌≤◌, ◌^◌, ℕ, List, length, IfOk, find, MatchOption, IsTrue, codes};
 ghost use Rattle.std.specs.List.{list_all, list_any};
 ghost use Rattle.std.specs.Str.{bytes_eq};
-ghost use Rattle.std.specs.Char.{is_ascii_digit};
-ghost use Rattle.std.specs.Str.Parse.{digits_value};
 ghost use Rattle.tb_http.specs.Framing as framing;
 ghost use Rattle.tb_http.specs.Message.{is_named as is_named_so, count_named as count_of};
 
 use crate::fault::WireFault;
 use crate::message::{Field, Head, find_field, is_named};
+use crate::numerals::{bounded_number, is_number, same_number};
 use http::Method;
 
 /// The longest body.
-pub const BODY_LIMIT: usize = 1_048_576;
+pub const BODY_LIMIT: u64 = 1_048_576;
 
 /// The most fields.
 pub const FIELD_LIMIT: usize = 64;
@@ -24,39 +23,6 @@ pub fn count_named(fields: &[Field], name: &str) -> usize
     ensures { result ≡ count_of name.now fields.now }
 {
     fields.iter().filter(|field| is_named(field, name)).count()
-}
-
-fn all_digits(text: &[u8]) -> bool
-    ensures { result ≡ list_all is_ascii_digit text.now }
-{
-    text.iter().all(|byte| byte.is_ascii_digit())
-}
-
-// Decimal digits, and at least one.
-fn is_number(text: &[u8]) -> bool
-    ensures { result ≡ framing.is_number text.now }
-{
-    !text.is_empty() && all_digits(text)
-}
-
-// The digits from the first that is no zero.
-fn significant(digits: &[u8]) -> &[u8]
-    ensures { result.now ≡ framing.significant digits.now }
-{
-    let mut rest = digits;
-    while let Some((first, more)) = rest.split_first() {
-        if *first != b'0' {
-            break;
-        }
-        rest = more;
-    }
-    rest
-}
-
-fn same_number(a: &[u8], b: &[u8]) -> bool
-    ensures { result ≡ framing.same_number a.now b.now }
-{
-    significant(a) == significant(b)
 }
 
 #[tactic(auto, unfolding(crate::specs::Framing::agrees))]
@@ -71,23 +37,6 @@ fn is_long(line: &Field) -> bool
     ensures { result ≡ framing.is_long line.now }
 {
     is_named(line, CONTENT_LENGTH) && line.value.len() > 18
-}
-
-// The number that these digits write, if it is no longer than a body may be.
-#[tactic(auto, using(crate::proofs::FramingLemmas::digits_grow))]
-fn bounded_number(digits: &[u8]) -> Option<usize>
-    requires number { IsTrue (framing.is_number digits.now) }
-    ensures { MatchOption result (framing.body_limit < digits_value 10 digits.now)
-        (λ n. (n ≡ digits_value 10 digits.now) × (n ≤ BODY_LIMIT)) }
-{
-    let mut value = 0;
-    for digit in digits {
-        if value > BODY_LIMIT {
-            return None;
-        }
-        value = value * 10 + usize::from(*digit - b'0');
-    }
-    if value > BODY_LIMIT { None } else { Some(value) }
 }
 
 // Whether each Content-Length line has the number of the first.
@@ -115,8 +64,8 @@ fn length_of(first: &[u8], fields: &[Field]) -> Result<usize, WireFault>
     if any_is_long(fields) {
         return Err(WireFault::BodyTooLong);
     }
-    match bounded_number(first) {
-        Some(length) => Ok(length),
+    match bounded_number(first, BODY_LIMIT) {
+        Some(length) => Ok(length as usize),
         None => Err(WireFault::BodyTooLong),
     }
 }

@@ -3,13 +3,17 @@
 //! `tb_task` for identifiers.
 #![tactic(auto)]
 
+pub mod answer;
 pub mod closing;
 pub mod fault;
 pub mod framing;
 pub mod head;
 pub mod laws;
 pub mod message;
+pub mod numerals;
 pub mod reader;
+pub mod resource;
+pub mod route;
 pub mod source;
 
 #[cfg(test)]
