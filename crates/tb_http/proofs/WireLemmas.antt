@@ -168,12 +168,6 @@ pub window_begins : (held : List ℕ) (headers : List HeaderSpan) (spans : Reque
     → (spans.len ≤ length held) × (spans.len ≤ head_limit) × BeginsWithHead held head (drop spans.len held)
 window_begins held headers spans head within found says = head_in_window head_limit held headers spans head (omega arith) within found says
 
-pub Keeps-trans : (a b c : Option (List ℕ)) → Keeps a b → Keeps b c → Keeps a c
-Keeps-trans None b c p q = tt
-Keeps-trans (Some x) None c p q = absurd p
-Keeps-trans (Some x) (Some y) None p q = absurd q
-Keeps-trans (Some x) (Some y) (Some z) p q = q ∙ p
-
 -- why a body was not read
 pub fault_of_fill : (known left : Option (List ℕ)) (held : List ℕ) (len size : ℕ) (head : Head) (fault : WireFault) → Keeps known (prepend_known held left)
     → (fault ≡ Memory) ⊎ ((fault ≡ ReadFailed) ⊎ (fault ≡ Torn)) → (fault ≡ Torn → (length held < len + size) × IsAtEnd left)

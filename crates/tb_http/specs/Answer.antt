@@ -1,10 +1,11 @@
 -- The answer to a message: its head (RFC 9112, sections 4 and 5), and its body.
-use Rattle.std.specs.Prelude.{ℕ, ◌==◌, Bool, true, false, if◌then◌else◌, List, [], ◌∷◌, ◌++◌, codes, decimal, Option, Some, None}
-use Rattle.std.specs.Str.{bytes_eq}
+use Rattle.std.specs.Prelude.{ℕ, ◌==◌, Bool, true, false, ◌||◌, if◌then◌else◌, List, [], ◌∷◌, ◌++◌, length, codes, decimal, Option, Some, None}
 use Rattle.tb_http.specs.declared.answer.ContentType.{ContentType}
 use Rattle.tb_http.specs.declared.answer.ContentType.TheVariants.{Json, PlainText}
 use Rattle.tb_http.specs.declared.answer.Answer.{Answer}
 use Rattle.tb_http.specs.declared.route.Verb.{Verb}
+use Rattle.tb_http.specs.declared.fault.WireFault.{WireFault}
+use Rattle.tb_http.specs.Fault.{status_of, closes_connection}
 use Rattle.tb_http.specs.Routes.{verb_name}
 
 -- the phrase of a status that the server answers
@@ -57,6 +58,16 @@ answer_head answer size =
     ++ (field_line (codes "connection") (connection_text answer.is_last)
     ++ codes "\r\n"))))
 
--- a message of the method HEAD is answered without the body, whose length the head still gives
-unfoldable pub sent_body : List ℕ → List ℕ → List ℕ
-sent_body method body = if bytes_eq method (codes "HEAD") then [] else body
+-- the whole answer with this body, which isn't sent to a message of the method HEAD
+unfoldable pub answer_text : Answer → List ℕ → List ℕ
+answer_text answer body = answer_head answer (length body) ++ (if answer.sends_body then body else [])
+
+-- the answer to a fault, but for its body: its status if it has one
+abbrev pub answer_with : Option ℕ → Option Verb → Bool → Bool → Option Answer
+answer_with None allow is_last sends_body = None
+answer_with (Some status) allow is_last sends_body =
+    Some (record { status = status; content_type = Json; allow = allow; is_last = is_last; sends_body = sends_body })
+
+abbrev pub fault_answer : WireFault → Option Verb → Bool → Bool → Option Answer
+fault_answer fault allow is_closing sends_body =
+    answer_with (status_of fault) allow (is_closing || closes_connection fault) sends_body

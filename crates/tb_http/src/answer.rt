@@ -1,10 +1,14 @@
 //! The answer to a message. Its head is written into room that was made before, so that it takes no memory.
-ghost use Rattle.std.specs.Prelude.{◌≡◌, ◌≤◌, ◌<◌, ◌+◌, ◌++◌, length, codes, decimal, vec_len, vec_capacity};
-ghost use Rattle.tb_http.specs.Answer.{phrase_of, type_text, status_line, field_line, connection_text, allow_line, answer_head, sent_body as sent_body_of};
+ghost use Rattle.std.specs.Prelude.{◌≡◌, ◌≤◌, ◌<◌, ◌+◌, ◌++◌, length, take, codes, decimal, IfOk, OnOk, IfErr, vec_len, vec_capacity};
+ghost use Rattle.std.specs.Io.KnownBytes.{Appends};
+ghost use Rattle.tb_http.specs.Answer.{phrase_of, type_text, status_line, field_line, connection_text, allow_line, answer_head, answer_text, fault_answer};
 
+use crate::fault::WireFault;
 use crate::route::Verb;
-use http::Method;
 use itoa::Buffer;
+use std::alloc::{AllocError, Global};
+use std::io::Write;
+use tb_values::{WriteFault, write_whole};
 
 /// What a body is.
 #[derive(Clone, Copy, Debug, PartialEq, Eq)]
@@ -22,10 +26,12 @@ pub struct Answer {
     pub allow: Option<Verb>,
     /// Whether the connection is closed after it.
     pub is_last: bool,
+    /// Whether the body is sent: a message of the method HEAD is answered without it.
+    pub sends_body: bool,
 }
 
-/// Room for any head.
-pub const HEAD_ROOM: usize = 512;
+// The longest head is shorter.
+const HEAD_ROOM: usize = 512;
 
 // The phrase of a status that the server answers.
 #[tactic(auto, unfolding(crate::specs::Answer::phrase_of))]
@@ -144,9 +150,8 @@ fn connection_of(is_last: bool) -> &'static str
     if is_last { "close" } else { "keep-alive" }
 }
 
-/// Writes the head of an answer with a body of this length. It takes no memory.
 #[tactic(auto, unfolding(crate::specs::Answer::answer_head))]
-pub fn push_head(head: &mut Vec<u8>, answer: Answer, size: u64)
+fn push_head(head: &mut Vec<u8>, answer: Answer, size: u64)
     requires { vec_len head.old + HEAD_ROOM ≤ vec_capacity head.old }
     ensures items { head.new.items ≡ head.old.items ++ answer_head answer size }
     ensures capacity { vec_capacity head.old ≤ vec_capacity head.new }
@@ -159,10 +164,73 @@ pub fn push_head(head: &mut Vec<u8>, answer: Answer, size: u64)
     push(head, "\r\n");
 }
 
-/// What of a body is sent to a message of this method: nothing to HEAD.
-#[tactic(auto, unfolding(crate::specs::Answer::sent_body))]
-pub fn sent_body<'a>(method: &Method, body: &'a [u8]) -> &'a [u8]
-    ensures { result.now ≡ sent_body_of method.now body.now }
+/// Room for the head of an answer. It is made before a message is handled, so that the answer takes no memory.
+#[derive(Drop)]
+pub struct HeadRoom {
+    text: Vec<u8>,
+    ghost room: { 512 ≤ vec_capacity text },
+}
+
+impl HeadRoom {
+    pub fn new(alloc: Global) -> Result<HeadRoom, AllocError>
+        ensures { IfOk result (λ room. 512 ≤ vec_capacity room.text) }
+    {
+        Ok(HeadRoom {
+            text: Vec::with_capacity(alloc, HEAD_ROOM)?,
+        })
+    }
+
+    /// Writes the head of an answer whose body has this length.
+    pub fn head(&mut self, answer: Answer, size: u64) -> &[u8]
+        ensures { result.now ≡ answer_head answer size }
+    {
+        self.text.clear();
+        push_head(&mut self.text, answer, size);
+        self.text.as_slice()
+    }
+
+    /// Sends an answer whole, or a front of it that is known.
+    #[tactic(auto, unfolding(crate::specs::Answer::answer_text))]
+    pub fn send<W: Write>(&mut self, writer: &mut W, answer: Answer, body: &[u8]) -> Result<(), WriteFault>
+        ensures whole { OnOk result (Appends (W.contents writer.old) (W.contents writer.new) (answer_text answer body.now)) }
+        ensures cut { IfErr result (λ fault. (fault.written < length (answer_text answer body.now))
+            × Appends (W.contents writer.old) (W.contents writer.new) (take fault.written (answer_text answer body.now))) }
+    {
+        let head = self.head(answer, body.len() as u64);
+        write_both(writer, head, if answer.sends_body { body } else { &[] })
+    }
+}
+
+// Writes two texts one after the other.
+fn write_both<W: Write>(writer: &mut W, front: &[u8], behind: &[u8]) -> Result<(), WriteFault>
+    ensures whole { OnOk result (Appends (W.contents writer.old) (W.contents writer.new) (front.now ++ behind.now)) }
+    ensures cut { IfErr result (λ fault. (fault.written < length (front.now ++ behind.now))
+        × Appends (W.contents writer.old) (W.contents writer.new) (take fault.written (front.now ++ behind.now))) }
 {
-    if method.as_str() == "HEAD" { &[] } else { body }
+    write_whole(writer, front)?;
+    match write_whole(writer, behind) {
+        Ok(()) => Ok(()),
+        Err(fault) => Err(WriteFault {
+            written: front.len() + fault.written,
+        }),
+    }
+}
+
+impl WireFault {
+    /// The answer to a fault, but for its body, which names it; None where nothing is answered. `allow` is the
+    /// method that the path has, and `is_closing` is that of the reader.
+    pub fn answer(self, allow: Option<Verb>, is_closing: bool, sends_body: bool) -> Option<Answer>
+        ensures { result ≡ fault_answer self allow is_closing sends_body }
+    {
+        match self.status() {
+            Some(status) => Some(Answer {
+                status,
+                content_type: ContentType::Json,
+                allow,
+                is_last: is_closing || self.closes(),
+                sends_body,
+            }),
+            None => None,
+        }
+    }
 }
