@@ -1,5 +1,6 @@
 pub mod ClosingLemmas
 pub mod HeadLemmas
+pub mod MessageLemmas
 pub mod NumeralLemmas
 pub mod ReadingLemmas
 pub mod RouteLemmas

@@ -1,5 +1,5 @@
 -- Heads, messages and their fields.
-use Rattle.std.specs.Prelude.{ℕ, List, map, Option, Bool, count_by}
+use Rattle.std.specs.Prelude.{ℕ, List, ◌∷◌, ◌++◌, map, Option, Bool, count_by}
 use Rattle.std.specs.Str.{str_eq_ignore_ascii_case}
 use Rattle.httparse.specs.Grammar.{RequestHead}
 use Rattle.httparse.specs.Spans.{name_and_value}
@@ -23,6 +23,10 @@ head_from tree = record {
 -- the message of a head with a body behind it
 abbrev pub message_from : Head → List ℕ → Message
 message_from head body = record { method = head.method; target = head.target; fields = head.fields; body = body }
+
+-- what a call is known by, beside its identifier: its method, a space, its target, a line feed and its body
+abbrev pub content_of : Message → List ℕ
+content_of message = message.method ++ 32 ∷ message.target ++ 10 ∷ message.body
 
 -- the field has this name, in any case of letters
 abbrev pub is_named : List ℕ → Field → Bool

@@ -1,11 +1,12 @@
 //! Heads and messages.
-ghost use Rattle.std.specs.Prelude.{◌≡◌, ◌<◌, ◌≤◌, ◌-◌, ◌+◌, ◌*◌, ℕ, List, length, map, take, All, IfOk, IfSome, find};
+ghost use Rattle.std.specs.Prelude.{◌≡◌, ◌<◌, ◌≤◌, ◌-◌, ◌+◌, ◌*◌, ℕ, List, length, map, take, All, IfOk, IfSome, IsUtf8, find};
 ghost use Rattle.std.specs.Option.{option_copied};
-ghost use Rattle.httparse.specs.Grammar.{RequestHead};
+ghost use Rattle.httparse.specs.Grammar.{RequestHead, IsToken};
 ghost use Rattle.httparse.specs.Spans.{IsHeaderWithin, header_bytes, IsRequestOf, IsRequestWithin, IsRequestAt};
-ghost use Rattle.tb_http.specs.Message.{field_from, head_from, is_named as is_named_so};
+ghost use Rattle.tb_http.specs.Message.{field_from, head_from, content_of, is_named as is_named_so};
 
 use http::Method;
+use http::method::MethodError;
 use httparse::spans::{HeaderSpan, RequestSpans};
 use std::alloc::{AllocError, Global};
 use tb_values::{Items, Text};
@@ -73,7 +74,28 @@ fn fields_at(alloc: Global, bytes: &[u8], spans: &[HeaderSpan]) -> Result<Items<
     Ok(Items::from_vec(fields))
 }
 
-/// The head that the spans cover.
+// The method that these bytes name.
+fn method_at(alloc: Global, text: &[u8]) -> Result<Method, AllocError>
+    requires { IsToken text.now }
+    ensures { IfOk result (λ method. method ≡ text.now) }
+{
+    match Method::from_bytes(alloc, text) {
+        Ok(method) => Ok(method),
+        Err(MethodError::OutOfMemory) => Err(AllocError),
+        Err(MethodError::Invalid) => unreachable!(),
+    }
+}
+
+// The target of these bytes.
+fn target_at(alloc: Global, text: &[u8]) -> Result<Text, AllocError>
+    requires { IsUtf8 text.now }
+    ensures { IfOk result (λ target. target ≡ text.now) }
+{
+    let bytes = Vec::from_slice(alloc, text)?;
+    Ok(Text::from_string(String::from_utf8(bytes).unwrap()))
+}
+
+/// The head that the spans cover. Only want of memory keeps it from being made.
 pub fn head_at(
     alloc: Global,
     bytes: &[u8],
@@ -81,18 +103,29 @@ pub fn head_at(
     spans: RequestSpans,
 ) -> Result<Head, AllocError>
     requires within { IsRequestWithin bytes.now headers.now spans }
+    requires found { IsRequestOf bytes.now headers.now spans }
     ensures { IfOk result (λ head. (tree : RequestHead) → IsRequestAt bytes.now headers.now spans tree → head ≡ head_from tree) }
 {
-    let Ok(method) = Method::from_bytes(alloc, spans.method.of(bytes)) else {
-        return Err(AllocError);
-    };
-    let Ok(target) = String::from_utf8(Vec::from_slice(alloc, spans.path.of(bytes))?) else {
-        return Err(AllocError);
-    };
+    let method = spans.method.of(bytes);
+    let target = spans.path.of(bytes);
     Ok(Head {
-        method,
-        target: Text::from_string(target),
+        method: method_at(alloc, method)?,
+        target: target_at(alloc, target)?,
         minor: spans.version,
         fields: fields_at(alloc, bytes, &headers[..spans.headers])?,
     })
+}
+
+impl Message {
+    /// What a call is known by, beside its identifier: the method, a space, the target, a line feed and the body.
+    pub fn content(&self, alloc: Global) -> Result<Items<u8>, AllocError>
+        ensures { IfOk result (λ content. content ≡ content_of self.now) }
+    {
+        let mut content = Vec::from_slice(alloc, self.method.as_str().as_bytes())?;
+        content.extend_from_slice(b" ")?;
+        content.extend_from_slice(self.target.as_str().as_bytes())?;
+        content.extend_from_slice(b"\n")?;
+        content.extend_from_slice(self.body.as_slice())?;
+        Ok(Items::from_vec(content))
+    }
 }

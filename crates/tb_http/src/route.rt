@@ -90,7 +90,9 @@ pub struct Routes {
 }
 
 impl Routes {
-    pub fn new(alloc: Global) -> Result<Routes, InsertError> {
+    pub fn new(alloc: Global) -> Result<Routes, InsertError>
+        ensures { IfOk result (λ table. table.router ≡ routes.route_rows) }
+    {
         Ok(Routes {
             router: table(alloc)?,
         })
