@@ -1,0 +1,73 @@
+-- The answer to a message: its head (RFC 9112, sections 4 and 5), and its body.
+use Rattle.std.specs.Prelude.{ℕ, ◌==◌, Bool, true, false, ◌||◌, if◌then◌else◌, List, [], ◌∷◌, ◌++◌, length, codes, decimal, Option, Some, None}
+use Rattle.tb_http.specs.declared.answer.ContentType.{ContentType}
+use Rattle.tb_http.specs.declared.answer.ContentType.TheVariants.{Json, PlainText}
+use Rattle.tb_http.specs.declared.answer.Answer.{Answer}
+use Rattle.tb_http.specs.declared.route.Verb.{Verb}
+use Rattle.tb_http.specs.declared.fault.WireFault.{WireFault}
+use Rattle.tb_http.specs.Fault.{status_of, closes_connection}
+use Rattle.tb_http.specs.Routes.{verb_name}
+
+-- the phrase of a status that the server answers
+unfoldable pub phrase_of : ℕ → List ℕ
+phrase_of status =
+    if status == 200 then codes "OK"
+    else (if status == 400 then codes "Bad Request"
+    else (if status == 401 then codes "Unauthorized"
+    else (if status == 403 then codes "Forbidden"
+    else (if status == 404 then codes "Not Found"
+    else (if status == 405 then codes "Method Not Allowed"
+    else (if status == 409 then codes "Conflict"
+    else (if status == 411 then codes "Length Required"
+    else (if status == 413 then codes "Content Too Large"
+    else (if status == 422 then codes "Unprocessable Content"
+    else (if status == 431 then codes "Request Header Fields Too Large"
+    else (if status == 500 then codes "Internal Server Error"
+    else (if status == 501 then codes "Not Implemented"
+    else (if status == 503 then codes "Service Unavailable"
+    else [])))))))))))))
+
+-- the first line
+unfoldable pub status_line : ℕ → List ℕ
+status_line status = codes "HTTP/1.1 " ++ (decimal status ++ (codes " " ++ (phrase_of status ++ codes "\r\n")))
+
+-- a field's line
+unfoldable pub field_line : List ℕ → List ℕ → List ℕ
+field_line name value = name ++ (codes ": " ++ (value ++ codes "\r\n"))
+
+abbrev pub type_text : ContentType → List ℕ
+type_text Json = codes "application/json"
+type_text PlainText = codes "text/plain; charset=utf-8"
+
+abbrev pub connection_text : Bool → List ℕ
+connection_text true = codes "close"
+connection_text false = codes "keep-alive"
+
+-- the line for the method that a path has, where it was asked for another
+abbrev pub allow_line : Option Verb → List ℕ
+allow_line None = []
+allow_line (Some verb) = field_line (codes "allow") (verb_name verb)
+
+-- the whole head of an answer with a body of this length
+unfoldable pub answer_head : Answer → ℕ → List ℕ
+answer_head answer size =
+    status_line answer.status
+    ++ (field_line (codes "content-type") (type_text answer.content_type)
+    ++ (field_line (codes "content-length") (decimal size)
+    ++ (allow_line answer.allow
+    ++ (field_line (codes "connection") (connection_text answer.is_last)
+    ++ codes "\r\n"))))
+
+-- the whole answer with this body, which isn't sent to a message of the method HEAD
+unfoldable pub answer_text : Answer → List ℕ → List ℕ
+answer_text answer body = answer_head answer (length body) ++ (if answer.sends_body then body else [])
+
+-- the answer to a fault, but for its body: its status if it has one
+abbrev pub answer_with : Option ℕ → Option Verb → Bool → Bool → Option Answer
+answer_with None allow is_last sends_body = None
+answer_with (Some status) allow is_last sends_body =
+    Some (record { status = status; content_type = Json; allow = allow; is_last = is_last; sends_body = sends_body })
+
+abbrev pub fault_answer : WireFault → Option Verb → Bool → Bool → Option Answer
+fault_answer fault allow is_closing sends_body =
+    answer_with (status_of fault) allow (is_closing || closes_connection fault) sends_body

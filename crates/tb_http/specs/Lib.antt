@@ -1,0 +1,12 @@
+pub mod Head
+pub mod Judgement
+pub mod Message
+pub mod Fault
+pub mod Numerals
+pub mod Framing
+pub mod Closing
+pub mod Wire
+pub mod Reading
+pub mod Routes
+pub mod Resources
+pub mod Answer

@@ -1,0 +1,31 @@
+//! The messages of HTTP/1.1: heads and bodies taken from the bytes of any reader, the resources that they ask for,
+//! and the heads of their answers. It stands on `httparse` for the grammar of heads, on `matchit` for routes, on
+//! `tb_task` for identifiers and on `tb_values` for texts, lists and writing.
+#![tactic(auto)]
+
+mod answer;
+mod closing;
+mod fault;
+mod framing;
+mod head;
+pub mod laws;
+mod message;
+mod numerals;
+mod reader;
+mod resource;
+mod route;
+mod source;
+
+pub use answer::{Answer, ContentType, HeadRoom};
+pub use closing::MESSAGE_LIMIT;
+pub use fault::WireFault;
+pub use framing::{BODY_LIMIT, FIELD_LIMIT};
+pub use head::HEAD_LIMIT;
+pub use message::{Field, Message, find_field};
+pub use numerals::read_board;
+pub use reader::Reader;
+pub use resource::{Resource, RouteFault, TaskAction};
+pub use route::{Route, Routes, Verb};
+
+#[cfg(test)]
+mod tests;
