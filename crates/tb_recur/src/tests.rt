@@ -41,30 +41,36 @@ fn days_are_counted_from_the_first(rt: HostRuntime) {
     assert_eq!(rt; due_text("99991231T090000Z", "daily", 1), None);
 }
 
-/// Whether instance k of a monthly template due on 31 January 2026 is wanted.
-fn is_rent_wanted(until: Option<&str>, k: u32, at: &str) -> Option<bool> {
-    let first = Moment::read(b"20260131T090000Z")?;
-    let until = match until {
-        Some(text) => Some(Moment::read(text.as_bytes())?),
-        None => None,
+fn moment_at(text: &str) -> Option<Moment> {
+    Moment::read(text.as_bytes())
+}
+
+/// Whether instance k of a template is wanted.
+fn is_wanted(plan: &[&str], until: &str, k: u32, at: &str) -> Option<bool> {
+    let [first, step] = plan else {
+        return None;
     };
-    Some(wanted(first, Step::read("monthly")?, until, k, Moment::read(at.as_bytes())?))
+    Some(wanted(moment_at(first)?, Step::read(step)?, moment_at(until), k, moment_at(at)?))
 }
 
 #[test]
 fn rent_next_due(rt: HostRuntime) {
-    assert_eq!(rt; is_rent_wanted(None, 0, "20250101T000000Z"), Some(true));
-    assert_eq!(rt; is_rent_wanted(None, 1, "20260131T085959Z"), Some(false));
-    assert_eq!(rt; is_rent_wanted(None, 1, "20260201T000000Z"), Some(true));
-    assert_eq!(rt; is_rent_wanted(None, 2, "20260228T085959Z"), Some(false));
-    assert_eq!(rt; is_rent_wanted(None, 2, "20260228T090000Z"), Some(true));
-    let last = Some("20260228T090000Z");
-    assert_eq!(rt; is_rent_wanted(last, 1, "20270101T000000Z"), Some(true));
-    assert_eq!(rt; is_rent_wanted(last, 2, "20270101T000000Z"), Some(false));
+    let rent = ["20260131T090000Z", "monthly"];
+    for (until, k, at, answer) in [
+        ("", 0, "20250101T000000Z", true),
+        ("", 1, "20260131T085959Z", false),
+        ("", 1, "20260201T000000Z", true),
+        ("", 2, "20260228T085959Z", false),
+        ("", 2, "20260228T090000Z", true),
+        ("20260228T090000Z", 1, "20270101T000000Z", true),
+        ("20260228T090000Z", 2, "20270101T000000Z", false),
+    ] {
+        assert_eq!(rt; is_wanted(&rent, until, k, at), Some(answer), "{k} at {at}");
+    }
 }
 
 fn moment(text: &str) -> Result<Moment, Fail> {
-    Ok(Moment::read(text.as_bytes()).ok_or("a moment")?)
+    Ok(moment_at(text).ok_or("a moment")?)
 }
 
 /// A template that was begun by mistake, with a wait and a scheduled day.
