@@ -5,12 +5,14 @@ use Rattle.tb_core.specs.declared.command.Answer.{Answer}
 use Rattle.tb_core.specs.declared.command.Answer.TheVariants.{OnBoard}
 use Rattle.tb_core.specs.declared.command.BoardAnswer.{BoardAnswer}
 use Rattle.tb_core.specs.declared.command.Told.{Told}
-use Rattle.tb_core.specs.declared.command.Told.TheVariants.{Added}
-use Rattle.tb_script.specs.Replies.{added_body, answer_body, told_body}
+use Rattle.tb_core.specs.declared.command.Told.TheVariants.{Added, Changed, Swept}
+use Rattle.tb_script.specs.Replies.{added_body, changed_body, swept_body, answer_body, told_body}
 
 told_without_float : (a : BoardAnswer) (told : Told) → has_float (told_body a told) ≡ false
-unfolding added_body
+unfolding added_body changed_body swept_body
 told_without_float a (Added id dropped) = refl
+told_without_float a (Changed id) = refl
+told_without_float a Swept = refl
 
 pub answer_without_float : (a : Answer) → has_float (answer_body a) ≡ false
 answer_without_float (OnBoard a) = told_without_float a a.told

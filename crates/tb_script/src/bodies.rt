@@ -3,7 +3,7 @@ ghost use Rattle.std.specs.Prelude.{◌≡◌, IfOk};
 ghost use Rattle.std.specs.Option.{option_map};
 ghost use Rattle.serde_json.specs.View.{view};
 ghost use Rattle.tb_task.specs.TaskId.{id_text};
-ghost use Rattle.tb_script.specs.Replies.{added_body, answer_body, field_name, refusal_body, refusal_name, refused_field, told_body, unreadable_body};
+ghost use Rattle.tb_script.specs.Replies.{added_body, answer_body, changed_body, field_name, refusal_body, refusal_name, refused_field, swept_body, told_body, unreadable_body};
 
 use crate::line_fault::Unreadable;
 use serde_json::{Value, json};
@@ -35,7 +35,36 @@ fn body_on_board(alloc: Global, answer: &BoardAnswer, told: &Told) -> Result<Val
 {
     match told {
         Told::Added { id, dropped } => body_of_added(alloc, answer, *id, *dropped),
+        Told::Changed { id } => body_of_changed(alloc, answer, *id),
+        Told::Swept => body_of_sweep(alloc, answer),
     }
+}
+
+#[tactic(auto, unfolding(crate::specs::Replies::swept_body))]
+fn body_of_sweep(alloc: Global, answer: &BoardAnswer) -> Result<Value, AllocError>
+    ensures { IfOk result (λ body. view body ≡ swept_body answer.now) }
+{
+    let added = answer.added;
+    let board = answer.board;
+    let more = answer.more;
+    json!(in alloc; {"added": added, "board": board, "more": more})
+}
+
+fn body_of_changed(alloc: Global, answer: &BoardAnswer, id: TaskId) -> Result<Value, AllocError>
+    ensures { IfOk result (λ body. view body ≡ changed_body answer.now (id_text id)) }
+{
+    let uuid = id.text(alloc)?;
+    body_with_task(alloc, answer, uuid.as_str())
+}
+
+#[tactic(auto, unfolding(crate::specs::Replies::changed_body))]
+fn body_with_task(alloc: Global, answer: &BoardAnswer, uuid: &str) -> Result<Value, AllocError>
+    ensures { IfOk result (λ body. view body ≡ changed_body answer.now uuid.now) }
+{
+    let added = answer.added;
+    let board = answer.board;
+    let more = answer.more;
+    json!(in alloc; {"added": added, "board": board, "more": more, "uuid": uuid})
 }
 
 fn body_of_added(
