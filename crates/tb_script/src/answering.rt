@@ -32,11 +32,7 @@ pub(crate) fn begin(alloc: Global) -> Result<World, AllocError>
 }
 
 /// Answers a line that isn't empty.
-pub(crate) fn answer_line(
-    alloc: Global,
-    world: &mut World,
-    line: &[u8],
-) -> Result<Text, AllocError>
+pub(crate) fn answer_line(alloc: Global, world: &mut World, line: &[u8]) -> Result<Text, AllocError>
     ensures world { OnOk result (world.new ≡ (answered world.old (request_of line.now)).state) }
     ensures text { IfOk result (λ text. text ≡ (answered world.old (request_of line.now)).text) }
 {
@@ -119,12 +115,7 @@ fn decide_for(
 }
 
 /// A view's text, or the reply that refuses it.
-fn write_view(
-    alloc: Global,
-    world: &World,
-    asked: &Asked,
-    view: &View,
-) -> Result<Text, AllocError>
+fn write_view(alloc: Global, world: &World, asked: &Asked, view: &View) -> Result<Text, AllocError>
     ensures { IfOk result (λ text. text ≡ view_text (viewed world.now asked.now view.now)) }
 {
     match show_to(alloc, world, asked, view)? {

@@ -100,7 +100,8 @@ pub(crate) fn body_of_fault(alloc: Global, fault: &Unreadable) -> Result<Value, 
     match fault {
         Unreadable::BadLine => json!(in alloc; {"name": "BadLine"}),
         Unreadable::BadBody(None) => json!(in alloc; {"name": "BadBody"}),
-        Unreadable::BadBody(Some(field)) => json!(in alloc; {"field": field.as_str(), "name": "BadBody"}),
+        Unreadable::BadBody(Some(field)) =>
+            json!(in alloc; {"field": field.as_str(), "name": "BadBody"}),
     }
 }
 

@@ -12,11 +12,7 @@ use tb_json::{JsonFault, read_task};
 use tb_task::{Incoming, Moment};
 
 /// The task that a text is when it comes in at a moment.
-pub(crate) fn read_incoming(
-    alloc: Global,
-    text: &str,
-    at: Moment,
-) -> Result<Incoming, LineFault>
+pub(crate) fn read_incoming(alloc: Global, text: &str, at: Moment) -> Result<Incoming, LineFault>
     ensures { Reads result (incoming_in text.now at) }
 {
     match read_value(alloc, text)? {

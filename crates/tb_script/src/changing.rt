@@ -65,17 +65,11 @@ fn index_of(boards: &[Shared<Board>], number: u32) -> Option<usize>
 fn first_with(boards: &[Shared<Board>], number: u32) -> Option<usize>
     ensures { result ≡ position (has_number number) boards.now }
 {
-    boards
-        .iter()
-        .position(|board| board.get().number == number)
+    boards.iter().position(|board| board.get().number == number)
 }
 
 /// The board with a task at its place. It is copied only where somebody else looks at it.
-fn board_with(
-    board: Shared<Board>,
-    place: usize,
-    task: Shared<Task>,
-) -> Result<Board, AllocError>
+fn board_with(board: Shared<Board>, place: usize, task: Shared<Task>) -> Result<Board, AllocError>
     ensures { IfOk result (λ changed. changed ≡ with_task_at place task board) }
 {
     let Ok(mut board) = board.into_value() else {

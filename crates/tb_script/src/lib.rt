@@ -23,7 +23,6 @@ ghost use Rattle.tb_script.specs.Lines.{answers_from};
 ghost use Rattle.tb_script.specs.Answer.{answer, first_world};
 
 pub use fault::LinesFault;
-
 use session::Session;
 use std::alloc::Global;
 use std::io::{Read, Write};

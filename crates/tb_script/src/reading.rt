@@ -109,9 +109,12 @@ fn read_add(alloc: Global, arguments: &[&str], at: Moment) -> Result<Request, Li
     let [board, body] = arguments else {
         return Err(LineFault::bad_line());
     };
-    let board = read_board(board)?;
+    let number = read_board(board)?;
     let incoming = read_incoming(alloc, body, at)?;
-    Ok(Request::Call(Command::Add { board, incoming }))
+    Ok(Request::Call(Command::Add {
+        board: number,
+        incoming,
+    }))
 }
 
 #[tactic(auto, unfolding(crate::specs::Reading::listing_in))]

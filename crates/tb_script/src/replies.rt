@@ -45,12 +45,7 @@ pub(crate) fn write_unreadable(alloc: Global, fault: &Unreadable) -> Result<Text
     Ok(Text::from_string(text))
 }
 
-fn write_reply(
-    alloc: Global,
-    status: u16,
-    number: u8,
-    body: &Value,
-) -> Result<Text, AllocError>
+fn write_reply(alloc: Global, status: u16, number: u8, body: &Value) -> Result<Text, AllocError>
     requires { has_float (view body.now) ≡ false }
     ensures { IfOk result (λ text. text ≡ reply_text status number (view body.now)) }
 {

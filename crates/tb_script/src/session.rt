@@ -61,6 +61,7 @@ impl Session {
     }
 
     /// Answers the last line.
+    #[tactic(auto, using(crate::proofs::LineLaws::answered_last))]
     pub(crate) fn finish(&mut self, output: &mut Vec<u8>) -> Result<(), AllocError>
         requires { is_one_line self.old.line.items ≡ true }
         ensures { OnOk result (output.new.items

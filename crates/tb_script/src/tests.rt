@@ -24,17 +24,23 @@ impl Read for Pieces<'_> {
     }
 }
 
-const ADD_MILK: &str = "20260101T000000Z\troot\troot-key-1\t00000000-0000-4000-8000-000000000001\tadd\t1\t{\"description\":\"Buy milk\"}\n";
+const ADD_MILK: &str =
+    "20260101T000000Z\troot\troot-key-1\t00000000-0000-4000-8000-000000000001\tadd\t1\t{\"description\":\"Buy milk\"}\n";
 
-const LIST: &str = "20260101T000000Z\troot\troot-key-1\t00000000-0000-4000-8000-000000000002\tlist\t1\n";
+const LIST: &str =
+    "20260101T000000Z\troot\troot-key-1\t00000000-0000-4000-8000-000000000002\tlist\t1\n";
 
-const TASK: &str = "20260101T000000Z\troot\troot-key-1\t00000000-0000-4000-8000-000000000003\ttask\t1\t00000001-0000-8000-8000-000000000001";
+const TASK: &str =
+    "20260101T000000Z\troot\troot-key-1\t00000000-0000-4000-8000-000000000003\ttask\t1\t00000001-0000-8000-8000-000000000001";
 
-const ADDED: &str = "200 0 {\"added\":0,\"board\":1,\"dropped\":0,\"more\":false,\"uuid\":\"00000001-0000-8000-8000-000000000001\"}\n";
+const ADDED: &str =
+    "200 0 {\"added\":0,\"board\":1,\"dropped\":0,\"more\":false,\"uuid\":\"00000001-0000-8000-8000-000000000001\"}\n";
 
-const LISTED: &str = "place  urgency flg due              project      description\n    1    0.000 --- -                -            Buy milk\n1 of 1 tasks\n";
+const LISTED: &str =
+    "place  urgency flg due              project      description\n    1    0.000 --- -                -            Buy milk\n1 of 1 tasks\n";
 
-const MILK: &str = "{\"description\":\"Buy milk\",\"entry\":\"20260101T000000Z\",\"modified\":\"20260101T000000Z\",\"status\":\"pending\",\"uuid\":\"00000001-0000-8000-8000-000000000001\"}\n";
+const MILK: &str =
+    "{\"description\":\"Buy milk\",\"entry\":\"20260101T000000Z\",\"modified\":\"20260101T000000Z\",\"status\":\"pending\",\"uuid\":\"00000001-0000-8000-8000-000000000001\"}\n";
 
 const BAD_LINE: &str = "400 - {\"name\":\"BadLine\"}\n";
 
@@ -97,7 +103,8 @@ fn buy_milk(rt: HostRuntime) -> std::result::Result<(), Fail> {
 
 #[test]
 fn number_used_by_hand(rt: HostRuntime) -> std::result::Result<(), Fail> {
-    let by_hand = "add\t1\t{\"description\":\"a\",\"uuid\":\"00000001-0000-8000-8000-000000000002\"}";
+    let by_hand =
+        "add\t1\t{\"description\":\"a\",\"uuid\":\"00000001-0000-8000-8000-000000000002\"}";
     let plain = "add\t1\t{\"description\":\"a\"}";
     let mut script = String::new(rt.alloc());
     for asked in [by_hand, plain, plain, by_hand] {
@@ -143,7 +150,11 @@ fn refused_lines(rt: HostRuntime) -> std::result::Result<(), Fail> {
         ("export\t1", "[\n]\n"),
     ] {
         let script = line(rt.alloc(), asked)?;
-        assert_eq!(rt; answers(rt.alloc(), script.as_bytes())?.as_str(), wanted, "{asked}");
+        assert_eq!(rt;
+            answers(rt.alloc(), script.as_bytes())?.as_str(),
+            wanted,
+            "{asked}"
+        );
     }
     Ok(())
 }
@@ -165,14 +176,21 @@ fn unknown_callers(rt: HostRuntime) -> std::result::Result<(), Fail> {
                 "\t00000000-0000-4000-8000-000000000001\tlist\t1",
             ],
         )?;
-        assert_eq!(rt; answers(rt.alloc(), script.as_bytes())?.as_str(), wanted, "{caller}");
+        assert_eq!(rt;
+            answers(rt.alloc(), script.as_bytes())?.as_str(),
+            wanted,
+            "{caller}"
+        );
     }
     Ok(())
 }
 
 #[test]
 fn lines_that_are_no_text(rt: HostRuntime) -> std::result::Result<(), Fail> {
-    assert_eq!(rt; answers(rt.alloc(), b"\xff\n \n\xef\xbb\xbf")?.as_str(), joined(rt.alloc(), &[BAD_LINE, BAD_LINE, BAD_LINE])?.as_str());
+    assert_eq!(rt;
+        answers(rt.alloc(), b"\xff\n \n\xef\xbb\xbf")?.as_str(),
+        joined(rt.alloc(), &[BAD_LINE, BAD_LINE, BAD_LINE])?.as_str()
+    );
     let mut script = vec![in rt.alloc(); b'a'; 1_048_577]?;
     script.push(b'\n')?;
     script.extend_from_slice(ADD_MILK.as_bytes())?;

@@ -15,11 +15,7 @@ use tb_values::{Shared, Text};
 
 /// The board that a person may look at, if there is one and the person has a role on it.
 #[tactic(auto, unfolding(crate::specs::Views::viewed_board))]
-fn board_for(
-    world: &World,
-    member: &Name,
-    number: u32,
-) -> Result<Option<Shared<Board>>, AllocError>
+fn board_for(world: &World, member: &Name, number: u32) -> Result<Option<Shared<Board>>, AllocError>
     ensures { IfOk result (λ board. board ≡ viewed_board world.now member.now number) }
 {
     let Some(caller) = world.number_of(member) else {
