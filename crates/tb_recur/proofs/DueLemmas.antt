@@ -47,10 +47,11 @@ pub due_rises : (d : ℕ) (s : Step) (k y : ℕ) → due d s (suc k) ≡ Some y 
 unfolding due
 due_rises d s k y h =
     let is = moment_is (day_after (d / 86400) s (suc k) * 86400 + d % 86400) y h in
-    let rises = day_rises (d / 86400) s k (omega (arith, is.1)) in
-    (day_after (d / 86400) s k * 86400 + d % 86400,
-     moment_within (day_after (d / 86400) s k * 86400 + d % 86400) (omega (arith, is.1, rises)),
-     omega (arith, is.0, rises))
+    let rises = day_rises (d / 86400) s k (omega (arith, is.1)) in (
+      day_after (d / 86400) s k * 86400 + d % 86400,
+      moment_within (day_after (d / 86400) s k * 86400 + d % 86400) (omega (arith, is.1, rises)),
+      omega (arith, is.0, rises),
+    )
 
 -- there are few dues before the end
 pub due_early : (d : ℕ) (s : Step) (k y : ℕ) → IsStep s → due d s k ≡ Some y → k < 2932898

@@ -48,14 +48,14 @@ later_month d a b r lt within =
     elim (cases_lt (month_number d a / 12) (month_number d b / 12)) [
       | inl year ↦
           let sooner = day_count-lt_year (pos (months_later d a).year) (months_later d a).month (months_later d a).day
-            (pos (months_later d b).year) (months_later d b).month (months_later d b).day real to.day_from (omega (arith, signed_arith, year)) in
+          (pos (months_later d b).year) (months_later d b).month (months_later d b).day real to.day_from (omega (arith, signed_arith, year)) in
           omega (arith, counted (months_later d a) from, counted (months_later d b) to, sooner)
       | inr past_year ↦
           let same : (months_later d b).year ≡ (months_later d a).year = omega arith in
           let sooner = day_count-lt_month (pos (months_later d a).year) (months_later d a).month (months_later d a).day
-            (months_later d b).month (months_later d b).day real to.day_from (omega arith) in
+          (months_later d b).month (months_later d b).day real to.day_from (omega arith) in
           let here = subst (λ y. day_count (pos y) (months_later d b).month (months_later d b).day ≡ 4_371_953 + day_number (months_later d b)) same
-            (counted (months_later d b) to) in
+          (counted (months_later d b) to) in
           omega (arith, counted (months_later d a) from, here, sooner)
     ]
 

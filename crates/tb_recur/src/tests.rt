@@ -1,9 +1,8 @@
+use crate::{due, instance, plan_of, wanted};
 use std::alloc::Global;
 use std::test::Fail;
 use tb_task::{Moment, Status, Step, Task, TaskId};
 use tb_values::{NonEmptyText, Text};
-
-use crate::{due, instance, plan_of, wanted};
 
 fn due_text(start: &str, step: &str, k: u32) -> Option<[u8; 16]> {
     let start = Moment::read(start.as_bytes())?;
@@ -17,8 +16,14 @@ fn rent_month_end(rt: HostRuntime) -> Result<(), Fail> {
     assert_eq!(rt; due_text(due, "monthly", 0), Some(*b"20260131T090000Z"));
     assert_eq!(rt; due_text(due, "monthly", 1), Some(*b"20260228T090000Z"));
     assert_eq!(rt; due_text(due, "monthly", 2), Some(*b"20260331T090000Z"));
-    assert_eq!(rt; due_text("20240229T090000Z", "yearly", 1), Some(*b"20250228T090000Z"));
-    assert_eq!(rt; due_text("20240229T090000Z", "yearly", 4), Some(*b"20280229T090000Z"));
+    assert_eq!(rt;
+        due_text("20240229T090000Z", "yearly", 1),
+        Some(*b"20250228T090000Z")
+    );
+    assert_eq!(rt;
+        due_text("20240229T090000Z", "yearly", 4),
+        Some(*b"20280229T090000Z")
+    );
     assert_eq!(rt; due_text("99991231T090000Z", "monthly", 1), None);
     Ok(())
 }
@@ -29,15 +34,27 @@ fn weekdays(rt: HostRuntime) -> Result<(), Fail> {
     assert_eq!(rt; due_text(friday, "weekdays", 1), Some(*b"20260105T100000Z"));
     assert_eq!(rt; due_text(friday, "weekdays", 5), Some(*b"20260109T100000Z"));
     let saturday = "20260103T100000Z";
-    assert_eq!(rt; due_text(saturday, "weekdays", 0), Some(*b"20260103T100000Z"));
-    assert_eq!(rt; due_text(saturday, "weekdays", 1), Some(*b"20260105T100000Z"));
+    assert_eq!(rt;
+        due_text(saturday, "weekdays", 0),
+        Some(*b"20260103T100000Z")
+    );
+    assert_eq!(rt;
+        due_text(saturday, "weekdays", 1),
+        Some(*b"20260105T100000Z")
+    );
     Ok(())
 }
 
 #[test]
 fn days_are_counted_from_the_first(rt: HostRuntime) {
-    assert_eq!(rt; due_text("20260101T090000Z", "daily", 100), Some(*b"20260411T090000Z"));
-    assert_eq!(rt; due_text("20260101T090000Z", "P2W", 2), Some(*b"20260129T090000Z"));
+    assert_eq!(rt;
+        due_text("20260101T090000Z", "daily", 100),
+        Some(*b"20260411T090000Z")
+    );
+    assert_eq!(rt;
+        due_text("20260101T090000Z", "P2W", 2),
+        Some(*b"20260129T090000Z")
+    );
     assert_eq!(rt; due_text("99991231T090000Z", "daily", 1), None);
 }
 
@@ -50,7 +67,13 @@ fn is_wanted(plan: &[&str], until: &str, k: u32, at: &str) -> Option<bool> {
     let [first, step] = plan else {
         return None;
     };
-    Some(wanted(moment_at(first)?, Step::read(step)?, moment_at(until), k, moment_at(at)?))
+    Some(wanted(
+        moment_at(first)?,
+        Step::read(step)?,
+        moment_at(until),
+        k,
+        moment_at(at)?,
+    ))
 }
 
 #[test]
