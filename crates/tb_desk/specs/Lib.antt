@@ -1,3 +1,6 @@
 pub mod Bodies
 pub mod Calls
 pub mod Keeping
+pub mod Listed
+pub mod Opening
+pub mod Sessions

@@ -9,8 +9,8 @@ mod call;
 mod desk;
 mod fault;
 mod keep;
-// pub mod laws;
-// mod list_keep;
+pub mod laws;
+mod list_keep;
 mod replies;
 mod serve;
 // #[cfg(test)]
@@ -20,4 +20,4 @@ pub use call::{Call, KeptReply, Reply};
 pub use desk::{Desk, RunEnd};
 pub use fault::KeepFault;
 pub use keep::Keep;
-// pub use list_keep::ListKeep;
+pub use list_keep::ListKeep;
