@@ -1,5 +1,5 @@
 -- What waking and one task more keep of a good board.
-use Rattle.std.proofs.Common.{◌≡◌, ℕ, zero, suc, ◌+◌, ◌<◌, ◌≤◌, ◌==◌, ◌||◌, ◌&&◌, nat_eq, Bool, true, false, not, List, [], ◌∷◌, ◌++◌, length, map, refl, sym, ◌∙◌, ap, arith, subst, ◌⊎◌, inl, inr, true≢false, length-append, if◌then◌else◌}
+use Rattle.std.proofs.Common.{◌≡◌, ℕ, zero, suc, ◌+◌, ◌<◌, ◌≤◌, ◌==◌, ◌||◌, ◌&&◌, nat_eq, Bool, true, false, not, List, [], ◌∷◌, ◌++◌, Option, Some, None, find, length, map, refl, sym, ◌∙◌, ap, arith, subst, ◌⊎◌, inl, inr, true≢false, length-append, if◌then◌else◌}
 use Rattle.std.specs.List.{IsDistinct, AllByRecursion, list_any}
 use Rattle.std.specs.Cmp.{nat_eq_equiv}
 use Rattle.std.proofs.Math.Bool.{or-false}
@@ -7,60 +7,33 @@ use Rattle.std.proofs.lemmas.Bool.{cases_Bool}
 use Rattle.std.proofs.lemmas.List.{map-append, length-map}
 use Rattle.std.proofs.lemmas.List.Folds.{list_any-append}
 use Rattle.std.proofs.lemmas.Map.Keys.{IsDistinct-push}
-use Rattle.tb_task.specs.declared.status.Status.{Status}
-use Rattle.tb_task.specs.declared.status.Status.TheVariants.{Pending, Waiting, Recurring, Completed, Deleted}
 use Rattle.tb_task.specs.declared.task.Task.{Task}
-use Rattle.tb_task.specs.Check.{fault_of, has_bad_text, has_bad_pair, has_bad_recurrence, is_recurring}
 use Rattle.tb_core.specs.declared.board.Board.{Board}
 use Rattle.tb_core.specs.Add.{lacks_depends}
-use Rattle.tb_core.specs.Board.{has_come, ids, is_on, is_waiting, status_at, wake, wakes, woken, with_task}
+use Rattle.tb_core.specs.Board.{has_id, ids, is_on, wake, woken, with_task}
 use Rattle.tb_core.specs.Good.{IsGood, IsSound, IsLinkedOn}
+use Rattle.tb_core.specs.First.{change_first}
 use Rattle.tb_core.proofs.Fresh.{on_ids, among-swapped}
+use Rattle.tb_core.proofs.Sound.{sound_woken}
 
 ids-wake : (m : ℕ) (ts : List Task) → ids (map (woken m) ts) ≡ ids ts
 ids-wake m [] = refl
 ids-wake m (t ∷ ts) = ap (λ is. t.id ∷ is) (ids-wake m ts)
 
-on-wake : (b : Board) (m id : ℕ) → is_on (wake b m) id ≡ is_on b id
-on-wake b m id = on_ids id (map (woken m) b.tasks) ∙ ap (λ is. list_any (λ x. x == id) is) (ids-wake m b.tasks) ∙ sym (on_ids id b.tasks)
+on-same : (b c : Board) (id : ℕ) → ids c.tasks ≡ ids b.tasks → is_on c id ≡ is_on b id
+on-same b c id same = on_ids id c.tasks ∙ ap (λ is. list_any (λ x. x == id) is) same ∙ sym (on_ids id b.tasks)
 
-lacks-wake : (b : Board) (m : ℕ) (is : List ℕ) → lacks_depends (wake b m) is ≡ lacks_depends b is
-lacks-wake b m [] = refl
-lacks-wake b m (i ∷ is) = rw (on-wake b m i) (ap (λ q. not (is_on b i) || q) (lacks-wake b m is))
-
-waits_not_recurring : (s : Status) → is_waiting s ≡ true → is_recurring s ≡ false
-waits_not_recurring Pending h = refl
-waits_not_recurring Waiting h = refl
-waits_not_recurring Recurring h = absurd (true≢false (sym h))
-waits_not_recurring Completed h = refl
-waits_not_recurring Deleted h = refl
-
-wakes_waiting : (m : ℕ) (t : Task) → wakes m t ≡ true → is_waiting t.status ≡ true
-unfolding wakes
-wakes_waiting m t h = and-true_left (is_waiting t.status) (has_come t.wait m) h
-  where
-    and-true_left : (p q : Bool) → (p && q) ≡ true → p ≡ true
-    and-true_left true q h = refl
-    and-true_left false q h = h
-
-recurring_woken : (m : ℕ) (t : Task) → is_recurring (status_at m t) ≡ is_recurring t.status
-recurring_woken m t =
-    elim (cases_Bool (wakes m t)) [
-      | inl wakes ↦ rw wakes (sym (waits_not_recurring t.status (wakes_waiting m t wakes)))
-      | inr sleeps ↦ rw sleeps refl
-    ]
-
-sound_woken : (m : ℕ) (t : Task) → fault_of (woken m t) ≡ fault_of t
-unfolding fault_of has_bad_text has_bad_pair has_bad_recurrence
-sound_woken m t = rw (recurring_woken m t) refl
+lacks-same : (b c : Board) (is : List ℕ) → ids c.tasks ≡ ids b.tasks → lacks_depends c is ≡ lacks_depends b is
+lacks-same b c [] same = refl
+lacks-same b c (i ∷ is) same = rw (on-same b c i same) (ap (λ q. not (is_on b i) || q) (lacks-same b c is same))
 
 sound-wake : (m : ℕ) (ts : List Task) → AllByRecursion IsSound ts → AllByRecursion IsSound (map (woken m) ts)
 sound-wake m [] h = tt
-sound-wake m (t ∷ ts) h = (sound_woken m t ∙ h.0, sound-wake m ts h.1)
+sound-wake m (t ∷ ts) h = (sound_woken m t h.0, sound-wake m ts h.1)
 
 linked-wake : (b : Board) (m : ℕ) (ts : List Task) → AllByRecursion (IsLinkedOn b) ts → AllByRecursion (IsLinkedOn (wake b m)) (map (woken m) ts)
 linked-wake b m [] h = tt
-linked-wake b m (t ∷ ts) h = (lacks-wake b m t.depends ∙ h.0, linked-wake b m ts h.1)
+linked-wake b m (t ∷ ts) h = (lacks-same b (wake b m) t.depends (ids-wake m b.tasks) ∙ h.0, linked-wake b m ts h.1)
 
 pub good-wake : (b : Board) (m : ℕ) → IsGood b → IsGood (wake b m)
 good-wake b m good =
@@ -103,4 +76,63 @@ good-push b t good room alone sound linked =
       few = omega (arith, room, length-append b.tasks (t ∷ []));
       sound = all_push IsSound b.tasks t good.sound sound;
       linked = all_push (IsLinkedOn (with_task b t)) b.tasks t (linked-more b t b.tasks good.linked) (lacks-more b t t.depends linked);
+    }
+
+-- f keeps identifiers and links
+pub record Keeps (f : Task → Task) : Type 0 where
+  pub id : (t : Task) → (f t).id ≡ t.id
+  pub depends : (t : Task) → (f t).depends ≡ t.depends
+
+ids-change : (test : Task → Bool) (f : Task → Task) → Keeps f → (ts : List Task) → ids (change_first test f ts) ≡ ids ts
+ids-change test f keeps [] = refl
+ids-change test f keeps (t ∷ ts) =
+    elim (cases_Bool (test t)) [
+      | inl here ↦ rw here (ap (λ i. i ∷ ids ts) (keeps.id t))
+      | inr other ↦ rw other (ap (λ is. t.id ∷ is) (ids-change test f keeps ts))
+    ]
+
+length-change : (test : Task → Bool) (f : Task → Task) (ts : List Task) → length (change_first test f ts) ≡ length ts
+length-change test f [] = refl
+length-change test f (t ∷ ts) =
+    elim (cases_Bool (test t)) [
+      | inl here ↦ rw here refl
+      | inr other ↦ rw other (ap suc (length-change test f ts))
+    ]
+
+sound-change : (test : Task → Bool) (f : Task → Task) (ts : List Task) (x : Task) → find test ts ≡ Some x → (IsSound x → IsSound (f x))
+    → AllByRecursion IsSound ts → AllByRecursion IsSound (change_first test f ts)
+sound-change test f [] x h sound all = tt
+sound-change test f (t ∷ ts) x h sound all =
+    elim (cases_Bool (test t)) [
+      | inl here ↦
+          let found : Some t ≡ Some x = rw here at h in
+          let is : x ≡ t = cc in
+          rw here (subst (λ (u : Task). IsSound u → IsSound (f u)) is sound all.0, all.1)
+      | inr other ↦
+          let later : find test ts ≡ Some x = rw other at h in
+          rw other (all.0, sound-change test f ts x later sound all.1)
+    ]
+
+linked-change : (b c : Board) (test : Task → Bool) (f : Task → Task) → Keeps f → ids c.tasks ≡ ids b.tasks → (ts : List Task)
+    → AllByRecursion (IsLinkedOn b) ts → AllByRecursion (IsLinkedOn c) (change_first test f ts)
+linked-change b c test f keeps same [] h = tt
+linked-change b c test f keeps same (t ∷ ts) h =
+    elim (cases_Bool (test t)) [
+      | inl here ↦ rw here (ap (lacks_depends c) (keeps.depends t) ∙ lacks-same b c t.depends same ∙ h.0, others ts h.1)
+      | inr other ↦ rw other (lacks-same b c t.depends same ∙ h.0, linked-change b c test f keeps same ts h.1)
+    ]
+  where
+    others : (us : List Task) → AllByRecursion (IsLinkedOn b) us → AllByRecursion (IsLinkedOn c) us
+    others [] h = tt
+    others (u ∷ us) h = (lacks-same b c u.depends same ∙ h.0, others us h.1)
+
+pub good-change : (b : Board) (test : Task → Bool) (f : Task → Task) (x : Task) → Keeps f → find test b.tasks ≡ Some x → (IsSound x → IsSound (f x)) → IsGood b
+    → IsGood (record b { tasks = change_first test f b.tasks })
+good-change b test f x keeps found sound good =
+    let later : Board = record b { tasks = change_first test f b.tasks } in
+    record {
+      distinct = subst (IsDistinct nat_eq) (sym (ids-change test f keeps b.tasks)) good.distinct;
+      few = subst (λ n. n ≤ 10000) (sym (length-change test f b.tasks)) good.few;
+      sound = sound-change test f b.tasks x found sound good.sound;
+      linked = linked-change b later test f keeps (ids-change test f keeps b.tasks) b.tasks good.linked;
     }

@@ -8,5 +8,6 @@ pub mod KnownNumbers
 pub mod Marking
 pub mod Opening
 pub mod Places
+pub mod Sound
 pub mod Stays
 pub mod Worlds

@@ -13,6 +13,7 @@ place_here test x xs here =
       passes = λ d. here;
       stands = rw here refl;
       changed = λ f d. rw here refl;
+      removed = rw here refl;
     }
 
 place_next : {A : Type 0} (test : A → Bool) (x : A) (xs : List A) (k : ℕ) → test x ≡ false → IsFirst test xs k → IsFirst test (x ∷ xs) (suc k)
@@ -23,10 +24,11 @@ place_next test x xs k other p =
       passes = λ d. p.passes d;
       stands = rw other p.stands;
       changed = λ f d. rw other (ap (λ ys. x ∷ ys) (p.changed f d));
+      removed = rw other (ap (λ ys. x ∷ ys) p.removed);
     }
 
 none_empty : {A : Type 0} (test : A → Bool) → IsNone test []
-none_empty test = record { none = refl; found = refl; changed = λ f. refl }
+none_empty test = record { none = refl; found = refl; changed = λ f. refl; removed = refl }
 
 none_next : {A : Type 0} (test : A → Bool) (x : A) (xs : List A) → test x ≡ false → IsNone test xs → IsNone test (x ∷ xs)
 none_next test x xs other n =
@@ -34,6 +36,7 @@ none_next test x xs other n =
       none = rw other n.none;
       found = rw other n.found;
       changed = λ f. rw other (ap (λ ys. x ∷ ys) (n.changed f));
+      removed = rw other (ap (λ ys. x ∷ ys) n.removed);
     }
 
 -- a place counted from i

@@ -6,8 +6,9 @@ use Rattle.tb_core.specs.declared.command.Answer.{Answer}
 use Rattle.tb_core.specs.declared.command.Answer.TheVariants.{OnBoard}
 use Rattle.tb_core.specs.declared.command.BoardAnswer.{BoardAnswer}
 use Rattle.tb_core.specs.declared.command.Command.{Command}
-use Rattle.tb_core.specs.declared.command.Command.TheVariants.{Add}
+use Rattle.tb_core.specs.declared.command.Command.TheVariants.{Add, OnTask, Sweep}
 use Rattle.tb_core.specs.declared.command.Told.{Told}
+use Rattle.tb_core.specs.declared.command.Told.TheVariants.{Swept}
 use Rattle.tb_core.specs.declared.deciding.Decision.{Decision}
 use Rattle.tb_core.specs.declared.look.Seen.{Seen}
 use Rattle.tb_core.specs.declared.look.SeenBoard.{SeenBoard}
@@ -16,6 +17,7 @@ use Rattle.tb_core.specs.declared.refusal.Refusal.{Refusal}
 use Rattle.tb_core.specs.declared.refusal.Refusal.TheVariants.{UnknownCaller, NoBoard}
 use Rattle.tb_core.specs.declared.world.Role.{Role}
 use Rattle.tb_core.specs.declared.world.World.{World}
+use Rattle.tb_core.specs.Actions.{judged_action}
 use Rattle.tb_core.specs.Add.{judged_add}
 use Rattle.tb_core.specs.Board.{wake}
 use Rattle.tb_core.specs.Changes.{change_board, changed}
@@ -24,10 +26,14 @@ use Rattle.tb_core.specs.World.{find_board, number_of, owners, role_of}
 -- the board that a command names
 abbrev pub board_of : Command → Option ℕ
 board_of (Add n i) = Some n
+board_of (OnTask n id a) = Some n
+board_of (Sweep n) = Some n
 
 -- the other person whom a command names
 abbrev pub other_of : Command → Option (List ℕ)
 other_of (Add n i) = None
+other_of (OnTask n id a) = None
+other_of (Sweep n) = None
 
 abbrev pub seen_with : Option Role → Option Board → Option SeenBoard
 seen_with None b = None
@@ -70,6 +76,8 @@ seen_of w name c = record {
 -- what a command makes of a board that is awake
 abbrev pub judged : Board → Command → ℕ → Result (Board × Told) Refusal
 judged b (Add n i) m = judged_add b i m
+judged b (OnTask n id a) m = judged_action b id a m
+judged b (Sweep n) m = Ok (b, Swept)
 
 abbrev pub answered : Result (Board × Told) Refusal → Result (Board × BoardAnswer) Refusal
 answered (Ok r) = Ok (r.0, record { board = r.0.number; added = 0; more = false; told = r.1 })

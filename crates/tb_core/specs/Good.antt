@@ -1,9 +1,11 @@
 -- What each board and each world keeps.
-use Rattle.std.specs.Prelude.{ℕ, ◌≡◌, ◌≤◌, Bool, true, false, ◌&&◌, ◌==◌, List, Option, Some, None, map, length, nat_eq}
+use Rattle.std.specs.Prelude.{ℕ, ◌≡◌, ◌≤◌, Bool, true, false, not, ◌&&◌, ◌||◌, ◌==◌, List, Option, Some, None, is_some, if◌then◌else◌, map, length, nat_eq}
 use Rattle.std.specs.List.{IsDistinct, AllByRecursion, list_any, range_with_len}
 use Rattle.std.specs.Str.{bytes_eq}
 use Rattle.tb_task.specs.declared.task.Task.{Task}
-use Rattle.tb_task.specs.Check.{fault_of}
+use Rattle.tb_task.specs.declared.status.Status.{Status}
+use Rattle.tb_task.specs.declared.status.Status.TheVariants.{Pending, Waiting, Recurring, Completed, Deleted}
+use Rattle.tb_task.specs.Check.{fault_of, is_recurring, is_step}
 use Rattle.tb_core.specs.declared.board.Board.{Board}
 use Rattle.tb_core.specs.declared.command.Command.{Command}
 use Rattle.tb_core.specs.declared.world.Person.{Person}
@@ -12,11 +14,24 @@ use Rattle.tb_core.specs.declared.world.World.{World}
 use Rattle.tb_core.specs.Add.{lacks_depends}
 use Rattle.tb_core.specs.Apply.{apply}
 use Rattle.tb_core.specs.Board.{ids}
+use Rattle.tb_core.specs.Statuses.{is_template}
 use Rattle.tb_core.specs.World.{key_of, opening, owns}
 
--- a board takes the task
-abbrev pub IsSound : Task → Type 0
-IsSound t = fault_of t ≡ None
+abbrev pub is_deleted : Status → Bool
+is_deleted Pending = false
+is_deleted Waiting = false
+is_deleted Recurring = false
+is_deleted Completed = false
+is_deleted Deleted = true
+
+-- a template recurs or is deleted, and has a due date and a step that can be read; no other task recurs
+abbrev pub has_template_form : Task → Bool
+has_template_form t =
+    if is_template t then (is_recurring t.status || is_deleted t.status) && (is_some t.due && is_step t.recur) else not (is_recurring t.status)
+
+pub record IsSound (t : Task) : Type 0 where
+  pub taken : fault_of t ≡ None
+  pub template : has_template_form t ≡ true
 
 -- the tasks on which it depends are on the board
 abbrev pub IsLinkedOn : Board → Task → Type 0

@@ -1,3 +1,4 @@
+pub mod Actions
 pub mod Add
 pub mod Apply
 pub mod Board
@@ -7,7 +8,9 @@ pub mod First
 pub mod Good
 pub mod Marks
 pub mod Names
+pub mod Notes
 pub mod Numbers
 pub mod Refusal
 pub mod Refusals
+pub mod Statuses
 pub mod World

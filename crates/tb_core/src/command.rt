@@ -1,4 +1,4 @@
-
+use crate::action::Action;
 use tb_task::{Incoming, TaskId};
 
 /// What a person asks for.
@@ -6,6 +6,14 @@ use tb_task::{Incoming, TaskId};
 pub enum Command {
     /// Adds a task to a board.
     Add { board: u32, incoming: Incoming },
+    /// Does something to one task of a board.
+    OnTask {
+        board: u32,
+        id: TaskId,
+        action: Action,
+    },
+    /// Lets a board come up to the moment.
+    Sweep { board: u32 },
 }
 
 /// What the reply to an accepted command says.
@@ -28,4 +36,7 @@ pub struct BoardAnswer {
 pub enum Told {
     /// The identifier of the task that was added, and how many of its members were dropped.
     Added { id: TaskId, dropped: u32 },
+    /// The identifier of the one task that the command is about.
+    Changed { id: TaskId },
+    Swept,
 }

@@ -6,10 +6,11 @@ ghost use Rattle.tb_core.specs.Decisions.{GivesOutcome};
 ghost use Rattle.tb_core.specs.declared.command.Answer.TheVariants.{OnBoard};
 ghost use Rattle.tb_core.specs.declared.world.World.{World};
 
+use crate::action::act;
 use crate::add::add;
 use crate::board::Board;
 use crate::change::Change;
-use crate::command::{Answer, BoardAnswer, Command};
+use crate::command::{Answer, BoardAnswer, Command, Told};
 use crate::draft::Draft;
 use crate::judged::{Judged, Stop};
 use crate::look::Seen;
@@ -105,5 +106,10 @@ fn judge(alloc: Global, draft: Draft, command: &Command, at: Moment) -> Result<J
 {
     match command {
         Command::Add { incoming, .. } => add(alloc, draft, incoming, at),
+        Command::OnTask { id, action, .. } => act(alloc, draft, *id, action, at),
+        Command::Sweep { .. } => Ok(Judged {
+            draft,
+            told: Told::Swept,
+        }),
     }
 }

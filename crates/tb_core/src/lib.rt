@@ -4,6 +4,7 @@
 //! makes. It stands on `tb_task` for tasks and identifiers and on `tb_values` for lists.
 #![tactic(auto)]
 
+mod action;
 mod add;
 mod board;
 mod change;
@@ -18,12 +19,16 @@ mod key;
 pub mod laws;
 mod look;
 mod name;
+mod notes;
 mod numbers;
 mod refusal;
+mod statuses;
 mod title;
+mod viewing;
 mod waking;
 mod world;
 
+pub use action::Action;
 pub use board::Board;
 pub use change::Change;
 pub use command::{Answer, BoardAnswer, Command, Told};
@@ -34,4 +39,8 @@ pub use look::{Seen, SeenBoard, SeenPerson};
 pub use name::Name;
 pub use refusal::Refusal;
 pub use title::Title;
+pub use viewing::woken_task;
 pub use world::{Person, Role, RoleOn, World};
+
+#[cfg(test)]
+mod tests;

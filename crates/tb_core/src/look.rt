@@ -44,7 +44,9 @@ impl World {
         ensures { IfOk result (λ seen. seen ≡ seen_of self.now name.now command.now) }
     {
         match command {
-            Command::Add { board, .. } => self.look_at_board(name, *board),
+            Command::Add { board, .. }
+            | Command::OnTask { board, .. }
+            | Command::Sweep { board } => self.look_at_board(name, *board),
         }
     }
 

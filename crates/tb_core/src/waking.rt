@@ -34,7 +34,7 @@ fn wake_place(alloc: Global, draft: Draft, place: usize, at: Moment) -> Result<D
     draft.set(alloc, place, task)
 }
 
-fn pending_task(task: &Task) -> Result<Task, AllocError>
+pub(crate) fn pending_task(task: &Task) -> Result<Task, AllocError>
     ensures { IfOk result (λ t. t ≡ record task.now { status = Pending }) }
 {
     let mut task = task.duplicate()?;

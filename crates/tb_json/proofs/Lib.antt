@@ -1,7 +1,11 @@
+pub mod Again
 pub mod Bytes
 pub mod ExtraSteps
 pub mod ListSteps
+pub mod Lookups
 pub mod Names
 pub mod ReadBack
+pub mod StoredLaws
 pub mod TextLists
+pub mod Trip
 pub mod WriteSteps

@@ -2,11 +2,15 @@ pub mod Annotations
 pub mod Attribute
 pub mod Extras
 pub mod Fields
+pub mod Import
+pub mod ImportOutcome
 pub mod Lines
 pub mod ListText
 pub mod Lists
+pub mod Modify
 pub mod Numbers
 pub mod Outcome
 pub mod Reading
 pub mod Parse
+pub mod Stored
 pub mod Writing

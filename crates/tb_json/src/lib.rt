@@ -7,15 +7,26 @@ mod attribute;
 mod extras;
 mod fault;
 mod fields;
+mod import;
+mod import_fault;
 mod lines;
 mod lists;
 mod members;
+mod modify;
 mod numbers;
 mod parse;
 mod reading;
+mod stored;
 mod values;
 mod writing;
 
 pub use fault::JsonFault;
+pub use import::read_import;
+pub use import_fault::ImportFault;
+pub use modify::read_modify;
 pub use reading::read_task;
+pub use stored::{read_stored, write_stored};
 pub use writing::{write_task, write_tasks};
+
+#[cfg(test)]
+mod tests;

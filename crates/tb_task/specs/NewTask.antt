@@ -1,5 +1,5 @@
 -- A pending task that says nothing but its description.
-use Rattle.std.specs.Prelude.{ℕ, List, [], Option, None}
+use Rattle.std.specs.Prelude.{ℕ, List, [], None}
 use Rattle.tb_task.specs.declared.status.Status.TheVariants.{Pending}
 use Rattle.tb_task.specs.declared.task.Task.{Task}
 

@@ -1,5 +1,5 @@
 -- What the types of its attributes keep of every task: for private clauses.
-use Rattle.std.specs.Prelude.{◌<◌, ◌^◌, ℕ, IfSome}
+use Rattle.std.specs.Prelude.{◌<◌, ◌^◌, IfSome}
 use Rattle.std.specs.List.{AllByRecursion}
 use Rattle.std.specs.List.Sorted.{IsStrictlySortedBy}
 use Rattle.std.specs.Ordering.{nat_cmp}

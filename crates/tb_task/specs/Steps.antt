@@ -1,5 +1,5 @@
 -- Texts of steps: a word of the table, or a number from 1 to 999 without a leading zero between the letters of a row.
-use Rattle.std.specs.Prelude.{◌≡◌, ℕ, ◌+◌, ◌-◌, ◌*◌, Bool, ◌&&◌, if◌then◌else◌, nat_le, List, [], ◌∷◌, ◌++◌, length, take, drop, Option, Some, None, bytes_eq, codes}
+use Rattle.std.specs.Prelude.{ℕ, ◌+◌, ◌-◌, ◌*◌, Bool, ◌&&◌, if◌then◌else◌, nat_le, List, [], ◌∷◌, length, take, drop, Option, Some, None, bytes_eq, codes}
 use Rattle.std.specs.Option.{option_map}
 use Rattle.tb_task.specs.declared.step.Step.{Step}
 use Rattle.tb_task.specs.declared.step.Step.TheVariants.{Days, Weekdays, Months}

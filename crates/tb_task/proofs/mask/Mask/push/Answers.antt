@@ -1,4 +1,3 @@
-use Rattle.std.proofs.Common.{◌≡◌, sym, ◌∙◌}
 use Rattle.std.specs.String.{string_bytes}
 use Rattle.tb_task.proofs.Masks.{mark_ascii, pushed}
 use Rattle.tb_task.proofs.mask.Mask.push.Goals as goal

@@ -1,7 +1,5 @@
 use Rattle.std.proofs.Common.{◌≡◌, refl, subst}
 use Rattle.std.specs.Result.{IfOk}
-use Rattle.std.specs.Int.{to_be_bytes, w128}
-use Rattle.uuid.specs.Text.{hyphenated_text, lower}
 use Rattle.tb_task.specs.TaskId.{id_text}
 use Rattle.tb_task.proofs.task_id.TaskId.text.Goals as goal
 

@@ -1,0 +1,107 @@
+ghost use Rattle.std.specs.Prelude.{◌≡◌, IfOk};
+ghost use Rattle.tb_core.specs.Actions.{acted, action_fault, judged_action, lacks, takes};
+ghost use Rattle.tb_core.specs.Changes.{Follows};
+ghost use Rattle.tb_core.specs.Refusals.{Gives};
+
+use crate::command::Told;
+use crate::draft::Draft;
+use crate::first::place_of_task;
+use crate::judged::{Judged, Stop};
+use crate::notes::{annotated_task, denotated_task, fault_in_note, has_note_of};
+use crate::refusal::Refusal;
+use crate::statuses::{
+    completed_task, deleted_task, is_open_status, is_pending_or_waiting_status, is_pending_status,
+    reopened_task, started_task, stopped_task,
+};
+use std::alloc::{AllocError, Global};
+use tb_task::{Field, Moment, Task, TaskId};
+use tb_values::Text;
+
+/// What is done to one task.
+#[derive(Drop)]
+pub enum Action {
+    Done,
+    Delete,
+    Reopen,
+    Start,
+    Stop,
+    Annotate(Text),
+    Denotate(Text),
+}
+
+/// Does it to a task of a board that is awake.
+pub fn act(
+    alloc: Global,
+    draft: Draft,
+    id: TaskId,
+    action: &Action,
+    at: Moment,
+) -> Result<Judged, Stop>
+    ensures gives { Gives result (judged_action draft.board id action.now at) }
+    ensures follows { IfOk result (λ judged. Follows draft judged.draft) }
+{
+    let Some(place) = place_of_task(draft.board.tasks.as_slice(), id) else {
+        return Err(Stop::Refused(Refusal::NoTask));
+    };
+    let task = draft.board.task_at(place);
+    if !is_taken_by(action, task) {
+        return Err(Stop::Refused(Refusal::WrongStatus));
+    }
+    if let Some(fault) = fault_in(action) {
+        return Err(Stop::Refused(Refusal::BadTask(fault)));
+    }
+    if is_lacking(action, task) {
+        return Err(Stop::Refused(Refusal::NoLink));
+    }
+    let task = acted_task(task, action, at)?;
+    let draft = draft.set(alloc, place, task)?;
+    Ok(Judged {
+        draft,
+        told: Told::Changed { id },
+    })
+}
+
+fn is_taken_by(action: &Action, task: &Task) -> bool
+    ensures { result ≡ takes action.now task.now }
+{
+    match action {
+        Action::Done => is_pending_or_waiting_status(task.status),
+        Action::Delete => is_open_status(task.status),
+        Action::Reopen => !is_open_status(task.status),
+        Action::Start => is_pending_status(task.status) && task.start.is_none(),
+        Action::Stop => is_pending_status(task.status) && task.start.is_some(),
+        Action::Annotate(_) | Action::Denotate(_) => true,
+    }
+}
+
+fn fault_in(action: &Action) -> Option<Field>
+    ensures { result ≡ action_fault action.now }
+{
+    match action {
+        Action::Annotate(text) => fault_in_note(text),
+        _ => None,
+    }
+}
+
+fn is_lacking(action: &Action, task: &Task) -> bool
+    ensures { result ≡ lacks action.now task.now }
+{
+    match action {
+        Action::Denotate(text) => !has_note_of(task, text),
+        _ => false,
+    }
+}
+
+fn acted_task(task: &Task, action: &Action, at: Moment) -> Result<Task, AllocError>
+    ensures { IfOk result (λ t. t ≡ acted at action.now task.now) }
+{
+    match action {
+        Action::Done => completed_task(task, at),
+        Action::Delete => deleted_task(task, at),
+        Action::Reopen => reopened_task(task, at),
+        Action::Start => started_task(task, at),
+        Action::Stop => stopped_task(task, at),
+        Action::Annotate(text) => annotated_task(task, text, at),
+        Action::Denotate(text) => denotated_task(task, text, at),
+    }
+}

@@ -1,0 +1,7 @@
+use Rattle.std.proofs.Common.{◌≡◌, ◌++◌, drop, string_bytes}
+use Rattle.tb_report.specs.Listing.{lines}
+use Rattle.tb_report.proofs.lists.push_lines.Given as goal
+
+-- the text so far and the lines of the ranks that are left are all
+abbrev pub invariant-loop-rank : goal.invariant-loop-rank
+invariant-loop-rank l = string_bytes l.text ++ lines l.tasks (drop l.rank-index l.ranks) ≡ string_bytes l.fn.text ++ lines l.tasks l.ranks

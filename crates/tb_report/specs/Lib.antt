@@ -1,0 +1,4 @@
+pub mod Listing
+pub mod Ranking
+pub mod Row
+pub mod Shown
