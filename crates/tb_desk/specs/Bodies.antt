@@ -9,7 +9,7 @@ use Rattle.tb_core.specs.declared.command.Answer.{Answer}
 use Rattle.tb_core.specs.declared.command.Answer.TheVariants.{OnBoard}
 use Rattle.tb_core.specs.declared.command.BoardAnswer.{BoardAnswer}
 use Rattle.tb_core.specs.declared.command.Told.{Told}
-use Rattle.tb_core.specs.declared.command.Told.TheVariants.{Added}
+use Rattle.tb_core.specs.declared.command.Told.TheVariants.{Added, Changed, Swept}
 use Rattle.tb_core.specs.declared.refusal.Refusal.{Refusal}
 use Rattle.tb_core.specs.declared.refusal.Refusal.TheVariants.{UnknownCaller, IdReused, NoBoard, NotAllowed, NoTask, WrongStatus, UuidTaken, BadTask, TemplateFixed, NoLink, Cycle, Full, NoPerson, LastOwner, NameTaken}
 
@@ -71,13 +71,23 @@ added_body a uuid dropped = object
     (member (codes "more") (boolean a.more)
     (member (codes "uuid") (string uuid) no_members)))))
 
+unfoldable pub changed_body : BoardAnswer → List ℕ → Data
+changed_body a uuid = object
+    (member (codes "added") (number (unsigned a.added))
+    (member (codes "board") (number (unsigned a.board))
+    (member (codes "more") (boolean a.more)
+    (member (codes "uuid") (string uuid) no_members))))
+
+unfoldable pub swept_body : BoardAnswer → Data
+swept_body a = object
+    (member (codes "added") (number (unsigned a.added))
+    (member (codes "board") (number (unsigned a.board))
+    (member (codes "more") (boolean a.more) no_members)))
+
 abbrev pub told_body : BoardAnswer → Told → Data
 told_body a (Added id dropped) = added_body a (id_text id) dropped
+told_body a (Changed id) = changed_body a (id_text id)
+told_body a Swept = swept_body a
 
 abbrev pub answer_body : Answer → Data
 answer_body (OnBoard a) = told_body a a.told
-
--- the body of the reply to a command
-abbrev pub body_of : Result Answer Refusal → Data
-body_of (Ok answer) = answer_body answer
-body_of (Err refusal) = refusal_body refusal

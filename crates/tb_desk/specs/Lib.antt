@@ -4,3 +4,4 @@ pub mod Keeping
 pub mod Listed
 pub mod Opening
 pub mod Sessions
+pub mod Views

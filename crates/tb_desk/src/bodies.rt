@@ -3,7 +3,7 @@ ghost use Rattle.std.specs.Prelude.{◌≡◌, IfOk};
 ghost use Rattle.std.specs.Option.{option_map};
 ghost use Rattle.serde_json.specs.View.{view};
 ghost use Rattle.tb_task.specs.TaskId.{id_text};
-ghost use Rattle.tb_desk.specs.Bodies.{added_body, answer_body, field_name, refusal_body, refusal_name, refused_field, told_body};
+ghost use Rattle.tb_desk.specs.Bodies.{added_body, answer_body, changed_body, field_name, refusal_body, refusal_name, refused_field, swept_body, told_body};
 
 use serde_json::{Value, json};
 use std::alloc::{AllocError, Global};
@@ -34,6 +34,8 @@ fn body_on_board(alloc: Global, answer: &BoardAnswer, told: &Told) -> Result<Val
 {
     match told {
         Told::Added { id, dropped } => body_of_added(alloc, answer, *id, *dropped),
+        Told::Changed { id } => body_of_changed(alloc, answer, *id),
+        Told::Swept => body_of_sweep(alloc, answer),
     }
 }
 
@@ -62,6 +64,33 @@ fn body_with_uuid(
     let board = answer.board;
     let more = answer.more;
     json!(in alloc; {"added": added, "board": board, "dropped": dropped, "more": more, "uuid": uuid})
+}
+
+fn body_of_changed(alloc: Global, answer: &BoardAnswer, id: TaskId) -> Result<Value, AllocError>
+    ensures { IfOk result (λ body. view body ≡ changed_body answer.now (id_text id)) }
+{
+    let uuid = id.text(alloc)?;
+    body_of_one(alloc, answer, uuid.as_str())
+}
+
+#[tactic(auto, unfolding(crate::specs::Bodies::changed_body))]
+fn body_of_one(alloc: Global, answer: &BoardAnswer, uuid: &str) -> Result<Value, AllocError>
+    ensures { IfOk result (λ body. view body ≡ changed_body answer.now uuid.now) }
+{
+    let added = answer.added;
+    let board = answer.board;
+    let more = answer.more;
+    json!(in alloc; {"added": added, "board": board, "more": more, "uuid": uuid})
+}
+
+#[tactic(auto, unfolding(crate::specs::Bodies::swept_body))]
+fn body_of_sweep(alloc: Global, answer: &BoardAnswer) -> Result<Value, AllocError>
+    ensures { IfOk result (λ body. view body ≡ swept_body answer.now) }
+{
+    let added = answer.added;
+    let board = answer.board;
+    let more = answer.more;
+    json!(in alloc; {"added": added, "board": board, "more": more})
 }
 
 fn name_of_refusal(refusal: Refusal) -> &'static str

@@ -1,14 +1,19 @@
 ghost use Rattle.std.specs.Prelude.{◌≡◌, ◌≢◌, ◌+◌, ◌++◌, ◌∷◌, ◌<◌, ◌≤◌, [], Some, None, IfOk, IsErr, IsErrOf, IsSome, OnErr, OnOk, false, if◌then◌else◌, is_ok, length, take, true};
 ghost use Rattle.tb_desk.specs.declared.fault.KeepFault.TheVariants.{Memory, Store};
 ghost use Rattle.tb_desk.specs.Calls.{State, once, plain, replies_to, reply};
-ghost use Rattle.tb_desk.specs.Keeping.{Only, StandsAfter, is_store};
+ghost use Rattle.tb_desk.specs.Keeping.{IsStill, Only, StandsAfter, is_store};
+ghost use Rattle.tb_desk.specs.Views.{shown_in};
 
 use crate::call::{Call, Reply};
 use crate::fault::KeepFault;
 use crate::keep::Keep;
 use crate::serve::serve;
+use crate::view::View;
+use crate::viewing::show;
 use std::alloc::Global;
 use std::marker::Model;
+use tb_core::{Key, Name};
+use tb_task::Moment;
 use tb_values::Items;
 
 /// Handles calls over a keeper. A contract sees the keeper.
@@ -83,6 +88,23 @@ impl<K: Keep> Desk<K> {
             replies: Items::from_vec(replies),
             fault: None,
         }
+    }
+
+    /// What a person with a key is shown of a board at a moment.
+    pub fn view(
+        &mut self,
+        alloc: Global,
+        name: &Name,
+        key: &Key,
+        view: &View,
+        at: Moment,
+    ) -> Result<Reply, KeepFault>
+        ensures told { (s : State) → K.holds self.old s → IfOk result (λ r. r ≡ shown_in s name.now key.now view.now at) }
+        ensures same { IsStill (K.holds self.old) (K.after_stop self.old) (K.holds self.new) (K.after_stop self.new) }
+        ensures failed { K.has_failed self.new ≡ is_store result }
+        ensures closed { K.has_failed self.old ≡ true → IsErrOf result Store }
+    {
+        show(&mut self.keep, alloc, name, key, view, at)
     }
 
     // Makes the reply's place, and then handles the call.

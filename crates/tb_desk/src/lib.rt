@@ -1,7 +1,7 @@
 //! The desk: each call acts once, however often it is sent, and is answered from what is kept.
 //!
 //! It owns calls and their replies, the trait of what keeps a world with the replies given, and a keeper that holds lists. It stands
-//! on `tb_core` for worlds and commands and on `serde_json` for the bodies of replies.
+//! on `tb_core` for worlds and commands, on `tb_report` and `tb_json` for what views show, and on `serde_json` for the bodies of replies.
 #![tactic(auto)]
 
 mod bodies;
@@ -13,6 +13,8 @@ pub mod laws;
 mod list_keep;
 mod replies;
 mod serve;
+mod view;
+mod viewing;
 // #[cfg(test)]
 // mod tests;
 
@@ -21,3 +23,4 @@ pub use desk::{Desk, RunEnd};
 pub use fault::KeepFault;
 pub use keep::Keep;
 pub use list_keep::ListKeep;
+pub use view::View;
