@@ -69,9 +69,9 @@ outcome s c = apply s.world c.member c.command c.moment
 -- a state after a call, its content and reply kept under its name: no name is compared
 abbrev pub after_call : State → Call → State
 after_call s c = record {
-    world = (outcome s c).world;
-    kept = insert s.kept (name_of c) (record { content = c.content; reply = reply_of (outcome s c).answer });
-  }
+  world = (outcome s c).world;
+  kept = insert s.kept (name_of c) (record { content = c.content; reply = reply_of (outcome s c).answer });
+}
 
 -- a state after calls, each of which acts and is kept
 abbrev pub plain : State → List Call → State

@@ -15,8 +15,6 @@ mod replies;
 mod serve;
 mod view;
 mod viewing;
-// #[cfg(test)]
-// mod tests;
 
 pub use call::{Call, KeptReply, Reply};
 pub use desk::{Desk, RunEnd};

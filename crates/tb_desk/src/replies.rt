@@ -13,10 +13,7 @@ use tb_values::Text;
 
 /// The reply to a command.
 #[tactic(auto, unfolding(crate::specs::Calls::reply_of))]
-pub(crate) fn reply_to(
-    alloc: Global,
-    answer: &Result<Answer, Refusal>,
-) -> Result<Reply, AllocError>
+pub(crate) fn reply_to(alloc: Global, answer: &Result<Answer, Refusal>) -> Result<Reply, AllocError>
     ensures { IfOk result (λ reply. reply ≡ reply_of answer.now) }
 {
     match answer {
@@ -37,12 +34,7 @@ pub(crate) fn refused(alloc: Global, refusal: Refusal) -> Result<Reply, AllocErr
     write_reply(alloc, refusal.number(), refusal.status(), &body)
 }
 
-fn write_reply(
-    alloc: Global,
-    number: u8,
-    status: u16,
-    body: &Value,
-) -> Result<Reply, AllocError>
+fn write_reply(alloc: Global, number: u8, status: u16, body: &Value) -> Result<Reply, AllocError>
     requires { has_float (view body.now) ≡ false }
     ensures { IfOk result (λ reply. reply ≡ record { number = number; status = status; body = compact_text (view body.now) }) }
 {

@@ -12,11 +12,7 @@ use std::alloc::Global;
 use tb_core::{Refusal, decide};
 
 /// Handles one call: it acts where its name is new, and is told what is kept for it otherwise.
-pub(crate) fn serve<K: Keep>(
-    keep: &mut K,
-    alloc: Global,
-    call: &Call,
-) -> Result<Reply, KeepFault>
+pub(crate) fn serve<K: Keep>(keep: &mut K, alloc: Global, call: &Call) -> Result<Reply, KeepFault>
     ensures told { (s : State) → K.holds keep.old s → IfOk result (λ r. r ≡ reply s [] call.now) }
     ensures left { (s : State) → K.holds keep.old s → OnOk result (K.holds keep.new (plain s (once s (call.now ∷ [])))) }
     ensures memory { (s : State) → K.holds keep.old s → IsErrOf result Memory → K.holds keep.new s }
