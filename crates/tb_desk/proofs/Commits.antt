@@ -1,0 +1,50 @@
+-- Decided changes may be committed, and with their reply they are the state after the call.
+use Rattle.std.proofs.Common.{◌≡◌, ℕ, Bool, true, false, List, Option, Some, None, refl, sym, ap, ◌∙◌, subst, rules}
+use Rattle.std.specs.Prelude.{IsSome}
+use Rattle.std.specs.FinMap.{insert}
+use Rattle.tb_core.specs.declared.change.Change.{Change}
+use Rattle.tb_core.specs.declared.deciding.Decision.{Decision}
+use Rattle.tb_core.specs.declared.world.World.{World}
+use Rattle.tb_core.specs.Apply.{IsDecision, apply}
+use Rattle.tb_core.specs.Changes.{changed}
+use Rattle.tb_core.specs.Good.{IsGoodWorld}
+use Rattle.tb_core.specs.World.{key_of}
+use Rattle.tb_core.proofs.Stays.{stays_good}
+use Rattle.tb_desk.specs.declared.call.Call.{Call}
+use Rattle.tb_desk.specs.declared.call.Reply.{Reply}
+use Rattle.tb_desk.specs.Calls.{State, after_call, has_key, is_known, name_of, outcome, reply_of}
+use Rattle.tb_desk.specs.Keeping.{IsNew, MayCommit, with_reply}
+
+someone : (key : Option (List ℕ)) (shown : List ℕ) → has_key key shown ≡ true → IsSome key
+someone None shown h = absurd (cc)
+someone (Some k) shown h = search rules
+
+-- a known caller is there
+pub known_is_some : (s : State) (c : Call) → is_known s c ≡ true → IsSome (key_of s.world c.member)
+known_is_some s c h = someone _ c.key h
+
+-- the decision is that of the call in the state
+abbrev pub IsMade : State → Call → Decision → Type 0
+IsMade s c d = IsDecision s.world d (apply s.world c.member c.command c.moment)
+
+-- the reply of the decision is that of the call
+pub told_new : (s : State) (c : Call) (d : Decision) (r : Reply) → IsMade s c d → r ≡ reply_of d.answer → r ≡ reply_of (outcome s c).answer
+unfolding outcome
+told_new s c d r made told = told ∙ ap reply_of made.answer
+
+pub may_commit : (s : State) (c : Call) (d : Decision) (changes : List Change) → changes ≡ d.changes → IsGoodWorld s.world → IsNew s c → IsMade s c d → MayCommit s changes c
+may_commit s c d changes same good new made = record {
+  known = known_is_some s c new.known;
+  new = new.new;
+  good = subst IsGoodWorld (sym (ap (changed s.world) same ∙ made.world)) (stays_good s.world c.member c.command c.moment good);
+}
+
+-- the state with the reply
+abbrev answered_by : State → Call → World → Reply → State
+answered_by s c w r = record { world = w; kept = insert s.kept (name_of c) (record { content = c.content; reply = r }) }
+
+pub with_reply-after_call : (s : State) (c : Call) (d : Decision) (changes : List Change) (r : Reply) → changes ≡ d.changes → IsMade s c d → r ≡ reply_of d.answer → with_reply s changes c r ≡ after_call s c
+unfolding outcome
+with_reply-after_call s c d changes r same made told =
+    ap (λ w. answered_by s c w r) (ap (changed s.world) same ∙ made.world)
+    ∙ ap (answered_by s c (apply s.world c.member c.command c.moment).world) (told ∙ ap reply_of made.answer)

@@ -1,0 +1,61 @@
+-- Held states under other names.
+use Rattle.std.proofs.Common.{◌≡◌, ◌⊎◌, ℕ, ◌+◌, ◌≤◌, ◌<◌, zero, suc, get_or, Bool, true, false, if◌then◌else◌, List, [], ◌∷◌, length, take, Result, Ok, Err, refl, sym, ap, ◌∙◌, subst, inl, inr, ⊎_elim, arith}
+use Rattle.std.specs.Prelude.{OnOk, IsErrOf, is_ok}
+use Rattle.tb_desk.specs.declared.call.Call.{Call}
+use Rattle.tb_desk.specs.declared.call.Reply.{Reply}
+use Rattle.tb_desk.specs.declared.fault.KeepFault.{KeepFault}
+use Rattle.tb_desk.specs.declared.fault.KeepFault.TheVariants.{Memory, Store}
+use Rattle.tb_desk.specs.Calls.{State, plain, once}
+use Rattle.tb_desk.proofs.Runs.{after_all, after_all-more}
+use Rattle.tb_desk.specs.Keeping.{HoldsEither, IsAfterSome, IsStill, Only, StandsAfter, is_store}
+
+pub either_of : {a b : State} {now : State → Type 0} {stops : State → Type 0} (c : State) → b ≡ c → HoldsEither a b now stops → HoldsEither a c now stops
+either_of {a = a} {now = now} {stops = stops} c second e = subst (λ x. HoldsEither a x now stops) second e
+
+-- after a call, whatever it answered
+pub stands_after : (s : State) (c : Call) (now stops : State → Type 0) (r : Result Reply KeepFault)
+    → OnOk r (now (plain s (once s (c ∷ [])))) → (IsErrOf r Memory → now s) → ((t : State) → now t → is_store r ≡ false → Only t stops) → (IsErrOf r Store → HoldsEither s (plain s (once s (c ∷ []))) now stops)
+    → StandsAfter s (c ∷ []) (if is_ok r then 1 else 0) now stops
+stands_after s c now stops (Ok x) done same alone either =
+    let at : IsAfterSome s (c ∷ []) 1 (plain s (once s (c ∷ []))) = (1, omega arith, omega arith, refl) in
+    record { held = (plain s (once s (c ∷ [])), done, at); stops = λ t left. subst (IsAfterSome s (c ∷ []) 1) (sym (alone _ done refl t left)) at }
+stands_after s c now stops (Err Memory) done same alone either =
+    let at : IsAfterSome s (c ∷ []) 0 s = (0, omega arith, omega arith, refl) in
+    record { held = (s, same refl, at); stops = λ t left. subst (IsAfterSome s (c ∷ []) 0) (sym (alone s (same refl) refl t left)) at }
+stands_after s c now stops (Err Store) done same alone either =
+    let e = either refl in
+    let before : IsAfterSome s (c ∷ []) 0 s = (0, omega arith, omega arith, refl) in
+    let after : IsAfterSome s (c ∷ []) 0 (plain s (once s (c ∷ []))) = (1, omega arith, omega arith, refl) in
+    record {
+      held = ⊎_elim (λ h. (s, h, before)) (λ h. (plain s (once s (c ∷ [])), h, after)) e.held;
+      stops = λ t left. ⊎_elim (λ is. subst (IsAfterSome s (c ∷ []) 0) (sym is) before) (λ is. subst (IsAfterSome s (c ∷ []) 0) (sym is) after) (e.stops t left);
+    }
+
+-- nothing was handled
+pub stands_still : (s : State) (calls : List Call) (now stops : State → Type 0) → now s → Only s stops → StandsAfter s calls 0 now stops
+stands_still s calls now stops held only =
+    let at : IsAfterSome s calls 0 s = (0, omega arith, omega arith, refl) in
+    record { held = (s, held, at); stops = λ t left. subst (IsAfterSome s calls 0) (sym (only t left)) at }
+
+-- a call that was not answered: the calls before it stand, and it may
+pub stands_more : (s t : State) (now stops : State → Type 0) (calls : List Call) (i : ℕ) (c : Call) → i < length calls → c ≡ get_or calls i c → t ≡ after_all s (take i calls) → StandsAfter t (c ∷ []) 0 now stops → StandsAfter s calls i now stops
+stands_more s t now stops calls i c within is at stood =
+    record { held = (stood.held.0, stood.held.1, moved stood.held.0 stood.held.2); stops = λ u left. moved u (stood.stops u left) }
+  where
+    moved : (u : State) → IsAfterSome t (c ∷ []) 0 u → IsAfterSome s calls i u
+    moved u (zero, low, high, same) = (i, omega arith, omega arith, same ∙ at)
+    moved u (suc zero, low, high, same) = (i + 1, omega arith, omega arith, same ∙ after_all-more s t calls i c within is at)
+    moved u (suc (suc j), low, high, same) = absurd (omega arith)
+
+-- all answered calls stand
+pub stands_all : (s : State) (now stops : State → Type 0) (calls : List Call) (n : ℕ) → now (after_all s (take n calls)) → Only (after_all s (take n calls)) stops → StandsAfter s calls n now stops
+stands_all s now stops calls n held only =
+    let at : IsAfterSome s calls n (after_all s (take n calls)) = (n, omega arith, omega arith, refl) in
+    record { held = (after_all s (take n calls), held, at); stops = λ t left. subst (IsAfterSome s calls n) (sym (only t left)) at }
+
+pub stands_counted : (s : State) (now stops : State → Type 0) (calls : List Call) (n i : ℕ) → n ≡ i → StandsAfter s calls i now stops → StandsAfter s calls n now stops
+stands_counted s now stops calls n i same stood = subst (λ m. StandsAfter s calls m now stops) (sym same) stood
+
+-- what is still as it was is one of the two
+pub still_either : (s x : State) (old old_stops now stops : State → Type 0) → IsStill old old_stops now stops → old s → Only s old_stops → HoldsEither s x now stops
+still_either s x old old_stops now stops still held only = record { held = inl (still.held s held); stops = λ t left. inl (only t (still.stops s t held left)) }

@@ -1,0 +1,38 @@
+use Rattle.std.proofs.Common.{◌≡◌, ◌<◌, ◌+◌, length, take, refl, true≢false, sym, ap, ◌∙◌, subst, arith}
+use Rattle.tb_desk.specs.Calls.{State}
+use Rattle.tb_desk.proofs.Runs.{told_more, after_all, after_all-more}
+use Rattle.tb_desk.proofs.Moves.{stands_all, stands_more, stands_counted}
+use Rattle.tb_desk.proofs.desk.Desk.run.Goals as goal
+
+pub returns-in-Err-clause-stands : goal.returns-in-Err-clause-stands
+returns-in-Err-clause-stands g c s held only =
+    let i = c.loop-call.invariant in
+    let calls = c.args.calls.now in
+    let here = after_all s (take c.loop-call.call-index calls) in
+    let within : c.loop-call.call-index < length calls = omega arith in
+    let stood = stands_more s here _ _ calls c.loop-call.call-index c.call-item.result within c.call-item.is refl (c.in-Err.ensures.stands here (i.held s held) (i.only s held only)) in
+    stands_counted s _ _ calls _ c.loop-call.call-index (ap length (c.from_vec.ensures ∙ c.in-Err.ensures.err) ∙ i.count) stood
+
+pub loop-call-preserved : goal.loop-call-preserved
+loop-call-preserved g c =
+    let i = c.loop-call.invariant in
+    let e = c.in_default.ensures in
+    let calls = c.args.calls.now in
+    let n = c.loop-call.call-index in
+    let within : c.loop-call.call-index < length calls = omega arith in
+    let next = λ (s : State). after_all-more s (after_all s (take n calls)) calls n c.call-item.result within c.call-item.is refl in
+    let held = λ (s : State) (h : g.K.Keep.holds c.args.self.now s). subst (g.K.Keep.holds c.run_one.new.self) (next s) (e.left (after_all s (take n calls)) (i.held s h)) in
+    record {
+      count = e.count ∙ ap (λ m. m + 1) i.count;
+      told = λ s h. told_more s (after_all s (take n calls)) calls n c.call-item.result _ _ within c.call-item.is refl (i.told s h) (e.ok (after_all s (take n calls)) (i.held s h));
+      held = held;
+      only = λ s h o. g.met.K.Keep.alone _ _ (held s h) e.fine;
+      closed = λ f. absurd (true≢false (sym (e.closed (i.still f))));
+      still = λ f. absurd (true≢false (sym (e.closed (i.still f))));
+    }
+
+pub returns-clause-stands : goal.returns-clause-stands
+returns-clause-stands g c s held only =
+    let i = c.loop-call.invariant in
+    let calls = c.args.calls.now in
+    stands_counted s _ _ calls _ c.loop-call.call-index (ap length c.from_vec-2.ensures ∙ i.count) (stands_all s _ _ calls c.loop-call.call-index (i.held s held) (i.only s held only))

@@ -1,0 +1,19 @@
+use Rattle.std.proofs.Common.{◌≡◌, true, take, length}
+use Rattle.tb_desk.specs.Calls.{State, plain, once, replies_to}
+use Rattle.tb_desk.specs.Keeping.{Only}
+use Rattle.tb_desk.proofs.desk.Desk.run.Given as goal
+
+-- so far: a reply to each call handled, and the state after these calls
+abbrev pub invariant-loop-call : goal.invariant-loop-call
+invariant-loop-call g l =
+    let k = g.K.Keep in
+    let first = l.fn.self in
+    let handled = take l.call-index l.calls in
+    record {
+      count : length l.replies.items ≡ l.call-index;
+      told : (s : State) → k.holds first s → l.replies.items ≡ replies_to s handled;
+      held : (s : State) → k.holds first s → k.holds l.self (plain s (once s handled));
+      only : (s : State) → k.holds first s → Only s (k.after_stop first) → Only (plain s (once s handled)) (k.after_stop l.self);
+      closed : k.has_failed first ≡ true → l.call-index ≡ 0;
+      still : k.has_failed first ≡ true → k.has_failed l.self ≡ true;
+    }

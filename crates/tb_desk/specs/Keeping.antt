@@ -1,0 +1,61 @@
+-- What a keeper's calls leave, and what a stop leaves.
+use Rattle.std.specs.Prelude.{◌≡◌, ◌⊎◌, ℕ, ◌+◌, ◌≤◌, Bool, true, false, List, [], ◌∷◌, take, None, Result, Ok, Err, IsSome}
+use Rattle.std.specs.FinMap.{insert}
+use Rattle.tb_core.specs.declared.change.Change.{Change}
+use Rattle.tb_core.specs.Changes.{changed}
+use Rattle.tb_core.specs.Good.{IsGoodWorld}
+use Rattle.tb_core.specs.World.{key_of}
+use Rattle.tb_desk.specs.declared.call.Call.{Call}
+use Rattle.tb_desk.specs.declared.call.Reply.{Reply}
+use Rattle.tb_desk.specs.declared.fault.KeepFault.{KeepFault}
+use Rattle.tb_desk.specs.declared.fault.KeepFault.TheVariants.{Memory, Store}
+use Rattle.tb_desk.specs.Calls.{State, name_of, kept_for, is_known, plain, once, reply}
+
+-- the answer is that the store has failed
+abbrev pub is_store : {T : Type 0} → Result T KeepFault → Bool
+is_store (Ok x) = false
+is_store (Err Memory) = false
+is_store (Err Store) = true
+
+-- a stop leaves this state and no other
+abbrev pub Only : State → (State → Type 0) → Type 0
+Only s stops = (t : State) → stops t → t ≡ s
+
+-- each state that was held is held, and a stop leaves nothing else than before
+pub record IsStill (old : State → Type 0) (old_stops : State → Type 0) (new : State → Type 0) (new_stops : State → Type 0) : Type 0 where
+  pub held : (s : State) → old s → new s
+  pub stops : (s t : State) → old s → new_stops t → old_stops t
+
+-- this state is held or that, and a stop leaves one of the two
+pub record HoldsEither (before after : State) (now : State → Type 0) (may_leave : State → Type 0) : Type 0 where
+  pub held : now before ⊎ now after
+  pub stops : (t : State) → may_leave t → (t ≡ before) ⊎ (t ≡ after)
+
+-- a state with changes made, and a reply kept for a call
+abbrev pub with_reply : State → List Change → Call → Reply → State
+with_reply s changes c r = record { world = changed s.world changes; kept = insert s.kept (name_of c) (record { content = c.content; reply = r }) }
+
+-- when a call's changes and reply may be put: its person is known, its name is new, and the world stays good
+pub record MayCommit (s : State) (changes : List Change) (c : Call) : Type 0 where
+  pub known : IsSome (key_of s.world c.member)
+  pub new : kept_for s c ≡ None
+  pub good : IsGoodWorld (changed s.world changes)
+
+-- the call's caller is known, and nothing is kept under its name
+pub record IsNew (s : State) (c : Call) : Type 0 where
+  pub known : is_known s c ≡ true
+  pub new : kept_for s c ≡ None
+
+-- a call that doesn't act in a state, and what it is told
+pub record IsSettled (s : State) (c : Call) (r : Reply) : Type 0 where
+  pub told : r ≡ reply s [] c
+  pub acts_not : once s (c ∷ []) ≡ []
+
+-- a state after some of the calls, each acting once: all that were answered, and one more at most
+abbrev pub IsAfterSome : State → List Call → ℕ → State → Type 0
+IsAfterSome s calls answered t = (j : ℕ) × (answered ≤ j) × (j ≤ answered + 1) × (t ≡ plain s (once s (take j calls)))
+
+-- a state that is held, and each that a stop may leave, are such states
+pub record StandsAfter (s : State) (calls : List Call) (answered : ℕ) (now : State → Type 0) (may_leave : State → Type 0) : Type 0 where
+  pub held : (t : State) × now t × IsAfterSome s calls answered t
+  pub stops : (t : State) → may_leave t → IsAfterSome s calls answered t

@@ -1,0 +1,7 @@
+pub mod Bodies
+pub mod Calls
+pub mod Keeping
+pub mod Listed
+pub mod Opening
+pub mod Sessions
+pub mod Views

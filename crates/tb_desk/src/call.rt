@@ -1,0 +1,53 @@
+use std::alloc::AllocError;
+use tb_core::{Command, Key, Name};
+use tb_task::{Moment, TaskId};
+use tb_values::{Duplicate, Items, Text};
+
+/// A command of one person, under an identifier that the person gives it. Its name is the two together: two people may use one
+/// identifier.
+#[derive(Drop)]
+pub struct Call {
+    pub member: Name,
+    pub key: Key,
+    pub id: TaskId,
+    /// When it came. The moment of the first copy counts.
+    pub moment: Moment,
+    /// The request as it was sent, by which a copy is told from another request under the same name.
+    pub content: Items<u8>,
+    pub command: Command,
+}
+
+/// What a call is told. Its number is 0 where the call is accepted, and else that of the refusal; its status is that of HTTP, and its
+/// body is JSON.
+#[derive(Drop)]
+pub struct Reply {
+    pub number: u8,
+    pub status: u16,
+    pub body: Text,
+}
+
+/// What is kept of a call that was answered.
+#[derive(Drop)]
+pub struct KeptReply {
+    pub content: Items<u8>,
+    pub reply: Reply,
+}
+
+impl Duplicate for Reply {
+    fn duplicate(&self) -> Result<Reply, AllocError> {
+        let body = self.body.duplicate()?;
+        Ok(Reply {
+            number: self.number,
+            status: self.status,
+            body,
+        })
+    }
+}
+
+impl Duplicate for KeptReply {
+    fn duplicate(&self) -> Result<KeptReply, AllocError> {
+        let content = self.content.duplicate()?;
+        let reply = self.reply.duplicate()?;
+        Ok(KeptReply { content, reply })
+    }
+}

@@ -1,0 +1,135 @@
+ghost use Rattle.std.specs.Prelude.{◌≡◌, ◌≢◌, ◌+◌, ◌++◌, ◌∷◌, ◌<◌, ◌≤◌, [], Some, None, IfOk, IsErr, IsErrOf, IsSome, OnErr, OnOk, false, if◌then◌else◌, is_ok, length, take, true};
+ghost use Rattle.tb_desk.specs.declared.fault.KeepFault.TheVariants.{Memory, Store};
+ghost use Rattle.tb_desk.specs.Calls.{State, once, plain, replies_to, reply};
+ghost use Rattle.tb_desk.specs.Keeping.{IsStill, Only, StandsAfter, is_store};
+ghost use Rattle.tb_desk.specs.Views.{shown_in};
+
+use crate::call::{Call, Reply};
+use crate::fault::KeepFault;
+use crate::keep::Keep;
+use crate::serve::serve;
+use crate::view::View;
+use crate::viewing::show;
+use std::alloc::Global;
+use std::marker::Model;
+use tb_core::{Key, Name};
+use tb_task::Moment;
+use tb_values::Items;
+
+/// Handles calls over a keeper. A contract sees the keeper.
+#[derive(Drop)]
+pub struct Desk<K: Keep> {
+    keep: K,
+}
+
+impl<K: Keep> Model for Desk<K> {
+    ghost Value = { K };
+
+    ghost view = { λ desk. desk.keep };
+}
+
+/// The replies to the first calls of a list, in order, and why there are no more.
+#[derive(Drop)]
+pub struct RunEnd {
+    pub replies: Items<Reply>,
+    pub fault: Option<KeepFault>,
+}
+
+impl<K: Keep> Desk<K> {
+    pub fn new(keep: K) -> Desk<K>
+        ensures { result ≡ keep }
+    {
+        Desk { keep }
+    }
+
+    pub fn into_keep(self) -> K
+        ensures { result ≡ self }
+    {
+        let Desk { keep } = self;
+        keep
+    }
+
+    /// Handles one call: it acts where its name is new, and is told what is kept for it otherwise.
+    pub fn handle(&mut self, alloc: Global, call: &Call) -> Result<Reply, KeepFault>
+        ensures told { (s : State) → K.holds self.old s → IfOk result (λ r. r ≡ reply s [] call.now) }
+        ensures left { (s : State) → K.holds self.old s → OnOk result (K.holds self.new (plain s (once s (call.now ∷ [])))) }
+        ensures memory { (s : State) → K.holds self.old s → IsErrOf result Memory → K.holds self.new s }
+        ensures stands { (s : State) → K.holds self.old s → Only s (K.after_stop self.old)
+            → StandsAfter s (call.now ∷ []) (if is_ok result then 1 else 0) (K.holds self.new) (K.after_stop self.new) }
+        ensures failed { K.has_failed self.new ≡ is_store result }
+        ensures closed { K.has_failed self.old ≡ true → IsErrOf result Store }
+    {
+        serve(&mut self.keep, alloc, call)
+    }
+
+    /// Handles calls in order, up to the first fault. The place of a reply is made before its call is handled, so a keeper that has
+    /// failed may still meet the want of memory first.
+    pub fn run(&mut self, alloc: Global, calls: &[Call]) -> RunEnd
+        ensures count { length result.replies ≤ length calls.now }
+        ensures all { result.fault ≡ None → length result.replies ≡ length calls.now }
+        ensures told { (s : State) → K.holds self.old s → result.replies ≡ replies_to s (take (length result.replies) calls.now) }
+        ensures left { (s : State) → K.holds self.old s → result.fault ≢ Some Store
+            → K.holds self.new (plain s (once s (take (length result.replies) calls.now))) }
+        ensures stands { (s : State) → K.holds self.old s → Only s (K.after_stop self.old)
+            → StandsAfter s calls.now (length result.replies) (K.holds self.new) (K.after_stop self.new) }
+        ensures failed { result.fault ≡ Some Store → K.has_failed self.new ≡ true }
+        ensures closed { K.has_failed self.old ≡ true → 0 < length calls.now → IsSome result.fault }
+    {
+        let mut replies = Vec::new(alloc);
+        for call in calls {
+            if let Err(fault) = self.run_one(alloc, &mut replies, call) {
+                return RunEnd {
+                    replies: Items::from_vec(replies),
+                    fault: Some(fault),
+                };
+            }
+        }
+        RunEnd {
+            replies: Items::from_vec(replies),
+            fault: None,
+        }
+    }
+
+    /// What a person with a key is shown of a board at a moment.
+    pub fn view(
+        &mut self,
+        alloc: Global,
+        name: &Name,
+        key: &Key,
+        view: &View,
+        at: Moment,
+    ) -> Result<Reply, KeepFault>
+        ensures told { (s : State) → K.holds self.old s → IfOk result (λ r. r ≡ shown_in s name.now key.now view.now at) }
+        ensures same { IsStill (K.holds self.old) (K.after_stop self.old) (K.holds self.new) (K.after_stop self.new) }
+        ensures failed { K.has_failed self.new ≡ is_store result }
+        ensures closed { K.has_failed self.old ≡ true → IsErrOf result Store }
+    {
+        show(&mut self.keep, alloc, name, key, view, at)
+    }
+
+    // Makes the reply's place, and then handles the call.
+    fn run_one(
+        &mut self,
+        alloc: Global,
+        replies: &mut Vec<Reply>,
+        call: &Call,
+    ) -> Result<(), KeepFault>
+        ensures ok { (s : State) → K.holds self.old s → OnOk result (replies.new.items ≡ replies.old.items ++ reply s [] call.now ∷ []) }
+        ensures count { OnOk result (length replies.new.items ≡ length replies.old.items + 1) }
+        ensures err { OnErr result (replies.new.items ≡ replies.old.items) }
+        ensures left { (s : State) → K.holds self.old s → OnOk result (K.holds self.new (plain s (once s (call.now ∷ [])))) }
+        ensures memory { (s : State) → K.holds self.old s → IsErrOf result Memory → K.holds self.new s }
+        ensures stands { (s : State) → K.holds self.old s → Only s (K.after_stop self.old)
+            → StandsAfter s (call.now ∷ []) (if is_ok result then 1 else 0) (K.holds self.new) (K.after_stop self.new) }
+        ensures failed { is_store result ≡ true → K.has_failed self.new ≡ true }
+        ensures fine { OnOk result (K.has_failed self.new ≡ false) }
+        ensures closed { K.has_failed self.old ≡ true → IsErr result }
+    {
+        if replies.reserve(1).is_err() {
+            return Err(KeepFault::Memory);
+        }
+        let reply = self.handle(alloc, call)?;
+        replies.push(reply).unwrap();
+        Ok(())
+    }
+}

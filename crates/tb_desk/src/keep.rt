@@ -1,0 +1,81 @@
+ghost use Rattle.std.specs.Prelude.{◌≡◌, Bool, true, false, if◌then◌else◌, IfOk, OnOk, IsErrOf, IsSome};
+ghost use Rattle.std.specs.FinMap.{get};
+ghost use Rattle.tb_core.specs.Apply.{seen_of};
+ghost use Rattle.tb_core.specs.Good.{IsGoodWorld};
+ghost use Rattle.tb_core.specs.World.{key_of};
+ghost use Rattle.tb_desk.specs.declared.fault.KeepFault.TheVariants.{Memory, Store};
+ghost use Rattle.tb_desk.specs.Calls.{State};
+ghost use Rattle.tb_desk.specs.Keeping.{HoldsEither, IsStill, MayCommit, Only, is_store, with_reply};
+
+use crate::call::{Call, KeptReply, Reply};
+use crate::fault::KeepFault;
+use std::alloc::Global;
+use tb_core::{Change, Command, Key, Name, Seen};
+use tb_task::TaskId;
+
+/// Keeps people, boards and roles, and the replies given. A keeper is sound where it holds a state, and its content is the state that
+/// it holds: what is promised is promised for each state that it holds.
+pub trait Keep {
+    /// What is stored stands for this state.
+    ghost holds: { Self → State → Type 0 };
+
+    /// A stop now may leave this state.
+    ghost after_stop: { Self → State → Type 0 };
+
+    /// The store has failed.
+    ghost has_failed: { Self → Bool };
+
+    /// 0, and 1 from the first failure of the store on.
+    fn failures(&self) -> u64
+        ensures { result ≡ (if has_failed self.now then 1 else 0) };
+
+    /// The key of the person of that name.
+    fn person(&mut self, alloc: Global, name: &Name) -> Result<Option<Key>, KeepFault>
+        ensures answer { (s : State) → holds self.old s → IfOk result (λ key. key ≡ key_of s.world name.now) }
+        ensures same { IsStill (holds self.old) (after_stop self.old) (holds self.new) (after_stop self.new) }
+        ensures failed { has_failed self.new ≡ is_store result }
+        ensures closed { has_failed self.old ≡ true → IsErrOf result Store };
+
+    /// What is kept under the name of a call.
+    fn kept(
+        &mut self,
+        alloc: Global,
+        name: &Name,
+        id: TaskId,
+    ) -> Result<Option<KeptReply>, KeepFault>
+        ensures answer { (s : State) → holds self.old s → IfOk result (λ kept. kept ≡ get s.kept (name.now, id)) }
+        ensures same { IsStill (holds self.old) (after_stop self.old) (holds self.new) (after_stop self.new) }
+        ensures failed { has_failed self.new ≡ is_store result }
+        ensures closed { has_failed self.old ≡ true → IsErrOf result Store };
+
+    /// What the command of a person who is known looks at.
+    fn look(&mut self, alloc: Global, name: &Name, command: &Command) -> Result<Seen, KeepFault>
+        ensures answer { (s : State) → holds self.old s → IsSome (key_of s.world name.now) → IfOk result (λ seen. seen ≡ seen_of s.world name.now command.now) }
+        ensures same { IsStill (holds self.old) (after_stop self.old) (holds self.new) (after_stop self.new) }
+        ensures failed { has_failed self.new ≡ is_store result }
+        ensures closed { has_failed self.old ≡ true → IsErrOf result Store };
+
+    /// Makes the changes of a call and keeps its reply, both at once. A refusal has no changes.
+    fn commit(
+        &mut self,
+        alloc: Global,
+        changes: &[Change],
+        call: &Call,
+        reply: &Reply,
+    ) -> Result<(), KeepFault>
+        ensures ok { (s : State) → holds self.old s → MayCommit s changes.now call.now
+            → OnOk result (holds self.new (with_reply s changes.now call.now reply.now)) }
+        ensures memory { (s : State) → holds self.old s → MayCommit s changes.now call.now → IsErrOf result Memory → holds self.new s }
+        ensures store { (s : State) → holds self.old s → MayCommit s changes.now call.now → has_failed self.old ≡ false
+            → HoldsEither s (with_reply s changes.now call.now reply.now) (holds self.new) (after_stop self.new) }
+        ensures stays { (s : State) → holds self.old s → MayCommit s changes.now call.now → has_failed self.old ≡ true
+            → IsStill (holds self.old) (after_stop self.old) (holds self.new) (after_stop self.new) }
+        ensures failed { has_failed self.new ≡ is_store result }
+        ensures closed { has_failed self.old ≡ true → IsErrOf result Store };
+
+    /// Until the store fails, a stop leaves what is held.
+    ghost alone: { (k : Self) (s : State) → holds k s → has_failed k ≡ false → Only s (after_stop k) };
+
+    /// The world of a state that is held is good.
+    ghost good: { (k : Self) (s : State) → holds k s → IsGoodWorld s.world };
+}

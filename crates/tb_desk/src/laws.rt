@@ -1,0 +1,18 @@
+//! What holds of every run, whoever keeps it.
+ghost use Rattle.std.specs.Prelude.{List};
+ghost use Rattle.tb_core.specs.Good.{IsGoodWorld};
+ghost use Rattle.tb_desk.specs.declared.call.Call.{Call};
+ghost use Rattle.tb_desk.specs.Calls.{State, once, plain};
+ghost use Rattle.tb_desk.specs.Sessions.{SessionsJoin, SessionsResume, ToldIsKept};
+
+/// A client that was interrupted may send its calls again, from the first that was not answered, and any of them once more.
+pub fn sessions()
+    ensures join { SessionsJoin }
+    ensures resume { SessionsResume }
+    ensures kept { ToldIsKept }
+{}
+
+/// A good world stays good, whatever calls come.
+pub fn worlds_stay_good()
+    ensures { (s : State) (calls : List Call) → IsGoodWorld s.world → IsGoodWorld (plain s (once s calls)).world }
+{}

@@ -1,0 +1,69 @@
+//! How one call is handled, over any keeper.
+ghost use Rattle.std.specs.Prelude.{◌≡◌, ◌∷◌, [], true, IfOk, OnOk, IsErrOf, MatchOption};
+ghost use Rattle.tb_desk.specs.declared.fault.KeepFault.TheVariants.{Memory, Store};
+ghost use Rattle.tb_desk.specs.Calls.{State, after_call, once, outcome, plain, reply, reply_of};
+ghost use Rattle.tb_desk.specs.Keeping.{HoldsEither, IsNew, IsSettled, IsStill, Only, is_store};
+
+use crate::call::{Call, Reply};
+use crate::fault::KeepFault;
+use crate::keep::Keep;
+use crate::replies::{refused, reply_to};
+use std::alloc::Global;
+use tb_core::{Refusal, decide};
+
+/// Handles one call: it acts where its name is new, and is told what is kept for it otherwise.
+pub(crate) fn serve<K: Keep>(keep: &mut K, alloc: Global, call: &Call) -> Result<Reply, KeepFault>
+    ensures told { (s : State) → K.holds keep.old s → IfOk result (λ r. r ≡ reply s [] call.now) }
+    ensures left { (s : State) → K.holds keep.old s → OnOk result (K.holds keep.new (plain s (once s (call.now ∷ [])))) }
+    ensures memory { (s : State) → K.holds keep.old s → IsErrOf result Memory → K.holds keep.new s }
+    ensures store { (s : State) → K.holds keep.old s → Only s (K.after_stop keep.old) → IsErrOf result Store
+        → HoldsEither s (plain s (once s (call.now ∷ []))) (K.holds keep.new) (K.after_stop keep.new) }
+    ensures failed { K.has_failed keep.new ≡ is_store result }
+    ensures closed { K.has_failed keep.old ≡ true → IsErrOf result Store }
+{
+    match find_settled(keep, alloc, call)? {
+        Some(reply) => Ok(reply),
+        None => answer_new(keep, alloc, call),
+    }
+}
+
+/// What a call is told that doesn't act: its caller isn't known, or its name is kept.
+fn find_settled<K: Keep>(
+    keep: &mut K,
+    alloc: Global,
+    call: &Call,
+) -> Result<Option<Reply>, KeepFault>
+    ensures found { (s : State) → K.holds keep.old s → IfOk result (λ found. MatchOption found (IsNew s call.now) (IsSettled s call.now)) }
+    ensures same { IsStill (K.holds keep.old) (K.after_stop keep.old) (K.holds keep.new) (K.after_stop keep.new) }
+    ensures failed { K.has_failed keep.new ≡ is_store result }
+    ensures closed { K.has_failed keep.old ≡ true → IsErrOf result Store }
+{
+    match keep.person(alloc, &call.member)? {
+        Some(key) if key.as_str() == call.key.as_str() => {}
+        _ => return Ok(Some(refused(alloc, Refusal::UnknownCaller)?)),
+    }
+    let Some(kept) = keep.kept(alloc, &call.member, call.id)? else {
+        return Ok(None);
+    };
+    if kept.content.is(&call.content) {
+        return Ok(Some(kept.reply));
+    }
+    Ok(Some(refused(alloc, Refusal::IdReused)?))
+}
+
+/// Answers a call whose caller is known and whose name is new. The reply is whole before it is kept.
+fn answer_new<K: Keep>(keep: &mut K, alloc: Global, call: &Call) -> Result<Reply, KeepFault>
+    ensures told { (s : State) → K.holds keep.old s → IsNew s call.now → IfOk result (λ r. r ≡ reply_of (outcome s call.now).answer) }
+    ensures left { (s : State) → K.holds keep.old s → IsNew s call.now → OnOk result (K.holds keep.new (after_call s call.now)) }
+    ensures memory { (s : State) → K.holds keep.old s → IsNew s call.now → IsErrOf result Memory → K.holds keep.new s }
+    ensures store { (s : State) → K.holds keep.old s → IsNew s call.now → Only s (K.after_stop keep.old) → IsErrOf result Store
+        → HoldsEither s (after_call s call.now) (K.holds keep.new) (K.after_stop keep.new) }
+    ensures failed { K.has_failed keep.new ≡ is_store result }
+    ensures closed { K.has_failed keep.old ≡ true → IsErrOf result Store }
+{
+    let seen = keep.look(alloc, &call.member, &call.command)?;
+    let decision = decide(alloc, &seen, &call.command, call.moment)?;
+    let reply = reply_to(alloc, &decision.answer)?;
+    keep.commit(alloc, decision.changes.as_slice(), call, &reply)?;
+    Ok(reply)
+}

@@ -1,0 +1,12 @@
+use tb_task::TaskId;
+
+/// What is looked at. Views change nothing.
+#[derive(Clone, Copy, Debug, PartialEq, Eq)]
+pub enum View {
+    /// The open tasks of a board by urgency.
+    Listing(u32),
+    /// All tasks of a board as JSON.
+    Export(u32),
+    /// One task of a board as JSON.
+    One(u32, TaskId),
+}
