@@ -1,5 +1,5 @@
 -- Methods and targets of the grammar's heads.
-use Rattle.std.proofs.Common.{◌≡◌, ℕ, List, refl, sym, subst, IsTrue}
+use Rattle.std.proofs.Common.{ℕ, List, sym, subst, IsTrue}
 use Rattle.std.specs.Prelude.{IsUtf8}
 use Rattle.std.proofs.lemmas.List.Elements.{All-weaker}
 use Rattle.httparse.specs.Grammar as grammar

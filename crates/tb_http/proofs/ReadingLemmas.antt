@@ -1,15 +1,15 @@
 -- What is read off bytes is read in one way only.
-use Rattle.std.proofs.Common.{◌≡◌, ◌≢◌, ℕ, ◌+◌, ◌-◌, ◌<◌, ◌≤◌, ◌⊎◌, List, [], ◌∷◌, ◌++◌, length, take, drop, refl, sym, ap, ◌∙◌, subst, arith, inl, inr, Ok, Err, Result, Bool}
+use Rattle.std.proofs.Common.{◌≡◌, ℕ, ◌+◌, ◌-◌, ◌<◌, ◌≤◌, ◌⊎◌, List, [], ◌++◌, length, take, drop, refl, sym, ap, ◌∙◌, subst, arith, inl, inr, Ok, Err, Bool}
 use Rattle.std.proofs.lemmas.List.{length-append, length-take, take_all}
 use Rattle.std.proofs.Math.Seq.{take-append-add}
-use Rattle.httparse.specs.Grammar.{RequestHead, print_request, ReadsRequest, print_blank, print_version, print_end, print_section}
+use Rattle.httparse.specs.Grammar.{RequestHead, print_request, ReadsRequest}
 use Rattle.httparse.proofs.GrammarLemmas.{request_unique, print_request-append}
 use Rattle.tb_http.specs.declared.fault.WireFault.{WireFault}
 use Rattle.tb_http.specs.declared.fault.WireFault.TheVariants.{Ended, Torn, ReadFailed, BadHead, HeadTooLong, Coding, NoLength, BodyTooLong, NoRoute, NoMethod, NoId, BadBody, NoClock, Memory}
 use Rattle.tb_http.specs.declared.message.Head.{Head}
 use Rattle.tb_http.specs.declared.message.Message.{Message}
 use Rattle.tb_http.specs.Message.{head_from, message_from}
-use Rattle.tb_http.specs.Wire.{head_limit, BeginsWithHead, BeginsWithMessage, RefusesHead, LacksBody, IsOpen, Breaks, Faults}
+use Rattle.tb_http.specs.Wire.{head_limit, BeginsWithHead, BeginsWithMessage, RefusesHead, LacksBody, IsOpen, Breaks}
 use Rattle.tb_http.specs.Framing.{body_length}
 use Rattle.tb_http.specs.Closing.{asks_to_close}
 use Rattle.tb_http.specs.Head.{HasBadLine}
@@ -29,8 +29,7 @@ one_message bytes a b closes ends rest other x y =
     let same = head_unique bytes x.head y.head x.behind y.behind x.begins y.begins in
     let size = size_unique x.head y.head x.size y.size same.0 x.framed y.framed in
     let body : take x.size x.behind ≡ take y.size y.behind = cc in
-    let left : drop x.size x.behind ≡ drop y.size y.behind = cc in
-    (
+    let left : drop x.size x.behind ≡ drop y.size y.behind = cc in (
       x.says ∙ ap (λ h. message_from h (take x.size x.behind)) same.0 ∙ ap (message_from y.head) body ∙ sym y.says,
       x.closing ∙ ap asks_to_close same.0 ∙ sym y.closing,
       x.rest_is ∙ left ∙ sym y.rest_is,

@@ -1,13 +1,12 @@
 -- From the bytes that are held to all that a connection brings.
-use Rattle.std.proofs.Common.{◌≡◌, ◌≢◌, ℕ, ◌+◌, ◌-◌, ◌*◌, ◌<◌, ◌≤◌, ◌⊎◌, List, [], ◌∷◌, ◌++◌, length, take, drop, min, zero, suc, get_or, refl, sym, ap, ◌∙◌, subst, arith, append_assoc, append-nil, inl, inr, Bool, true, false, Option, Some, None, Ok, Err, IfSome}
-use Rattle.std.specs.Prelude.{◌==◌, IsSomeAnd, IfOk, OnOk, Result}
+use Rattle.std.proofs.Common.{◌≡◌, ℕ, ◌+◌, ◌<◌, ◌≤◌, ◌⊎◌, List, [], ◌∷◌, ◌++◌, length, take, drop, min, zero, suc, refl, sym, ap, ◌∙◌, subst, arith, append_assoc, append-nil, inl, inr, Bool, false, Option, Some, None, Ok, Err, IfSome}
+use Rattle.std.specs.Prelude.{◌==◌, IsSomeAnd}
 use Rattle.std.proofs.lemmas.List.{length-append, length-take, length-drop, take-append-drop, take-append-le, drop-append-le, take_all}
-use Rattle.std.proofs.lemmas.Bool.{cases_lt}
 use Rattle.std.specs.Io.KnownBytes.{Keeps, IsAtEnd, prepend_known}
 use Rattle.httparse.specs.declared.spans.HeaderSpan.{HeaderSpan}
 use Rattle.httparse.specs.declared.spans.RequestSpans.{RequestSpans}
 use Rattle.httparse.specs.Spans.{IsRequestOf, IsRequestAt, IsRequestWithin}
-use Rattle.httparse.specs.Grammar.{RequestHead, print_request, ReadsRequest, HasNoRequest}
+use Rattle.httparse.specs.Grammar.{RequestHead, ReadsRequest}
 use Rattle.httparse.proofs.GrammarLemmas.{ReadsRequest-append}
 use Rattle.tb_http.specs.declared.fault.WireFault.{WireFault}
 use Rattle.tb_http.specs.declared.fault.WireFault.TheVariants.{Ended, Torn, ReadFailed, BadHead, HeadTooLong, Memory}
@@ -15,7 +14,7 @@ use Rattle.tb_http.specs.Head.{HasBadLine}
 use Rattle.tb_http.specs.declared.message.Head.{Head}
 use Rattle.tb_http.specs.declared.message.Message.{Message}
 use Rattle.tb_http.specs.Message.{head_from, message_from}
-use Rattle.tb_http.specs.Wire.{head_limit, BeginsWithHead, BeginsWithMessage, RefusesHead, LacksBody, IsOpen, Faults, Breaks}
+use Rattle.tb_http.specs.Wire.{head_limit, BeginsWithHead, BeginsWithMessage, IsOpen, Faults, Breaks}
 use Rattle.tb_http.specs.Framing.{body_length}
 use Rattle.tb_http.specs.Closing.{asks_to_close}
 
@@ -67,8 +66,8 @@ pub fault_torn : (known left : Option (List ℕ)) (held : List ℕ) → Keeps kn
 fault_torn known left held keeps end is_open some short =
     at_known known left held (λ bytes. Faults bytes Torn) keeps
     (λ more here.
-      let whole : held ++ more ≡ held = ap (λ l. held ++ l) (end_is_empty left more end here) ∙ append-nil held in
-      inr (inl (subst IsOpen (take_all head_limit held short ∙ sym whole) is_open, rw whole some, rw whole short)))
+    let whole : held ++ more ≡ held = ap (λ l. held ++ l) (end_is_empty left more end here) ∙ append-nil held in
+    inr (inl (subst IsOpen (take_all head_limit held short ∙ sym whole) is_open, rw whole some, rw whole short)))
 
 pub fault_ended : (known left : Option (List ℕ)) (held : List ℕ) → Keeps known (prepend_known held left) → IsAtEnd left
     → held ≡ [] → IfSome known (λ bytes. Faults bytes Ended)
@@ -87,8 +86,7 @@ head_in_window n held headers spans head fits within found says =
     let behind : drop spans.len (take n held) ++ drop n held ≡ drop spans.len held =
     sym (drop-append-le spans.len (take n held) (drop n held) inside) ∙ ap (drop spans.len) (take-append-drop n held) in
     let reads = ReadsRequest-append (take n held) found.0 (drop spans.len (take n held)) (drop n held) at.reads in
-    let here : ReadsRequest held found.0 (drop spans.len held) = rw (take-append-drop n held, behind) at reads in
-    (
+    let here : ReadsRequest held found.0 (drop spans.len held) = rw (take-append-drop n held, behind) at reads in (
       omega arith,
       omega arith,
       record {
@@ -130,14 +128,14 @@ pub fault_lacks_body : (known left : Option (List ℕ)) (held : List ℕ) (len s
 fault_lacks_body known left held len size head keeps end begins inside framed short =
     at_known known left held (λ bytes. Faults bytes Torn) keeps
     (λ more here.
-      inr (inr (record {
-        head = head;
-        behind = drop len held ++ more;
-        begins = begins_more held more (drop len held) head begins;
-        size = size;
-        framed = sym framed;
-        short = rw (end_is_empty left more end here, append-nil) (omega (arith, length-drop len held));
-      })))
+    inr (inr (record {
+      head = head;
+      behind = drop len held ++ more;
+      begins = begins_more held more (drop len held) head begins;
+      size = size;
+      framed = sym framed;
+      short = rw (end_is_empty left more end here, append-nil) (omega (arith, length-drop len held));
+    })))
 
 -- a whole message is taken from the front of what is held
 pub message_taken : (known left : Option (List ℕ)) (held rest : List ℕ) (len size : ℕ) (head : Head) (message : Message) (closes : Bool)
@@ -147,19 +145,19 @@ pub message_taken : (known left : Option (List ℕ)) (held rest : List ℕ) (len
 message_taken known left held rest len size head message closes keeps begins framed inside says closing rest_is =
     at_known known left held (λ bytes. IsSomeAnd (prepend_known rest left) (λ left_over. BeginsWithMessage bytes message closes left_over)) keeps
     (λ more here.
-      let enough : size ≤ length (drop len held) = omega (arith, length-drop len held) in
-      let taken : BeginsWithMessage (held ++ more) message closes (rest ++ more) = record {
-        head = head;
-        behind = drop len held ++ more;
-        begins = begins_more held more (drop len held) head begins;
-        size = size;
-        framed = sym framed;
-        whole = simp length-append (omega arith);
-        says = says ∙ ap (message_from head) (sym (take-append-le size (drop len held) more enough));
-        closing = closing;
-        rest_is = ap (λ l. l ++ more) rest_is ∙ sym (drop-append-le size (drop len held) more enough);
-      } in
-      subst (λ (l : Option (List ℕ)). IsSomeAnd (prepend_known rest l) (λ left_over. BeginsWithMessage (held ++ more) message closes left_over)) (sym here) taken)
+    let enough : size ≤ length (drop len held) = omega (arith, length-drop len held) in
+    let taken : BeginsWithMessage (held ++ more) message closes (rest ++ more) = record {
+      head = head;
+      behind = drop len held ++ more;
+      begins = begins_more held more (drop len held) head begins;
+      size = size;
+      framed = sym framed;
+      whole = simp length-append (omega arith);
+      says = says ∙ ap (message_from head) (sym (take-append-le size (drop len held) more enough));
+      closing = closing;
+      rest_is = ap (λ l. l ++ more) rest_is ∙ sym (drop-append-le size (drop len held) more enough);
+    } in
+    subst (λ (l : Option (List ℕ)). IsSomeAnd (prepend_known rest l) (λ left_over. BeginsWithMessage (held ++ more) message closes left_over)) (sym here) taken)
 
 -- a head in the window is at the front of what is held
 pub window_begins : (held : List ℕ) (headers : List HeaderSpan) (spans : RequestSpans) (head : Head)

@@ -1,5 +1,5 @@
 -- The answer to a message: its head (RFC 9112, sections 4 and 5), and its body.
-use Rattle.std.specs.Prelude.{ℕ, ◌==◌, Bool, true, false, ◌||◌, if◌then◌else◌, List, [], ◌∷◌, ◌++◌, length, codes, decimal, Option, Some, None}
+use Rattle.std.specs.Prelude.{ℕ, ◌==◌, Bool, true, false, ◌||◌, if◌then◌else◌, List, [], ◌++◌, length, codes, decimal, Option, Some, None}
 use Rattle.tb_http.specs.declared.answer.ContentType.{ContentType}
 use Rattle.tb_http.specs.declared.answer.ContentType.TheVariants.{Json, PlainText}
 use Rattle.tb_http.specs.declared.answer.Answer.{Answer}

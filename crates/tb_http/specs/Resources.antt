@@ -1,6 +1,6 @@
 -- What a request asks for: its path names a resource, by the route that it has and by its segments, and its method is the route's.
-use Rattle.std.specs.Prelude.{ℕ, ◌==◌, Bool, if◌then◌else◌, List, [], ◌∷◌, codes, Option, Some, None, Result, Ok, Err}
-use Rattle.std.specs.Option.{option_map, option_and_then, unwrap_or}
+use Rattle.std.specs.Prelude.{ℕ, ◌==◌, Bool, if◌then◌else◌, List, [], codes, Option, Some, None, Result, Ok, Err}
+use Rattle.std.specs.Option.{option_map, unwrap_or}
 use Rattle.std.specs.List.{slice_split, slice_get}
 use Rattle.std.specs.Str.{bytes_eq}
 use Rattle.tb_task.specs.TaskId.{read_id}

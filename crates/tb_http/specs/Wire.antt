@@ -1,5 +1,5 @@
 -- The message at the front of the bytes that a connection brings (RFC 9112, sections 2 to 6), by the grammar of heads.
-use Rattle.std.specs.Prelude.{◌≡◌, ◌⊎◌, ℕ, ◌<◌, ◌≤◌, ◌+◌, nat_le, Bool, ◌||◌, List, [], length, take, drop, Option, Result, Ok, Err}
+use Rattle.std.specs.Prelude.{◌≡◌, ◌⊎◌, ℕ, ◌<◌, ◌≤◌, ◌+◌, nat_le, Bool, ◌||◌, List, [], length, take, drop, Option, Ok, Err}
 use Rattle.httparse.specs.Grammar.{RequestHead, print_request, ReadsRequest, HasNoRequest}
 use Rattle.tb_http.specs.declared.fault.WireFault.{WireFault}
 use Rattle.tb_http.specs.declared.fault.WireFault.TheVariants.{Ended, Torn, ReadFailed, BadHead, HeadTooLong, Coding, NoLength, BodyTooLong, NoRoute, NoMethod, NoId, BadBody, NoClock, Memory}

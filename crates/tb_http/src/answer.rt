@@ -191,7 +191,12 @@ impl HeadRoom {
 
     /// Sends an answer whole, or a front of it that is known.
     #[tactic(auto, unfolding(crate::specs::Answer::answer_text))]
-    pub fn send<W: Write>(&mut self, writer: &mut W, answer: Answer, body: &[u8]) -> Result<(), WriteFault>
+    pub fn send<W: Write>(
+        &mut self,
+        writer: &mut W,
+        answer: Answer,
+        body: &[u8],
+    ) -> Result<(), WriteFault>
         ensures whole { OnOk result (Appends (W.contents writer.old) (W.contents writer.new) (answer_text answer body.now)) }
         ensures cut { IfErr result (λ fault. (fault.written < length (answer_text answer body.now))
             × Appends (W.contents writer.old) (W.contents writer.new) (take fault.written (answer_text answer body.now))) }

@@ -62,7 +62,9 @@ fn is_close(option: &[u8]) -> bool
 fn any_is_close(options: &[u8]) -> bool
     ensures { result ≡ list_any closing.is_close (slice_split (λ byte. byte == 44) options.now) }
 {
-    options.split(|byte| *byte == b',').any(|option| is_close(option))
+    options
+        .split(|byte| *byte == b',')
+        .any(|option| is_close(option))
 }
 
 #[tactic(auto, unfolding(crate::specs::Closing::names_close))]

@@ -29,7 +29,8 @@ pub fn count_named(fields: &[Field], name: &str) -> usize
 fn agrees(first: &[u8], line: &Field) -> bool
     ensures { result ≡ framing.agrees first.now line.now }
 {
-    !is_named(line, CONTENT_LENGTH) || (is_number(line.value.as_slice()) && same_number(first, line.value.as_slice()))
+    !is_named(line, CONTENT_LENGTH)
+        || (is_number(line.value.as_slice()) && same_number(first, line.value.as_slice()))
 }
 
 #[tactic(auto, unfolding(crate::specs::Framing::is_long))]

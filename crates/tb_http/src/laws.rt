@@ -6,5 +6,4 @@ pub fn one_reading()
     ensures message { OneMessage }
     ensures fault { NoOtherFault }
     ensures one_fault { OneFault }
-{
-}
+{}

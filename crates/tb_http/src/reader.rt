@@ -6,8 +6,8 @@ ghost use Rattle.tb_http.specs.Framing.{body_length as body_length_of};
 ghost use Rattle.tb_http.specs.Closing.{message_limit, asks_to_close as asks_to_close_so};
 ghost use Rattle.tb_http.specs.Wire.{BeginsWithHead, BeginsWithMessage, Faults, is_last};
 
-use crate::fault::WireFault;
 use crate::closing::{MESSAGE_LIMIT, asks_to_close};
+use crate::fault::WireFault;
 use crate::framing::body_length;
 use crate::head::{FIELD_ROOM, HEAD_LIMIT, Judgement, judge};
 use crate::message::{Head, Message, head_at};
@@ -56,7 +56,10 @@ fn read_head<R: Read>(
                 let Ok(head) = head_at(alloc, front, room, spans) else {
                     return Err(WireFault::Memory);
                 };
-                return Ok(Start { head, len: spans.len });
+                return Ok(Start {
+                    head,
+                    len: spans.len,
+                });
             }
             Judgement::Bad => return Err(WireFault::BadHead),
             Judgement::Unfinished => {}
@@ -93,8 +96,18 @@ fn take_message(
     held.rotate_left(end);
     let left = held.len() - end;
     held.truncate(left);
-    let Head { method, target, minor: _, fields } = start.head;
-    Ok(Message { method, target, fields, body: Items::from_vec(body) })
+    let Head {
+        method,
+        target,
+        minor: _,
+        fields,
+    } = start.head;
+    Ok(Message {
+        method,
+        target,
+        fields,
+        body: Items::from_vec(body),
+    })
 }
 
 /// A message, and whether its sender closes the connection after it.
@@ -144,9 +157,9 @@ impl<R: Read + Drop> Model for Reader<R> {
     ghost Value = { Incoming };
 
     ghost view = { λ r. record {
-        bytes = prepend_known r.held.items (R.remaining r.source);
-        messages = r.messages;
-        is_closing = r.is_closing;
+      bytes = prepend_known r.held.items (R.remaining r.source);
+      messages = r.messages;
+      is_closing = r.is_closing;
     } };
 
     ghost invariant = { λ r. (length r.room.items ≡ 5463) × (r.is_closing ≡ false → r.messages < 1000) };

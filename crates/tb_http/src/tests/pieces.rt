@@ -1,15 +1,14 @@
 //! A reader that gives bytes in pieces, and a connection that answers what its messages ask for by their routes alone.
-use std::alloc::Global;
-use std::io;
-use std::io::Read;
-use std::test::Fail;
-
 use crate::answer::{Answer, ContentType, HeadRoom};
 use crate::fault::WireFault;
 use crate::message::Message;
 use crate::reader::Reader;
 use crate::resource::RouteFault;
 use crate::route::{Routes, Verb};
+use std::alloc::Global;
+use std::io;
+use std::io::Read;
+use std::test::Fail;
 
 /// Gives the bytes up to `cut` first, then the others, and never more than `size` at a time.
 #[derive(Drop)]
@@ -21,7 +20,11 @@ pub struct Pieces<'a> {
 
 impl Read for Pieces<'_> {
     fn read(&mut self, buf: &mut [u8]) -> io::Result<usize> {
-        let piece = if self.cut == 0 { self.size } else { self.size.min(self.cut) };
+        let piece = if self.cut == 0 {
+            self.size
+        } else {
+            self.size.min(self.cut)
+        };
         let count = piece.min(self.bytes.len()).min(buf.len());
         let mut front = &self.bytes[..count];
         let read = front.read(buf)?;
@@ -32,8 +35,19 @@ impl Read for Pieces<'_> {
 }
 
 /// What is read of these bytes, cut at one place.
-pub fn read_cut(alloc: Global, bytes: &[u8], cut: usize) -> Result<Result<Message, WireFault>, Fail> {
-    let mut reader = Reader::new(alloc, Pieces { bytes, cut, size: 4096 })?;
+pub fn read_cut(
+    alloc: Global,
+    bytes: &[u8],
+    cut: usize,
+) -> Result<Result<Message, WireFault>, Fail> {
+    let mut reader = Reader::new(
+        alloc,
+        Pieces {
+            bytes,
+            cut,
+            size: 4096,
+        },
+    )?;
     Ok(reader.read_message(alloc))
 }
 
@@ -85,14 +99,27 @@ pub fn answers_to(alloc: Global, bytes: &[u8], cut: usize) -> Result<Vec<u8>, Fa
         Err(_) => return Err("no routes".into()),
     };
     let mut room = HeadRoom::new(alloc)?;
-    let mut reader = Reader::new(alloc, Pieces { bytes, cut, size: 4096 })?;
+    let mut reader = Reader::new(
+        alloc,
+        Pieces {
+            bytes,
+            cut,
+            size: 4096,
+        },
+    )?;
     let mut out = Vec::new(alloc);
     for _ in 0..2000 {
         if reader.closing() {
             break;
         }
         match reader.read_message(alloc) {
-            Ok(message) => answer_message(&routes, &message, reader.closing(), &mut room, &mut out)?,
+            Ok(message) => answer_message(
+                &routes,
+                &message,
+                reader.closing(),
+                &mut room,
+                &mut out,
+            )?,
             Err(fault) => answer_fault(fault, None, true, true, &mut room, &mut out)?,
         }
     }

@@ -1,9 +1,8 @@
-use std::test::Fail;
-
 use crate::numerals::read_board;
 use crate::resource::{Resource, RouteFault, TaskAction};
 use crate::route::{Routes, Verb};
 use http::Method;
+use std::test::Fail;
 use tb_task::TaskId;
 
 #[test]
@@ -20,8 +19,16 @@ fn paths_name_resources(rt: HostRuntime) -> Result<(), Fail> {
         (&post, "/people", Resource::People),
         (&post, "/boards", Resource::Boards),
         (&post, "/boards/1/roles", Resource::Roles(1)),
-        (&post, "/boards/4294967295/tasks", Resource::Tasks(4294967295)),
-        (&get, "/boards/1/tasks/00000001-0000-8000-8000-00000000000A", Resource::Task(1, id)),
+        (
+            &post,
+            "/boards/4294967295/tasks",
+            Resource::Tasks(4294967295),
+        ),
+        (
+            &get,
+            "/boards/1/tasks/00000001-0000-8000-8000-00000000000A",
+            Resource::Task(1, id),
+        ),
         (
             &post,
             "/boards/1/tasks/00000001-0000-8000-8000-00000000000a/undepend",
@@ -36,8 +43,16 @@ fn paths_name_resources(rt: HostRuntime) -> Result<(), Fail> {
     ];
     for (method, path, want) in named {
         assert_eq!(rt; routes.resource(method, path), Ok(want), "at {path}");
-        let (other, verb) = if method.as_str() == "GET" { (&post, Verb::Get) } else { (&get, Verb::Post) };
-        assert_eq!(rt; routes.resource(other, path), Err(RouteFault::NoMethod(verb)), "at {path}");
+        let (other, verb) = if method.as_str() == "GET" {
+            (&post, Verb::Get)
+        } else {
+            (&get, Verb::Post)
+        };
+        assert_eq!(rt;
+            routes.resource(other, path),
+            Err(RouteFault::NoMethod(verb)),
+            "at {path}"
+        );
     }
     Ok(())
 }
@@ -69,8 +84,16 @@ fn other_paths_have_no_route(rt: HostRuntime) -> Result<(), Fail> {
         "http://a/boards/1/list",
         "*",
     ] {
-        assert_eq!(rt; routes.resource(&get, path), Err(RouteFault::NoRoute), "at {path}");
-        assert_eq!(rt; routes.resource(&put, path), Err(RouteFault::NoRoute), "at {path}");
+        assert_eq!(rt;
+            routes.resource(&get, path),
+            Err(RouteFault::NoRoute),
+            "at {path}"
+        );
+        assert_eq!(rt;
+            routes.resource(&put, path),
+            Err(RouteFault::NoRoute),
+            "at {path}"
+        );
     }
     assert_eq!(rt; read_board("4294967295"), Some(4294967295));
     assert_eq!(rt; read_board(""), None);

@@ -1,4 +1,4 @@
-use Rattle.std.proofs.Common.{◌≡◌, ◌++◌, List, ℕ, append_assoc, codes, decimal, ap}
+use Rattle.std.proofs.Common.{◌≡◌, ◌++◌, List, ℕ, append_assoc, codes, decimal}
 use Rattle.tb_http.specs.Answer.{answer_head, status_line, field_line, type_text, allow_line, connection_text}
 use Rattle.tb_http.proofs.answer.push_head.Goals as goal
 

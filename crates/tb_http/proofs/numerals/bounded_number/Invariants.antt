@@ -2,7 +2,6 @@ use Rattle.std.proofs.Common.{◌≡◌, ◌≤◌, ◌*◌, ◌+◌, drop, IsTr
 use Rattle.std.specs.Str.Parse.{digits_value, digits_value_after}
 use Rattle.std.specs.List.{list_all}
 use Rattle.std.specs.Char.{is_ascii_digit}
-use Rattle.tb_http.specs.Numerals as numerals
 use Rattle.tb_http.proofs.numerals.bounded_number.Given as goal
 
 abbrev pub invariant-loop-digit : goal.invariant-loop-digit

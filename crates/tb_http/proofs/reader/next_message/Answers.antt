@@ -1,4 +1,4 @@
-use Rattle.std.proofs.Common.{arith, length, take, drop, ◌+◌, ◌*◌, ◌<◌, ◌≤◌, ◌≡◌, ◌∙◌, ap, subst, sym, Ok, false, List, ℕ}
+use Rattle.std.proofs.Common.{arith, length, ◌≤◌, ap}
 use Rattle.std.proofs.lemmas.List.{length-append}
 use Rattle.std.proofs.lemmas.Result.{err_from_is_err_and}
 use Rattle.tb_values.proofs.Appends.{Keeps-then}
