@@ -119,6 +119,7 @@ reaches b s (suc steps) n from to taken vacant =
               let same : s ≡ n = omega (arith, from, ltb-false s n not_below) in
               absurd (true≢false (sym here ∙ ap (λ i. is_on b (made b.number i)) same ∙ vacant))
         ]
+
     ends : (b : Board) (s n : ℕ) → s ≤ n → ((j : ℕ) → s ≤ j → j < n → is_on b (made b.number j) ≡ true) → is_on b (made b.number s) ≡ false → s ≡ n
     ends b s n from taken other =
         elim (cases_Bool (nat_lt s n)) [

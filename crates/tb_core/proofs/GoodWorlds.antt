@@ -48,13 +48,15 @@ with_board w b = record w { boards = change_board b.number (λ _. b) w.boards }
 
 roles-kept : (w v : World) → v.people ≡ w.people → length v.boards ≡ length w.boards → (rs : List RoleOn) → AllByRecursion (IsRoleIn w) rs → AllByRecursion (IsRoleIn v) rs
 roles-kept w v people boards [] all = tt
-roles-kept w v people boards (r ∷ rs) all =
-    (record {
-      from_board = all.0.from_board;
-      to_board = rw boards all.0.to_board;
-      from_person = all.0.from_person;
-      to_person = rw people all.0.to_person;
-    }, roles-kept w v people boards rs all.1)
+roles-kept w v people boards (r ∷ rs) all = (
+  record {
+    from_board = all.0.from_board;
+    to_board = rw boards all.0.to_board;
+    from_person = all.0.from_person;
+    to_person = rw people all.0.to_person;
+  },
+  roles-kept w v people boards rs all.1,
+)
 
 pub good-with_board : (w : World) (x b : Board) → IsGoodWorld w → find (has_number x.number) w.boards ≡ Some x → b.number ≡ x.number → IsGood b → IsGoodWorld (with_board w b)
 good-with_board w x b good found number is_good =

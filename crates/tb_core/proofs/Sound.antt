@@ -208,10 +208,10 @@ unfolding has_bad_text
 denotated_texts m text t h =
     let bad = λ (a : Annotation). is_bad_text a.description in
     let before = notes_of (is_bad_text t.description) (some_is_bad t.project) (some_is_bad t.recur) (list_any is_bad_text t.tags)
-        (list_any bad t.annotations) (list_any is_bad_extra t.extras) h in
+    (list_any bad t.annotations) (list_any is_bad_extra t.extras) h in
     fewer_notes (is_bad_text t.description) (some_is_bad t.project) (some_is_bad t.recur) (list_any is_bad_text t.tags)
-        (list_any bad t.annotations) (list_any is_bad_extra t.extras) (list_any bad (remove_key (says text) t.annotations)) h
-        (any-removed bad (says text) t.annotations before)
+    (list_any bad t.annotations) (list_any is_bad_extra t.extras) (list_any bad (remove_key (says text) t.annotations)) h
+    (any-removed bad (says text) t.annotations before)
 
 fit_denotated : (m : ℕ) (text : List ℕ) (t : Task) → IsFit t → IsFit (denotated m text t)
 unfolding has_bad_recurrence

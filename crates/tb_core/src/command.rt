@@ -5,7 +5,10 @@ use tb_task::{Incoming, TaskId};
 #[derive(Drop)]
 pub enum Command {
     /// Adds a task to a board.
-    Add { board: u32, incoming: Incoming },
+    Add {
+        board: u32,
+        incoming: Incoming,
+    },
     /// Does something to one task of a board.
     OnTask {
         board: u32,
@@ -13,7 +16,9 @@ pub enum Command {
         action: Action,
     },
     /// Lets a board come up to the moment.
-    Sweep { board: u32 },
+    Sweep {
+        board: u32,
+    },
 }
 
 /// What the reply to an accepted command says.

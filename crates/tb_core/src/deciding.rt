@@ -78,12 +78,7 @@ fn refused(alloc: Global, refusal: Refusal) -> Decision
 }
 
 /// What a command makes of a board at a moment.
-fn decide_on(
-    alloc: Global,
-    board: &Board,
-    command: &Command,
-    at: Moment,
-) -> Result<Accepted, Stop>
+fn decide_on(alloc: Global, board: &Board, command: &Command, at: Moment) -> Result<Accepted, Stop>
     ensures gives { GivesOutcome result (outcome board.now command.now at) }
     ensures made { IfOk result (λ accepted. IsDraft board.now accepted.draft) }
 {

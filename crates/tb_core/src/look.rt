@@ -44,9 +44,8 @@ impl World {
         ensures { IfOk result (λ seen. seen ≡ seen_of self.now name.now command.now) }
     {
         match command {
-            Command::Add { board, .. }
-            | Command::OnTask { board, .. }
-            | Command::Sweep { board } => self.look_at_board(name, *board),
+            Command::Add { board, .. } | Command::OnTask { board, .. } | Command::Sweep { board } =>
+                self.look_at_board(name, *board),
         }
     }
 
@@ -65,11 +64,7 @@ impl World {
         })
     }
 
-    fn board_for(
-        &self,
-        caller: Option<usize>,
-        board: u32,
-    ) -> Result<Option<SeenBoard>, AllocError>
+    fn board_for(&self, caller: Option<usize>, board: u32) -> Result<Option<SeenBoard>, AllocError>
         ensures { IfOk result (λ seen. seen ≡ board_for self.now caller (Some board)) }
     {
         let Some(caller) = caller else {
