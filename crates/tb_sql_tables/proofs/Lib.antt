@@ -1,0 +1,13 @@
+pub mod Inside
+pub mod SqlTests
+pub mod Inserts
+pub mod Queries
+pub mod Deletes
+pub mod Updates
+pub mod Keyed
+pub mod Trees
+pub mod Changing
+pub mod Once
+pub mod Statements
+pub mod Contents
+pub mod Creates
