@@ -4,5 +4,6 @@
 #![tactic(auto)]
 
 pub mod create;
+pub mod read;
 pub mod rows;
 pub mod run;
