@@ -10,4 +10,7 @@ pub mod Changing
 pub mod Once
 pub mod Statements
 pub mod Contents
+pub mod KeyTests
+pub mod Effects
+pub mod Standing
 pub mod Creates
