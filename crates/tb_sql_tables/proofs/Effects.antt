@@ -35,6 +35,17 @@ pub each_of : {X : Type 0} {P Q : X → Type 0} → ((x : X) → P x → Q x) �
 each_of h [] all = tt
 each_of h (x ∷ xs) all = (h x all.0, each_of h xs all.1)
 
+pub each_left : {X : Type 0} (P : X → Type 0) (t : X → Bool) (xs : List X) → AllByRecursion P xs → AllByRecursion P (filter t xs)
+each_left P t [] all = tt
+each_left P t (x ∷ xs) all = elim (t x) as (λ b. AllByRecursion P (cond b (x ∷ filter t xs) (filter t xs))) [
+  | true ↦ (all.0, each_left P t xs all.1)
+  | false ↦ each_left P t xs all.1
+]
+
+pub all_left : {X : Type 0} (xs : List X) → filter (λ _. true) xs ≡ xs
+all_left [] = refl
+all_left (x ∷ xs) = ap (λ l. x ∷ l) (all_left xs)
+
 -- the rows that pass a test are those of what passes it
 rows_that : {X : Type 0} (row_of : X → Row) (p : Row → Bool) (t : X → Bool) (xs : List X) → AllByRecursion (λ x. p (row_of x) ≡ t x) xs → filter p (map row_of xs) ≡ map row_of (filter t xs)
 rows_that row_of p t xs same = filter-map p row_of xs ∙ ap (map row_of) (filter_same _ t xs same)

@@ -10,7 +10,9 @@ pub mod Changing
 pub mod Once
 pub mod Statements
 pub mod Contents
+pub mod Masks
 pub mod KeyTests
 pub mod Effects
 pub mod Standing
+pub mod Reordered
 pub mod Creates
