@@ -91,7 +91,7 @@ update_low old new id low ran = record {
       let set = λ (board : BoardRow). let changed : BoardRow = record board { low = low } in changed in
       let same = each (λ (board : BoardRow). and_true _ ∙ equal_numbers board.id id) content.boards in
       let effect = keyed_updated board_row (is_board id) content.boards 2 board_plain refl refl update_text by_id old new is.schema params ran same is.rows.tables.boards replaced set updates
-          (λ r. refl) (λ board. rw (cast_null, cast_integer (pos board.id), cast_integer (pos low)) refl) in
+      (λ r. refl) (λ board. rw (cast_null, cast_integer (pos board.id), cast_integer (pos low)) refl) in
       boards_changed content _ old.now new.now effect.1 is effect.0;
 }
 

@@ -79,7 +79,7 @@ delete_gone old new board template imask ran = record {
   content = λ content is.
       let same = each (λ (row : GoneRow). ap₂ ◌&&◌ (equal_numbers row.board board) (ap₂ ◌&&◌ (equal_numbers row.template template) (equal_numbers row.imask imask))) content.gone in
       let effect = cells_deleted gone_row (is_gone board template imask) content.gone 7 gone_plain refl refl delete_text by_three old new is.schema (Int (pos board) ∷ Int (pos template) ∷ Int (pos imask) ∷ []) ran
-          (has_three (Int (pos board)) (Int (pos template)) (Int (pos imask))) (three_tested (Int (pos board)) (Int (pos template)) (Int (pos imask)) []) same is.rows.tables.gone deletes in
+      (has_three (Int (pos board)) (Int (pos template)) (Int (pos imask))) (three_tested (Int (pos board)) (Int (pos template)) (Int (pos imask)) []) same is.rows.tables.gone deletes in
       gone_changed content _ old.now new.now effect.1 is effect.0;
 }
 
@@ -123,6 +123,6 @@ select_gone old new board rows shown = record {
       let params = Int (pos board) ∷ [] in
       let same = each (λ (row : GoneRow). equal_numbers row.board board) content.gone in
       let answer = cells_shown gone_row (λ row. row.board == board) content.gone gone_tree refl select_text by_one shown_terms in_order asks old new params rows is.schema shown
-          (has_one (Int (pos board))) out (one_tested (Int (pos board)) []) (shows params) same is.rows.tables.gone in
+      (has_one (Int (pos board))) out (one_tested (Int (pos board)) []) (shows params) same is.rows.tables.gone in
       found gone_of (query_of gone_tree by_one shown_terms in_order) (λ row. out (gone_row row)) _ rows (each (λ row. refl) _) answer IsGoneBefore lower;
 }

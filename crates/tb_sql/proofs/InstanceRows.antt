@@ -104,6 +104,6 @@ select_instances old new board rows shown = record {
       let params = Int (pos board) ∷ [] in
       let same = each (λ (row : InstanceRow). equal_numbers row.board board) content.instances in
       let answer = cells_shown instance_row (λ row. row.board == board) content.instances instance_tree refl select_text by_one shown_terms in_order asks old new params rows is.schema shown
-          (has_one (Int (pos board))) out (one_tested (Int (pos board)) []) (shows params) same is.rows.tables.instances in
+      (has_one (Int (pos board))) out (one_tested (Int (pos board)) []) (shows params) same is.rows.tables.instances in
       found instance_of (query_of instance_tree by_one shown_terms in_order) (λ row. out (instance_row row)) _ rows (each (λ row. refl) _) answer IsInstanceBefore lower;
 }

@@ -103,6 +103,6 @@ find_kept old new person id low rows shown = record {
       let params = Int (pos person) ∷ Blob (to_be_bytes w128 id) ∷ [] in
       let same = each_of (λ (row : KeptRow) own. ap₂ ◌&&◌ (equal_numbers row.person person) (equal_identifiers row.id id own low)) content.kept is.rows.tables.kept_identifiers in
       let answer = cells_shown kept_row (is_kept person id) content.kept kept_tree refl find_text by_two shown_terms [] asks_one old new params rows is.schema shown
-          (has_two (Int (pos person)) (Blob (to_be_bytes w128 id))) out_one (two_tested (Int (pos person)) (Blob (to_be_bytes w128 id)) []) (shows_one params) same is.rows.tables.kept in
+      (has_two (Int (pos person)) (Blob (to_be_bytes w128 id))) out_one (two_tested (Int (pos person)) (Blob (to_be_bytes w128 id)) []) (shows_one params) same is.rows.tables.kept in
       found_one kept_of (query_of kept_tree by_two shown_terms []) (λ row. out_one (kept_row row)) _ rows (each_of kept_read _ (each_left _ _ content.kept is.rows.tables.kept_identifiers)) answer;
 }

@@ -79,7 +79,7 @@ delete_links old new board place ran = record {
   content = λ content is.
       let same = each (λ (row : LinkRow). ap₂ ◌&&◌ (equal_numbers row.board board) (equal_numbers row.place place)) content.links in
       let effect = cells_deleted link_row (is_link_from board place) content.links 5 link_plain refl refl delete_text by_two old new is.schema (Int (pos board) ∷ Int (pos place) ∷ []) ran
-          (has_two (Int (pos board)) (Int (pos place))) (two_tested (Int (pos board)) (Int (pos place)) []) same is.rows.tables.links deletes in
+      (has_two (Int (pos board)) (Int (pos place))) (two_tested (Int (pos board)) (Int (pos place)) []) same is.rows.tables.links deletes in
       links_changed content _ old.now new.now effect.1 is effect.0;
 }
 
@@ -123,6 +123,6 @@ select_links old new board rows shown = record {
       let params = Int (pos board) ∷ [] in
       let same = each (λ (row : LinkRow). equal_numbers row.board board) content.links in
       let answer = cells_shown link_row (λ row. row.board == board) content.links link_tree refl select_text by_one shown_terms in_order asks old new params rows is.schema shown
-          (has_one (Int (pos board))) out (one_tested (Int (pos board)) []) (shows params) same is.rows.tables.links in
+      (has_one (Int (pos board))) out (one_tested (Int (pos board)) []) (shows params) same is.rows.tables.links in
       found link_of (query_of link_tree by_one shown_terms in_order) (λ row. out (link_row row)) _ rows (each (λ row. refl) _) answer IsLinkBefore lower;
 }

@@ -69,7 +69,7 @@ delete_role old new board person ran = record {
   content = λ content is.
       let same = each (λ (role : RoleRow). ap₂ ◌&&◌ (equal_numbers role.board board) (equal_numbers role.person person)) content.roles in
       let effect = cells_deleted role_row (is_role board person) content.roles 3 role_plain refl refl delete_text by_two old new is.schema (Int (pos board) ∷ Int (pos person) ∷ []) ran
-          (has_two (Int (pos board)) (Int (pos person))) (two_tested (Int (pos board)) (Int (pos person)) []) same is.rows.tables.roles deletes in
+      (has_two (Int (pos board)) (Int (pos person))) (two_tested (Int (pos board)) (Int (pos person)) []) same is.rows.tables.roles deletes in
       roles_changed content _ old.now new.now effect.1 is effect.0;
 }
 
@@ -112,7 +112,7 @@ select_roles old new board rows shown = record {
       let params = Int (pos board) ∷ [] in
       let same = each (λ (role : RoleRow). equal_numbers role.board board) content.roles in
       let answer = cells_shown role_row (λ role. role.board == board) content.roles role_tree refl select_text by_one shown_terms in_order asks old new params rows is.schema shown
-          (has_one (Int (pos board))) out (one_tested (Int (pos board)) []) (shows params) same is.rows.tables.roles in
+      (has_one (Int (pos board))) out (one_tested (Int (pos board)) []) (shows params) same is.rows.tables.roles in
       found role_of (query_of role_tree by_one shown_terms in_order) (λ role. out (role_row role)) _ rows (each (λ role. refl) _) answer IsRoleBefore lower;
 }
 
@@ -138,6 +138,6 @@ find_role old new board person rows shown = record {
       let params = Int (pos board) ∷ Int (pos person) ∷ [] in
       let same = each (λ (role : RoleRow). ap₂ ◌&&◌ (equal_numbers role.board board) (equal_numbers role.person person)) content.roles in
       let answer = cells_shown role_row (is_role board person) content.roles role_tree refl find_text by_two shown_terms [] asks_one old new params rows is.schema shown
-          (has_two (Int (pos board)) (Int (pos person))) out_one (two_tested (Int (pos board)) (Int (pos person)) []) (shows_one params) same is.rows.tables.roles in
+      (has_two (Int (pos board)) (Int (pos person))) out_one (two_tested (Int (pos board)) (Int (pos person)) []) (shows_one params) same is.rows.tables.roles in
       found_one role_of (query_of role_tree by_two shown_terms []) (λ role. out_one (role_row role)) _ rows (each (λ role. refl) _) answer;
 }

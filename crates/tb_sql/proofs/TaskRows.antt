@@ -108,8 +108,8 @@ module _ (board place : ℕ) (body : List ℕ) (mask : Option (List ℕ)) where
     content = λ content is.
         let same = each (λ (task : TaskRow). ap₂ ◌&&◌ (equal_numbers task.board board) (equal_numbers task.place place)) content.tasks in
         let effect = cells_updated task_row (is_task board place) content.tasks 4 task_plain refl refl text_text by_two old new is.schema update_text_params ran
-            (has_two (Int (pos board)) (Int (pos place))) (two_tested (Int (pos board)) (Int (pos place)) (Text body ∷ or_null Text mask ∷ [])) same is.rows.tables.tasks update_text_replaced update_text_set update_text_altered updates_text
-            (λ r. refl) update_text_altered_is (λ task. rw (cast_integer (pos task.board), cast_integer (pos task.place), cast_mask mask) refl) in
+        (has_two (Int (pos board)) (Int (pos place))) (two_tested (Int (pos board)) (Int (pos place)) (Text body ∷ or_null Text mask ∷ [])) same is.rows.tables.tasks update_text_replaced update_text_set update_text_altered updates_text
+        (λ r. refl) update_text_altered_is (λ task. rw (cast_integer (pos task.board), cast_integer (pos task.place), cast_mask mask) refl) in
         tasks_changed content _ old.now new.now effect.1 is effect.0 (still_identified (is_task board place) update_text_set (λ task. refl) content.tasks is.rows.tables.task_identifiers);
   }
 
@@ -146,8 +146,8 @@ module _ (board place : ℕ) (mask : Option (List ℕ)) where
     content = λ content is.
         let same = each (λ (task : TaskRow). ap₂ ◌&&◌ (equal_numbers task.board board) (equal_numbers task.place place)) content.tasks in
         let effect = cells_updated task_row (is_task board place) content.tasks 4 task_plain refl refl mask_text by_two old new is.schema update_mask_params ran
-            (has_two (Int (pos board)) (Int (pos place))) (two_tested (Int (pos board)) (Int (pos place)) (or_null Text mask ∷ [])) same is.rows.tables.tasks update_mask_replaced update_mask_set update_mask_altered updates_mask
-            (λ r. refl) update_mask_altered_is (λ task. rw (cast_integer (pos task.board), cast_integer (pos task.place), cast_mask mask) refl) in
+        (has_two (Int (pos board)) (Int (pos place))) (two_tested (Int (pos board)) (Int (pos place)) (or_null Text mask ∷ [])) same is.rows.tables.tasks update_mask_replaced update_mask_set update_mask_altered updates_mask
+        (λ r. refl) update_mask_altered_is (λ task. rw (cast_integer (pos task.board), cast_integer (pos task.place), cast_mask mask) refl) in
         tasks_changed content _ old.now new.now effect.1 is effect.0 (still_identified (is_task board place) update_mask_set (λ task. refl) content.tasks is.rows.tables.task_identifiers);
   }
 
@@ -197,7 +197,7 @@ select_tasks old new board rows shown = record {
       let params = Int (pos board) ∷ [] in
       let same = each (λ (row : TaskRow). equal_numbers row.board board) content.tasks in
       let answer = cells_shown task_row (λ row. row.board == board) content.tasks task_tree refl tasks_text by_one shown_terms in_order asks old new params rows is.schema shown
-          (has_one (Int (pos board))) out (one_tested (Int (pos board)) []) (shows params) same is.rows.tables.tasks in
+      (has_one (Int (pos board))) out (one_tested (Int (pos board)) []) (shows params) same is.rows.tables.tasks in
       found task_of (query_of task_tree by_one shown_terms in_order) (λ row. out (task_row row)) _ rows (each_of task_read _ (each_left _ _ content.tasks is.rows.tables.task_identifiers)) answer IsTaskBefore lower;
 }
 
@@ -223,6 +223,6 @@ find_task old new board place rows shown = record {
       let params = Int (pos board) ∷ Int (pos place) ∷ [] in
       let same = each (λ (row : TaskRow). ap₂ ◌&&◌ (equal_numbers row.board board) (equal_numbers row.place place)) content.tasks in
       let answer = cells_shown task_row (is_task board place) content.tasks task_tree refl find_text by_two shown_terms [] asks_one old new params rows is.schema shown
-          (has_two (Int (pos board)) (Int (pos place))) out_one (two_tested (Int (pos board)) (Int (pos place)) []) (shows_one params) same is.rows.tables.tasks in
+      (has_two (Int (pos board)) (Int (pos place))) out_one (two_tested (Int (pos board)) (Int (pos place)) []) (shows_one params) same is.rows.tables.tasks in
       found_one task_of (query_of task_tree by_two shown_terms []) (λ row. out_one (task_row row)) _ rows (each_of task_read _ (each_left _ _ content.tasks is.rows.tables.task_identifiers)) answer;
 }

@@ -14,10 +14,7 @@ use tb_sql_tables::run::{find_rows, run};
 use tb_values::Items;
 
 /// Adds a board. It fails where the number is taken.
-pub fn insert_board<S: Alter>(
-    tx: &mut Transaction<'_, S>,
-    board: &BoardRow,
-) -> Result<(), Error>
+pub fn insert_board<S: Alter>(tx: &mut Transaction<'_, S>, board: &BoardRow) -> Result<(), Error>
     ensures same_reference { tx.new.conn.ghost_name ≡ tx.old.conn.ghost_name }
     ensures put { HasCleanDisk (state S.Store tx.new.conn.now) → IsTrue (state S.Store tx.old.conn.now).in_transaction
         → OnOk result (Changes (with_board board.now) (state S.Store tx.old.conn.now) (state S.Store tx.new.conn.now)) }
@@ -34,11 +31,7 @@ pub fn insert_board<S: Alter>(
 }
 
 /// Sets the least free number of a board, if there is one of this number.
-pub fn update_low<S: Alter>(
-    tx: &mut Transaction<'_, S>,
-    id: u32,
-    low: u32,
-) -> Result<(), Error>
+pub fn update_low<S: Alter>(tx: &mut Transaction<'_, S>, id: u32, low: u32) -> Result<(), Error>
     ensures same_reference { tx.new.conn.ghost_name ≡ tx.old.conn.ghost_name }
     ensures put { HasCleanDisk (state S.Store tx.new.conn.now) → IsTrue (state S.Store tx.old.conn.now).in_transaction
         → OnOk result (Changes (with_low id low) (state S.Store tx.old.conn.now) (state S.Store tx.new.conn.now)) }
@@ -54,9 +47,7 @@ pub fn update_low<S: Alter>(
 }
 
 /// All boards, in order of number.
-pub fn select_boards<S: Alter>(
-    tx: &mut Transaction<'_, S>,
-) -> Result<Items<BoardRow>, Error>
+pub fn select_boards<S: Alter>(tx: &mut Transaction<'_, S>) -> Result<Items<BoardRow>, Error>
     ensures same_reference { tx.new.conn.ghost_name ≡ tx.old.conn.ghost_name }
     ensures found { HasCleanDisk (state S.Store tx.new.conn.now)
         → IfOk result (λ boards. Finds (λ content. AreFound IsBoardBefore content.boards boards) (state S.Store tx.old.conn.now)) }
@@ -64,19 +55,12 @@ pub fn select_boards<S: Alter>(
         → KeepsCommit (state S.Store tx.old.conn.now) (state S.Store tx.new.conn.now) }
     ensures survives { Survives (state S.Store tx.old.conn.now) (state S.Store tx.new.conn.now) (λ _. ⊥) }
 {
-    let rows = find_rows(
-        tx,
-        "SELECT id, title, low FROM board ORDER BY id",
-        &[],
-    )?;
+    let rows = find_rows(tx, "SELECT id, title, low FROM board ORDER BY id", &[])?;
     read_all(*rows.allocator(), &rows)
 }
 
 /// The board of a number.
-pub fn find_board<S: Alter>(
-    tx: &mut Transaction<'_, S>,
-    id: u32,
-) -> Result<Option<BoardRow>, Error>
+pub fn find_board<S: Alter>(tx: &mut Transaction<'_, S>, id: u32) -> Result<Option<BoardRow>, Error>
     ensures same_reference { tx.new.conn.ghost_name ≡ tx.old.conn.ghost_name }
     ensures found { HasCleanDisk (state S.Store tx.new.conn.now)
         → IfOk result (λ board. Finds (λ content. IsOneOf (filter (is_board id) content.boards) board) (state S.Store tx.old.conn.now)) }

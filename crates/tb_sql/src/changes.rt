@@ -14,9 +14,7 @@ use crate::people::insert_person;
 use crate::roles::{delete_role, insert_role};
 use crate::tasks::{insert_task, update_mask, update_text};
 use sqlite::{Alter, Error, Transaction};
-use tb_sql_tables::rows::{
-    BoardRow, GoneRow, InstanceRow, LinkRow, PersonRow, RoleRow, TaskRow,
-};
+use tb_sql_tables::rows::{BoardRow, GoneRow, InstanceRow, LinkRow, PersonRow, RoleRow, TaskRow};
 use tb_values::Text;
 
 /// One change of the rows.
@@ -60,10 +58,7 @@ pub enum RowChange {
 }
 
 /// Makes one change.
-pub fn apply_change<S: Alter>(
-    tx: &mut Transaction<'_, S>,
-    change: &RowChange,
-) -> Result<(), Error>
+pub fn apply_change<S: Alter>(tx: &mut Transaction<'_, S>, change: &RowChange) -> Result<(), Error>
     ensures same_reference { tx.new.conn.ghost_name ≡ tx.old.conn.ghost_name }
     ensures put { HasCleanDisk (state S.Store tx.new.conn.now) → IsTrue (state S.Store tx.old.conn.now).in_transaction
         → OnOk result (Changes (changed_by change.now) (state S.Store tx.old.conn.now) (state S.Store tx.new.conn.now)) }

@@ -8,16 +8,13 @@ ghost use Rattle.tb_sql_tables.specs.Found.{AreFound};
 ghost use Rattle.tb_sql.specs.Changes.{with_gone, without_gone, IsGoneBefore};
 
 use sqlite::{Alter, Error, Transaction, params};
-use tb_sql_tables::read::{read_all};
+use tb_sql_tables::read::read_all;
 use tb_sql_tables::rows::GoneRow;
 use tb_sql_tables::run::{find_rows, run};
 use tb_values::Items;
 
 /// Marks an instance of a template as gone. It fails where it is.
-pub fn insert_gone<S: Alter>(
-    tx: &mut Transaction<'_, S>,
-    gone: &GoneRow,
-) -> Result<(), Error>
+pub fn insert_gone<S: Alter>(tx: &mut Transaction<'_, S>, gone: &GoneRow) -> Result<(), Error>
     ensures same_reference { tx.new.conn.ghost_name ≡ tx.old.conn.ghost_name }
     ensures put { HasCleanDisk (state S.Store tx.new.conn.now) → IsTrue (state S.Store tx.old.conn.now).in_transaction
         → OnOk result (Changes (with_gone gone.now) (state S.Store tx.old.conn.now) (state S.Store tx.new.conn.now)) }

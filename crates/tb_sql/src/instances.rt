@@ -8,7 +8,7 @@ ghost use Rattle.tb_sql_tables.specs.Found.{AreFound};
 ghost use Rattle.tb_sql.specs.Changes.{with_instance, IsInstanceBefore};
 
 use sqlite::{Alter, Error, Transaction, params};
-use tb_sql_tables::read::{read_all};
+use tb_sql_tables::read::read_all;
 use tb_sql_tables::rows::InstanceRow;
 use tb_sql_tables::run::{find_rows, run};
 use tb_values::Items;
@@ -28,7 +28,12 @@ pub fn insert_instance<S: Alter>(
     run(
         tx,
         "INSERT INTO instance (board, template, imask, place) VALUES (?1, ?2, ?3, ?4)",
-        params![instance.board, instance.template, instance.imask, instance.place],
+        params![
+            instance.board,
+            instance.template,
+            instance.imask,
+            instance.place
+        ],
     )
 }
 

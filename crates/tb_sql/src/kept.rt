@@ -7,18 +7,15 @@ ghost use Rattle.tb_sql_tables.specs.Content.{Changes, Finds};
 ghost use Rattle.tb_sql_tables.specs.Found.{IsOneOf};
 ghost use Rattle.tb_sql.specs.Changes.{with_kept, is_kept};
 
+use crate::bind::identifier_bytes;
 use sqlite::{Alter, Error, Transaction, params};
-use tb_sql_tables::read::{read_first};
+use tb_sql_tables::read::read_first;
 use tb_sql_tables::rows::KeptRow;
 use tb_sql_tables::run::{find_rows, run};
-use crate::bind::identifier_bytes;
 use tb_task::TaskId;
 
 /// Keeps a reply. It fails where there is no such person, or one is kept under this identifier.
-pub fn insert_kept<S: Alter>(
-    tx: &mut Transaction<'_, S>,
-    kept: &KeptRow,
-) -> Result<(), Error>
+pub fn insert_kept<S: Alter>(tx: &mut Transaction<'_, S>, kept: &KeptRow) -> Result<(), Error>
     ensures same_reference { tx.new.conn.ghost_name ≡ tx.old.conn.ghost_name }
     ensures put { HasCleanDisk (state S.Store tx.new.conn.now) → IsTrue (state S.Store tx.old.conn.now).in_transaction
         → OnOk result (Changes (with_kept kept.now) (state S.Store tx.old.conn.now) (state S.Store tx.new.conn.now)) }

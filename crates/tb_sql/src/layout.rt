@@ -89,8 +89,7 @@ fn ends_task(columns: &[Column]) -> bool
     let [body_column, mask_column] = columns else {
         return false;
     };
-    is_text(body_column, "body")
-        && is_text(mask_column, "mask")
+    is_text(body_column, "body") && is_text(mask_column, "mask")
 }
 
 #[tactic(auto, unfolding(crate::specs::Opening::is_task))]
@@ -124,7 +123,8 @@ fn is_link(table: &Table) -> bool
 fn is_instance(table: &Table) -> bool
     ensures { result ≡ opening.is_instance table.now }
 {
-    let [board_column, template_column, imask_column, place_column] = table.columns.as_slice() else {
+    let [board_column, template_column, imask_column, place_column] = table.columns.as_slice()
+    else {
         return false;
     };
     is_named(table.name.as_slice(), "instance")

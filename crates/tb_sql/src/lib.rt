@@ -1,4 +1,6 @@
-//! The statements on the tables of a store, each with what it does to their content, and the transactions of them.
+//! The statements on the tables of a store, one function each, whose contract says what it does to typed rows.
+//! Above them the transactions: a new store, changes with a kept reply, and the taking of a database as a store.
+//! Stands on `tb_sql_tables` for the tables, their rows and what statements of a kind do.
 #![tactic(auto)]
 
 mod bind;

@@ -8,16 +8,13 @@ ghost use Rattle.tb_sql_tables.specs.Found.{AreFound};
 ghost use Rattle.tb_sql.specs.Changes.{with_link, without_links, IsLinkBefore};
 
 use sqlite::{Alter, Error, Transaction, params};
-use tb_sql_tables::read::{read_all};
+use tb_sql_tables::read::read_all;
 use tb_sql_tables::rows::LinkRow;
 use tb_sql_tables::run::{find_rows, run};
 use tb_values::Items;
 
 /// Adds a link. It fails where it is there.
-pub fn insert_link<S: Alter>(
-    tx: &mut Transaction<'_, S>,
-    link: &LinkRow,
-) -> Result<(), Error>
+pub fn insert_link<S: Alter>(tx: &mut Transaction<'_, S>, link: &LinkRow) -> Result<(), Error>
     ensures same_reference { tx.new.conn.ghost_name ≡ tx.old.conn.ghost_name }
     ensures put { HasCleanDisk (state S.Store tx.new.conn.now) → IsTrue (state S.Store tx.old.conn.now).in_transaction
         → OnOk result (Changes (with_link link.now) (state S.Store tx.old.conn.now) (state S.Store tx.new.conn.now)) }

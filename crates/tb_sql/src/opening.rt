@@ -15,6 +15,7 @@ use tb_sql_tables::rows::MetaRow;
 use tb_values::Items;
 
 const KIND: &str = "taskboard";
+
 const VERSION: u32 = 1;
 
 /// Why a database isn't taken as a store. It is as it was.
@@ -103,5 +104,9 @@ pub fn accept<S: Alter>(conn: &mut Connection<S>) -> Result<(), OpenFault>
         Err(fault) => return Err(OpenFault::of(fault)),
     };
     judge(metas.as_slice())?;
-    if ours { Ok(()) } else { Err(OpenFault::NotOurs) }
+    if ours {
+        Ok(())
+    } else {
+        Err(OpenFault::NotOurs) // Another table is there, or one is missing.
+    }
 }

@@ -14,10 +14,7 @@ use tb_sql_tables::run::{find_rows, run};
 use tb_values::Items;
 
 /// Adds a person. It fails where the number or the name is taken.
-pub fn insert_person<S: Alter>(
-    tx: &mut Transaction<'_, S>,
-    person: &PersonRow,
-) -> Result<(), Error>
+pub fn insert_person<S: Alter>(tx: &mut Transaction<'_, S>, person: &PersonRow) -> Result<(), Error>
     ensures same_reference { tx.new.conn.ghost_name ≡ tx.old.conn.ghost_name }
     ensures put { HasCleanDisk (state S.Store tx.new.conn.now) → IsTrue (state S.Store tx.old.conn.now).in_transaction
         → OnOk result (Changes (with_person person.now) (state S.Store tx.old.conn.now) (state S.Store tx.new.conn.now)) }
@@ -35,9 +32,7 @@ pub fn insert_person<S: Alter>(
 }
 
 /// All people, in order of number.
-pub fn select_people<S: Alter>(
-    tx: &mut Transaction<'_, S>,
-) -> Result<Items<PersonRow>, Error>
+pub fn select_people<S: Alter>(tx: &mut Transaction<'_, S>) -> Result<Items<PersonRow>, Error>
     ensures same_reference { tx.new.conn.ghost_name ≡ tx.old.conn.ghost_name }
     ensures found { HasCleanDisk (state S.Store tx.new.conn.now)
         → IfOk result (λ people. Finds (λ content. AreFound IsPersonBefore content.people people) (state S.Store tx.old.conn.now)) }
@@ -45,11 +40,7 @@ pub fn select_people<S: Alter>(
         → KeepsCommit (state S.Store tx.old.conn.now) (state S.Store tx.new.conn.now) }
     ensures survives { Survives (state S.Store tx.old.conn.now) (state S.Store tx.new.conn.now) (λ _. ⊥) }
 {
-    let rows = find_rows(
-        tx,
-        "SELECT id, name, secret FROM person ORDER BY id",
-        &[],
-    )?;
+    let rows = find_rows(tx, "SELECT id, name, secret FROM person ORDER BY id", &[])?;
     read_all(*rows.allocator(), &rows)
 }
 

@@ -7,18 +7,15 @@ ghost use Rattle.tb_sql_tables.specs.Content.{Changes, Finds};
 ghost use Rattle.tb_sql_tables.specs.Found.{AreFound, IsOneOf};
 ghost use Rattle.tb_sql.specs.Changes.{with_task, with_text, with_mask, is_task, IsTaskBefore};
 
+use crate::bind::{identifier_bytes, lent};
 use sqlite::{Alter, Error, Transaction, params};
 use tb_sql_tables::read::{read_all, read_first};
 use tb_sql_tables::rows::TaskRow;
 use tb_sql_tables::run::{find_rows, run};
-use crate::bind::{identifier_bytes, lent};
 use tb_values::{Items, Text};
 
 /// Adds a task at a place. It fails where there is no such board, or the place or the identifier is taken on it.
-pub fn insert_task<S: Alter>(
-    tx: &mut Transaction<'_, S>,
-    task: &TaskRow,
-) -> Result<(), Error>
+pub fn insert_task<S: Alter>(tx: &mut Transaction<'_, S>, task: &TaskRow) -> Result<(), Error>
     ensures same_reference { tx.new.conn.ghost_name ≡ tx.old.conn.ghost_name }
     ensures put { HasCleanDisk (state S.Store tx.new.conn.now) → IsTrue (state S.Store tx.old.conn.now).in_transaction
         → OnOk result (Changes (with_task task.now) (state S.Store tx.old.conn.now) (state S.Store tx.new.conn.now)) }

@@ -80,7 +80,7 @@ module _ {X : Type 0} (row_of : X → Row) (t : X → Bool) (xs : List X) (at : 
         let effect = row_updated at plain place low text old new has params ran.0 test project means ran.1 in
         let show = λ (r : Row). eval_all project (params ∷ r ∷ []) in
         let changed = cells_changed store_schema old.now.trees new.now.trees (table_of plain) (passes test params) show (λ r. cast_row (table_of plain) (drop 1 (show r))) effect.0 same_id (λ r. refl) effect.1 effect.2 stored.shaped
-            q alter tested altered _ stored in
+        q alter tested altered _ stored in
         (subst (λ rs. HasRows rs (new.now.trees plain.tree)) (rows_set row_of q alter t set xs same sets) changed, effect.3)
 
   -- ---- a table of which contracts see the rowids as well

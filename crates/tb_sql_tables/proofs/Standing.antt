@@ -63,9 +63,9 @@ module _ (Seen : Database → Type 0) (Left : Trees → Type 0) (old mid new : S
           let was = stands.seen (old_clean clean) turn.shown.was_open in
           elim (fails clean) [
             | inl failed ↦
-              let both = failed.3.undone is_open in
-              let now : new.now ≡ old.now = both.0 ∙ turn.shown.committed_is ∙ was.1 in
-              (inl (subst Seen (sym now) was.0), both.1 ∙ sym both.0)
+                let both = failed.3.undone is_open in
+                let now : new.now ≡ old.now = both.0 ∙ turn.shown.committed_is ∙ was.1 in
+                (inl (subst Seen (sym now) was.0), both.1 ∙ sym both.0)
             | inr late ↦ absurd (let inside_it = turn.shown.mode in let outside = late.1 in cc)
           ];
       left = λ clean db may. elim (ended.crash clean db may) [

@@ -38,41 +38,41 @@ mask_of _ = None
 -- ---- a row
 
 abbrev pub meta_of : Row → MetaRow
-meta_of row = record { kind = words_of (column row 0); version = number_of (column row 1) }
+meta_of cells = record { kind = words_of (column cells 0); version = number_of (column cells 1) }
 
 abbrev pub person_of : Row → PersonRow
-person_of row = record { id = number_of (column row 0); name = words_of (column row 1); secret = words_of (column row 2) }
+person_of cells = record { id = number_of (column cells 0); name = words_of (column cells 1); secret = words_of (column cells 2) }
 
 abbrev pub board_of : Row → BoardRow
-board_of row = record { id = number_of (column row 0); title = words_of (column row 1); low = number_of (column row 2) }
+board_of cells = record { id = number_of (column cells 0); title = words_of (column cells 1); low = number_of (column cells 2) }
 
 abbrev pub role_of : Row → RoleRow
-role_of row = record { board = number_of (column row 0); person = number_of (column row 1); kind = number_of (column row 2) }
+role_of cells = record { board = number_of (column cells 0); person = number_of (column cells 1); kind = number_of (column cells 2) }
 
 abbrev pub task_of : Row → TaskRow
-task_of row = record {
-  board = number_of (column row 0);
-  place = number_of (column row 1);
-  uuid = identifier_of (column row 2);
-  body = words_of (column row 3);
-  mask = mask_of (column row 4);
+task_of cells = record {
+  board = number_of (column cells 0);
+  place = number_of (column cells 1);
+  uuid = identifier_of (column cells 2);
+  body = words_of (column cells 3);
+  mask = mask_of (column cells 4);
 }
 
 abbrev pub link_of : Row → LinkRow
-link_of row = record { board = number_of (column row 0); place = number_of (column row 1); target = number_of (column row 2) }
+link_of cells = record { board = number_of (column cells 0); place = number_of (column cells 1); target = number_of (column cells 2) }
 
 abbrev pub instance_of : Row → InstanceRow
-instance_of row = record { board = number_of (column row 0); template = number_of (column row 1); imask = number_of (column row 2); place = number_of (column row 3) }
+instance_of cells = record { board = number_of (column cells 0); template = number_of (column cells 1); imask = number_of (column cells 2); place = number_of (column cells 3) }
 
 abbrev pub gone_of : Row → GoneRow
-gone_of row = record { board = number_of (column row 0); template = number_of (column row 1); imask = number_of (column row 2); mark = words_of (column row 3) }
+gone_of cells = record { board = number_of (column cells 0); template = number_of (column cells 1); imask = number_of (column cells 2); mark = words_of (column cells 3) }
 
 abbrev pub kept_of : Row → KeptRow
-kept_of row = record {
-  person = number_of (column row 0);
-  id = identifier_of (column row 1);
-  content = bytes_of (column row 2);
-  number = number_of (column row 3);
-  status = number_of (column row 4);
-  body = words_of (column row 5);
+kept_of cells = record {
+  person = number_of (column cells 0);
+  id = identifier_of (column cells 1);
+  content = bytes_of (column cells 2);
+  number = number_of (column cells 3);
+  status = number_of (column cells 4);
+  body = words_of (column cells 5);
 }

@@ -22,7 +22,7 @@ returns-in-Ok-clause-done g c stands =
     let end = c.commit.new.self.0 in
     let stands_now : Stands after (state g.S.Store end) =
     committed_stands HasNoTables (IsSound no_schema) old mid (state g.S.Store end) stands inside (IsContent after) (AreRows after) (λ db is. is.rows) turned c.commit.ensures.survives
-        (λ db is_open. g.met.S.Store.settled end.store db is_open) (λ clean. (c.in-Ok.ensures.ok clean).1) in
+    (λ db is_open. g.met.S.Store.settled end.store db is_open) (λ clean. (c.in-Ok.ensures.ok clean).1) in
     let same : end ≡ c.conn-2-1.given.0 = search rules in
     subst (λ h. Stands after (state g.S.Store h)) same stands_now
 
@@ -38,6 +38,6 @@ returns-in-Err-commit-clause-store g c _ stands =
     let end = c.commit.new.self.0 in
     let stands_now : StandsEmptyOr after (state g.S.Store end) =
     failed_stands HasNoTables (IsSound no_schema) old mid (state g.S.Store end) stands inside (IsContent after) (AreRows after) (λ db is. is.rows) turned c.commit.ensures.survives
-        c.in-Err-commit.field-0 c.in-Err-commit.ensures.err in
+    c.in-Err-commit.field-0 c.in-Err-commit.ensures.err in
     let same : end ≡ c.conn-2-1.given.0 = search rules in
     subst (λ h. StandsEmptyOr after (state g.S.Store h)) same stands_now
