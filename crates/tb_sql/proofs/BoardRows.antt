@@ -1,0 +1,147 @@
+-- What the statements on boards do.
+use Rattle.std.proofs.Common.{◌≡◌, ◌∙◌, ◌<◌, ◌^◌, ◌&&◌, ℕ, pos, List, [], ◌∷◌, map, drop, codes, Bool, true, false, cond, Option, Some, None, option_map, slice_get, bytes_eq, inl, inr, refl, ap₂, subst, arith}
+use Rattle.std.specs.Prelude.{filter, ◌==◌}
+use Rattle.std.specs.Int.{to_be_bytes, from_be_bytes, w128}
+use Rattle.std.specs.List.{AllByRecursion}
+use Rattle.std.specs.declared.cmp.Ordering.TheVariants.{Less}
+use Rattle.std.proofs.lemmas.Int.{ints}
+use Rattle.std.proofs.lemmas.Bool.Decides.{nat_tests}
+use Rattle.sqlite_value.specs.declared.keys.Collation.TheVariants.{Binary}
+use Rattle.sqlite_value.specs.declared.keys.Key.{Key}
+use Rattle.sqlite_value.specs.declared.value.Value.{Value}
+use Rattle.sqlite_value.specs.declared.value.Value.TheVariants.{Null, Int, Text, Blob}
+use Rattle.sqlite_value.specs.Keys.{ascending}
+use Rattle.sqlite_value.specs.Order.{Row, column}
+use Rattle.sqlite_value.proofs.OrderLemmas.{value_cmp-Int}
+use Rattle.sqlite_sql.specs.Query.{Query, Output, output_cmp}
+use Rattle.sqlite_sql.specs.Term.{Term, lit, col}
+use Rattle.sqlite_schema.specs.declared.schema.Kind.TheVariants.{Integer, Text as TextKind}
+use Rattle.sqlite_schema.specs.declared.command.Command.TheVariants.{Insert, Update, Delete}
+use Rattle.sqlite_schema.specs.declared.command.Source.TheVariants.{Values}
+use Rattle.sqlite_rules.specs.Cast.{cast}
+use Rattle.sqlite_tied.specs.Compute.{everything}
+use Rattle.sqlite.specs.Listing.{understood}
+use Rattle.sqlite.specs.State.{State, Shown}
+use Rattle.sqlite.specs.Values.{or_null}
+use Rattle.tb_sql_tables.specs.declared.rows.BoardRow.{BoardRow}
+use Rattle.tb_sql_tables.specs.Tables.{board_plain, board_table, board_tree, store_schema}
+use Rattle.tb_sql_tables.specs.Rows.{board_row}
+use Rattle.tb_sql_tables.specs.Reading.{board_of}
+use Rattle.tb_sql_tables.specs.Content.{Changes, Finds, Ran, HaveIdentifiers, AreIdentified}
+use Rattle.tb_sql_tables.specs.Found.{AreFound, IsOneOf}
+use Rattle.tb_sql_tables.proofs.Contents.{boards_changed}
+use Rattle.tb_sql_tables.proofs.Effects.{each, all_left, each_of, each_left, cells_deleted, cells_updated, keyed_updated, cells_shown, keyed_shown, found, found_one}
+use Rattle.tb_sql_tables.proofs.Inserts.{row_put, cast_integer, cast_null}
+use Rattle.tb_sql_tables.proofs.Inside.{shown_open}
+use Rattle.tb_sql_tables.proofs.Keyed.{keyed_put}
+use Rattle.tb_sql_tables.proofs.KeyTests.{equal, by_one, by_two, by_three, has_one, has_two, has_three, one_tested, two_tested, three_tested, equal_numbers, equal_texts, equal_identifiers}
+use Rattle.tb_sql_tables.proofs.Masks.{cast_mask, mask_read}
+use Rattle.tb_sql_tables.proofs.Queries.{query_of, program_of, output_at}
+use Rattle.tb_sql_tables.proofs.SqlTests.{and_true}
+use Rattle.tb_sql_tables.proofs.Statements.{Means, Asks, row_inserted}
+use Rattle.uuid.proofs.OrderLemmas.{from_be_bytes-to_be_bytes_16}
+use Rattle.tb_sql.specs.Changes.{with_board, with_low, is_board, IsBoardBefore}
+
+-- ---- a row goes in
+
+abbrev pub insert_text : List ℕ
+insert_text = codes "INSERT INTO board (id, title, low) VALUES (?1, ?2, ?3)"
+
+abbrev terms : List Term
+terms = col 0 0 ∷ lit Null ∷ col 0 1 ∷ col 0 2 ∷ []
+
+inserts : Means insert_text (Insert 2 (Values terms 4))
+unfolding understood everything
+inserts = record { is = refl; bare = (refl, refl) }
+
+abbrev pub row_params : BoardRow → Row
+row_params row = Int (pos row.id) ∷ Text row.title ∷ Int (pos row.low) ∷ []
+
+pub insert_board : (old new : State) (row : BoardRow) → Ran insert_text (row_params row) old new → Changes (with_board row) old new
+insert_board old new row ran = record {
+  shown = ran.1.1;
+  content = λ content is.
+      let cells : Row = Null ∷ Text row.title ∷ Int (pos row.low) ∷ [] in
+      let effect = row_inserted 2 board_plain refl refl insert_text old new is.schema (row_params row) ran.0 terms 4 (board_row row) inserts refl ran.1 in
+      boards_changed content (row ∷ content.boards) old.now new.now effect.1 is
+      (keyed_put store_schema old.now.trees new.now.trees board_table (board_row row) (pos row.id) cells _ (rw (cast_null, cast_integer (pos row.id), cast_integer (pos row.low)) refl) effect.0 is.rows.tables.boards);
+}
+
+-- ---- the least free number of a board
+
+abbrev pub update_text : List ℕ
+update_text = codes "UPDATE board SET low = ?2 WHERE id = ?1"
+
+abbrev by_id : List Term
+by_id = equal 0 0 ∷ []
+
+-- the rowid of the row that goes, and then the row that stands in its place
+abbrev replaced : List Term
+replaced = col 1 0 ∷ col 1 0 ∷ lit Null ∷ col 1 2 ∷ col 0 1 ∷ []
+
+updates : Means update_text (Update 2 (program_of (query_of board_tree by_id replaced [])))
+unfolding understood everything
+updates = record { is = refl; bare = (refl, refl) }
+
+pub update_low : (old new : State) (id low : ℕ) → Ran update_text (Int (pos id) ∷ Int (pos low) ∷ []) old new → Changes (with_low id low) old new
+update_low old new id low ran = record {
+  shown = ran.1.1;
+  content = λ content is.
+      let params = Int (pos id) ∷ Int (pos low) ∷ [] in
+      let set = λ (board : BoardRow). let changed : BoardRow = record board { low = low } in changed in
+      let same = each (λ (board : BoardRow). and_true _ ∙ equal_numbers board.id id) content.boards in
+      let effect = keyed_updated board_row (is_board id) content.boards 2 board_plain refl refl update_text by_id old new is.schema params ran same is.rows.tables.boards replaced set updates
+      (λ r. refl) (λ board. rw (cast_null, cast_integer (pos board.id), cast_integer (pos low)) refl) in
+      boards_changed content _ old.now new.now effect.1 is effect.0;
+}
+
+-- ---- queries
+
+abbrev shown_terms : List Term
+shown_terms = col 1 0 ∷ col 1 2 ∷ col 1 3 ∷ []
+
+abbrev names : List (List ℕ)
+names = codes "id" ∷ codes "title" ∷ codes "low" ∷ []
+
+abbrev pub select_text : List ℕ
+select_text = codes "SELECT id, title, low FROM board ORDER BY id"
+
+abbrev in_order : List (Term × Key)
+in_order = (col 1 0, ascending Binary) ∷ []
+
+asks : Asks select_text board_tree [] shown_terms in_order
+unfolding understood everything
+asks = record { names = names; means = record { is = refl; bare = (refl, refl) }; unlisted = refl }
+
+abbrev out : BoardRow → Output
+out row = output_at board_tree refl [] shown_terms in_order [] (board_row row)
+
+lower : (a b : BoardRow) → IsBoardBefore a b → output_cmp (query_of board_tree [] shown_terms in_order) (out a) (out b) ≡ Less
+lower a b before = rw value_cmp-Int (grind (arith, ints, nat_tests))
+
+pub select_boards : (old new : State) (rows : List Row) → Shown select_text [] old new rows → Finds (λ content. AreFound IsBoardBefore content.boards (map board_of rows)) old
+select_boards old new rows shown = record {
+  was_open = shown_open select_text _ old new rows shown;
+  found = λ content is.
+      let answer = keyed_shown board_row (λ row. true) content.boards board_tree refl select_text [] shown_terms in_order asks old new [] rows is.schema shown (each (λ row. refl) _) is.rows.tables.boards in
+      subst (λ all. AreFound IsBoardBefore all (map board_of rows)) (all_left content.boards)
+      (found board_of (query_of board_tree [] shown_terms in_order) out _ rows (each (λ row. refl) _) answer IsBoardBefore lower);
+}
+
+abbrev pub find_text : List ℕ
+find_text = codes "SELECT id, title, low FROM board WHERE id = ?1"
+
+asks_one : Asks find_text board_tree by_id shown_terms []
+unfolding understood everything
+asks_one = record { names = names; means = record { is = refl; bare = (refl, refl) }; unlisted = refl }
+
+pub find_board : (old new : State) (id : ℕ) (rows : List Row) → Shown find_text (Int (pos id) ∷ []) old new rows
+    → Finds (λ content. IsOneOf (filter (is_board id) content.boards) (option_map board_of (slice_get rows 0))) old
+find_board old new id rows shown = record {
+  was_open = shown_open find_text _ old new rows shown;
+  found = λ content is.
+      let params = Int (pos id) ∷ [] in
+      let same = each (λ (row : BoardRow). and_true _ ∙ equal_numbers row.id id) content.boards in
+      let answer = keyed_shown board_row (is_board id) content.boards board_tree refl find_text by_id shown_terms [] asks_one old new params rows is.schema shown same is.rows.tables.boards in
+      found_one board_of (query_of board_tree by_id shown_terms []) (λ row. output_at board_tree refl by_id shown_terms [] params (board_row row)) _ rows (each (λ row. refl) _) answer;
+}

@@ -1,0 +1,108 @@
+-- What the statements on kept replies do.
+use Rattle.std.proofs.Common.{◌≡◌, ◌∙◌, ◌<◌, ◌^◌, ◌&&◌, ℕ, pos, List, [], ◌∷◌, map, drop, codes, Bool, true, false, cond, Option, Some, None, option_map, slice_get, bytes_eq, inl, inr, refl, ap₂, subst, arith}
+use Rattle.std.specs.Prelude.{filter, ◌==◌}
+use Rattle.std.specs.Int.{to_be_bytes, from_be_bytes, w128}
+use Rattle.std.specs.List.{AllByRecursion}
+use Rattle.std.specs.declared.cmp.Ordering.TheVariants.{Less}
+use Rattle.std.proofs.lemmas.Int.{ints}
+use Rattle.std.proofs.lemmas.Bool.Decides.{nat_tests}
+use Rattle.sqlite_value.specs.declared.keys.Collation.TheVariants.{Binary}
+use Rattle.sqlite_value.specs.declared.keys.Key.{Key}
+use Rattle.sqlite_value.specs.declared.value.Value.{Value}
+use Rattle.sqlite_value.specs.declared.value.Value.TheVariants.{Null, Int, Text, Blob}
+use Rattle.sqlite_value.specs.Keys.{ascending}
+use Rattle.sqlite_value.specs.Order.{Row, column}
+use Rattle.sqlite_value.proofs.OrderLemmas.{value_cmp-Int}
+use Rattle.sqlite_sql.specs.Query.{Query, Output, output_cmp}
+use Rattle.sqlite_sql.specs.Term.{Term, lit, col}
+use Rattle.sqlite_schema.specs.declared.schema.Kind.TheVariants.{Integer, Text as TextKind}
+use Rattle.sqlite_schema.specs.declared.command.Command.TheVariants.{Insert, Update, Delete}
+use Rattle.sqlite_schema.specs.declared.command.Source.TheVariants.{Values}
+use Rattle.sqlite_rules.specs.Cast.{cast}
+use Rattle.sqlite_tied.specs.Compute.{everything}
+use Rattle.sqlite.specs.Listing.{understood}
+use Rattle.sqlite.specs.State.{State, Shown}
+use Rattle.sqlite.specs.Values.{or_null}
+use Rattle.tb_sql_tables.specs.declared.rows.KeptRow.{KeptRow}
+use Rattle.tb_sql_tables.specs.Tables.{kept_plain, kept_table, kept_tree, store_schema}
+use Rattle.tb_sql_tables.specs.Rows.{kept_row}
+use Rattle.tb_sql_tables.specs.Reading.{kept_of}
+use Rattle.tb_sql_tables.specs.Content.{Changes, Finds, Ran, HaveIdentifiers, AreIdentified}
+use Rattle.tb_sql_tables.specs.Found.{AreFound, IsOneOf}
+use Rattle.tb_sql_tables.proofs.Contents.{kept_changed}
+use Rattle.tb_sql_tables.proofs.Effects.{each, each_of, each_left, cells_deleted, cells_updated, keyed_updated, cells_shown, keyed_shown, found, found_one}
+use Rattle.tb_sql_tables.proofs.Inserts.{row_put, cast_integer, cast_null}
+use Rattle.tb_sql_tables.proofs.Inside.{shown_open}
+use Rattle.tb_sql_tables.proofs.Keyed.{keyed_put}
+use Rattle.tb_sql_tables.proofs.KeyTests.{equal, by_one, by_two, by_three, has_one, has_two, has_three, one_tested, two_tested, three_tested, equal_numbers, equal_texts, equal_identifiers}
+use Rattle.tb_sql_tables.proofs.Masks.{cast_mask, mask_read}
+use Rattle.tb_sql_tables.proofs.Queries.{query_of, program_of, output_at}
+use Rattle.tb_sql_tables.proofs.SqlTests.{and_true}
+use Rattle.tb_sql_tables.proofs.Statements.{Means, Asks, row_inserted}
+use Rattle.uuid.proofs.OrderLemmas.{from_be_bytes-to_be_bytes_16}
+use Rattle.tb_sql.specs.Changes.{with_kept, is_kept}
+
+-- ---- a row goes in
+
+abbrev pub insert_text : List ℕ
+insert_text = codes "INSERT INTO kept (person, id, content, number, status, body) VALUES (?1, ?2, ?3, ?4, ?5, ?6)"
+
+abbrev terms : List Term
+terms = lit Null ∷ col 0 0 ∷ col 0 1 ∷ col 0 2 ∷ col 0 3 ∷ col 0 4 ∷ col 0 5 ∷ []
+
+inserts : Means insert_text (Insert 8 (Values terms 7))
+unfolding understood everything
+inserts = record { is = refl; bare = (refl, refl) }
+
+pub insert_kept : (old new : State) (row : KeptRow) → row.id < 2 ^ 128 → Ran insert_text (kept_row row) old new → Changes (with_kept row) old new
+insert_kept old new row low ran = record {
+  shown = ran.1.1;
+  content = λ content is.
+      let cells = kept_row row in
+      let effect = row_inserted 8 kept_plain refl refl insert_text old new is.schema cells ran.0 terms 7 (Null ∷ cells) inserts refl ran.1 in
+      kept_changed content (row ∷ content.kept) old.now new.now effect.1 is
+      (row_put store_schema old.now.trees new.now.trees kept_table (Null ∷ cells) cells _ (rw (cast_null, cast_integer (pos row.person), cast_integer (pos row.number), cast_integer (pos row.status)) refl) effect.0 is.rows.tables.kept) (low, is.rows.tables.kept_identifiers);
+}
+
+-- ---- queries
+
+abbrev shown_terms : List Term
+shown_terms = col 1 1 ∷ col 1 2 ∷ col 1 3 ∷ col 1 4 ∷ col 1 5 ∷ col 1 6 ∷ []
+
+abbrev names : List (List ℕ)
+names = codes "person" ∷ codes "id" ∷ codes "content" ∷ codes "number" ∷ codes "status" ∷ codes "body" ∷ []
+
+abbrev columns : Row → Row
+columns cells = column cells 0 ∷ column cells 1 ∷ column cells 2 ∷ column cells 3 ∷ column cells 4 ∷ column cells 5 ∷ []
+
+-- a reply is read back
+kept_read : (kept : KeptRow) → kept.id < 2 ^ 128 → kept_of (columns (kept_row kept)) ≡ kept
+kept_read kept low = λ i.
+    let read : KeptRow = record { person = kept.person; id = from_be_bytes-to_be_bytes_16 kept.id low i; content = kept.content; number = kept.number; status = kept.status; body = kept.body } in
+    read
+
+abbrev pub find_text : List ℕ
+find_text = codes "SELECT person, id, content, number, status, body FROM kept WHERE person = ?1 AND id = ?2"
+
+asks_one : Asks find_text kept_tree by_two shown_terms []
+unfolding understood everything
+asks_one = record { names = names; means = record { is = refl; bare = (refl, refl) }; unlisted = refl }
+
+abbrev out_one : Row → Output
+out_one cells = ([], columns cells)
+
+shows_one : (params row : Row) → output_at kept_tree refl by_two shown_terms [] params row ≡ out_one (drop 1 row)
+shows_one params [] = refl
+shows_one params (id ∷ cells) = refl
+
+pub find_kept : (old new : State) (person id : ℕ) → id < 2 ^ 128 → (rows : List Row) → Shown find_text (Int (pos person) ∷ Blob (to_be_bytes w128 id) ∷ []) old new rows
+    → Finds (λ content. IsOneOf (filter (is_kept person id) content.kept) (option_map kept_of (slice_get rows 0))) old
+find_kept old new person id low rows shown = record {
+  was_open = shown_open find_text _ old new rows shown;
+  found = λ content is.
+      let params = Int (pos person) ∷ Blob (to_be_bytes w128 id) ∷ [] in
+      let same = each_of (λ (row : KeptRow) own. ap₂ ◌&&◌ (equal_numbers row.person person) (equal_identifiers row.id id own low)) content.kept is.rows.tables.kept_identifiers in
+      let answer = cells_shown kept_row (is_kept person id) content.kept kept_tree refl find_text by_two shown_terms [] asks_one old new params rows is.schema shown
+      (has_two (Int (pos person)) (Blob (to_be_bytes w128 id))) out_one (two_tested (Int (pos person)) (Blob (to_be_bytes w128 id)) []) (shows_one params) same is.rows.tables.kept in
+      found_one kept_of (query_of kept_tree by_two shown_terms []) (λ row. out_one (kept_row row)) _ rows (each_of kept_read _ (each_left _ _ content.kept is.rows.tables.kept_identifiers)) answer;
+}

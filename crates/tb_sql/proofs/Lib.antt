@@ -1,0 +1,11 @@
+pub mod PersonRows
+pub mod BoardRows
+pub mod RoleRows
+pub mod TaskRows
+pub mod LinkRows
+pub mod InstanceRows
+pub mod GoneRows
+pub mod KeptRows
+pub mod MetaRows
+pub mod Opened
+pub mod Lent

@@ -1,0 +1,122 @@
+-- What the statements on people do.
+use Rattle.std.proofs.Common.{◌≡◌, ◌∙◌, ◌<◌, ◌^◌, ◌&&◌, ℕ, pos, List, [], ◌∷◌, map, drop, codes, Bool, true, false, cond, Option, Some, None, option_map, slice_get, bytes_eq, inl, inr, refl, ap₂, subst, arith}
+use Rattle.std.specs.Prelude.{filter, ◌==◌}
+use Rattle.std.specs.Int.{to_be_bytes, from_be_bytes, w128}
+use Rattle.std.specs.List.{AllByRecursion}
+use Rattle.std.specs.declared.cmp.Ordering.TheVariants.{Less}
+use Rattle.std.proofs.lemmas.Int.{ints}
+use Rattle.std.proofs.lemmas.Bool.Decides.{nat_tests}
+use Rattle.sqlite_value.specs.declared.keys.Collation.TheVariants.{Binary}
+use Rattle.sqlite_value.specs.declared.keys.Key.{Key}
+use Rattle.sqlite_value.specs.declared.value.Value.{Value}
+use Rattle.sqlite_value.specs.declared.value.Value.TheVariants.{Null, Int, Text, Blob}
+use Rattle.sqlite_value.specs.Keys.{ascending}
+use Rattle.sqlite_value.specs.Order.{Row, column}
+use Rattle.sqlite_value.proofs.OrderLemmas.{value_cmp-Int}
+use Rattle.sqlite_sql.specs.Query.{Query, Output, output_cmp}
+use Rattle.sqlite_sql.specs.Term.{Term, lit, col}
+use Rattle.sqlite_schema.specs.declared.schema.Kind.TheVariants.{Integer, Text as TextKind}
+use Rattle.sqlite_schema.specs.declared.command.Command.TheVariants.{Insert, Update, Delete}
+use Rattle.sqlite_schema.specs.declared.command.Source.TheVariants.{Values}
+use Rattle.sqlite_rules.specs.Cast.{cast}
+use Rattle.sqlite_tied.specs.Compute.{everything}
+use Rattle.sqlite.specs.Listing.{understood}
+use Rattle.sqlite.specs.State.{State, Shown}
+use Rattle.sqlite.specs.Values.{or_null}
+use Rattle.tb_sql_tables.specs.declared.rows.PersonRow.{PersonRow}
+use Rattle.tb_sql_tables.specs.Tables.{person_plain, person_table, person_tree, store_schema}
+use Rattle.tb_sql_tables.specs.Rows.{person_row}
+use Rattle.tb_sql_tables.specs.Reading.{person_of}
+use Rattle.tb_sql_tables.specs.Content.{Changes, Finds, Ran, HaveIdentifiers, AreIdentified}
+use Rattle.tb_sql_tables.specs.Found.{AreFound, IsOneOf}
+use Rattle.tb_sql_tables.proofs.Contents.{people_changed}
+use Rattle.tb_sql_tables.proofs.Effects.{each, all_left, each_of, each_left, cells_deleted, cells_updated, keyed_updated, cells_shown, keyed_shown, found, found_one}
+use Rattle.tb_sql_tables.proofs.Inserts.{row_put, cast_integer, cast_null}
+use Rattle.tb_sql_tables.proofs.Inside.{shown_open}
+use Rattle.tb_sql_tables.proofs.Keyed.{keyed_put}
+use Rattle.tb_sql_tables.proofs.KeyTests.{equal, by_one, by_two, by_three, has_one, has_two, has_three, one_tested, two_tested, three_tested, equal_numbers, equal_texts, equal_identifiers}
+use Rattle.tb_sql_tables.proofs.Masks.{cast_mask, mask_read}
+use Rattle.tb_sql_tables.proofs.Queries.{query_of, program_of, output_at}
+use Rattle.tb_sql_tables.proofs.SqlTests.{and_true}
+use Rattle.tb_sql_tables.proofs.Statements.{Means, Asks, row_inserted}
+use Rattle.uuid.proofs.OrderLemmas.{from_be_bytes-to_be_bytes_16}
+use Rattle.tb_sql.specs.Changes.{with_person, is_named, IsPersonBefore}
+
+-- ---- a row goes in
+
+abbrev pub insert_text : List ℕ
+insert_text = codes "INSERT INTO person (id, name, secret) VALUES (?1, ?2, ?3)"
+
+abbrev terms : List Term
+terms = col 0 0 ∷ lit Null ∷ col 0 1 ∷ col 0 2 ∷ []
+
+inserts : Means insert_text (Insert 1 (Values terms 4))
+unfolding understood everything
+inserts = record { is = refl; bare = (refl, refl) }
+
+abbrev pub row_params : PersonRow → Row
+row_params row = Int (pos row.id) ∷ Text row.name ∷ Text row.secret ∷ []
+
+pub insert_person : (old new : State) (row : PersonRow) → Ran insert_text (row_params row) old new → Changes (with_person row) old new
+insert_person old new row ran = record {
+  shown = ran.1.1;
+  content = λ content is.
+      let cells : Row = Null ∷ Text row.name ∷ Text row.secret ∷ [] in
+      let effect = row_inserted 1 person_plain refl refl insert_text old new is.schema (row_params row) ran.0 terms 4 (person_row row) inserts refl ran.1 in
+      people_changed content (row ∷ content.people) old.now new.now effect.1 is
+      (keyed_put store_schema old.now.trees new.now.trees person_table (person_row row) (pos row.id) cells _ (rw (cast_null, cast_integer (pos row.id)) refl) effect.0 is.rows.tables.people);
+}
+
+-- ---- queries
+
+abbrev shown_terms : List Term
+shown_terms = col 1 0 ∷ col 1 2 ∷ col 1 3 ∷ []
+
+abbrev names : List (List ℕ)
+names = codes "id" ∷ codes "name" ∷ codes "secret" ∷ []
+
+abbrev pub select_text : List ℕ
+select_text = codes "SELECT id, name, secret FROM person ORDER BY id"
+
+abbrev in_order : List (Term × Key)
+in_order = (col 1 0, ascending Binary) ∷ []
+
+asks : Asks select_text person_tree [] shown_terms in_order
+unfolding understood everything
+asks = record { names = names; means = record { is = refl; bare = (refl, refl) }; unlisted = refl }
+
+abbrev out : PersonRow → Output
+out row = output_at person_tree refl [] shown_terms in_order [] (person_row row)
+
+lower : (a b : PersonRow) → IsPersonBefore a b → output_cmp (query_of person_tree [] shown_terms in_order) (out a) (out b) ≡ Less
+lower a b before = rw value_cmp-Int (grind (arith, ints, nat_tests))
+
+pub select_people : (old new : State) (rows : List Row) → Shown select_text [] old new rows → Finds (λ content. AreFound IsPersonBefore content.people (map person_of rows)) old
+select_people old new rows shown = record {
+  was_open = shown_open select_text _ old new rows shown;
+  found = λ content is.
+      let answer = keyed_shown person_row (λ row. true) content.people person_tree refl select_text [] shown_terms in_order asks old new [] rows is.schema shown (each (λ row. refl) _) is.rows.tables.people in
+      subst (λ all. AreFound IsPersonBefore all (map person_of rows)) (all_left content.people)
+      (found person_of (query_of person_tree [] shown_terms in_order) out _ rows (each (λ row. refl) _) answer IsPersonBefore lower);
+}
+
+abbrev pub find_text : List ℕ
+find_text = codes "SELECT id, name, secret FROM person WHERE name = ?1"
+
+abbrev by_name : List Term
+by_name = equal 2 0 ∷ []
+
+asks_one : Asks find_text person_tree by_name shown_terms []
+unfolding understood everything
+asks_one = record { names = names; means = record { is = refl; bare = (refl, refl) }; unlisted = refl }
+
+pub find_person : (old new : State) (name : List ℕ) (rows : List Row) → Shown find_text (Text name ∷ []) old new rows
+    → Finds (λ content. IsOneOf (filter (is_named name) content.people) (option_map person_of (slice_get rows 0))) old
+find_person old new name rows shown = record {
+  was_open = shown_open find_text _ old new rows shown;
+  found = λ content is.
+      let params = Text name ∷ [] in
+      let same = each (λ (row : PersonRow). and_true _ ∙ equal_texts row.name name) content.people in
+      let answer = keyed_shown person_row (is_named name) content.people person_tree refl find_text by_name shown_terms [] asks_one old new params rows is.schema shown same is.rows.tables.people in
+      found_one person_of (query_of person_tree by_name shown_terms []) (λ row. output_at person_tree refl by_name shown_terms [] params (person_row row)) _ rows (each (λ row. refl) _) answer;
+}

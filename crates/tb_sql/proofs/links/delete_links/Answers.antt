@@ -1,0 +1,9 @@
+use Rattle.sqlite.specs.Held.{state}
+use Rattle.tb_sql_tables.proofs.Changing.{where_ok}
+use Rattle.tb_sql.proofs.LinkRows.{delete_links}
+use Rattle.tb_sql.proofs.links.delete_links.Goals as goal
+
+pub returns-clause-put : goal.returns-clause-put
+returns-clause-put g c clean inside =
+    where_ok c.run.result (delete_links (state g.S.Store c.args.tx.now.conn.now) (state g.S.Store c.run.new.tx.conn.now) c.args.board c.args.place)
+    (rw (c.params-to_sql.ensures, c.params-to_sql-2.ensures) at (c.run.ensures.ran clean inside))

@@ -1,0 +1,31 @@
+use Rattle.std.proofs.Common.{◌≡◌, ◌∙◌, false, sym, ap}
+use Rattle.sqlite.specs.Held.{state}
+use Rattle.tb_sql_tables.specs.Content.{AreRows, IsContent}
+use Rattle.tb_sql.specs.Opening.{are_ours, has_meta}
+use Rattle.tb_sql.proofs.Opened.{first_refused, others_refused, opened_content, opened_stands, stands_again}
+use Rattle.tb_sql.proofs.opening.accept.Goals as goal
+
+pub returns-then-not-has_meta-clause-refuses : goal.returns-then-not-has_meta-clause-refuses
+returns-then-not-has_meta-clause-refuses g c _ clean opened content rows =
+    let s = state g.S.Store c.args.conn.now in
+    let other : has_meta s.now.schema.tables ≡ false = ap (λ x. has_meta x.tables) (sym c.schema-2.ensures.value) ∙ sym c.has_meta.ensures ∙ c.if-not-has_meta.true in
+    first_refused s content opened c.schema.ensures.live other rows
+
+pub returns-in_err-judge-clause-refuses : goal.returns-in_err-judge-clause-refuses
+returns-in_err-judge-clause-refuses g c _ clean opened content rows =
+    let s = state g.S.Store c.args.conn.now in
+    let is : IsContent content s.now = opened_content s content opened c.schema.ensures.live rows in
+    c.in_err-judge.ensures.refused (c.as_slice.ensures ∙ c.in-Ok.ensures.found clean content is)
+
+pub returns-then-ours-clause-shows : goal.returns-then-ours-clause-shows
+returns-then-ours-clause-shows g c opened content rows =
+    let conn = c.args.conn.now in
+    let old = state g.S.Store conn in
+    let stands = opened_stands old (λ db is_open. g.met.S.Store.settled conn.store db is_open) content opened c.schema.ensures.live rows in
+    stands_again (IsContent content) (AreRows content) old (state g.S.Store c.read_meta.new.conn) stands c.in-Ok.ensures.same
+
+pub returns-clause-refuses : goal.returns-clause-refuses
+returns-clause-refuses g c _ clean opened content rows =
+    let s = state g.S.Store c.args.conn.now in
+    let other : are_ours s.now.schema.tables ≡ false = ap (λ x. are_ours x.tables) (sym c.schema.ensures.value) ∙ sym c.are_ours-ours.ensures ∙ c.if-ours.false in
+    others_refused s content opened c.schema.ensures.live other rows

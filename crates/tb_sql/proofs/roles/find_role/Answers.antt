@@ -1,0 +1,12 @@
+use Rattle.sqlite.specs.Held.{state}
+use Rattle.tb_sql_tables.proofs.Changing.{where_value}
+use Rattle.tb_sql.proofs.RoleRows.{find_role}
+use Rattle.tb_sql.proofs.roles.find_role.Goals as goal
+
+pub returns-clause-found : goal.returns-clause-found
+returns-clause-found g c clean =
+    let old = state g.S.Store c.args.tx.now.conn.now in
+    let new = state g.S.Store c.find_rows.new.tx.conn.now in
+    let rows = c.in_ok-rows.rows.items in
+    where_value c.read_first.result _ _ (rw c.deref.ensures.value at c.read_first.ensures)
+    (find_role old new c.args.board c.args.person rows (rw (c.params-to_sql.ensures, c.params-to_sql-2.ensures) at (c.in_ok-rows.ensures.shown clean)))

@@ -1,0 +1,4 @@
+pub mod Changes
+pub mod Lending
+pub mod Opening
+pub mod Writing

@@ -1,0 +1,89 @@
+-- Which databases are taken as a store.
+use Rattle.std.specs.Prelude.{◌≡◌, ◌≢◌, ◌&&◌, ℕ, pos, Bool, true, false, List, [], ◌∷◌, codes, IsTrue}
+use Rattle.sqlite_trees.specs.Tree.{Trees}
+use Rattle.sqlite_schema.specs.declared.schema.Column.{Column}
+use Rattle.sqlite_schema.specs.declared.schema.Kind.{Kind}
+use Rattle.sqlite_schema.specs.declared.schema.Kind.TheVariants.{Integer, Text, Blob}
+use Rattle.sqlite_schema.specs.declared.schema.Table.{Table}
+use Rattle.sqlite_schema.specs.declared.schema.Schema.{Schema}
+use Rattle.sqlite_schema.specs.Names.{same_name}
+use Rattle.sqlite.specs.State.{State, HasCleanDisk}
+use Rattle.tb_sql_tables.specs.declared.rows.MetaRow.{MetaRow}
+
+-- ---- the tables, by their names and the names and types of their columns
+
+abbrev pub is_integer : Kind → Bool
+is_integer Integer = true
+is_integer _ = false
+
+abbrev pub is_text : Kind → Bool
+is_text Text = true
+is_text _ = false
+
+abbrev pub is_blob : Kind → Bool
+is_blob Blob = true
+is_blob _ = false
+
+-- the columns have these names and types, in this order
+abbrev pub are_columns : List (List ℕ × (Kind → Bool)) → List Column → Bool
+are_columns [] [] = true
+are_columns [] (c ∷ cs) = false
+are_columns (e ∷ es) [] = false
+are_columns (e ∷ es) (c ∷ cs) = (same_name c.name e.0 && e.1 c.kind) && are_columns es cs
+
+unfoldable pub is_meta : Table → Bool
+is_meta table = same_name table.name (codes "meta") && are_columns ((codes "one", is_integer) ∷ (codes "kind", is_text) ∷ (codes "version", is_integer) ∷ []) table.columns
+
+unfoldable pub is_person : Table → Bool
+is_person table = same_name table.name (codes "person") && are_columns ((codes "id", is_integer) ∷ (codes "name", is_text) ∷ (codes "secret", is_text) ∷ []) table.columns
+
+unfoldable pub is_board : Table → Bool
+is_board table = same_name table.name (codes "board") && are_columns ((codes "id", is_integer) ∷ (codes "title", is_text) ∷ (codes "low", is_integer) ∷ []) table.columns
+
+unfoldable pub is_role : Table → Bool
+is_role table = same_name table.name (codes "role") && are_columns ((codes "board", is_integer) ∷ (codes "person", is_integer) ∷ (codes "kind", is_integer) ∷ []) table.columns
+
+unfoldable pub is_task : Table → Bool
+is_task table = same_name table.name (codes "task") && are_columns ((codes "board", is_integer) ∷ (codes "place", is_integer) ∷ (codes "uuid", is_blob) ∷ (codes "body", is_text) ∷ (codes "mask", is_text) ∷ []) table.columns
+
+unfoldable pub is_link : Table → Bool
+is_link table = same_name table.name (codes "link") && are_columns ((codes "board", is_integer) ∷ (codes "place", is_integer) ∷ (codes "target", is_integer) ∷ []) table.columns
+
+unfoldable pub is_instance : Table → Bool
+is_instance table = same_name table.name (codes "instance") && are_columns ((codes "board", is_integer) ∷ (codes "template", is_integer) ∷ (codes "imask", is_integer) ∷ (codes "place", is_integer) ∷ []) table.columns
+
+unfoldable pub is_gone : Table → Bool
+is_gone table = same_name table.name (codes "gone") && are_columns ((codes "board", is_integer) ∷ (codes "template", is_integer) ∷ (codes "imask", is_integer) ∷ (codes "mark", is_text) ∷ []) table.columns
+
+unfoldable pub is_kept : Table → Bool
+is_kept table = same_name table.name (codes "kept") && are_columns ((codes "person", is_integer) ∷ (codes "id", is_blob) ∷ (codes "content", is_blob) ∷ (codes "number", is_integer) ∷ (codes "status", is_integer) ∷ (codes "body", is_text) ∷ []) table.columns
+
+-- the first of the tables tells what the file is
+abbrev pub has_meta : List Table → Bool
+has_meta [] = false
+has_meta (table ∷ tables) = is_meta table
+
+-- each of these tests finds its table, in this order
+abbrev pub are_tables : List (Table → Bool) → List Table → Bool
+are_tables [] [] = true
+are_tables [] (t ∷ ts) = false
+are_tables (p ∷ ps) [] = false
+are_tables (p ∷ ps) (t ∷ ts) = p t && are_tables ps ts
+
+-- the tables are those of a store, in the order in which they are made
+abbrev pub are_ours : List Table → Bool
+are_ours = are_tables (is_meta ∷ is_person ∷ is_board ∷ is_role ∷ is_task ∷ is_link ∷ is_instance ∷ is_gone ∷ is_kept ∷ [])
+
+-- ---- what the file is
+
+abbrev pub our_meta : MetaRow
+our_meta = record { kind = codes "taskboard"; version = 1 }
+
+-- ---- what a look leaves
+
+-- The last commit stands, and a stop leaves what it left before.
+pub record IsAsBefore (old new : State) : Type 0 where
+  pub clean : HasCleanDisk new → HasCleanDisk old
+  pub was_open : HasCleanDisk new → IsTrue new.is_open → IsTrue old.is_open
+  pub seen : HasCleanDisk new → IsTrue new.is_open → old.committed ≡ old.now → (new.now ≡ old.now) × (new.committed ≡ old.now)
+  pub left : HasCleanDisk new → (db : Trees) → new.may_leave db → old.may_leave db

@@ -1,0 +1,77 @@
+//! The statements on the boards.
+
+ghost use Rattle.std.specs.Prelude.{◌≡◌, IsTrue, IfOk, OnOk, OnErr, filter};
+ghost use Rattle.sqlite.specs.Held.{state};
+ghost use Rattle.sqlite.specs.State.{HasCleanDisk, KeepsCommit, Survives};
+ghost use Rattle.tb_sql_tables.specs.Content.{Changes, Finds};
+ghost use Rattle.tb_sql_tables.specs.Found.{AreFound, IsOneOf};
+ghost use Rattle.tb_sql.specs.Changes.{with_board, with_low, is_board, IsBoardBefore};
+
+use sqlite::{Alter, Error, Transaction, params};
+use tb_sql_tables::read::{read_all, read_first};
+use tb_sql_tables::rows::BoardRow;
+use tb_sql_tables::run::{find_rows, run};
+use tb_values::Items;
+
+/// Adds a board. It fails where the number is taken.
+pub fn insert_board<S: Alter>(tx: &mut Transaction<'_, S>, board: &BoardRow) -> Result<(), Error>
+    ensures same_reference { tx.new.conn.ghost_name ≡ tx.old.conn.ghost_name }
+    ensures put { HasCleanDisk (state S.Store tx.new.conn.now) → IsTrue (state S.Store tx.old.conn.now).in_transaction
+        → OnOk result (Changes (with_board board.now) (state S.Store tx.old.conn.now) (state S.Store tx.new.conn.now)) }
+    ensures kept { HasCleanDisk (state S.Store tx.new.conn.now) → IsTrue (state S.Store tx.old.conn.now).in_transaction
+        → OnErr result (KeepsCommit (state S.Store tx.old.conn.now) (state S.Store tx.new.conn.now)) }
+    ensures survives { Survives (state S.Store tx.old.conn.now) (state S.Store tx.new.conn.now) (λ _. ⊥) }
+{
+    let title = board.title.as_str();
+    run(
+        tx,
+        "INSERT INTO board (id, title, low) VALUES (?1, ?2, ?3)",
+        params![board.id, title, board.low],
+    )
+}
+
+/// Sets the least free number of a board, if there is one of this number.
+pub fn update_low<S: Alter>(tx: &mut Transaction<'_, S>, id: u32, low: u32) -> Result<(), Error>
+    ensures same_reference { tx.new.conn.ghost_name ≡ tx.old.conn.ghost_name }
+    ensures put { HasCleanDisk (state S.Store tx.new.conn.now) → IsTrue (state S.Store tx.old.conn.now).in_transaction
+        → OnOk result (Changes (with_low id low) (state S.Store tx.old.conn.now) (state S.Store tx.new.conn.now)) }
+    ensures kept { HasCleanDisk (state S.Store tx.new.conn.now) → IsTrue (state S.Store tx.old.conn.now).in_transaction
+        → OnErr result (KeepsCommit (state S.Store tx.old.conn.now) (state S.Store tx.new.conn.now)) }
+    ensures survives { Survives (state S.Store tx.old.conn.now) (state S.Store tx.new.conn.now) (λ _. ⊥) }
+{
+    run(
+        tx,
+        "UPDATE board SET low = ?2 WHERE id = ?1",
+        params![id, low],
+    )
+}
+
+/// All boards, in order of number.
+pub fn select_boards<S: Alter>(tx: &mut Transaction<'_, S>) -> Result<Items<BoardRow>, Error>
+    ensures same_reference { tx.new.conn.ghost_name ≡ tx.old.conn.ghost_name }
+    ensures found { HasCleanDisk (state S.Store tx.new.conn.now)
+        → IfOk result (λ boards. Finds (λ content. AreFound IsBoardBefore content.boards boards) (state S.Store tx.old.conn.now)) }
+    ensures kept { HasCleanDisk (state S.Store tx.new.conn.now) → IsTrue (state S.Store tx.old.conn.now).in_transaction
+        → KeepsCommit (state S.Store tx.old.conn.now) (state S.Store tx.new.conn.now) }
+    ensures survives { Survives (state S.Store tx.old.conn.now) (state S.Store tx.new.conn.now) (λ _. ⊥) }
+{
+    let rows = find_rows(tx, "SELECT id, title, low FROM board ORDER BY id", &[])?;
+    read_all(*rows.allocator(), &rows)
+}
+
+/// The board of a number.
+pub fn find_board<S: Alter>(tx: &mut Transaction<'_, S>, id: u32) -> Result<Option<BoardRow>, Error>
+    ensures same_reference { tx.new.conn.ghost_name ≡ tx.old.conn.ghost_name }
+    ensures found { HasCleanDisk (state S.Store tx.new.conn.now)
+        → IfOk result (λ board. Finds (λ content. IsOneOf (filter (is_board id) content.boards) board) (state S.Store tx.old.conn.now)) }
+    ensures kept { HasCleanDisk (state S.Store tx.new.conn.now) → IsTrue (state S.Store tx.old.conn.now).in_transaction
+        → KeepsCommit (state S.Store tx.old.conn.now) (state S.Store tx.new.conn.now) }
+    ensures survives { Survives (state S.Store tx.old.conn.now) (state S.Store tx.new.conn.now) (λ _. ⊥) }
+{
+    let rows = find_rows(
+        tx,
+        "SELECT id, title, low FROM board WHERE id = ?1",
+        params![id],
+    )?;
+    read_first(&rows)
+}

@@ -1,0 +1,111 @@
+//! Changes of the rows, as values, and a statement for each.
+
+ghost use Rattle.std.specs.Prelude.{◌≡◌, IsTrue, OnOk, OnErr};
+ghost use Rattle.sqlite.specs.Held.{state};
+ghost use Rattle.sqlite.specs.State.{HasCleanDisk, KeepsCommit, Survives};
+ghost use Rattle.tb_sql_tables.specs.Content.{Changes};
+ghost use Rattle.tb_sql.specs.Writing.{changed_by, changed_by_all};
+
+use crate::boards::{insert_board, update_low};
+use crate::gone::{delete_gone, insert_gone};
+use crate::instances::insert_instance;
+use crate::links::{delete_links, insert_link};
+use crate::people::insert_person;
+use crate::roles::{delete_role, insert_role};
+use crate::tasks::{insert_task, update_mask, update_text};
+use sqlite::{Alter, Error, Transaction};
+use tb_sql_tables::rows::{BoardRow, GoneRow, InstanceRow, LinkRow, PersonRow, RoleRow, TaskRow};
+use tb_values::Text;
+
+/// One change of the rows.
+#[derive(Drop)]
+pub enum RowChange {
+    AddPerson(PersonRow),
+    AddBoard(BoardRow),
+    SetLow {
+        board: u32,
+        low: u32,
+    },
+    AddRole(RoleRow),
+    RemoveRole {
+        board: u32,
+        person: u32,
+    },
+    AddTask(TaskRow),
+    SetText {
+        board: u32,
+        place: u32,
+        body: Text,
+        mask: Option<Text>,
+    },
+    SetMask {
+        board: u32,
+        place: u32,
+        mask: Option<Text>,
+    },
+    AddLink(LinkRow),
+    RemoveLinks {
+        board: u32,
+        place: u32,
+    },
+    AddInstance(InstanceRow),
+    AddGone(GoneRow),
+    RemoveGone {
+        board: u32,
+        template: u32,
+        imask: u32,
+    },
+}
+
+/// Makes one change.
+pub fn apply_change<S: Alter>(tx: &mut Transaction<'_, S>, change: &RowChange) -> Result<(), Error>
+    ensures same_reference { tx.new.conn.ghost_name ≡ tx.old.conn.ghost_name }
+    ensures put { HasCleanDisk (state S.Store tx.new.conn.now) → IsTrue (state S.Store tx.old.conn.now).in_transaction
+        → OnOk result (Changes (changed_by change.now) (state S.Store tx.old.conn.now) (state S.Store tx.new.conn.now)) }
+    ensures kept { HasCleanDisk (state S.Store tx.new.conn.now) → IsTrue (state S.Store tx.old.conn.now).in_transaction
+        → OnErr result (KeepsCommit (state S.Store tx.old.conn.now) (state S.Store tx.new.conn.now)) }
+    ensures survives { Survives (state S.Store tx.old.conn.now) (state S.Store tx.new.conn.now) (λ _. ⊥) }
+{
+    match change {
+        RowChange::AddPerson(person) => insert_person(tx, person),
+        RowChange::AddBoard(board) => insert_board(tx, board),
+        RowChange::SetLow { board, low } => update_low(tx, *board, *low),
+        RowChange::AddRole(role) => insert_role(tx, role),
+        RowChange::RemoveRole { board, person } => delete_role(tx, *board, *person),
+        RowChange::AddTask(task) => insert_task(tx, task),
+        RowChange::SetText {
+            board,
+            place,
+            body,
+            mask,
+        } => update_text(tx, *board, *place, body.as_str(), mask),
+        RowChange::SetMask { board, place, mask } => update_mask(tx, *board, *place, mask),
+        RowChange::AddLink(link) => insert_link(tx, link),
+        RowChange::RemoveLinks { board, place } => delete_links(tx, *board, *place),
+        RowChange::AddInstance(instance) => insert_instance(tx, instance),
+        RowChange::AddGone(gone) => insert_gone(tx, gone),
+        RowChange::RemoveGone {
+            board,
+            template,
+            imask,
+        } => delete_gone(tx, *board, *template, *imask),
+    }
+}
+
+/// Makes the changes in their order, on an open connection.
+pub fn apply_changes<S: Alter>(
+    tx: &mut Transaction<'_, S>,
+    changes: &[RowChange],
+) -> Result<(), Error>
+    ensures same_reference { tx.new.conn.ghost_name ≡ tx.old.conn.ghost_name }
+    ensures put { HasCleanDisk (state S.Store tx.new.conn.now) → IsTrue (state S.Store tx.old.conn.now).in_transaction → IsTrue (state S.Store tx.old.conn.now).is_open
+        → OnOk result (Changes (changed_by_all changes.now) (state S.Store tx.old.conn.now) (state S.Store tx.new.conn.now)) }
+    ensures kept { HasCleanDisk (state S.Store tx.new.conn.now) → IsTrue (state S.Store tx.old.conn.now).in_transaction → IsTrue (state S.Store tx.old.conn.now).is_open
+        → OnErr result (KeepsCommit (state S.Store tx.old.conn.now) (state S.Store tx.new.conn.now)) }
+    ensures survives { Survives (state S.Store tx.old.conn.now) (state S.Store tx.new.conn.now) (λ _. ⊥) }
+{
+    'changes: for change in changes {
+        apply_change(tx, change)?;
+    }
+    Ok(())
+}

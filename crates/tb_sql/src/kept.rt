@@ -1,0 +1,58 @@
+//! The statements on the kept replies.
+
+ghost use Rattle.std.specs.Prelude.{◌≡◌, IsTrue, IfOk, OnOk, OnErr, filter};
+ghost use Rattle.sqlite.specs.Held.{state};
+ghost use Rattle.sqlite.specs.State.{HasCleanDisk, KeepsCommit, Survives};
+ghost use Rattle.tb_sql_tables.specs.Content.{Changes, Finds};
+ghost use Rattle.tb_sql_tables.specs.Found.{IsOneOf};
+ghost use Rattle.tb_sql.specs.Changes.{with_kept, is_kept};
+
+use crate::bind::identifier_bytes;
+use sqlite::{Alter, Error, Transaction, params};
+use tb_sql_tables::read::read_first;
+use tb_sql_tables::rows::KeptRow;
+use tb_sql_tables::run::{find_rows, run};
+use tb_task::TaskId;
+
+/// Keeps a reply. It fails where there is no such person, or one is kept under this identifier.
+pub fn insert_kept<S: Alter>(tx: &mut Transaction<'_, S>, kept: &KeptRow) -> Result<(), Error>
+    ensures same_reference { tx.new.conn.ghost_name ≡ tx.old.conn.ghost_name }
+    ensures put { HasCleanDisk (state S.Store tx.new.conn.now) → IsTrue (state S.Store tx.old.conn.now).in_transaction
+        → OnOk result (Changes (with_kept kept.now) (state S.Store tx.old.conn.now) (state S.Store tx.new.conn.now)) }
+    ensures kept { HasCleanDisk (state S.Store tx.new.conn.now) → IsTrue (state S.Store tx.old.conn.now).in_transaction
+        → OnErr result (KeepsCommit (state S.Store tx.old.conn.now) (state S.Store tx.new.conn.now)) }
+    ensures survives { Survives (state S.Store tx.old.conn.now) (state S.Store tx.new.conn.now) (λ _. ⊥) }
+{
+    let id = identifier_bytes(kept.id);
+    let id = id.as_slice();
+    let content = kept.content.as_slice();
+    let body = kept.body.as_str();
+    run(
+        tx,
+        "INSERT INTO kept (person, id, content, number, status, body) VALUES (?1, ?2, ?3, ?4, ?5, ?6)",
+        params![kept.person, id, content, kept.number, kept.status, body],
+    )
+}
+
+/// The reply that is kept under a person and an identifier.
+pub fn find_kept<S: Alter>(
+    tx: &mut Transaction<'_, S>,
+    person: u32,
+    id: TaskId,
+) -> Result<Option<KeptRow>, Error>
+    ensures same_reference { tx.new.conn.ghost_name ≡ tx.old.conn.ghost_name }
+    ensures found { HasCleanDisk (state S.Store tx.new.conn.now)
+        → IfOk result (λ kept. Finds (λ content. IsOneOf (filter (is_kept person id) content.kept) kept) (state S.Store tx.old.conn.now)) }
+    ensures kept { HasCleanDisk (state S.Store tx.new.conn.now) → IsTrue (state S.Store tx.old.conn.now).in_transaction
+        → KeepsCommit (state S.Store tx.old.conn.now) (state S.Store tx.new.conn.now) }
+    ensures survives { Survives (state S.Store tx.old.conn.now) (state S.Store tx.new.conn.now) (λ _. ⊥) }
+{
+    let bytes = identifier_bytes(id);
+    let bytes = bytes.as_slice();
+    let rows = find_rows(
+        tx,
+        "SELECT person, id, content, number, status, body FROM kept WHERE person = ?1 AND id = ?2",
+        params![person, bytes],
+    )?;
+    read_first(&rows)
+}

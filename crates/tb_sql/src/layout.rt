@@ -1,0 +1,215 @@
+//! Which tables a database has.
+
+ghost use Rattle.std.specs.Prelude.{◌≡◌, ◌&&◌, [], ◌∷◌, codes};
+ghost use Rattle.sqlite_schema.specs.Names.{same_name};
+ghost use Rattle.tb_sql.specs.Opening as opening;
+
+use sqlite_schema::names::same_name;
+use sqlite_schema::schema::{Column, Kind, Schema, Table};
+
+fn is_named(name: &[u8], wanted: &str) -> bool
+    ensures { result ≡ same_name name.now wanted.now }
+{
+    same_name(name, wanted.as_bytes())
+}
+
+fn is_integer(column: &Column, name: &str) -> bool
+    ensures { result ≡ (same_name column.now.name name.now && opening.is_integer column.now.kind) }
+{
+    is_named(column.name.as_slice(), name) && matches!(column.kind, Kind::Integer)
+}
+
+fn is_text(column: &Column, name: &str) -> bool
+    ensures { result ≡ (same_name column.now.name name.now && opening.is_text column.now.kind) }
+{
+    is_named(column.name.as_slice(), name) && matches!(column.kind, Kind::Text)
+}
+
+fn is_blob(column: &Column, name: &str) -> bool
+    ensures { result ≡ (same_name column.now.name name.now && opening.is_blob column.now.kind) }
+{
+    is_named(column.name.as_slice(), name) && matches!(column.kind, Kind::Blob)
+}
+
+#[tactic(auto, unfolding(crate::specs::Opening::is_meta))]
+fn is_meta(table: &Table) -> bool
+    ensures { result ≡ opening.is_meta table.now }
+{
+    let [one_column, kind_column, version_column] = table.columns.as_slice() else {
+        return false;
+    };
+    is_named(table.name.as_slice(), "meta")
+        && is_integer(one_column, "one")
+        && is_text(kind_column, "kind")
+        && is_integer(version_column, "version")
+}
+
+#[tactic(auto, unfolding(crate::specs::Opening::is_person))]
+fn is_person(table: &Table) -> bool
+    ensures { result ≡ opening.is_person table.now }
+{
+    let [id_column, name_column, secret_column] = table.columns.as_slice() else {
+        return false;
+    };
+    is_named(table.name.as_slice(), "person")
+        && is_integer(id_column, "id")
+        && is_text(name_column, "name")
+        && is_text(secret_column, "secret")
+}
+
+#[tactic(auto, unfolding(crate::specs::Opening::is_board))]
+fn is_board(table: &Table) -> bool
+    ensures { result ≡ opening.is_board table.now }
+{
+    let [id_column, title_column, low_column] = table.columns.as_slice() else {
+        return false;
+    };
+    is_named(table.name.as_slice(), "board")
+        && is_integer(id_column, "id")
+        && is_text(title_column, "title")
+        && is_integer(low_column, "low")
+}
+
+#[tactic(auto, unfolding(crate::specs::Opening::is_role))]
+fn is_role(table: &Table) -> bool
+    ensures { result ≡ opening.is_role table.now }
+{
+    let [board_column, person_column, kind_column] = table.columns.as_slice() else {
+        return false;
+    };
+    is_named(table.name.as_slice(), "role")
+        && is_integer(board_column, "board")
+        && is_integer(person_column, "person")
+        && is_integer(kind_column, "kind")
+}
+
+fn ends_task(columns: &[Column]) -> bool
+    ensures { result ≡ opening.are_columns ((codes "body", opening.is_text) ∷ (codes "mask", opening.is_text) ∷ []) columns.now }
+{
+    let [body_column, mask_column] = columns else {
+        return false;
+    };
+    is_text(body_column, "body") && is_text(mask_column, "mask")
+}
+
+#[tactic(auto, unfolding(crate::specs::Opening::is_task))]
+fn is_task(table: &Table) -> bool
+    ensures { result ≡ opening.is_task table.now }
+{
+    let [board_column, place_column, uuid_column, rest @ ..] = table.columns.as_slice() else {
+        return false;
+    };
+    is_named(table.name.as_slice(), "task")
+        && is_integer(board_column, "board")
+        && is_integer(place_column, "place")
+        && is_blob(uuid_column, "uuid")
+        && ends_task(rest)
+}
+
+#[tactic(auto, unfolding(crate::specs::Opening::is_link))]
+fn is_link(table: &Table) -> bool
+    ensures { result ≡ opening.is_link table.now }
+{
+    let [board_column, place_column, target_column] = table.columns.as_slice() else {
+        return false;
+    };
+    is_named(table.name.as_slice(), "link")
+        && is_integer(board_column, "board")
+        && is_integer(place_column, "place")
+        && is_integer(target_column, "target")
+}
+
+#[tactic(auto, unfolding(crate::specs::Opening::is_instance))]
+fn is_instance(table: &Table) -> bool
+    ensures { result ≡ opening.is_instance table.now }
+{
+    let [board_column, template_column, imask_column, place_column] = table.columns.as_slice()
+    else {
+        return false;
+    };
+    is_named(table.name.as_slice(), "instance")
+        && is_integer(board_column, "board")
+        && is_integer(template_column, "template")
+        && is_integer(imask_column, "imask")
+        && is_integer(place_column, "place")
+}
+
+#[tactic(auto, unfolding(crate::specs::Opening::is_gone))]
+fn is_gone(table: &Table) -> bool
+    ensures { result ≡ opening.is_gone table.now }
+{
+    let [board_column, template_column, imask_column, mark_column] = table.columns.as_slice() else {
+        return false;
+    };
+    is_named(table.name.as_slice(), "gone")
+        && is_integer(board_column, "board")
+        && is_integer(template_column, "template")
+        && is_integer(imask_column, "imask")
+        && is_text(mark_column, "mark")
+}
+
+fn ends_kept(columns: &[Column]) -> bool
+    ensures { result ≡ opening.are_columns ((codes "number", opening.is_integer) ∷ (codes "status", opening.is_integer) ∷ (codes "body", opening.is_text) ∷ []) columns.now }
+{
+    let [number_column, status_column, body_column] = columns else {
+        return false;
+    };
+    is_integer(number_column, "number")
+        && is_integer(status_column, "status")
+        && is_text(body_column, "body")
+}
+
+#[tactic(auto, unfolding(crate::specs::Opening::is_kept))]
+fn is_kept(table: &Table) -> bool
+    ensures { result ≡ opening.is_kept table.now }
+{
+    let [person_column, id_column, content_column, rest @ ..] = table.columns.as_slice() else {
+        return false;
+    };
+    is_named(table.name.as_slice(), "kept")
+        && is_integer(person_column, "person")
+        && is_blob(id_column, "id")
+        && is_blob(content_column, "content")
+        && ends_kept(rest)
+}
+
+/// Whether the first table tells what the file is.
+pub(crate) fn has_meta(schema: &Schema) -> bool
+    ensures { result ≡ opening.has_meta schema.now.tables }
+{
+    match schema.tables.as_slice().first() {
+        Some(table) => is_meta(table),
+        None => false,
+    }
+}
+
+#[tactic(auto, using(crate::proofs::Opened::other_length))]
+fn are_last(tables: &[Table]) -> bool
+    ensures { result ≡ opening.are_tables (opening.is_instance ∷ opening.is_gone ∷ opening.is_kept ∷ []) tables.now }
+{
+    let [instance, gone, kept] = tables else {
+        return false;
+    };
+    is_instance(instance) && is_gone(gone) && is_kept(kept)
+}
+
+#[tactic(auto, using(crate::proofs::Opened::other_length))]
+fn are_later(tables: &[Table]) -> bool
+    ensures { result ≡ opening.are_tables (opening.is_role ∷ opening.is_task ∷ opening.is_link ∷ opening.is_instance ∷ opening.is_gone ∷ opening.is_kept ∷ []) tables.now }
+{
+    let [role, task, link, last @ ..] = tables else {
+        return false;
+    };
+    is_role(role) && is_task(task) && is_link(link) && are_last(last)
+}
+
+/// Whether the tables are those of a store, in the order in which they are made.
+#[tactic(auto, using(crate::proofs::Opened::other_length))]
+pub(crate) fn are_ours(schema: &Schema) -> bool
+    ensures { result ≡ opening.are_ours schema.now.tables }
+{
+    let [meta, person, board, later @ ..] = schema.tables.as_slice() else {
+        return false;
+    };
+    is_meta(meta) && is_person(person) && is_board(board) && are_later(later)
+}

@@ -1,0 +1,26 @@
+//! The statement on the table that tells what the file is.
+
+ghost use Rattle.std.specs.Prelude.{◌≡◌, [], ◌∷◌, IsTrue, IfOk};
+ghost use Rattle.sqlite.specs.Held.{state};
+ghost use Rattle.sqlite.specs.State.{HasCleanDisk, KeepsCommit, Survives};
+ghost use Rattle.tb_sql_tables.specs.Content.{Finds};
+ghost use Rattle.tb_sql.specs.Opening.{our_meta};
+
+use sqlite::{Alter, Error, Transaction};
+use tb_sql_tables::read::read_all;
+use tb_sql_tables::rows::MetaRow;
+use tb_sql_tables::run::find_rows;
+use tb_values::Items;
+
+/// What the file is, which in a store is one row.
+pub fn select_meta<S: Alter>(tx: &mut Transaction<'_, S>) -> Result<Items<MetaRow>, Error>
+    ensures same_reference { tx.new.conn.ghost_name ≡ tx.old.conn.ghost_name }
+    ensures found { HasCleanDisk (state S.Store tx.new.conn.now)
+        → IfOk result (λ metas. Finds (λ _. metas ≡ our_meta ∷ []) (state S.Store tx.old.conn.now)) }
+    ensures kept { HasCleanDisk (state S.Store tx.new.conn.now) → IsTrue (state S.Store tx.old.conn.now).in_transaction
+        → KeepsCommit (state S.Store tx.old.conn.now) (state S.Store tx.new.conn.now) }
+    ensures survives { Survives (state S.Store tx.old.conn.now) (state S.Store tx.new.conn.now) (λ _. ⊥) }
+{
+    let rows = find_rows(tx, "SELECT kind, version FROM meta", &[])?;
+    read_all(*rows.allocator(), &rows)
+}

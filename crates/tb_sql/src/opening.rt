@@ -1,0 +1,112 @@
+//! Takes a connection that was opened over a database as a store.
+
+ghost use Rattle.std.specs.Prelude.{◌≡◌, ◌⊎◌, [], ◌∷◌, true, false, IsTrue, IfOk, OnOk, OnErr, Err};
+ghost use Rattle.sqlite.specs.Held.{state};
+ghost use Rattle.sqlite.specs.State.{HasCleanDisk, Opens};
+ghost use Rattle.tb_sql_tables.specs.Tables.{no_schema};
+ghost use Rattle.tb_sql_tables.specs.Content.{Content, AreRows, IsContent, Stands, StandsEmpty};
+ghost use Rattle.tb_sql.specs.Opening.{are_ours, has_meta, our_meta, IsAsBefore};
+
+use crate::layout::{are_ours, has_meta};
+use crate::meta::select_meta;
+use crate::store::StoreFault;
+use sqlite::{Alter, Connection};
+use tb_sql_tables::rows::MetaRow;
+use tb_values::Items;
+
+const KIND: &str = "taskboard";
+
+const VERSION: u32 = 1;
+
+/// Why a database isn't taken as a store. It is as it was.
+#[derive(Clone, Copy, Debug, PartialEq, Eq)]
+pub enum OpenFault {
+    /// Its tables, or the row that tells what it is, are not those of a store.
+    NotOurs,
+    /// It is a store of another version.
+    WrongVersion,
+    /// The database failed.
+    Store,
+    /// For want of memory.
+    Memory,
+}
+
+impl OpenFault {
+    fn of(fault: StoreFault) -> OpenFault
+        ensures { (result ≡ OpenFault.Memory) ⊎ (result ≡ OpenFault.Store) }
+    {
+        match fault {
+            StoreFault::Memory => OpenFault::Memory,
+            StoreFault::Store => OpenFault::Store,
+        }
+    }
+}
+
+/// Whether the database has no table, index or view at all.
+pub fn is_empty<S: Alter>(conn: &Connection<S>) -> bool
+    ensures value { IsTrue result → (state S.Store conn.now).now.schema ≡ no_schema }
+    ensures taken { result ≡ false → (state S.Store conn.now).now.schema ≡ no_schema → ⊥ }
+    ensures stands { IsTrue result → Opens (state S.Store conn.now) → StandsEmpty (state S.Store conn.now) }
+{
+    let schema = conn.schema();
+    schema.tables.is_empty() && schema.indexes.is_empty() && schema.views.is_empty()
+}
+
+/// What the file is by its first table.
+fn read_meta<S: Alter>(conn: &mut Connection<S>) -> Result<Items<MetaRow>, StoreFault>
+    requires { conn.old.in_transaction ≡ false }
+    ensures idle { conn.new.in_transaction ≡ false }
+    ensures found { IfOk result (λ metas. HasCleanDisk (state S.Store conn.new) → (content : Content) → IsContent content (state S.Store conn.old).now → metas ≡ our_meta ∷ []) }
+    ensures same { IsAsBefore (state S.Store conn.old) (state S.Store conn.new) }
+{
+    let mut tx = conn.transaction();
+    let found = select_meta(&mut tx);
+    drop(tx);
+    match found {
+        Ok(metas) => Ok(metas),
+        Err(error) => Err(StoreFault::before_commit(&error)),
+    }
+}
+
+/// Judges what the file is.
+fn judge(metas: &[MetaRow]) -> Result<(), OpenFault>
+    ensures ours { OnOk result (metas.now ≡ our_meta ∷ []) }
+    ensures refused { OnErr result (metas.now ≡ our_meta ∷ [] → ⊥) }
+{
+    let [meta] = metas else {
+        return Err(OpenFault::NotOurs);
+    };
+    if meta.kind.as_str() != KIND {
+        return Err(OpenFault::NotOurs);
+    }
+    if meta.version != VERSION {
+        return Err(OpenFault::WrongVersion);
+    }
+    Ok(())
+}
+
+/// Takes the database as a store, as it is, or refuses it.
+pub fn accept<S: Alter>(conn: &mut Connection<S>) -> Result<(), OpenFault>
+    requires { conn.old.in_transaction ≡ false }
+    ensures idle { conn.new.in_transaction ≡ false }
+    ensures shows { OnOk result (Opens (state S.Store conn.old) → (content : Content) → AreRows content (state S.Store conn.old).now.trees → Stands content (state S.Store conn.new)) }
+    ensures refuses { (result ≡ Err OpenFault.NotOurs) ⊎ (result ≡ Err OpenFault.WrongVersion)
+        → HasCleanDisk (state S.Store conn.new) → Opens (state S.Store conn.old) → (content : Content) → AreRows content (state S.Store conn.old).now.trees → ⊥ }
+    ensures tables { OnOk result (are_ours (state S.Store conn.old).now.schema.tables ≡ true) }
+    ensures same { IsAsBefore (state S.Store conn.old) (state S.Store conn.new) }
+{
+    let ours = are_ours(conn.schema());
+    if !has_meta(conn.schema()) {
+        return Err(OpenFault::NotOurs);
+    }
+    let metas = match read_meta(conn) {
+        Ok(metas) => metas,
+        Err(fault) => return Err(OpenFault::of(fault)),
+    };
+    judge(metas.as_slice())?;
+    if ours {
+        Ok(())
+    } else {
+        Err(OpenFault::NotOurs) // Another table is there, or one is missing.
+    }
+}

@@ -1,0 +1,65 @@
+//! The statements on the people.
+
+ghost use Rattle.std.specs.Prelude.{◌≡◌, IsTrue, IfOk, OnOk, OnErr, filter};
+ghost use Rattle.sqlite.specs.Held.{state};
+ghost use Rattle.sqlite.specs.State.{HasCleanDisk, KeepsCommit, Survives};
+ghost use Rattle.tb_sql_tables.specs.Content.{Changes, Finds};
+ghost use Rattle.tb_sql_tables.specs.Found.{AreFound, IsOneOf};
+ghost use Rattle.tb_sql.specs.Changes.{with_person, is_named, IsPersonBefore};
+
+use sqlite::{Alter, Error, Transaction, params};
+use tb_sql_tables::read::{read_all, read_first};
+use tb_sql_tables::rows::PersonRow;
+use tb_sql_tables::run::{find_rows, run};
+use tb_values::Items;
+
+/// Adds a person. It fails where the number or the name is taken.
+pub fn insert_person<S: Alter>(tx: &mut Transaction<'_, S>, person: &PersonRow) -> Result<(), Error>
+    ensures same_reference { tx.new.conn.ghost_name ≡ tx.old.conn.ghost_name }
+    ensures put { HasCleanDisk (state S.Store tx.new.conn.now) → IsTrue (state S.Store tx.old.conn.now).in_transaction
+        → OnOk result (Changes (with_person person.now) (state S.Store tx.old.conn.now) (state S.Store tx.new.conn.now)) }
+    ensures kept { HasCleanDisk (state S.Store tx.new.conn.now) → IsTrue (state S.Store tx.old.conn.now).in_transaction
+        → OnErr result (KeepsCommit (state S.Store tx.old.conn.now) (state S.Store tx.new.conn.now)) }
+    ensures survives { Survives (state S.Store tx.old.conn.now) (state S.Store tx.new.conn.now) (λ _. ⊥) }
+{
+    let name = person.name.as_str();
+    let secret = person.secret.as_str();
+    run(
+        tx,
+        "INSERT INTO person (id, name, secret) VALUES (?1, ?2, ?3)",
+        params![person.id, name, secret],
+    )
+}
+
+/// All people, in order of number.
+pub fn select_people<S: Alter>(tx: &mut Transaction<'_, S>) -> Result<Items<PersonRow>, Error>
+    ensures same_reference { tx.new.conn.ghost_name ≡ tx.old.conn.ghost_name }
+    ensures found { HasCleanDisk (state S.Store tx.new.conn.now)
+        → IfOk result (λ people. Finds (λ content. AreFound IsPersonBefore content.people people) (state S.Store tx.old.conn.now)) }
+    ensures kept { HasCleanDisk (state S.Store tx.new.conn.now) → IsTrue (state S.Store tx.old.conn.now).in_transaction
+        → KeepsCommit (state S.Store tx.old.conn.now) (state S.Store tx.new.conn.now) }
+    ensures survives { Survives (state S.Store tx.old.conn.now) (state S.Store tx.new.conn.now) (λ _. ⊥) }
+{
+    let rows = find_rows(tx, "SELECT id, name, secret FROM person ORDER BY id", &[])?;
+    read_all(*rows.allocator(), &rows)
+}
+
+/// The person of a name.
+pub fn find_person<S: Alter>(
+    tx: &mut Transaction<'_, S>,
+    name: &str,
+) -> Result<Option<PersonRow>, Error>
+    ensures same_reference { tx.new.conn.ghost_name ≡ tx.old.conn.ghost_name }
+    ensures found { HasCleanDisk (state S.Store tx.new.conn.now)
+        → IfOk result (λ person. Finds (λ content. IsOneOf (filter (is_named name.now) content.people) person) (state S.Store tx.old.conn.now)) }
+    ensures kept { HasCleanDisk (state S.Store tx.new.conn.now) → IsTrue (state S.Store tx.old.conn.now).in_transaction
+        → KeepsCommit (state S.Store tx.old.conn.now) (state S.Store tx.new.conn.now) }
+    ensures survives { Survives (state S.Store tx.old.conn.now) (state S.Store tx.new.conn.now) (λ _. ⊥) }
+{
+    let rows = find_rows(
+        tx,
+        "SELECT id, name, secret FROM person WHERE name = ?1",
+        params![name],
+    )?;
+    read_first(&rows)
+}

@@ -1,0 +1,132 @@
+-- What the tables hold, and when a connection stands for it.
+use Rattle.std.specs.Prelude.{◌≡◌, ◌⊎◌, ◌<◌, ◌^◌, List, [], ◌∷◌, map, drop, ℕ, true, IsTrue, IsPermutation, Ok}
+use Rattle.std.specs.List.{AllByRecursion}
+use Rattle.sqlite_value.specs.Order.{Row}
+use Rattle.sqlite_trees.specs.declared.store.Shape.TheVariants.{Table}
+use Rattle.sqlite_trees.specs.Tree.{Trees}
+use Rattle.sqlite_trees.specs.View.{IsShaped}
+use Rattle.sqlite_schema.specs.declared.schema.Schema.{Schema}
+use Rattle.sqlite_catalog.specs.Listing.{IsSound}
+use Rattle.sqlite.specs.Effect.{Database}
+use Rattle.sqlite.specs.State.{State, Shows, HasCleanDisk, ExecutesInside}
+use Rattle.tb_sql_tables.specs.declared.rows.PersonRow.{PersonRow}
+use Rattle.tb_sql_tables.specs.declared.rows.BoardRow.{BoardRow}
+use Rattle.tb_sql_tables.specs.declared.rows.RoleRow.{RoleRow}
+use Rattle.tb_sql_tables.specs.declared.rows.TaskRow.{TaskRow}
+use Rattle.tb_sql_tables.specs.declared.rows.LinkRow.{LinkRow}
+use Rattle.tb_sql_tables.specs.declared.rows.InstanceRow.{InstanceRow}
+use Rattle.tb_sql_tables.specs.declared.rows.GoneRow.{GoneRow}
+use Rattle.tb_sql_tables.specs.declared.rows.KeptRow.{KeptRow}
+use Rattle.tb_sql_tables.specs.Tables.{meta_tree, person_tree, board_tree, role_tree, task_tree, link_tree, instance_tree, gone_tree, kept_tree, no_schema, store_schema}
+use Rattle.tb_sql_tables.specs.Rows.{meta_row, person_row, board_row, role_row, task_row, link_row, instance_row, gone_row, kept_row}
+
+-- ---- the content
+
+-- the rows of each table but the first, in any order
+pub record Content : Type 0 where
+  pub people : List PersonRow
+  pub boards : List BoardRow
+  pub roles : List RoleRow
+  pub tasks : List TaskRow
+  pub links : List LinkRow
+  pub instances : List InstanceRow
+  pub gone : List GoneRow
+  pub kept : List KeptRow
+
+abbrev pub nothing : Content
+nothing = record { people = []; boards = []; roles = []; tasks = []; links = []; instances = []; gone = []; kept = [] }
+
+-- each identifier is a number of 128 bits
+abbrev pub HaveIdentifiers : List TaskRow → Type 0
+HaveIdentifiers = AllByRecursion (λ task. task.uuid < 2 ^ 128)
+
+abbrev pub AreIdentified : List KeptRow → Type 0
+AreIdentified = AllByRecursion (λ kept. kept.id < 2 ^ 128)
+
+-- ---- when the tables hold it
+
+-- The table has these rows, in any order, beside the rowids that SQLite gives them.
+pub record HasRows (rows : List Row) (stored : List Row) : Type 0 where
+  pub shaped : IsShaped Table stored
+  pub same : IsPermutation rows (map (drop 1) stored)
+
+-- The table has these rows with their rowids, in any order.
+pub record HasKeyed (rows : List Row) (stored : List Row) : Type 0 where
+  pub shaped : IsShaped Table stored
+  pub same : IsPermutation rows stored
+
+-- the rows of each table
+pub record AreTables (content : Content) (db : Trees) : Type 0 where
+  pub meta : HasKeyed (meta_row ∷ []) (db meta_tree)
+  pub people : HasKeyed (map person_row content.people) (db person_tree)
+  pub boards : HasKeyed (map board_row content.boards) (db board_tree)
+  pub roles : HasRows (map role_row content.roles) (db role_tree)
+  pub tasks : HasRows (map task_row content.tasks) (db task_tree)
+  pub links : HasRows (map link_row content.links) (db link_tree)
+  pub instances : HasRows (map instance_row content.instances) (db instance_tree)
+  pub gone : HasRows (map gone_row content.gone) (db gone_tree)
+  pub kept : HasRows (map kept_row content.kept) (db kept_tree)
+  pub task_identifiers : HaveIdentifiers content.tasks
+  pub kept_identifiers : AreIdentified content.kept
+
+-- the trees are the rows of the content, under the schema of a store, which they list and obey
+pub record AreRows (content : Content) (db : Trees) : Type 0 where
+  pub sound : IsSound store_schema db
+  pub tables : AreTables content db
+
+-- a database is the rows of the content
+pub record IsContent (content : Content) (db : Database) : Type 0 where
+  pub schema : db.schema ≡ store_schema
+  pub rows : AreRows content db.trees
+
+-- ---- what a statement does inside a transaction
+
+-- The transaction goes on, the last commit stands, and the content that the transaction sees is changed.
+pub record Changes (change : Content → Content) (old new : State) : Type 0 where
+  pub shown : Shows old new new.now old.committed true
+  pub content : (content : Content) → IsContent content old.now → IsContent (change content) new.now
+
+-- the database has this schema, and each table is empty
+pub record AreEmpty (schema : Schema) (db : Database) : Type 0 where
+  pub schema_is : db.schema ≡ schema
+  pub empty : AllByRecursion (λ table. db.trees table.tree ≡ []) schema.tables
+
+-- The transaction goes on, and of a database where `Was` holds it makes one where `Becomes` holds.
+pub record Turns (Was Becomes : Database → Type 0) (old new : State) : Type 0 where
+  pub shown : Shows old new new.now old.committed true
+  pub made : Was old.now → Becomes new.now
+
+-- the text ran, with these parameters
+abbrev pub Ran : List ℕ → Row → State → State → Type 0
+Ran text params old new = (count : ℕ) × ExecutesInside 0 text params old new (Ok count)
+
+-- what a query finds in the content that the transaction sees
+pub record Finds (P : Content → Type 0) (old : State) : Type 0 where
+  pub was_open : IsTrue old.is_open
+  pub found : (content : Content) → IsContent content old.now → P content
+
+-- ---- between transactions
+
+-- While the disk returns what was written: an open connection sees such a database, all of it committed, and a stop leaves such trees.
+pub record StandsBy (Seen : Database → Type 0) (Left : Trees → Type 0) (s : State) : Type 0 where
+  pub seen : HasCleanDisk s → IsTrue s.is_open → Seen s.now × (s.committed ≡ s.now)
+  pub left : HasCleanDisk s → (db : Trees) → s.may_leave db → Left db
+
+-- the content stands
+abbrev pub Stands : Content → State → Type 0
+Stands content = StandsBy (IsContent content) (AreRows content)
+
+-- one of two contents stands
+abbrev pub StandsAsEither : Content → Content → State → Type 0
+StandsAsEither before after = StandsBy (λ db. IsContent before db ⊎ IsContent after db) (λ db. AreRows before db ⊎ AreRows after db)
+
+abbrev pub HasNoTables : Database → Type 0
+HasNoTables db = db.schema ≡ no_schema
+
+-- there is no table
+abbrev pub StandsEmpty : State → Type 0
+StandsEmpty = StandsBy HasNoTables (IsSound no_schema)
+
+-- there is no table, or the content stands
+abbrev pub StandsEmptyOr : Content → State → Type 0
+StandsEmptyOr content = StandsBy (λ db. HasNoTables db ⊎ IsContent content db) (λ db. IsSound no_schema db ⊎ AreRows content db)

@@ -1,0 +1,5 @@
+pub mod Content
+pub mod Found
+pub mod Reading
+pub mod Rows
+pub mod Tables
