@@ -2,6 +2,8 @@ pub mod Awake
 pub mod Decided
 pub mod Drafts
 pub mod Fresh
+pub mod GoodPeople
+pub mod GoodRoles
 pub mod GoodWorlds
 pub mod Goodness
 pub mod KnownNumbers

@@ -9,7 +9,7 @@ use Rattle.std.proofs.lemmas.Map.Made.{IsDistinct-from_count}
 use Rattle.tb_core.specs.declared.world.RoleOn.{RoleOn}
 use Rattle.tb_core.specs.Good.{OpensGood, same_place}
 
-none_distinct : {K : Type 0} {eq : K → K → Bool} → IsEquivalence eq → IsDistinct eq []
+pub none_distinct : {K : Type 0} {eq : K → K → Bool} → IsEquivalence eq → IsDistinct eq []
 none_distinct laws = IsDistinct-from_count laws [] refl
 
 one_distinct : {K : Type 0} (eq : K → K → Bool) → IsEquivalence eq → (x : K) → IsDistinct eq (x ∷ [])

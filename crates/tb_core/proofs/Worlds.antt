@@ -1,14 +1,14 @@
 -- The changes of a draft make of the world what its command makes of it.
-use Rattle.std.proofs.Common.{◌≡◌, ℕ, Bool, true, false, List, [], ◌∷◌, Option, Some, None, Result, Ok, Err, if◌then◌else◌, find, refl, sym, ◌∙◌, ap, subst, ◌⊎◌, inl, inr}
+use Rattle.std.proofs.Common.{◌≡◌, ℕ, Bool, true, false, List, [], ◌∷◌, ◌++◌, Option, Some, None, Result, Ok, Err, if◌then◌else◌, find, refl, sym, ◌∙◌, ap, subst, ◌⊎◌, inl, inr}
 use Rattle.std.specs.List.{AllByRecursion}
 use Rattle.std.proofs.lemmas.Bool.{cases_Bool, eqb-true}
 use Rattle.tb_core.specs.declared.board.Board.{Board}
 use Rattle.tb_core.specs.declared.change.Change.{Change}
-use Rattle.tb_core.specs.declared.change.Change.TheVariants.{PutTask}
+use Rattle.tb_core.specs.declared.change.Change.TheVariants.{PutTask, AddPerson, AddBoard, SetRole}
 use Rattle.tb_core.specs.declared.draft.Draft.{Draft}
 use Rattle.tb_core.specs.declared.world.World.{World}
 use Rattle.tb_core.specs.World.{has_number}
-use Rattle.tb_core.specs.Changes.{change_board, changed, changed_on, replayed, with_task_at, IsOn, IsDraft}
+use Rattle.tb_core.specs.Changes.{change_board, changed, changed_by, changed_on, replayed, with_task_at, IsOn, IsDraft}
 
 change_board-none : (n : ℕ) (bs : List Board) → change_board n (λ b. b) bs ≡ bs
 change_board-none n [] = refl
@@ -37,6 +37,9 @@ changed-one w n (PutTask k place t ∷ cs) on =
     changed-one (record w { boards = change_board k (with_task_at place t) w.boards }) n cs on.1
     ∙ ap (λ bs. record w { boards = change_board n (λ b. replayed b cs) bs }) first
     ∙ ap (λ bs. record w { boards = bs }) (change_board-twice n (with_task_at place t) (λ b. replayed b cs) w.boards (λ b. refl))
+changed-one w n (AddPerson name key ∷ cs) on = absurd on.0
+changed-one w n (AddBoard k title ∷ cs) on = absurd on.0
+changed-one w n (SetRole k person role ∷ cs) on = absurd on.0
 
 -- two changes of a board that agree on it
 change_board-same : (n : ℕ) (f g : Board → Board) (bs : List Board) (x : Board) → find (has_number n) bs ≡ Some x → f x ≡ g x → change_board n f bs ≡ change_board n g bs
@@ -65,6 +68,9 @@ number_found n (b ∷ bs) x h =
 
 pub changed_on-number : (b : Board) (c : Change) → (changed_on b c).number ≡ b.number
 changed_on-number b (PutTask n place t) = refl
+changed_on-number b (AddPerson name key) = refl
+changed_on-number b (AddBoard n title) = refl
+changed_on-number b (SetRole n person role) = refl
 
 pub replayed-number : (b : Board) (cs : List Change) → (replayed b cs).number ≡ b.number
 replayed-number b [] = refl
@@ -78,3 +84,7 @@ changed-draft w n x d found made =
     let here : find (has_number d.board.number) w.boards ≡ Some x = rw number found in
     changed-one w d.board.number d.changes made.own
     ∙ ap (λ bs. record w { boards = bs }) (change_board-same d.board.number (λ b. replayed b d.changes) (λ _. d.board) w.boards x here made.made)
+
+pub changed-append : (w : World) (cs ds : List Change) → changed w (cs ++ ds) ≡ changed (changed w cs) ds
+changed-append w [] ds = refl
+changed-append w (c ∷ cs) ds = changed-append (changed_by w c) cs ds

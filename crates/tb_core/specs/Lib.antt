@@ -5,12 +5,16 @@ pub mod Board
 pub mod Changes
 pub mod Decisions
 pub mod First
+pub mod Giving
 pub mod Good
 pub mod Marks
 pub mod Names
 pub mod Notes
 pub mod Numbers
+pub mod Outcomes
+pub mod People
 pub mod Refusal
 pub mod Refusals
+pub mod Roles
 pub mod Statuses
 pub mod World

@@ -1,3 +1,7 @@
+use crate::key::Key;
+use crate::name::Name;
+use crate::title::Title;
+use crate::world::Role;
 use tb_task::Task;
 use tb_values::Shared;
 
@@ -9,5 +13,15 @@ pub enum Change {
         board: u32,
         place: usize,
         task: Shared<Task>,
+    },
+    /// A person goes last.
+    AddPerson { name: Name, key: Key },
+    /// A board without tasks goes last.
+    AddBoard { number: u32, title: Title },
+    /// A person has this role on a board, or none, both by their numbers.
+    SetRole {
+        board: u32,
+        person: usize,
+        role: Option<Role>,
     },
 }

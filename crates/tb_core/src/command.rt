@@ -1,4 +1,8 @@
 use crate::action::Action;
+use crate::key::Key;
+use crate::name::Name;
+use crate::title::Title;
+use crate::world::Role;
 use tb_task::{Incoming, TaskId};
 
 /// What a person asks for.
@@ -14,12 +18,25 @@ pub enum Command {
     },
     /// Lets a board come up to the moment.
     Sweep { board: u32 },
+    /// Gives a person a role on a board, or takes it.
+    SetRole {
+        board: u32,
+        name: Name,
+        role: Option<Role>,
+    },
+    /// Lets a person in.
+    NewPerson { name: Name, key: Key },
+    /// Begins a board, which the caller owns.
+    NewBoard { title: Title },
 }
 
 /// What the reply to an accepted command says.
-#[derive(Clone, Copy, Debug, PartialEq, Eq)]
+#[derive(Debug, Drop)]
 pub enum Answer {
     OnBoard(BoardAnswer),
+    NewPerson { name: Name },
+    /// The number of the new board.
+    NewBoard { board: u32 },
 }
 
 /// What the reply to an accepted command on a board says: how many instances came by themselves, and whether some are still wanted.
@@ -38,5 +55,6 @@ pub enum Told {
     Added { id: TaskId, dropped: u32 },
     /// The identifier of the one task that the command is about.
     Changed { id: TaskId },
+    /// Nothing.
     Swept,
 }

@@ -1,11 +1,11 @@
 ghost use Rattle.std.specs.Prelude.{◌≡◌, MatchOption, position};
 ghost use Rattle.tb_core.specs.Board.{has_id};
 ghost use Rattle.tb_core.specs.First.{IsFirst, IsNone};
-ghost use Rattle.tb_core.specs.World.{has_name, has_number};
+ghost use Rattle.tb_core.specs.World.{has_name, has_number, is_role_of};
 
 use crate::board::Board;
 use crate::name::Name;
-use crate::world::Person;
+use crate::world::{Person, RoleOn};
 use tb_task::{Task, TaskId};
 use tb_values::Shared;
 
@@ -49,4 +49,19 @@ fn first_task(tasks: &[Shared<Task>], id: TaskId) -> Option<usize>
     ensures { result ≡ position (has_id id) tasks.now }
 {
     tasks.iter().position(|task| task.get().id == id)
+}
+
+/// The place of the first role of that person on that board.
+pub fn place_of_role(roles: &[RoleOn], board: u32, person: usize) -> Option<usize>
+    ensures { MatchOption result (IsNone (is_role_of board person) roles.now) (IsFirst (is_role_of board person) roles.now) }
+{
+    first_role(roles, board, person)
+}
+
+fn first_role(roles: &[RoleOn], board: u32, person: usize) -> Option<usize>
+    ensures { result ≡ position (is_role_of board person) roles.now }
+{
+    roles
+        .iter()
+        .position(|role| role.board == board && role.person == person)
 }

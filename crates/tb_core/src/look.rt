@@ -1,5 +1,5 @@
 ghost use Rattle.std.specs.Prelude.{◌≡◌, Some, None, length, IfOk};
-ghost use Rattle.tb_core.specs.Apply.{board_for, seen_of};
+ghost use Rattle.tb_core.specs.Apply.{bare_person, board_for, person_for, seen_of};
 ghost use Rattle.tb_core.specs.World.{number_of, owners};
 
 use crate::board::Board;
@@ -47,6 +47,11 @@ impl World {
             Command::Add { board, .. }
             | Command::OnTask { board, .. }
             | Command::Sweep { board } => self.look_at_board(name, *board),
+            Command::SetRole {
+                board, name: other, ..
+            } => self.look_at_person(name, *board, other),
+            Command::NewPerson { name: other, .. } => Ok(self.look_at_people(name, other)),
+            Command::NewBoard { .. } => Ok(self.look_at_counts(name)),
         }
     }
 
@@ -63,6 +68,47 @@ impl World {
             people: self.people.len(),
             boards: self.boards.len(),
         })
+    }
+
+    fn look_at_person(&self, name: &Name, board: u32, other: &Name) -> Result<Seen, AllocError>
+        ensures { IfOk result (λ seen. seen ≡ record { caller = number_of self.now name.now; board = board_for self.now (number_of self.now name.now) (Some board); other = person_for self.now (Some board) (number_of self.now other.now); owners = owners self.now board; people = length self.now.people; boards = length self.now.boards }) }
+    {
+        let mut seen = self.look_at_board(name, board)?;
+        seen.other = self.person_on(board, self.number_of(other));
+        Ok(seen)
+    }
+
+    fn look_at_people(&self, name: &Name, other: &Name) -> Seen
+        ensures { result ≡ record { caller = number_of self.now name.now; board = None; other = person_for self.now None (number_of self.now other.now); owners = 0; people = length self.now.people; boards = length self.now.boards } }
+    {
+        let mut seen = self.look_at_counts(name);
+        seen.other = person_off(self.number_of(other));
+        seen
+    }
+
+    fn look_at_counts(&self, name: &Name) -> Seen
+        ensures { result ≡ record { caller = number_of self.now name.now; board = None; other = None; owners = 0; people = length self.now.people; boards = length self.now.boards } }
+    {
+        Seen {
+            caller: self.number_of(name),
+            board: None,
+            other: None,
+            owners: 0,
+            people: self.people.len(),
+            boards: self.boards.len(),
+        }
+    }
+
+    fn person_on(&self, board: u32, person: Option<usize>) -> Option<SeenPerson>
+        ensures { result ≡ person_for self.now (Some board) person }
+    {
+        match person {
+            Some(number) => Some(SeenPerson {
+                number,
+                role: self.role_of(board, number),
+            }),
+            None => None,
+        }
     }
 
     fn board_for(
@@ -82,5 +128,14 @@ impl World {
             Some(board) => Ok(Some(SeenBoard { board, role })),
             None => Ok(None),
         }
+    }
+}
+
+fn person_off(person: Option<usize>) -> Option<SeenPerson>
+    ensures { result ≡ bare_person person }
+{
+    match person {
+        Some(number) => Some(SeenPerson { number, role: None }),
+        None => None,
     }
 }

@@ -6,8 +6,8 @@ use tb_task::{Field, Incoming, Moment, Status, Task, TaskId};
 use tb_values::{NonEmptyText, Ordered, Shared, Text};
 
 use crate::{
-    Action, Answer, Board, BoardAnswer, Change, Command, Decision, Key, Name, Refusal, Title, Told,
-    World, decide,
+    Action, Answer, Board, BoardAnswer, Change, Command, Decision, Key, Name, Refusal, Role, Title,
+    Told, World, decide,
 };
 
 const ROOT: &str = "root";
@@ -71,8 +71,14 @@ fn after(alloc: Global, world: &World, decision: &Decision) -> Result<World, Fai
     Ok(world.changed(alloc, decision.changes.as_slice())?)
 }
 
-fn refusal(alloc: Global, world: &World, command: &Command) -> Result<Refusal, Fail> {
-    let decision = decided(alloc, world, command)?;
+fn board_answer(decision: &Decision) -> Result<BoardAnswer, Fail> {
+    match &decision.answer {
+        Ok(Answer::OnBoard(answer)) => Ok(*answer),
+        _ => Err(Fail::from("an answer of a board")),
+    }
+}
+
+fn refused_by(decision: Decision) -> Result<Refusal, Fail> {
     if decision.changes.len() > 0 {
         return Err(Fail::from("a refusal changes nothing"));
     }
@@ -82,12 +88,16 @@ fn refusal(alloc: Global, world: &World, command: &Command) -> Result<Refusal, F
     }
 }
 
-fn added_id(answer: Result<Answer, Refusal>) -> Result<TaskId, Fail> {
-    match answer {
+fn refusal(alloc: Global, world: &World, command: &Command) -> Result<Refusal, Fail> {
+    refused_by(decided(alloc, world, command)?)
+}
+
+fn added_id(decision: &Decision) -> Result<TaskId, Fail> {
+    match &decision.answer {
         Ok(Answer::OnBoard(BoardAnswer {
             told: Told::Added { id, .. },
             ..
-        })) => Ok(id),
+        })) => Ok(*id),
         _ => Err(Fail::from("an added task")),
     }
 }
@@ -107,7 +117,7 @@ fn buy_milk(rt: HostRuntime) -> Result<(), Fail> {
         more: false,
         told,
     };
-    assert_eq!(rt; decision.answer, Ok(Answer::OnBoard(answer)));
+    assert_eq!(rt; board_answer(&decision)?, answer);
     let world = after(rt.alloc(), &world, &decision)?;
     let board = world.board(1)?.ok_or("a board")?;
     assert_eq!(rt; board.get().tasks.len(), 1);
@@ -131,9 +141,9 @@ fn number_used_by_hand(rt: HostRuntime) -> Result<(), Fail> {
     let world = after(alloc, &world, &second)?;
     let third = decided(alloc, &world, &add(incoming(alloc, "b")?))?;
     let world = after(alloc, &world, &third)?;
-    assert_eq!(rt; added_id(by_hand.answer)?, made(2)?);
-    assert_eq!(rt; added_id(second.answer)?, made(1)?);
-    assert_eq!(rt; added_id(third.answer)?, made(3)?);
+    assert_eq!(rt; added_id(&by_hand)?, made(2)?);
+    assert_eq!(rt; added_id(&second)?, made(1)?);
+    assert_eq!(rt; added_id(&third)?, made(3)?);
     let again = refusal(alloc, &world, &add(named(alloc, 2)?))?;
     assert_eq!(rt; again, Refusal::UuidTaken);
     Ok(())
@@ -162,7 +172,7 @@ fn full_board(rt: HostRuntime) -> Result<(), Fail> {
     let alloc = rt.alloc();
     let nearly = world_with(alloc, board_of(alloc, 9999)?)?;
     let last = decided(alloc, &nearly, &add(incoming(alloc, "a")?))?;
-    assert_eq!(rt; added_id(last.answer)?, made(10000)?);
+    assert_eq!(rt; added_id(&last)?, made(10000)?);
     let world = after(alloc, &nearly, &last)?;
     let full = refusal(alloc, &world, &add(incoming(alloc, "a")?))?;
     assert_eq!(rt; full, Refusal::Full);
@@ -179,7 +189,7 @@ fn callers_are_refused(rt: HostRuntime) -> Result<(), Fail> {
     let command = add(incoming(alloc, "a")?);
     let seen = world.look(&bob, &command)?;
     let decision = decide(alloc, &seen, &command, at(9)?)?;
-    assert_eq!(rt; decision.answer, Err(Refusal::UnknownCaller));
+    assert_eq!(rt; refused_by(decision)?, Refusal::UnknownCaller);
     let elsewhere = Command::Add {
         board: 2,
         incoming: incoming(alloc, "a")?,
@@ -230,6 +240,7 @@ fn waiting_board(alloc: Global) -> Result<Board, Fail> {
 fn place_in(change: &Change) -> usize {
     match change {
         Change::PutTask { place, .. } => *place,
+        _ => 0,
     }
 }
 
@@ -408,6 +419,97 @@ fn sweeps_wake(rt: HostRuntime) -> Result<(), Fail> {
         more: false,
         told: Told::Swept,
     };
-    assert_eq!(rt; decision.answer, Ok(Answer::OnBoard(answer)));
+    assert_eq!(rt; board_answer(&decision)?, answer);
+    Ok(())
+}
+
+fn decided_by(
+    alloc: Global,
+    world: &World,
+    caller: &str,
+    command: &Command,
+) -> Result<Decision, Fail> {
+    let caller = name(alloc, caller)?;
+    let seen = world.look(&caller, command)?;
+    Ok(decide(alloc, &seen, command, at(9)?)?)
+}
+
+fn person(alloc: Global, text: &str, secret: &str) -> Result<Command, Fail> {
+    let name = name(alloc, text)?;
+    let key = key(alloc, secret)?;
+    Ok(Command::NewPerson { name, key })
+}
+
+fn role(alloc: Global, text: &str, role: Option<Role>) -> Result<Command, Fail> {
+    let name = name(alloc, text)?;
+    Ok(Command::SetRole {
+        board: 1,
+        name,
+        role,
+    })
+}
+
+fn with_bob(alloc: Global) -> Result<World, Fail> {
+    let world = opening(alloc)?;
+    let decision = decided(alloc, &world, &person(alloc, "bob", "bob-key-01")?)?;
+    match &decision.answer {
+        Ok(Answer::NewPerson { name }) if name.as_str() == "bob" => {}
+        _ => return Err(Fail::from("a new person")),
+    }
+    after(alloc, &world, &decision)
+}
+
+#[test]
+fn people_and_roles(rt: HostRuntime) -> Result<(), Fail> {
+    let alloc = rt.alloc();
+    let world = with_bob(alloc)?;
+    let sweep = Command::Sweep { board: 1 };
+    let outside = decided_by(alloc, &world, "bob", &sweep)?;
+    assert_eq!(rt; refused_by(outside)?, Refusal::NoBoard);
+    let joins = decided(alloc, &world, &role(alloc, "bob", Some(Role::Member))?)?;
+    assert_eq!(rt; board_answer(&joins)?.told, Told::Swept);
+    let world = after(alloc, &world, &joins)?;
+    let inside = decided_by(alloc, &world, "bob", &sweep)?;
+    assert_eq!(rt; board_answer(&inside)?.board, 1);
+    let eve = decided_by(alloc, &world, "bob", &person(alloc, "eve", "eve-key-01")?)?;
+    assert_eq!(rt; refused_by(eve)?, Refusal::NotAllowed);
+    let gives = decided_by(alloc, &world, "bob", &role(alloc, "bob", None)?)?;
+    assert_eq!(rt; refused_by(gives)?, Refusal::NotAllowed);
+    let zed = refusal(alloc, &world, &role(alloc, "zed", Some(Role::Member))?)?;
+    assert_eq!(rt; zed, Refusal::NoPerson);
+    let last = refusal(alloc, &world, &role(alloc, ROOT, None)?)?;
+    assert_eq!(rt; last, Refusal::LastOwner);
+    let taken = refusal(alloc, &world, &person(alloc, "bob", "bob-key-02")?)?;
+    assert_eq!(rt; taken, Refusal::NameTaken);
+    Ok(())
+}
+
+#[test]
+fn owners_may_leave_one_another(rt: HostRuntime) -> Result<(), Fail> {
+    let alloc = rt.alloc();
+    let world = with_bob(alloc)?;
+    let stays = decided(alloc, &world, &role(alloc, ROOT, Some(Role::Owner))?)?;
+    assert_eq!(rt; board_answer(&stays)?.board, 1);
+    let joins = decided(alloc, &world, &role(alloc, "bob", Some(Role::Owner))?)?;
+    let world = after(alloc, &world, &joins)?;
+    let leaves = decided_by(alloc, &world, "bob", &role(alloc, ROOT, None)?)?;
+    let world = after(alloc, &world, &leaves)?;
+    assert_eq!(rt; world.role_of(1, 1), None);
+    assert_eq!(rt; world.role_of(1, 2), Some(Role::Owner));
+    Ok(())
+}
+
+#[test]
+fn boards_are_begun(rt: HostRuntime) -> Result<(), Fail> {
+    let alloc = rt.alloc();
+    let world = with_bob(alloc)?;
+    let title = Title::read(alloc, "Shop")?.ok_or("a title")?;
+    let decision = decided_by(alloc, &world, "bob", &Command::NewBoard { title })?;
+    assert!(rt; matches!(decision.answer, Ok(Answer::NewBoard { board: 2 })));
+    let world = after(alloc, &world, &decision)?;
+    let board = world.board(2)?.ok_or("a board")?;
+    assert_eq!(rt; board.get().title.as_str(), "Shop");
+    assert_eq!(rt; world.role_of(2, 2), Some(Role::Owner));
+    assert_eq!(rt; world.role_of(2, 1), None);
     Ok(())
 }
