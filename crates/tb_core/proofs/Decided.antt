@@ -1,19 +1,16 @@
 -- A decision is what applying its command gives.
-use Rattle.std.proofs.Common.{◌≡◌, ℕ, ◌+◌, Bool, true, false, List, [], ◌∷◌, ◌++◌, Option, Some, None, Result, Ok, Err, is_none, find, refl, sym, ◌∙◌, ap, subst}
+use Rattle.std.proofs.Common.{◌≡◌, ℕ, true, false, List, [], ◌∷◌, Option, Some, None, Ok, is_none, find, refl, sym, ◌∙◌, ap, subst}
 use Rattle.tb_core.specs.declared.board.Board.{Board}
-use Rattle.tb_core.specs.declared.change.Change.{Change}
 use Rattle.tb_core.specs.declared.change.Change.TheVariants as change
-use Rattle.tb_core.specs.declared.command.Answer.{Answer}
 use Rattle.tb_core.specs.declared.command.BoardAnswer.{BoardAnswer}
 use Rattle.tb_core.specs.declared.command.Answer.TheVariants.{OnBoard}
 use Rattle.tb_core.specs.declared.command.Command.{Command}
-use Rattle.tb_core.specs.declared.command.Command.TheVariants.{Add, OnTask, Sweep, SetRole, NewPerson, NewBoard}
+use Rattle.tb_core.specs.declared.command.Command.TheVariants.{SetRole}
 use Rattle.tb_core.specs.declared.deciding.Decision.{Decision}
 use Rattle.tb_core.specs.declared.draft.Draft.{Draft}
 use Rattle.tb_core.specs.declared.look.Seen.{Seen}
 use Rattle.tb_core.specs.declared.look.SeenBoard.{SeenBoard}
 use Rattle.tb_core.specs.declared.look.SeenPerson.{SeenPerson}
-use Rattle.tb_core.specs.declared.refusal.Refusal.{Refusal}
 use Rattle.tb_core.specs.declared.world.Role.{Role}
 use Rattle.tb_core.specs.declared.world.World.{World}
 use Rattle.tb_core.specs.Apply.{apply, board_for, board_of, decided, on_board, outcome, role_answer, role_given, role_refusals, with_role, seen_of, seen_with, IsDecision}

@@ -1,5 +1,5 @@
 -- How the changes of a draft go on.
-use Rattle.std.proofs.Common.{◌≡◌, ℕ, ◌<◌, ◌≤◌, nat_lt, true, false, List, [], ◌∷◌, ◌++◌, length, set, refl, sym, ◌∙◌, ap, arith, subst}
+use Rattle.std.proofs.Common.{◌≡◌, ℕ, ◌<◌, nat_lt, true, false, List, [], ◌∷◌, ◌++◌, length, set, refl, sym, ◌∙◌, ap, arith}
 use Rattle.std.specs.List.{AllByRecursion}
 use Rattle.std.proofs.lemmas.Bool.{lt-ltb, le-ltb}
 use Rattle.tb_task.specs.declared.task.Task.{Task}
@@ -7,7 +7,7 @@ use Rattle.tb_core.specs.declared.board.Board.{Board}
 use Rattle.tb_core.specs.declared.change.Change.{Change}
 use Rattle.tb_core.specs.declared.change.Change.TheVariants.{PutTask}
 use Rattle.tb_core.specs.declared.draft.Draft.{Draft}
-use Rattle.tb_core.specs.Changes.{put, with_task_at, changed_on, replayed, IsOn, IsDraft, Follows}
+use Rattle.tb_core.specs.Changes.{put, with_task_at, changed_on, replayed, IsOn, Follows}
 
 all_push : (n : ℕ) (cs : List Change) (c : Change) → AllByRecursion (IsOn n) cs → IsOn n c → AllByRecursion (IsOn n) (cs ++ c ∷ [])
 all_push n [] c all on = (on, tt)

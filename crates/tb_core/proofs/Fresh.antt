@@ -1,5 +1,5 @@
 -- The identifier that a board makes next is on no task.
-use Rattle.std.proofs.Common.{◌≡◌, ℕ, zero, suc, ◌+◌, ◌-◌, ◌<◌, ◌≤◌, ◌==◌, nat_eq, nat_lt, Bool, true, false, List, [], ◌∷◌, length, map, refl, sym, ◌∙◌, ap, arith, subst, ◌⊎◌, inl, inr, true≢false, cond, ◌||◌}
+use Rattle.std.proofs.Common.{◌≡◌, ℕ, zero, suc, ◌+◌, ◌-◌, ◌<◌, ◌≤◌, ◌==◌, nat_eq, nat_lt, Bool, true, false, List, [], ◌∷◌, length, refl, sym, ◌∙◌, ap, arith, inl, inr, true≢false, cond, ◌||◌}
 use Rattle.std.specs.List.{list_any}
 use Rattle.std.specs.Cmp.{nat_eq_equiv}
 use Rattle.std.proofs.lemmas.Bool.{cases_Bool, eqb-true, ltb-true, ltb-false}
@@ -119,6 +119,7 @@ reaches b s (suc steps) n from to taken vacant =
               let same : s ≡ n = omega (arith, from, ltb-false s n not_below) in
               absurd (true≢false (sym here ∙ ap (λ i. is_on b (made b.number i)) same ∙ vacant))
         ]
+
     ends : (b : Board) (s n : ℕ) → s ≤ n → ((j : ℕ) → s ≤ j → j < n → is_on b (made b.number j) ≡ true) → is_on b (made b.number s) ≡ false → s ≡ n
     ends b s n from taken other =
         elim (cases_Bool (nat_lt s n)) [

@@ -1,22 +1,21 @@
 -- New people, new boards and roles leave a good world good.
-use Rattle.std.proofs.Common.{◌≡◌, ℕ, zero, suc, ◌+◌, ◌≤◌, ◌<◌, ◌==◌, ◌&&◌, Bool, true, false, not, List, [], ◌∷◌, ◌++◌, Option, Some, None, is_some, length, map, find, position, refl, sym, ◌∙◌, ap, arith, subst, true≢false, ◌⊎◌, inl, inr, length-append, MatchOption, nat_eq, nat_le}
+use Rattle.std.proofs.Common.{◌≡◌, ℕ, zero, suc, ◌+◌, ◌≤◌, ◌<◌, ◌==◌, ◌&&◌, Bool, true, false, List, [], ◌∷◌, ◌++◌, Option, Some, None, length, map, find, position, refl, sym, ◌∙◌, ap, arith, subst, true≢false, inl, inr, length-append, MatchOption}
 use Rattle.std.specs.List.{AllByRecursion, IsDistinct, count_by, list_any, range_with_len}
 use Rattle.std.specs.Cmp.{nat_eq_equiv}
 use Rattle.std.specs.Option.{option_map}
 use Rattle.std.specs.Str.{bytes_eq}
-use Rattle.std.proofs.lemmas.Bool.{cases_Bool, leb-false, eqb-true}
+use Rattle.std.proofs.lemmas.Bool.{cases_Bool, eqb-true}
 use Rattle.std.proofs.lemmas.Cmp.{nat_list_eq_equiv}
 use Rattle.std.proofs.lemmas.List.{map-append}
 use Rattle.std.proofs.lemmas.Map.Keys.{IsDistinct-push}
 use Rattle.tb_core.specs.declared.board.Board.{Board}
-use Rattle.tb_core.specs.declared.look.SeenPerson.{SeenPerson}
 use Rattle.tb_core.specs.declared.world.Person.{Person}
 use Rattle.tb_core.specs.declared.world.Role.{Role}
 use Rattle.tb_core.specs.declared.world.Role.TheVariants.{Owner}
 use Rattle.tb_core.specs.declared.world.RoleOn.{RoleOn}
 use Rattle.tb_core.specs.declared.world.World.{World}
 use Rattle.tb_core.specs.First.{IsFirst, IsNone}
-use Rattle.tb_core.specs.Good.{HasOwner, IsGood, IsGoodWorld, IsRoleIn, names, numbers}
+use Rattle.tb_core.specs.Good.{HasOwner, IsGood, IsGoodWorld, IsRoleIn, names}
 use Rattle.tb_core.specs.People.{with_new_board, with_person}
 use Rattle.tb_core.specs.Roles.{leaves_none, set_role}
 use Rattle.tb_core.specs.World.{has_name, is_role_of, number_of, owns, role_of, owners}
@@ -27,13 +26,15 @@ use Rattle.tb_core.proofs.Places.{place}
 
 roles-within : (w v : World) → length w.people ≤ length v.people → length w.boards ≤ length v.boards → (rs : List RoleOn) → AllByRecursion (IsRoleIn w) rs → AllByRecursion (IsRoleIn v) rs
 roles-within w v people boards [] all = tt
-roles-within w v people boards (r ∷ rs) all =
-    (record {
-      from_board = all.0.from_board;
-      to_board = omega (arith, all.0.to_board, boards);
-      from_person = all.0.from_person;
-      to_person = omega (arith, all.0.to_person, people);
-    }, roles-within w v people boards rs all.1)
+roles-within w v people boards (r ∷ rs) all = (
+  record {
+    from_board = all.0.from_board;
+    to_board = omega (arith, all.0.to_board, boards);
+    from_person = all.0.from_person;
+    to_person = omega (arith, all.0.to_person, people);
+  },
+  roles-within w v people boards rs all.1,
+)
 
 -- a person of a good world is one of those from 1
 number_at : (test : Person → Bool) (people : List Person) (o : Option ℕ) (n : ℕ) → MatchOption o (IsNone test people) (IsFirst test people)

@@ -1,5 +1,5 @@
 -- What setting a role keeps of the roles.
-use Rattle.std.proofs.Common.{◌≡◌, ℕ, zero, suc, ◌+◌, ◌≤◌, ◌<◌, ◌==◌, ◌&&◌, ◌||◌, Bool, true, false, not, List, [], ◌∷◌, ◌++◌, Option, Some, None, find, cond, refl, sym, ◌∙◌, ap, arith, subst, true≢false, ◌⊎◌, inl, inr, if◌then◌else◌, nat_le, nat_eq}
+use Rattle.std.proofs.Common.{◌≡◌, ℕ, ◌+◌, ◌≤◌, ◌<◌, ◌==◌, ◌&&◌, ◌||◌, Bool, true, false, List, [], ◌∷◌, Option, Some, None, find, cond, refl, sym, ◌∙◌, ap, arith, subst, true≢false, inl, inr, nat_le}
 use Rattle.std.specs.List.{AllByRecursion, IsDistinct, count_by, list_any}
 use Rattle.std.specs.Cmp.{nat_eq_equiv}
 use Rattle.std.specs.Option.{option_map}
@@ -8,7 +8,6 @@ use Rattle.std.proofs.lemmas.Bool.{cases_Bool, eqb-true, leb-false}
 use Rattle.std.proofs.lemmas.List.Folds.{list_any-append}
 use Rattle.std.proofs.lemmas.List.Sums.{sum_by-cons}
 use Rattle.std.proofs.lemmas.Map.Keys.{IsDistinct-cons, IsDistinct-head, IsDistinct-push, IsDistinct-tail}
-use Rattle.tb_core.specs.declared.look.SeenPerson.{SeenPerson}
 use Rattle.tb_core.specs.declared.world.Role.{Role}
 use Rattle.tb_core.specs.declared.world.Role.TheVariants.{Owner, Member}
 use Rattle.tb_core.specs.declared.world.RoleOn.{RoleOn}

@@ -1,13 +1,13 @@
 -- A good board in the place of another one leaves a good world good.
-use Rattle.std.proofs.Common.{◌≡◌, ℕ, suc, ◌≤◌, Bool, true, false, List, [], ◌∷◌, Option, Some, None, length, map, find, refl, sym, ◌∙◌, ap, subst, ◌⊎◌, inl, inr, if◌then◌else◌}
-use Rattle.std.specs.List.{AllByRecursion, list_any, range_with_len}
+use Rattle.std.proofs.Common.{◌≡◌, ℕ, suc, Bool, List, [], ◌∷◌, Some, length, find, refl, sym, ◌∙◌, ap, subst, inl, inr}
+use Rattle.std.specs.List.{AllByRecursion, range_with_len}
 use Rattle.std.proofs.lemmas.Bool.{cases_Bool, eqb-true}
 use Rattle.tb_core.specs.declared.board.Board.{Board}
 use Rattle.tb_core.specs.declared.world.RoleOn.{RoleOn}
 use Rattle.tb_core.specs.declared.world.World.{World}
 use Rattle.tb_core.specs.Changes.{change_board}
 use Rattle.tb_core.specs.Good.{IsGood, IsGoodWorld, HasOwner, IsRoleIn, numbers}
-use Rattle.tb_core.specs.World.{has_number, owns}
+use Rattle.tb_core.specs.World.{has_number}
 
 -- what holds of all holds of the first that is found
 pub all-found : (P : Board → Type 0) (test : Board → Bool) (bs : List Board) (x : Board) → AllByRecursion P bs → find test bs ≡ Some x → P x
@@ -48,13 +48,15 @@ with_board w b = record w { boards = change_board b.number (λ _. b) w.boards }
 
 roles-kept : (w v : World) → v.people ≡ w.people → length v.boards ≡ length w.boards → (rs : List RoleOn) → AllByRecursion (IsRoleIn w) rs → AllByRecursion (IsRoleIn v) rs
 roles-kept w v people boards [] all = tt
-roles-kept w v people boards (r ∷ rs) all =
-    (record {
-      from_board = all.0.from_board;
-      to_board = rw boards all.0.to_board;
-      from_person = all.0.from_person;
-      to_person = rw people all.0.to_person;
-    }, roles-kept w v people boards rs all.1)
+roles-kept w v people boards (r ∷ rs) all = (
+  record {
+    from_board = all.0.from_board;
+    to_board = rw boards all.0.to_board;
+    from_person = all.0.from_person;
+    to_person = rw people all.0.to_person;
+  },
+  roles-kept w v people boards rs all.1,
+)
 
 pub good-with_board : (w : World) (x b : Board) → IsGoodWorld w → find (has_number x.number) w.boards ≡ Some x → b.number ≡ x.number → IsGood b → IsGoodWorld (with_board w b)
 good-with_board w x b good found number is_good =

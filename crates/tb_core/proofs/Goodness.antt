@@ -1,8 +1,7 @@
 -- What waking and one task more keep of a good board.
-use Rattle.std.proofs.Common.{◌≡◌, ℕ, zero, suc, ◌+◌, ◌<◌, ◌≤◌, ◌==◌, ◌||◌, ◌&&◌, nat_eq, Bool, true, false, not, List, [], ◌∷◌, ◌++◌, Option, Some, None, find, length, map, refl, sym, ◌∙◌, ap, arith, subst, ◌⊎◌, inl, inr, true≢false, length-append, if◌then◌else◌}
+use Rattle.std.proofs.Common.{◌≡◌, ℕ, suc, ◌<◌, ◌≤◌, ◌==◌, ◌||◌, nat_eq, Bool, true, false, not, List, [], ◌∷◌, ◌++◌, Some, find, length, map, refl, sym, ◌∙◌, ap, arith, subst, inl, inr, true≢false, length-append}
 use Rattle.std.specs.List.{IsDistinct, AllByRecursion, list_any}
 use Rattle.std.specs.Cmp.{nat_eq_equiv}
-use Rattle.std.proofs.Math.Bool.{or-false}
 use Rattle.std.proofs.lemmas.Bool.{cases_Bool}
 use Rattle.std.proofs.lemmas.List.{map-append, length-map}
 use Rattle.std.proofs.lemmas.List.Folds.{list_any-append}
@@ -10,7 +9,7 @@ use Rattle.std.proofs.lemmas.Map.Keys.{IsDistinct-push}
 use Rattle.tb_task.specs.declared.task.Task.{Task}
 use Rattle.tb_core.specs.declared.board.Board.{Board}
 use Rattle.tb_core.specs.Add.{lacks_depends}
-use Rattle.tb_core.specs.Board.{has_id, ids, is_on, wake, woken, with_task}
+use Rattle.tb_core.specs.Board.{ids, is_on, wake, woken, with_task}
 use Rattle.tb_core.specs.Good.{IsGood, IsSound, IsLinkedOn}
 use Rattle.tb_core.specs.First.{change_first}
 use Rattle.tb_core.proofs.Fresh.{on_ids, among-swapped}

@@ -1,6 +1,6 @@
 -- The place of the first item that passes a test.
-use Rattle.std.proofs.Common.{◌≡◌, ℕ, suc, ◌+◌, ◌<◌, Bool, true, false, List, [], ◌∷◌, Option, Some, None, length, get_or, set, position, refl, sym, ◌∙◌, ap, arith, find, MatchOption, if◌then◌else◌, subst, ◌⊎◌, inl, inr}
-use Rattle.std.specs.List.{list_any, position_from}
+use Rattle.std.proofs.Common.{◌≡◌, ℕ, suc, ◌+◌, Bool, true, false, List, [], ◌∷◌, Option, Some, None, get_or, set, position, refl, sym, ◌∙◌, ap, arith, MatchOption, subst, inl, inr}
+use Rattle.std.specs.List.{position_from}
 use Rattle.std.proofs.lemmas.Bool.{cases_Bool}
 use Rattle.std.proofs.lemmas.Iterator.Adapters.{position_from-zero}
 use Rattle.tb_core.specs.First.{change_first, IsFirst, IsNone}

@@ -1,5 +1,5 @@
 -- Actions leave a sound task sound.
-use Rattle.std.proofs.Common.{◌≡◌, ℕ, ◌&&◌, ◌||◌, Bool, true, false, not, List, [], ◌∷◌, ◌++◌, Option, Some, None, is_some, refl, sym, ◌∙◌, ap, true≢false, ◌⊎◌, inl, inr, if◌then◌else◌, nat_lt, cond}
+use Rattle.std.proofs.Common.{◌≡◌, ℕ, ◌&&◌, ◌||◌, Bool, true, false, not, List, [], ◌∷◌, Option, Some, None, is_some, refl, sym, ◌∙◌, true≢false, inl, inr, if◌then◌else◌, nat_lt}
 use Rattle.std.specs.List.{list_any}
 use Rattle.std.specs.Set.{remove_key}
 use Rattle.std.proofs.Math.Bool.{or-false}
@@ -15,10 +15,10 @@ use Rattle.tb_task.specs.Check.{fault_of, has_bad_pair, has_bad_recurrence, has_
 use Rattle.tb_core.specs.declared.action.Action.{Action}
 use Rattle.tb_core.specs.declared.action.Action.TheVariants.{Done, Delete, Reopen, Start, Stop, Annotate, Denotate}
 use Rattle.tb_core.specs.Actions.{acted, action_fault, takes}
-use Rattle.tb_core.specs.Board.{has_come, is_waiting, status_at, wakes, woken}
+use Rattle.tb_core.specs.Board.{has_come, is_waiting, wakes, woken}
 use Rattle.tb_core.specs.Good.{has_template_form, is_deleted, IsSound}
 use Rattle.tb_core.specs.Notes.{annotated, denotated, note_fault, says}
-use Rattle.tb_core.specs.Statuses.{completed, deleted, is_open, is_pending, is_pending_or_waiting, is_template, reopened, reopened_status, settled, started, stopped}
+use Rattle.tb_core.specs.Statuses.{completed, deleted, is_pending_or_waiting, is_template, reopened, settled, started, stopped}
 
 -- what is well with a task that a board takes
 pub record IsFit (t : Task) : Type 0 where
@@ -208,10 +208,10 @@ unfolding has_bad_text
 denotated_texts m text t h =
     let bad = λ (a : Annotation). is_bad_text a.description in
     let before = notes_of (is_bad_text t.description) (some_is_bad t.project) (some_is_bad t.recur) (list_any is_bad_text t.tags)
-        (list_any bad t.annotations) (list_any is_bad_extra t.extras) h in
+    (list_any bad t.annotations) (list_any is_bad_extra t.extras) h in
     fewer_notes (is_bad_text t.description) (some_is_bad t.project) (some_is_bad t.recur) (list_any is_bad_text t.tags)
-        (list_any bad t.annotations) (list_any is_bad_extra t.extras) (list_any bad (remove_key (says text) t.annotations)) h
-        (any-removed bad (says text) t.annotations before)
+    (list_any bad t.annotations) (list_any is_bad_extra t.extras) (list_any bad (remove_key (says text) t.annotations)) h
+    (any-removed bad (says text) t.annotations before)
 
 fit_denotated : (m : ℕ) (text : List ℕ) (t : Task) → IsFit t → IsFit (denotated m text t)
 unfolding has_bad_recurrence

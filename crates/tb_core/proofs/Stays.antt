@@ -1,5 +1,5 @@
 -- Each command leaves a good world good.
-use Rattle.std.proofs.Common.{◌≡◌, ℕ, ◌+◌, ◌==◌, ◌++◌, ◌<◌, ◌≤◌, nat_le, Bool, true, false, ◌&&◌, ◌||◌, not, is_some, true≢false, List, [], ◌∷◌, Option, Some, None, Result, Ok, Err, length, find, refl, sym, ◌∙◌, ap, arith, subst, ◌⊎◌, inl, inr, if◌then◌else◌}
+use Rattle.std.proofs.Common.{◌≡◌, ℕ, ◌+◌, ◌==◌, ◌++◌, ◌<◌, ◌≤◌, nat_le, Bool, true, false, ◌&&◌, ◌||◌, not, is_some, true≢false, List, [], ◌∷◌, Option, Some, None, Result, Ok, Err, length, find, refl, sym, ◌∙◌, ap, arith, subst, inl, inr, if◌then◌else◌}
 use Rattle.std.proofs.lemmas.Bool.{cases_Bool, leb-false}
 use Rattle.tb_task.specs.declared.incoming.Incoming.{Incoming}
 use Rattle.tb_task.specs.declared.task.Task.{Task}
@@ -22,9 +22,9 @@ use Rattle.tb_core.specs.declared.world.Role.{Role}
 use Rattle.tb_core.specs.declared.world.World.{World}
 use Rattle.tb_core.specs.declared.action.Action.{Action}
 use Rattle.tb_core.specs.declared.action.Action.TheVariants.{Done, Delete, Reopen, Start, Stop, Annotate, Denotate}
-use Rattle.tb_core.specs.Actions.{acted, action_fault, action_refusals, judged_action, of_task, takes}
-use Rattle.tb_core.specs.Add.{add_fault, add_refusals, entered, entered_id, first_fault, is_full, is_linked, judged_add, lacks_depends}
-use Rattle.tb_core.specs.Apply.{answered, applied, apply, board_for, board_of, decided, judged, outcome, person_for, role_answer, role_given, role_refusals, seen_of, seen_with, with_role}
+use Rattle.tb_core.specs.Actions.{acted, action_fault, action_refusals, of_task, takes}
+use Rattle.tb_core.specs.Add.{add_fault, add_refusals, entered, entered_id, first_fault, is_full, is_linked, lacks_depends}
+use Rattle.tb_core.specs.Apply.{answered, applied, board_for, decided, outcome, person_for, role_answer, role_given, role_refusals, seen_of, seen_with, with_role}
 use Rattle.tb_core.specs.Board.{has_id, is_on, wake, with_task}
 use Rattle.tb_core.specs.First.{change_first}
 use Rattle.tb_core.specs.Good.{has_template_form, HasOwner, IsGood, IsGoodWorld, IsSound, KeepsGood, KeepsPeople}
@@ -155,7 +155,6 @@ kept_outcome w x (OnTask n id a) m good found is_good =
     kept w x (least (action_refusals (wake x m) id a)) (record (wake x m) { tasks = change_first (has_id id) (acted m a) (wake x m).tasks }) (Changed id) good found
     (λ none. record { number = refl; good = good-action (wake x m) id a m (good-wake x m is_good) none })
 kept_outcome w x (Sweep n) m good found is_good = kept w x None (wake x m) Swept good found (λ none. record { number = refl; good = good-wake x m is_good })
-
 kept_outcome w x (SetRole n name role) m good found is_good = kept w x None (wake x m) Swept good found (λ none. record { number = refl; good = good-wake x m is_good })
 kept_outcome w x (NewPerson name key) m good found is_good = kept w x None (wake x m) Swept good found (λ none. record { number = refl; good = good-wake x m is_good })
 kept_outcome w x (NewBoard title) m good found is_good = kept w x None (wake x m) Swept good found (λ none. record { number = refl; good = good-wake x m is_good })

@@ -1,6 +1,5 @@
 -- What a command makes of a world.
-use Rattle.std.specs.Prelude.{◌≡◌, ℕ, false, not, List, [], ◌∷◌, Option, Some, None, is_some, Result, Ok, Err, length, map}
-use Rattle.std.specs.Option.{option_and_then}
+use Rattle.std.specs.Prelude.{◌≡◌, ℕ, false, not, List, [], ◌∷◌, Option, Some, None, is_some, Result, Ok, Err, length}
 use Rattle.tb_core.specs.declared.board.Board.{Board}
 use Rattle.tb_core.specs.declared.command.Answer.{Answer}
 use Rattle.tb_core.specs.declared.command.Answer.TheVariants.{OnBoard}
@@ -77,13 +76,13 @@ owners_for w (Some n) = owners w n
 -- what the command of a person looks at
 abbrev pub seen_of : World → List ℕ → Command → Seen
 seen_of w name c = record {
-    caller = number_of w name;
-    board = board_for w (number_of w name) (board_of c);
-    other = person_for w (board_of c) (number_for w (other_of c));
-    owners = owners_for w (board_of c);
-    people = length w.people;
-    boards = length w.boards;
-  }
+  caller = number_of w name;
+  board = board_for w (number_of w name) (board_of c);
+  other = person_for w (board_of c) (number_for w (other_of c));
+  owners = owners_for w (board_of c);
+  people = length w.people;
+  boards = length w.boards;
+}
 
 -- what a command makes of a board that is awake; those that aren't on a board's tasks leave it
 abbrev pub judged : Board → Command → ℕ → Result (Board × Told) Refusal

@@ -1,5 +1,5 @@
 -- What each board and each world keeps.
-use Rattle.std.specs.Prelude.{ℕ, ◌≡◌, ◌≤◌, Bool, true, false, not, ◌&&◌, ◌||◌, ◌==◌, List, Option, Some, None, is_some, if◌then◌else◌, map, length, nat_eq}
+use Rattle.std.specs.Prelude.{ℕ, ◌≡◌, ◌≤◌, Bool, true, false, not, ◌&&◌, ◌||◌, ◌==◌, List, Some, None, is_some, if◌then◌else◌, map, length, nat_eq}
 use Rattle.std.specs.List.{IsDistinct, AllByRecursion, list_any, range_with_len}
 use Rattle.std.specs.Str.{bytes_eq}
 use Rattle.tb_task.specs.declared.task.Task.{Task}

@@ -1,8 +1,6 @@
 -- New people and new boards.
-use Rattle.std.specs.Prelude.{ℕ, ◌+◌, ◌==◌, not, List, [], ◌∷◌, ◌++◌, Option, Some, None, is_some, Err, length, nat_le}
-use Rattle.tb_core.specs.declared.change.Change.{Change}
+use Rattle.std.specs.Prelude.{ℕ, ◌+◌, ◌==◌, not, List, [], ◌∷◌, ◌++◌, Option, Some, None, is_some, Err, nat_le}
 use Rattle.tb_core.specs.declared.change.Change.TheVariants.{AddPerson, AddBoard, SetRole}
-use Rattle.tb_core.specs.declared.command.Answer.{Answer}
 use Rattle.tb_core.specs.declared.command.Answer.TheVariants.{NewPerson, NewBoard}
 use Rattle.tb_core.specs.declared.deciding.Decision.{Decision}
 use Rattle.tb_core.specs.declared.look.Seen.{Seen}
@@ -35,9 +33,9 @@ board_refusals seen = where_holds Full (nat_le 10000 seen.boards) ∷ []
 -- the next number, and the caller owns the board
 abbrev pub with_new_board : World → ℕ → ℕ → List ℕ → World
 with_new_board w number caller title = record w {
-    boards = w.boards ++ record { number = number; title = title; tasks = []; gone = [] } ∷ [];
-    roles = set_role w.roles number caller (Some Owner);
-  }
+  boards = w.boards ++ record { number = number; title = title; tasks = []; gone = [] } ∷ [];
+  roles = set_role w.roles number caller (Some Owner);
+}
 
 abbrev pub new_board : World → Seen → Option ℕ → List ℕ → Outcome
 new_board w seen None title = record { world = w; answer = Err UnknownCaller }

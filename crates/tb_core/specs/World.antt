@@ -56,7 +56,7 @@ owners w board = count_by (owns board) w.roles
 -- one person, who owns the one board
 abbrev pub opening : List ℕ → List ℕ → World
 opening name key = record {
-    people = record { name = name; key = key } ∷ [];
-    boards = record { number = 1; title = codes "board"; tasks = []; gone = [] } ∷ [];
-    roles = record { board = 1; person = 1; role = Owner } ∷ [];
-  }
+  people = record { name = name; key = key } ∷ [];
+  boards = record { number = 1; title = codes "board"; tasks = []; gone = [] } ∷ [];
+  roles = record { board = 1; person = 1; role = Owner } ∷ [];
+}

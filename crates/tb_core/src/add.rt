@@ -17,12 +17,7 @@ use tb_values::Duplicate;
 const MOST_TASKS: usize = 10000;
 
 /// Adds a task to a board that is awake.
-pub fn add(
-    alloc: Global,
-    draft: Draft,
-    incoming: &Incoming,
-    at: Moment,
-) -> Result<Judged, Stop>
+pub fn add(alloc: Global, draft: Draft, incoming: &Incoming, at: Moment) -> Result<Judged, Stop>
     ensures gives { Gives result (judged_add draft.board incoming.now at) }
     ensures follows { IfOk result (λ judged. Follows draft judged.draft) }
 {

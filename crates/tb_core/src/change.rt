@@ -15,9 +15,15 @@ pub enum Change {
         task: Shared<Task>,
     },
     /// A person goes last.
-    AddPerson { name: Name, key: Key },
+    AddPerson {
+        name: Name,
+        key: Key,
+    },
     /// A board without tasks goes last.
-    AddBoard { number: u32, title: Title },
+    AddBoard {
+        number: u32,
+        title: Title,
+    },
     /// A person has this role on a board, or none, both by their numbers.
     SetRole {
         board: u32,

@@ -9,7 +9,10 @@ use tb_task::{Incoming, TaskId};
 #[derive(Drop)]
 pub enum Command {
     /// Adds a task to a board.
-    Add { board: u32, incoming: Incoming },
+    Add {
+        board: u32,
+        incoming: Incoming,
+    },
     /// Does something to one task of a board.
     OnTask {
         board: u32,
@@ -17,7 +20,9 @@ pub enum Command {
         action: Action,
     },
     /// Lets a board come up to the moment.
-    Sweep { board: u32 },
+    Sweep {
+        board: u32,
+    },
     /// Gives a person a role on a board, or takes it.
     SetRole {
         board: u32,
@@ -25,9 +30,14 @@ pub enum Command {
         role: Option<Role>,
     },
     /// Lets a person in.
-    NewPerson { name: Name, key: Key },
+    NewPerson {
+        name: Name,
+        key: Key,
+    },
     /// Begins a board, which the caller owns.
-    NewBoard { title: Title },
+    NewBoard {
+        title: Title,
+    },
 }
 
 /// What the reply to an accepted command says.

@@ -7,6 +7,7 @@ use std::marker::Model;
 use tb_values::{Duplicate, Same, Text};
 
 const SHORTEST: usize = 8;
+
 const LONGEST: usize = 64;
 
 /// The key by which a person is known: 8 to 64 bytes from 0x21 to 0x7E. A contract sees its bytes.
@@ -57,7 +58,6 @@ fn has_key_bytes(bytes: &[u8]) -> bool
 {
     bytes.iter().all(|byte| is_byte_of_key(*byte))
 }
-
 
 fn is_byte_of_key(byte: u8) -> bool
     ensures { result ≡ is_key_byte byte }

@@ -44,11 +44,12 @@ impl World {
         ensures { IfOk result (λ seen. seen ≡ seen_of self.now name.now command.now) }
     {
         match command {
-            Command::Add { board, .. }
-            | Command::OnTask { board, .. }
-            | Command::Sweep { board } => self.look_at_board(name, *board),
+            Command::Add { board, .. } | Command::OnTask { board, .. } | Command::Sweep { board } =>
+                self.look_at_board(name, *board),
             Command::SetRole {
-                board, name: other, ..
+                board,
+                name: other,
+                ..
             } => self.look_at_person(name, *board, other),
             Command::NewPerson { name: other, .. } => Ok(self.look_at_people(name, other)),
             Command::NewBoard { .. } => Ok(self.look_at_counts(name)),
@@ -111,11 +112,7 @@ impl World {
         }
     }
 
-    fn board_for(
-        &self,
-        caller: Option<usize>,
-        board: u32,
-    ) -> Result<Option<SeenBoard>, AllocError>
+    fn board_for(&self, caller: Option<usize>, board: u32) -> Result<Option<SeenBoard>, AllocError>
         ensures { IfOk result (λ seen. seen ≡ board_for self.now caller (Some board)) }
     {
         let Some(caller) = caller else {

@@ -53,11 +53,7 @@ pub fn decide_person(
 }
 
 /// Begins a board, which the caller owns.
-pub fn decide_board(
-    alloc: Global,
-    seen: &Seen,
-    title: &Title,
-) -> Result<Decision, AllocError>
+pub fn decide_board(alloc: Global, seen: &Seen, title: &Title) -> Result<Decision, AllocError>
     ensures { IfOk result (λ d. d ≡ board_decision seen.now seen.now.caller title.now) }
 {
     let Some(caller) = seen.caller else {

@@ -21,7 +21,10 @@ pub fn is_pending_or_waiting_status(status: Status) -> bool
 pub fn is_open_status(status: Status) -> bool
     ensures { result ≡ is_open status }
 {
-    matches!(status, Status::Pending | Status::Waiting | Status::Recurring)
+    matches!(
+        status,
+        Status::Pending | Status::Waiting | Status::Recurring
+    )
 }
 
 /// Whether the task recurs and is no instance of another one.

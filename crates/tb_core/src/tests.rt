@@ -1,14 +1,13 @@
 //! Worked examples of worlds, commands and refusals.
 
-use std::alloc::{AllocError, Global};
-use std::test::Fail;
-use tb_task::{Field, Incoming, Moment, Status, Task, TaskId};
-use tb_values::{NonEmptyText, Ordered, Shared, Text};
-
 use crate::{
     Action, Answer, Board, BoardAnswer, Change, Command, Decision, Key, Name, Refusal, Role, Title,
     Told, World, decide,
 };
+use std::alloc::{AllocError, Global};
+use std::test::Fail;
+use tb_task::{Field, Incoming, Moment, Status, Task, TaskId};
+use tb_values::{NonEmptyText, Ordered, Shared, Text};
 
 const ROOT: &str = "root";
 
@@ -94,10 +93,14 @@ fn refusal(alloc: Global, world: &World, command: &Command) -> Result<Refusal, F
 
 fn added_id(decision: &Decision) -> Result<TaskId, Fail> {
     match &decision.answer {
-        Ok(Answer::OnBoard(BoardAnswer {
-            told: Told::Added { id, .. },
-            ..
-        })) => Ok(*id),
+        Ok(
+            Answer::OnBoard(
+                BoardAnswer {
+                    told: Told::Added { id, .. },
+                    ..
+                },
+            ),
+        ) => Ok(*id),
         _ => Err(Fail::from("an added task")),
     }
 }
@@ -153,7 +156,12 @@ fn board_of(alloc: Global, count: u64) -> Result<Board, Fail> {
     let title = Title::read(alloc, "board")?.ok_or("a title")?;
     let mut board = Board::new(alloc, 1, title);
     for number in 0..count {
-        let task = Task::new(alloc, made(number + 1)?, at(0)?, Text::from_str(alloc, "a")?);
+        let task = Task::new(
+            alloc,
+            made(number + 1)?,
+            at(0)?,
+            Text::from_str(alloc, "a")?,
+        );
         board.tasks.push(Shared::new(alloc, task)?)?;
     }
     Ok(board)
@@ -213,7 +221,10 @@ fn added_tasks_are_refused(rt: HostRuntime) -> Result<(), Fail> {
     let own = on(alloc, named(alloc, 4)?, 4)?;
     assert_eq!(rt; refusal(alloc, &world, &add(own))?, Refusal::NoTask);
     let own_taken = on(alloc, named(alloc, 1)?, 1)?;
-    assert_eq!(rt; refusal(alloc, &world, &add(own_taken))?, Refusal::UuidTaken);
+    assert_eq!(rt;
+        refusal(alloc, &world, &add(own_taken))?,
+        Refusal::UuidTaken
+    );
     let mut empty = incoming(alloc, "")?;
     empty.task.recur = NonEmptyText::from_str(alloc, "daily")?;
     let no_text = Refusal::BadTask(Field::EmptyDescription);
@@ -298,8 +309,14 @@ fn people_are_known_by_their_keys(rt: HostRuntime) -> Result<(), Fail> {
 
 #[test]
 fn refusals_have_numbers(rt: HostRuntime) {
-    assert_eq!(rt; (Refusal::NotAllowed.number(), Refusal::NotAllowed.status()), (4, 403));
-    assert_eq!(rt; (Refusal::LastOwner.number(), Refusal::LastOwner.status()), (14, 409));
+    assert_eq!(rt;
+        (Refusal::NotAllowed.number(), Refusal::NotAllowed.status()),
+        (4, 403)
+    );
+    assert_eq!(rt;
+        (Refusal::LastOwner.number(), Refusal::LastOwner.status()),
+        (14, 409)
+    );
 }
 
 #[test]
@@ -350,7 +367,10 @@ fn tasks_are_completed_and_reopened(rt: HostRuntime) -> Result<(), Fail> {
     let world = acted(alloc, &world, Action::Done)?;
     let task = first_task(&world)?;
     assert_eq!(rt; task.status, Status::Completed);
-    assert_eq!(rt; (task.start, task.end, task.modified), (None, Some(at(9)?), Some(at(9)?)));
+    assert_eq!(rt;
+        (task.start, task.end, task.modified),
+        (None, Some(at(9)?), Some(at(9)?))
+    );
     let again = refusal(alloc, &world, &on_first(Action::Delete)?)?;
     assert_eq!(rt; again, Refusal::WrongStatus);
     let world = acted(alloc, &world, Action::Reopen)?;

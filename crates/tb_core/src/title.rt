@@ -57,7 +57,6 @@ fn has_title_bytes(bytes: &[u8]) -> bool
     bytes.iter().all(|byte| is_byte_of_title(*byte))
 }
 
-
 fn is_byte_of_title(byte: u8) -> bool
     ensures { result ≡ is_title_byte byte }
 {

@@ -1,4 +1,4 @@
-use Rattle.std.proofs.Common.{ap, not, sym, ◌∙◌}
+use Rattle.std.proofs.Common.{ap, not, ◌∙◌}
 use Rattle.tb_core.proofs.Decided.{is_accepted}
 use Rattle.tb_core.proofs.deciding.decide_on_board.Goals as goal
 
