@@ -13,6 +13,8 @@ pub mod laws;
 mod list_keep;
 mod replies;
 mod serve;
+#[cfg(test)]
+mod tests;
 mod view;
 mod viewing;
 
