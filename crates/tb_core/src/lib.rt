@@ -41,6 +41,3 @@ pub use refusal::Refusal;
 pub use title::Title;
 pub use viewing::woken_task;
 pub use world::{Person, Role, RoleOn, World};
-
-#[cfg(test)]
-mod tests;

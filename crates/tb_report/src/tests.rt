@@ -4,8 +4,8 @@ use crate::{listing, shown};
 use std::alloc::{AllocError, Global};
 use std::test::Fail;
 use tb_core::{Board, Title};
-use tb_task::{Moment, Status, Task, TaskId};
-use tb_values::{Shared, Text};
+use tb_task::{Moment, Shown, Status, Task, TaskId};
+use tb_values::{Items, Shared, Text};
 
 fn board(alloc: Global) -> Result<Board, Fail> {
     let title = Title::read(alloc, "board")?.ok_or("a title")?;
@@ -54,6 +54,13 @@ fn older_tasks_first(rt: HostRuntime) -> Result<(), Fail> {
     Ok(())
 }
 
+fn first_status(tasks: &Items<Shown>) -> Option<Status> {
+    match tasks.as_slice().first() {
+        Some(shown) => Some(shown.task.get().status),
+        None => None,
+    }
+}
+
 #[test]
 fn a_wait_that_is_over_shows_as_pending(rt: HostRuntime) -> Result<(), Fail> {
     let alloc = rt.alloc();
@@ -64,7 +71,7 @@ fn a_wait_that_is_over_shows_as_pending(rt: HostRuntime) -> Result<(), Fail> {
     add(alloc, &mut board, waiting)?;
     let before = shown(alloc, &board, at(9)?)?;
     let after = shown(alloc, &board, at(10)?)?;
-    assert!(rt; before.as_slice()[0].task.get().status == Status::Waiting);
-    assert!(rt; after.as_slice()[0].task.get().status == Status::Pending);
+    assert!(rt; first_status(&before) == Some(Status::Waiting));
+    assert!(rt; first_status(&after) == Some(Status::Pending));
     Ok(())
 }
