@@ -1,27 +1,28 @@
 -- A decision is what applying its command gives.
-use Rattle.std.proofs.Common.{◌≡◌, ℕ, List, [], Option, Some, None, Result, Ok, Err, find, refl, sym, ◌∙◌, ap}
-use Rattle.tb_core.specs.declared.board.Board.{Board}
+use Rattle.std.proofs.Common.{◌≡◌, ℕ, true, false, List, [], ◌∷◌, Option, Some, None, Ok, is_none, find, refl, sym, ◌∙◌, ap, subst}
+use Rattle.tb_board.specs.declared.board.Board.{Board}
+use Rattle.tb_board.specs.declared.change.Change.TheVariants as change
 use Rattle.tb_core.specs.declared.command.BoardAnswer.{BoardAnswer}
 use Rattle.tb_core.specs.declared.command.Answer.TheVariants.{OnBoard}
 use Rattle.tb_core.specs.declared.command.Command.{Command}
-use Rattle.tb_core.specs.declared.draft.Draft.{Draft}
+use Rattle.tb_core.specs.declared.command.Command.TheVariants.{SetRole}
+use Rattle.tb_core.specs.declared.deciding.Decision.{Decision}
+use Rattle.tb_board.specs.declared.draft.Draft.{Draft}
 use Rattle.tb_core.specs.declared.look.Seen.{Seen}
 use Rattle.tb_core.specs.declared.look.SeenBoard.{SeenBoard}
-use Rattle.tb_core.specs.declared.refusal.Refusal.{Refusal}
-use Rattle.tb_core.specs.declared.refusal.Refusal.TheVariants.{UnknownCaller, NoBoard}
-use Rattle.tb_core.specs.declared.world.Role.{Role}
-use Rattle.tb_core.specs.declared.world.World.{World}
-use Rattle.tb_core.specs.Apply.{apply, applied, board_for, board_of, decided, outcome, seen_of, seen_with, IsDecision}
-use Rattle.tb_core.specs.Changes.{IsDraft}
-use Rattle.tb_core.specs.World.{has_number, find_board, role_of}
-use Rattle.tb_core.proofs.Worlds.{changed-draft}
-
--- the decision of a refusal
-pub is_refusal : (w : World) (seen : Seen) (name : List ℕ) (c : Command) (m : ℕ) (r : Refusal) → seen ≡ seen_of w name c → decided seen.caller seen.board c m ≡ Err r
-    → IsDecision w (record { changes = []; answer = Err r }) (apply w name c m)
-is_refusal w seen name c m r is refused =
-    let here : decided (seen_of w name c).caller (seen_of w name c).board c m ≡ Err r = ap (λ (s : Seen). decided s.caller s.board c m) (sym is) ∙ refused in
-    rw here (record { answer = refl; world = refl })
+use Rattle.tb_core.specs.declared.look.SeenPerson.{SeenPerson}
+use Rattle.tb_board.specs.declared.world.Role.{Role}
+use Rattle.tb_board.specs.declared.world.World.{World}
+use Rattle.tb_core.specs.Apply.{apply, board_for, board_of, decided, on_board, outcome, role_answer, role_given, role_refusals, with_role, seen_of, seen_with, IsDecision}
+use Rattle.tb_board.specs.Board.{wake}
+use Rattle.tb_board.specs.Changes.{change_board, changed, IsDraft}
+use Rattle.tb_core.specs.Giving.{IsRoleDecision}
+use Rattle.tb_core.specs.Outcomes.{given}
+use Rattle.tb_core.specs.Refusals.{least}
+use Rattle.tb_core.specs.Owners.{leaves_none, person_number}
+use Rattle.tb_board.specs.Roles.{set_role}
+use Rattle.tb_board.specs.World.{has_number, find_board, is_owner, role_of}
+use Rattle.tb_board.proofs.Worlds.{changed-append, changed-draft}
 
 found_with : (role : Option Role) (b : Option Board) (found : SeenBoard) → seen_with role b ≡ Some found → b ≡ Some found.board
 found_with None b found h = absurd (cc)
@@ -39,17 +40,53 @@ stands_there w None n found h = absurd (cc)
 stands_there w (Some caller) None found h = absurd (cc)
 stands_there w (Some caller) (Some n) found h = (n, found_with (role_of w n caller) (find_board w n) found h)
 
-known : (caller : Option ℕ) (found : SeenBoard) (c : Command) (m : ℕ) (w : World) (n : Option ℕ) → board_for w caller n ≡ Some found
-    → decided caller (Some found) c m ≡ outcome found.board c m
-known None found c m w n h = absurd (cc)
-known (Some caller) found c m w n h = refl
+there : (w : World) (seen : Seen) (name : List ℕ) (c : Command) (found : SeenBoard) → seen ≡ seen_of w name c → seen.board ≡ Some found
+    → (number : ℕ) × (find (has_number number) w.boards ≡ Some found.board)
+there w seen name c found is board =
+    stands_there w (seen_of w name c).caller (board_of c) found (ap (λ (s : Seen). s.board) (sym is) ∙ board)
+
+on_known : (caller : Option ℕ) (found : SeenBoard) (c : Command) (m : ℕ) → is_none caller ≡ false → decided caller (Some found) c m ≡ outcome found.board c m
+on_known None found c m h = absurd (cc)
+on_known (Some caller) found c m h = refl
 
 pub is_accepted : (w : World) (seen : Seen) (name : List ℕ) (c : Command) (m : ℕ) (found : SeenBoard) (d : Draft) (a : BoardAnswer)
-    → seen ≡ seen_of w name c → seen.board ≡ Some found → outcome found.board c m ≡ Ok (d.board, a) → IsDraft found.board d
-    → IsDecision w (record { changes = d.changes; answer = Ok (OnBoard a) }) (apply w name c m)
-is_accepted w seen name c m found d a is board gives made =
-    let stands : (seen_of w name c).board ≡ Some found = ap (λ (s : Seen). s.board) (sym is) ∙ board in
-    let there = stands_there w (seen_of w name c).caller (board_of c) found stands in
-    let here : decided (seen_of w name c).caller (seen_of w name c).board c m ≡ Ok (d.board, a)
-    = ap (λ (b : Option SeenBoard). decided (seen_of w name c).caller b c m) stands ∙ known (seen_of w name c).caller found c m w (board_of c) stands ∙ gives in
-    rw here (record { answer = refl; world = changed-draft w there.0 found.board d there.1 made })
+    → seen ≡ seen_of w name c → is_none seen.caller ≡ false → seen.board ≡ Some found → outcome found.board c m ≡ Ok (d.board, a) → IsDraft found.board d
+    → IsDecision w (record { changes = d.changes; answer = Ok (OnBoard a) }) (on_board w seen c m)
+is_accepted w seen name c m found d a is known board gives made =
+    let at = there w seen name c found is board in
+    let here : decided seen.caller seen.board c m ≡ Ok (d.board, a)
+    = ap (λ (b : Option SeenBoard). decided seen.caller b c m) board ∙ on_known seen.caller found c m known ∙ gives in
+    rw here (record { answer = refl; world = changed-draft w at.0 found.board d at.1 made })
+
+role_known : (w : World) (seen : Seen) (caller : Option ℕ) (found : SeenBoard) (role : Option Role) (m : ℕ) → is_none caller ≡ false
+    → role_given w seen caller (Some found) role m
+    ≡ given (least (role_refusals seen found role)) w (with_role w (wake found.board m) (person_number seen.other) role) (role_answer found.board)
+role_known w seen None found role m h = absurd (cc)
+role_known w seen (Some caller) found role m h = refl
+
+-- the role is set on the board that woke
+pub is_role : (w : World) (seen : Seen) (name : List ℕ) (n : ℕ) (other : List ℕ) (role : Option Role) (m : ℕ) (found : SeenBoard) (p : SeenPerson) (d : Decision)
+    → seen ≡ seen_of w name (SetRole n other role) → is_none seen.caller ≡ false → seen.board ≡ Some found → seen.other ≡ Some p
+    → is_owner found.role ≡ true → leaves_none (Some p) role seen.owners ≡ false → IsRoleDecision found.board p.number role m d
+    → IsDecision w d (role_given w seen seen.caller seen.board role m)
+is_role w seen name n other role m found p d is known board person owner stays decides =
+    let at = there w seen name (SetRole n other role) found is board in
+    let draft = decides.draft in
+    let woke = changed-draft w at.0 found.board draft at.1 decides.made in
+    let accepted : least (role_refusals seen found role) ≡ None = rw (owner, person, stays) refl in
+    let here : role_given w seen seen.caller seen.board role m
+    ≡ given (least (role_refusals seen found role)) w (with_role w (wake found.board m) (person_number seen.other) role) (role_answer found.board)
+    = ap (λ (b : Option SeenBoard). role_given w seen seen.caller b role m) board ∙ role_known w seen seen.caller found role m known in
+    let number : person_number seen.other ≡ p.number = ap person_number person in
+    rw (here, accepted, number)
+    (record {
+      answer = decides.answer;
+      world = ap (changed w) decides.changes ∙ changed-append w draft.changes (change.SetRole found.board.number p.number role ∷ [])
+          ∙ ap (λ (v : World). changed v (change.SetRole found.board.number p.number role ∷ [])) woke
+          ∙ ap (λ (b : Board). record w { boards = change_board b.number (λ _. b) w.boards; roles = set_role w.roles found.board.number p.number role }) decides.awake;
+    })
+
+pub role_applies : (w : World) (seen : Seen) (name : List ℕ) (n : ℕ) (other : List ℕ) (role : Option Role) (m : ℕ) (d : Decision)
+    → seen ≡ seen_of w name (SetRole n other role) → IsDecision w d (role_given w seen seen.caller seen.board role m)
+    → IsDecision w d (apply w name (SetRole n other role) m)
+role_applies w seen name n other role m d is decides = subst (λ (s : Seen). IsDecision w d (role_given w s s.caller s.board role m)) is decides

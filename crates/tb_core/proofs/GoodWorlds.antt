@@ -1,13 +1,14 @@
 -- A good board in the place of another one leaves a good world good.
-use Rattle.std.proofs.Common.{◌≡◌, ℕ, suc, ◌≤◌, Bool, true, false, List, [], ◌∷◌, Option, Some, None, length, map, find, refl, sym, ◌∙◌, ap, subst, ◌⊎◌, inl, inr, if◌then◌else◌}
-use Rattle.std.specs.List.{AllByRecursion, list_any, range_with_len}
+use Rattle.std.proofs.Common.{◌≡◌, ℕ, suc, Bool, List, [], ◌∷◌, Some, length, find, refl, sym, ◌∙◌, ap, subst, inl, inr}
+use Rattle.std.specs.List.{AllByRecursion, range_with_len}
 use Rattle.std.proofs.lemmas.Bool.{cases_Bool, eqb-true}
-use Rattle.tb_core.specs.declared.board.Board.{Board}
-use Rattle.tb_core.specs.declared.world.RoleOn.{RoleOn}
-use Rattle.tb_core.specs.declared.world.World.{World}
-use Rattle.tb_core.specs.Changes.{change_board}
-use Rattle.tb_core.specs.Good.{IsGood, IsGoodWorld, HasOwner, IsRoleIn, numbers}
-use Rattle.tb_core.specs.World.{has_number, owns}
+use Rattle.tb_board.specs.declared.board.Board.{Board}
+use Rattle.tb_board.specs.declared.world.RoleOn.{RoleOn}
+use Rattle.tb_board.specs.declared.world.World.{World}
+use Rattle.tb_board.specs.Changes.{change_board}
+use Rattle.tb_board.specs.Good.{IsGood}
+use Rattle.tb_core.specs.GoodWorld.{IsGoodWorld, HasOwner, IsRoleIn, numbers}
+use Rattle.tb_board.specs.World.{has_number}
 
 -- what holds of all holds of the first that is found
 pub all-found : (P : Board → Type 0) (test : Board → Bool) (bs : List Board) (x : Board) → AllByRecursion P bs → find test bs ≡ Some x → P x

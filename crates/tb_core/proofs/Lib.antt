@@ -1,13 +1,7 @@
-pub mod Awake
 pub mod Decided
-pub mod Drafts
-pub mod Fresh
+pub mod GoodPeople
+pub mod GoodRoles
 pub mod GoodWorlds
-pub mod Goodness
-pub mod KnownNumbers
-pub mod Marking
 pub mod Opening
-pub mod Places
 pub mod Sound
 pub mod Stays
-pub mod Worlds

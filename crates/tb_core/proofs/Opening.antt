@@ -1,15 +1,15 @@
 -- The opening world is good.
-use Rattle.std.proofs.Common.{◌≡◌, ℕ, ◌≤◌, ◌==◌, ◌&&◌, nat_eq, Bool, true, false, List, [], ◌∷◌, refl, sym, ◌∙◌, ap, arith, true≢false, ◌⊎◌, inl, inr}
+use Rattle.std.proofs.Common.{◌≡◌, ◌==◌, Bool, true, false, [], ◌∷◌, refl, sym, arith, true≢false, inl, inr}
 use Rattle.std.proofs.lemmas.Cmp.{nat_list_eq_equiv}
 use Rattle.std.specs.Cmp.{IsEquivalence, nat_eq_equiv}
 use Rattle.std.specs.List.{IsDistinct}
 use Rattle.std.proofs.lemmas.Bool.{cases_Bool, eqb-true}
 use Rattle.std.proofs.lemmas.Map.Keys.{IsDistinct-cons}
 use Rattle.std.proofs.lemmas.Map.Made.{IsDistinct-from_count}
-use Rattle.tb_core.specs.declared.world.RoleOn.{RoleOn}
-use Rattle.tb_core.specs.Good.{OpensGood, same_place}
+use Rattle.tb_board.specs.declared.world.RoleOn.{RoleOn}
+use Rattle.tb_core.specs.GoodWorld.{OpensGood, same_place}
 
-none_distinct : {K : Type 0} {eq : K → K → Bool} → IsEquivalence eq → IsDistinct eq []
+pub none_distinct : {K : Type 0} {eq : K → K → Bool} → IsEquivalence eq → IsDistinct eq []
 none_distinct laws = IsDistinct-from_count laws [] refl
 
 one_distinct : {K : Type 0} (eq : K → K → Bool) → IsEquivalence eq → (x : K) → IsDistinct eq (x ∷ [])

@@ -1,36 +1,49 @@
 -- Each command leaves a good world good.
-use Rattle.std.proofs.Common.{◌≡◌, ℕ, ◌<◌, ◌≤◌, Bool, true, false, ◌&&◌, ◌||◌, not, is_some, true≢false, List, [], ◌∷◌, Option, Some, None, Result, Ok, Err, length, find, refl, sym, ◌∙◌, ap, arith, subst, ◌⊎◌, inl, inr, if◌then◌else◌}
+use Rattle.std.proofs.Common.{◌≡◌, ℕ, ◌+◌, ◌==◌, ◌++◌, ◌<◌, ◌≤◌, nat_le, Bool, true, false, ◌&&◌, ◌||◌, not, is_some, true≢false, List, [], ◌∷◌, Option, Some, None, Result, Ok, Err, length, find, refl, sym, ◌∙◌, ap, arith, subst, inl, inr, if◌then◌else◌}
 use Rattle.std.proofs.lemmas.Bool.{cases_Bool, leb-false}
 use Rattle.tb_task.specs.declared.incoming.Incoming.{Incoming}
 use Rattle.tb_task.specs.declared.task.Task.{Task}
 use Rattle.tb_task.specs.declared.checks.Field.{Field}
 use Rattle.tb_task.specs.Check.{fault_of, has_bad_text, has_bad_pair, has_bad_recurrence, is_recurring, is_step}
-use Rattle.tb_core.specs.declared.board.Board.{Board}
+use Rattle.tb_board.specs.declared.board.Board.{Board}
+use Rattle.tb_core.specs.declared.command.Answer.{Answer}
+use Rattle.tb_core.specs.declared.command.Answer.TheVariants as Answers
 use Rattle.tb_core.specs.declared.command.BoardAnswer.{BoardAnswer}
+use Rattle.tb_core.specs.declared.look.Seen.{Seen}
+use Rattle.tb_core.specs.declared.look.SeenBoard.{SeenBoard}
+use Rattle.tb_board.specs.declared.world.Person.{Person}
 use Rattle.tb_core.specs.declared.command.Command.{Command}
-use Rattle.tb_core.specs.declared.command.Command.TheVariants.{Add, OnTask, Sweep}
+use Rattle.tb_core.specs.declared.command.Command.TheVariants.{Add, OnTask, Sweep, SetRole, NewPerson, NewBoard}
 use Rattle.tb_core.specs.declared.command.Told.{Told}
 use Rattle.tb_core.specs.declared.command.Told.TheVariants.{Added, Changed, Swept}
 use Rattle.tb_core.specs.declared.refusal.Refusal.{Refusal}
-use Rattle.tb_core.specs.declared.refusal.Refusal.TheVariants.{NoTask, UuidTaken, Full, WrongStatus}
-use Rattle.tb_core.specs.declared.world.Role.{Role}
-use Rattle.tb_core.specs.declared.world.World.{World}
+use Rattle.tb_core.specs.declared.refusal.Refusal.TheVariants.{NoTask, UuidTaken, Full, WrongStatus, NotAllowed, NoPerson, LastOwner, NameTaken}
+use Rattle.tb_board.specs.declared.world.Role.{Role}
+use Rattle.tb_board.specs.declared.world.World.{World}
 use Rattle.tb_core.specs.declared.action.Action.{Action}
 use Rattle.tb_core.specs.declared.action.Action.TheVariants.{Done, Delete, Reopen, Start, Stop, Annotate, Denotate}
-use Rattle.tb_core.specs.Actions.{acted, action_fault, action_refusals, judged_action, of_task, takes}
-use Rattle.tb_core.specs.Add.{add_fault, add_refusals, entered, entered_id, first_fault, is_full, is_linked, judged_add, lacks_depends}
-use Rattle.tb_core.specs.Apply.{answered, applied, apply, board_for, board_of, decided, judged, outcome, seen_with}
-use Rattle.tb_core.specs.Board.{has_id, is_on, wake, with_task}
-use Rattle.tb_core.specs.First.{change_first}
-use Rattle.tb_core.specs.Good.{has_template_form, IsGood, IsGoodWorld, IsSound, KeepsGood, KeepsPeople}
-use Rattle.tb_core.specs.Numbers.{free_id}
+use Rattle.tb_core.specs.Actions.{acted, action_fault, action_refusals, of_task, takes}
+use Rattle.tb_core.specs.Add.{add_fault, add_refusals, entered, entered_id, first_fault, is_full, is_linked}
+use Rattle.tb_board.specs.Board.{lacks_depends}
+use Rattle.tb_core.specs.Apply.{answered, applied, board_for, decided, outcome, person_for, role_answer, role_given, role_refusals, seen_of, seen_with, with_role}
+use Rattle.tb_board.specs.Board.{has_id, is_on, wake, with_task}
+use Rattle.tb_board.specs.First.{change_first}
+use Rattle.tb_board.specs.Good.{has_template_form, IsGood, IsSound}
+use Rattle.tb_core.specs.GoodWorld.{HasOwner, IsGoodWorld, KeepsGood, KeepsPeople}
+use Rattle.tb_board.specs.Numbers.{free_id}
 use Rattle.tb_core.specs.Refusals.{bad_task, least, unless_refused, where_holds}
-use Rattle.tb_core.specs.World.{find_board, has_number, key_of, number_of, role_of}
-use Rattle.tb_core.proofs.Fresh.{fresh}
+use Rattle.tb_core.specs.Outcomes.{given}
+use Rattle.tb_core.specs.People.{board_refusals, new_board, new_person, person_refusals, with_new_board, with_person}
+use Rattle.tb_core.specs.Owners.{leaves_none, person_number}
+use Rattle.tb_board.specs.World.{find_board, has_name, has_number, is_owner, key_of, number_of, owners, role_of}
+use Rattle.std.specs.Option.{option_map}
+use Rattle.tb_core.proofs.GoodPeople.{good-new_board, good-person, good-role, number_in}
+use Rattle.tb_board.proofs.Fresh.{fresh}
 use Rattle.tb_core.proofs.GoodWorlds.{all-found, good-with_board, with_board}
-use Rattle.tb_core.proofs.Goodness.{good-change, good-push, good-wake, Keeps}
-use Rattle.tb_core.proofs.Sound.{fit_if, sound_acted}
-use Rattle.tb_core.proofs.Worlds.{number_found}
+use Rattle.tb_board.proofs.Goodness.{good-change, good-push, good-wake, Keeps}
+use Rattle.tb_board.proofs.Fits.{fit_if}
+use Rattle.tb_core.proofs.Sound.{sound_acted}
+use Rattle.tb_board.proofs.Worlds.{number_found}
 
 -- where none is the least, none holds
 none_least : (o : Option Refusal) (rs : List (Option Refusal)) → least (o ∷ rs) ≡ None → (o ≡ None) × (least rs ≡ None)
@@ -145,6 +158,9 @@ kept_outcome w x (OnTask n id a) m good found is_good =
     kept w x (least (action_refusals (wake x m) id a)) (record (wake x m) { tasks = change_first (has_id id) (acted m a) (wake x m).tasks }) (Changed id) good found
     (λ none. record { number = refl; good = good-action (wake x m) id a m (good-wake x m is_good) none })
 kept_outcome w x (Sweep n) m good found is_good = kept w x None (wake x m) Swept good found (λ none. record { number = refl; good = good-wake x m is_good })
+kept_outcome w x (SetRole n name role) m good found is_good = kept w x None (wake x m) Swept good found (λ none. record { number = refl; good = good-wake x m is_good })
+kept_outcome w x (NewPerson name key) m good found is_good = kept w x None (wake x m) Swept good found (λ none. record { number = refl; good = good-wake x m is_good })
+kept_outcome w x (NewBoard title) m good found is_good = kept w x None (wake x m) Swept good found (λ none. record { number = refl; good = good-wake x m is_good })
 
 kept_seen : (w : World) (caller n : ℕ) (role : Option Role) (o : Option Board) (c : Command) (m : ℕ) → IsGoodWorld w → find_board w n ≡ o
     → IsGoodWorld (applied w (decided (Some caller) (seen_with role o) c m)).world
@@ -160,12 +176,133 @@ kept_decided w None n c m good = good
 kept_decided w (Some caller) None c m good = good
 kept_decided w (Some caller) (Some n) c m good = kept_seen w caller n (role_of w n caller) (find_board w n) c m good refl
 
+kept_given : (o : Option Refusal) (w v : World) (a : Answer) → IsGoodWorld w → (o ≡ None → IsGoodWorld v) → IsGoodWorld (given o w v a).world
+kept_given None w v a good later = later refl
+kept_given (Some refusal) w v a good later = good
+
+-- the role of a person who is there, on a board that is awake
+good_role_at : (w : World) (x : Board) (n k : ℕ) (role : Option Role) (m : ℕ) → IsGoodWorld w → find (has_number n) w.boards ≡ Some x → x.number ≡ n → 1 ≤ k → k ≤ length w.people
+    → leaves_none (Some (record { number = k; role = role_of w n k })) role (owners w n) ≡ false → IsGoodWorld (with_role w (wake x m) k role)
+good_role_at w x n k role m good is number from to stays =
+    let found : find (has_number x.number) w.boards ≡ Some x = subst (λ i. find (has_number i) w.boards ≡ Some x) (sym number) is in
+    let awake = good-with_board w x (wake x m) good found refl (good-wake x m (all-found IsGood (has_number n) w.boards x good.good is)) in
+    let owner = all-found (HasOwner w) (has_number n) w.boards x good.owned is in
+    let stays' = subst (λ i. leaves_none (Some (record { number = k; role = role_of w i k })) role (owners w i) ≡ false) (sym number) stays in
+    good-role (with_board w (wake x m)) x.number k role awake owner from to stays'
+
+kept_role : (w : World) (seen : Seen) (x : Board) (own : Role) (n : ℕ) (person : Option ℕ) (role : Option Role) (m : ℕ) → IsGoodWorld w → find (has_number n) w.boards ≡ Some x
+    → seen.other ≡ person_for w (Some n) person → seen.owners ≡ owners w n → ((k : ℕ) → person ≡ Some k → (1 ≤ k) × (k ≤ length w.people))
+    → least (role_refusals seen (record { board = x; role = own }) role) ≡ None → IsGoodWorld (with_role w (wake x m) (person_number seen.other) role)
+kept_role w seen x own n None role m good is other owners' within h =
+    let allowed = none_least (where_holds NotAllowed (not (is_owner own))) _ h in
+    let missing = none_least (where_holds NoPerson (not (is_some seen.other))) _ allowed.1 in
+    let none : not (is_some seen.other) ≡ false = none_holds NoPerson (not (is_some seen.other)) missing.0 in
+    let wrong : true ≡ false = rw other at none in
+    absurd (true≢false wrong)
+kept_role w seen x own n (Some k) role m good is other owners' within h =
+    let allowed = none_least (where_holds NotAllowed (not (is_owner own))) _ h in
+    let missing = none_least (where_holds NoPerson (not (is_some seen.other))) _ allowed.1 in
+    let last = none_least (where_holds LastOwner (leaves_none seen.other role seen.owners)) [] missing.1 in
+    let stays : leaves_none seen.other role seen.owners ≡ false = none_holds LastOwner (leaves_none seen.other role seen.owners) last.0 in
+    let bounds = within k refl in
+    let number : person_number seen.other ≡ k = ap person_number other in
+    rw number (good_role_at w x n k role m good is (number_found n w.boards x is) bounds.0 bounds.1 (rw (other, owners') at stays))
+
+kept_role_seen : (w : World) (seen : Seen) (caller n : ℕ) (own : Option Role) (o : Option Board) (person : Option ℕ) (role : Option Role) (m : ℕ) → IsGoodWorld w → find_board w n ≡ o
+    → seen.other ≡ person_for w (Some n) person → seen.owners ≡ owners w n → ((k : ℕ) → person ≡ Some k → (1 ≤ k) × (k ≤ length w.people))
+    → IsGoodWorld (role_given w seen (Some caller) (seen_with own o) role m).world
+kept_role_seen w seen caller n None o person role m good is other owners' within = good
+kept_role_seen w seen caller n (Some own) None person role m good is other owners' within = good
+kept_role_seen w seen caller n (Some own) (Some x) person role m good is other owners' within =
+    kept_given (least (role_refusals seen (record { board = x; role = own }) role)) w (with_role w (wake x m) (person_number seen.other) role) (role_answer x) good
+    (kept_role w seen x own n person role m good is other owners' within)
+
+kept_role_by : (w : World) (seen : Seen) (caller : Option ℕ) (n : ℕ) (person : Option ℕ) (role : Option Role) (m : ℕ) → IsGoodWorld w
+    → seen.other ≡ person_for w (Some n) person → seen.owners ≡ owners w n → ((k : ℕ) → person ≡ Some k → (1 ≤ k) × (k ≤ length w.people))
+    → IsGoodWorld (role_given w seen caller (board_for w caller (Some n)) role m).world
+kept_role_by w seen None n person role m good other owners' within = good
+kept_role_by w seen (Some caller) n person role m good other owners' within =
+    kept_role_seen w seen caller n (role_of w n caller) (find_board w n) person role m good refl other owners' within
+
+nobody : (w : World) (o : Option ℕ) → is_some (person_for w None o) ≡ false → o ≡ None
+nobody w None h = refl
+nobody w (Some k) h = absurd (true≢false h)
+
+kept_person : (w : World) (seen : Seen) (caller : Option ℕ) (p k : List ℕ) → IsGoodWorld w → seen.people ≡ length w.people → seen.other ≡ person_for w None (number_of w p)
+    → IsGoodWorld (new_person w seen caller p k).world
+kept_person w seen None p k good people other = good
+kept_person w seen (Some caller) p k good people other =
+    kept_given (least (person_refusals seen caller)) w (with_person w p k) (Answers.NewPerson p) good
+    (λ h.
+    let allowed = none_least (where_holds NotAllowed (not (caller == 1))) _ h in
+    let full = none_least (where_holds Full (nat_le 10000 seen.people)) _ allowed.1 in
+    let taken = none_least (where_holds NameTaken (is_some seen.other)) [] full.1 in
+    let room : seen.people < 10000 = leb-false 10000 seen.people (none_holds Full (nat_le 10000 seen.people) full.0) in
+    let free : is_some seen.other ≡ false = none_holds NameTaken (is_some seen.other) taken.0 in
+    good-person w p k good (omega (arith, room, people)) (nobody w (number_of w p) (rw other at free)))
+
+kept_board : (w : World) (seen : Seen) (caller : Option ℕ) (title : List ℕ) → IsGoodWorld w → seen.boards ≡ length w.boards
+    → ((k : ℕ) → caller ≡ Some k → (1 ≤ k) × (k ≤ length w.people)) → IsGoodWorld (new_board w seen caller title).world
+kept_board w seen None title good boards within = good
+kept_board w seen (Some caller) title good boards within =
+    kept_given (least (board_refusals seen)) w (with_new_board w (seen.boards + 1) caller title) (Answers.NewBoard (seen.boards + 1)) good
+    (λ h.
+    let full = none_least (where_holds Full (nat_le 10000 seen.boards)) [] h in
+    let room : seen.boards < 10000 = leb-false 10000 seen.boards (none_holds Full (nat_le 10000 seen.boards) full.0) in
+    let bounds = within caller refl in
+    rw boards (good-new_board w caller title good (omega (arith, room, boards)) bounds.0 bounds.1))
+
 pub stays_good : KeepsGood
-stays_good w name c m good = kept_decided w (number_of w name) (board_of c) c m good
+stays_good w name (Add n i) m good = kept_decided w (number_of w name) (Some n) (Add n i) m good
+stays_good w name (OnTask n id a) m good = kept_decided w (number_of w name) (Some n) (OnTask n id a) m good
+stays_good w name (Sweep n) m good = kept_decided w (number_of w name) (Some n) (Sweep n) m good
+stays_good w name (SetRole n other role) m good =
+    kept_role_by w (seen_of w name (SetRole n other role)) (number_of w name) n (number_of w other) role m good refl refl (number_in w other)
+stays_good w name (NewPerson p k) m good = kept_person w (seen_of w name (NewPerson p k)) (number_of w name) p k good refl refl
+stays_good w name (NewBoard title) m good = kept_board w (seen_of w name (NewBoard title)) (number_of w name) title good refl (number_in w name)
 
 same_people : (w : World) (r : Result (Board × BoardAnswer) Refusal) → (applied w r).world.people ≡ w.people
 same_people w (Ok r) = refl
 same_people w (Err refusal) = refl
 
+still_there : (test : Person → Bool) (people : List Person) (p : Person) (key : List ℕ)
+    → option_map (λ (q : Person). q.key) (find test people) ≡ Some key → option_map (λ (q : Person). q.key) (find test (people ++ p ∷ [])) ≡ Some key
+still_there test [] p key h = absurd (cc)
+still_there test (q ∷ qs) p key h =
+    elim (cases_Bool (test q)) [
+      | inl here ↦ let found : Some q.key ≡ Some key = rw here at h in rw here found
+      | inr other ↦ let later : option_map (λ (q : Person). q.key) (find test qs) ≡ Some key = rw other at h in rw other (still_there test qs p key later)
+    ]
+
+known_given : (o : Option Refusal) (w v : World) (a : Answer) (person key : List ℕ) → key_of w person ≡ Some key → key_of v person ≡ Some key → key_of (given o w v a).world person ≡ Some key
+known_given None w v a person key known later = later
+known_given (Some refusal) w v a person key known later = known
+
+known_role : (w : World) (seen : Seen) (caller : Option ℕ) (b : Option SeenBoard) (role : Option Role) (m : ℕ) (person key : List ℕ) → key_of w person ≡ Some key
+    → key_of (role_given w seen caller b role m).world person ≡ Some key
+known_role w seen None b role m person key known = known
+known_role w seen (Some caller) None role m person key known = known
+known_role w seen (Some caller) (Some b) role m person key known =
+    known_given (least (role_refusals seen b role)) w (with_role w (wake b.board m) (person_number seen.other) role) (role_answer b.board) person key known known
+
+known_person : (w : World) (seen : Seen) (caller : Option ℕ) (p k : List ℕ) (person key : List ℕ) → key_of w person ≡ Some key
+    → key_of (new_person w seen caller p k).world person ≡ Some key
+known_person w seen None p k person key known = known
+known_person w seen (Some caller) p k person key known =
+    known_given (least (person_refusals seen caller)) w (with_person w p k) (Answers.NewPerson p) person key known
+    (still_there (has_name person) w.people (record { name = p; key = k }) key known)
+
+known_board : (w : World) (seen : Seen) (caller : Option ℕ) (title : List ℕ) (person key : List ℕ) → key_of w person ≡ Some key
+    → key_of (new_board w seen caller title).world person ≡ Some key
+known_board w seen None title person key known = known
+known_board w seen (Some caller) title person key known =
+    known_given (least (board_refusals seen)) w (with_new_board w (seen.boards + 1) caller title) (Answers.NewBoard (seen.boards + 1)) person key known known
+
 pub stay_known : KeepsPeople
-stay_known w name c m person key known = rw (same_people w (decided (number_of w name) (board_for w (number_of w name) (board_of c)) c m)) known
+stay_known w name (Add n i) m person key known = rw (same_people w (decided (number_of w name) (board_for w (number_of w name) (Some n)) (Add n i) m)) known
+stay_known w name (OnTask n id a) m person key known = rw (same_people w (decided (number_of w name) (board_for w (number_of w name) (Some n)) (OnTask n id a) m)) known
+stay_known w name (Sweep n) m person key known = rw (same_people w (decided (number_of w name) (board_for w (number_of w name) (Some n)) (Sweep n) m)) known
+stay_known w name (SetRole n other role) m person key known =
+    let seen = seen_of w name (SetRole n other role) in known_role w seen seen.caller seen.board role m person key known
+stay_known w name (NewPerson p k) m person key known = let seen = seen_of w name (NewPerson p k) in known_person w seen seen.caller p k person key known
+stay_known w name (NewBoard title) m person key known = let seen = seen_of w name (NewBoard title) in known_board w seen seen.caller title person key known

@@ -4,16 +4,17 @@ use Rattle.tb_task.specs.declared.task.Task.{Task}
 use Rattle.tb_task.specs.declared.checks.Field.{Field}
 use Rattle.tb_core.specs.declared.action.Action.{Action}
 use Rattle.tb_core.specs.declared.action.Action.TheVariants.{Done, Delete, Reopen, Start, Stop, Annotate, Denotate}
-use Rattle.tb_core.specs.declared.board.Board.{Board}
+use Rattle.tb_board.specs.declared.board.Board.{Board}
 use Rattle.tb_core.specs.declared.command.Told.{Told}
 use Rattle.tb_core.specs.declared.command.Told.TheVariants.{Changed}
 use Rattle.tb_core.specs.declared.refusal.Refusal.{Refusal}
 use Rattle.tb_core.specs.declared.refusal.Refusal.TheVariants.{NoTask, WrongStatus, NoLink}
-use Rattle.tb_core.specs.Board.{has_id, is_on}
-use Rattle.tb_core.specs.First.{change_first}
+use Rattle.tb_board.specs.Board.{has_id, is_on}
+use Rattle.tb_board.specs.First.{change_first}
 use Rattle.tb_core.specs.Notes.{annotated, denotated, has_note, note_fault}
 use Rattle.tb_core.specs.Refusals.{bad_task, least, unless_refused, where_holds}
-use Rattle.tb_core.specs.Statuses.{completed, deleted, is_open, is_pending, is_pending_or_waiting, reopened, started, stopped}
+use Rattle.tb_core.specs.Transitions.{completed, deleted, reopened, started, stopped}
+use Rattle.tb_board.specs.Statuses.{is_open, is_pending, is_pending_or_waiting}
 
 -- which tasks an action takes
 abbrev pub takes : Action → Task → Bool

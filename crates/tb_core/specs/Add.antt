@@ -1,23 +1,19 @@
 -- Adding a task to a board.
-use Rattle.std.specs.Prelude.{ℕ, Bool, not, ◌&&◌, ◌||◌, List, [], ◌∷◌, Option, Some, None, is_some, Result, if◌then◌else◌, length, nat_le}
-use Rattle.std.specs.List.{list_any}
+use Rattle.std.specs.Prelude.{ℕ, Bool, ◌&&◌, ◌||◌, List, [], ◌∷◌, Option, Some, None, is_some, Result, if◌then◌else◌, length, nat_le}
 use Rattle.tb_task.specs.declared.task.Task.{Task}
 use Rattle.tb_task.specs.declared.checks.Field.{Field}
 use Rattle.tb_task.specs.declared.checks.Field.TheVariants.{BadPair}
 use Rattle.tb_task.specs.Check.{fault_of}
-use Rattle.tb_core.specs.declared.board.Board.{Board}
+use Rattle.tb_board.specs.declared.board.Board.{Board}
 use Rattle.tb_core.specs.declared.command.Told.{Told}
 use Rattle.tb_core.specs.declared.command.Told.TheVariants.{Added}
 use Rattle.tb_task.specs.declared.incoming.Incoming.{Incoming}
 use Rattle.tb_core.specs.declared.refusal.Refusal.{Refusal}
 use Rattle.tb_core.specs.declared.refusal.Refusal.TheVariants.{NoTask, UuidTaken, Full}
-use Rattle.tb_core.specs.Board.{is_on, with_task}
-use Rattle.tb_core.specs.Numbers.{free_id}
+use Rattle.tb_board.specs.Board.{is_on, with_task}
+use Rattle.tb_board.specs.Numbers.{free_id}
 use Rattle.tb_core.specs.Refusals.{where_holds, bad_task, least, unless_refused}
-
--- one of the tasks on which it depends isn't on the board
-abbrev pub lacks_depends : Board → List ℕ → Bool
-lacks_depends b ids = list_any (λ id. not (is_on b id)) ids
+use Rattle.tb_board.specs.Board.{lacks_depends}
 
 -- it came as an instance or with a mask, or it recurs
 abbrev pub is_linked : Incoming → Bool

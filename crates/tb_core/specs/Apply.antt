@@ -1,12 +1,11 @@
 -- What a command makes of a world.
-use Rattle.std.specs.Prelude.{◌≡◌, ℕ, false, List, Option, Some, None, Result, Ok, Err, length, map}
-use Rattle.std.specs.Option.{option_and_then}
-use Rattle.tb_core.specs.declared.board.Board.{Board}
+use Rattle.std.specs.Prelude.{◌≡◌, ℕ, false, not, List, [], ◌∷◌, Option, Some, None, is_some, Result, Ok, Err, length}
+use Rattle.tb_board.specs.declared.board.Board.{Board}
 use Rattle.tb_core.specs.declared.command.Answer.{Answer}
 use Rattle.tb_core.specs.declared.command.Answer.TheVariants.{OnBoard}
 use Rattle.tb_core.specs.declared.command.BoardAnswer.{BoardAnswer}
 use Rattle.tb_core.specs.declared.command.Command.{Command}
-use Rattle.tb_core.specs.declared.command.Command.TheVariants.{Add, OnTask, Sweep}
+use Rattle.tb_core.specs.declared.command.Command.TheVariants.{Add, OnTask, Sweep, SetRole, NewPerson, NewBoard}
 use Rattle.tb_core.specs.declared.command.Told.{Told}
 use Rattle.tb_core.specs.declared.command.Told.TheVariants.{Swept}
 use Rattle.tb_core.specs.declared.deciding.Decision.{Decision}
@@ -14,26 +13,37 @@ use Rattle.tb_core.specs.declared.look.Seen.{Seen}
 use Rattle.tb_core.specs.declared.look.SeenBoard.{SeenBoard}
 use Rattle.tb_core.specs.declared.look.SeenPerson.{SeenPerson}
 use Rattle.tb_core.specs.declared.refusal.Refusal.{Refusal}
-use Rattle.tb_core.specs.declared.refusal.Refusal.TheVariants.{UnknownCaller, NoBoard}
-use Rattle.tb_core.specs.declared.world.Role.{Role}
-use Rattle.tb_core.specs.declared.world.World.{World}
+use Rattle.tb_core.specs.declared.refusal.Refusal.TheVariants.{UnknownCaller, NoBoard, NotAllowed, NoPerson, LastOwner}
+use Rattle.tb_board.specs.declared.world.Role.{Role}
+use Rattle.tb_board.specs.declared.world.World.{World}
 use Rattle.tb_core.specs.Actions.{judged_action}
 use Rattle.tb_core.specs.Add.{judged_add}
-use Rattle.tb_core.specs.Board.{wake}
-use Rattle.tb_core.specs.Changes.{change_board, changed}
-use Rattle.tb_core.specs.World.{find_board, number_of, owners, role_of}
+use Rattle.tb_board.specs.Board.{wake}
+use Rattle.tb_board.specs.Changes.{change_board, changed}
+use Rattle.tb_core.specs.Outcomes.{Outcome, given}
+use Rattle.tb_core.specs.People.{new_board, new_person}
+use Rattle.tb_core.specs.Refusals.{least, where_holds}
+use Rattle.tb_core.specs.Owners.{leaves_none, person_number}
+use Rattle.tb_board.specs.Roles.{set_role}
+use Rattle.tb_board.specs.World.{find_board, is_owner, number_of, owners, role_of}
 
 -- the board that a command names
 abbrev pub board_of : Command → Option ℕ
 board_of (Add n i) = Some n
 board_of (OnTask n id a) = Some n
 board_of (Sweep n) = Some n
+board_of (SetRole n name role) = Some n
+board_of (NewPerson name key) = None
+board_of (NewBoard title) = None
 
 -- the other person whom a command names
 abbrev pub other_of : Command → Option (List ℕ)
 other_of (Add n i) = None
 other_of (OnTask n id a) = None
 other_of (Sweep n) = None
+other_of (SetRole n name role) = Some name
+other_of (NewPerson name key) = Some name
+other_of (NewBoard title) = None
 
 abbrev pub seen_with : Option Role → Option Board → Option SeenBoard
 seen_with None b = None
@@ -46,13 +56,15 @@ board_for w None n = None
 board_for w (Some caller) None = None
 board_for w (Some caller) (Some n) = seen_with (role_of w n caller) (find_board w n)
 
-abbrev pub role_on : World → Option ℕ → ℕ → Option Role
-role_on w None person = None
-role_on w (Some n) person = role_of w n person
-
 abbrev pub person_for : World → Option ℕ → Option ℕ → Option SeenPerson
 person_for w n None = None
-person_for w n (Some person) = Some (record { number = person; role = role_on w n person })
+person_for w None (Some person) = Some (record { number = person; role = None })
+person_for w (Some n) (Some person) = Some (record { number = person; role = role_of w n person })
+
+-- a person of whom no role is asked
+abbrev pub bare_person : Option ℕ → Option SeenPerson
+bare_person None = None
+bare_person (Some person) = Some (record { number = person; role = None })
 
 abbrev pub number_for : World → Option (List ℕ) → Option ℕ
 number_for w None = None
@@ -73,11 +85,14 @@ seen_of w name c = record {
   boards = length w.boards;
 }
 
--- what a command makes of a board that is awake
+-- what a command makes of a board that is awake; those that aren't on a board's tasks leave it
 abbrev pub judged : Board → Command → ℕ → Result (Board × Told) Refusal
 judged b (Add n i) m = judged_add b i m
 judged b (OnTask n id a) m = judged_action b id a m
 judged b (Sweep n) m = Ok (b, Swept)
+judged b (SetRole n name role) m = Ok (b, Swept)
+judged b (NewPerson name key) m = Ok (b, Swept)
+judged b (NewBoard title) m = Ok (b, Swept)
 
 abbrev pub answered : Result (Board × Told) Refusal → Result (Board × BoardAnswer) Refusal
 answered (Ok r) = Ok (r.0, record { board = r.0.number; added = 0; more = false; told = r.1 })
@@ -93,19 +108,47 @@ decided None b c m = Err UnknownCaller
 decided (Some caller) None c m = Err NoBoard
 decided (Some caller) (Some b) c m = outcome b.board c m
 
--- a world after a command, and the answer
-pub record Outcome : Type 0 where
-  pub world : World
-  pub answer : Result Answer Refusal
-
 -- a refusal changes nothing
 abbrev pub applied : World → Result (Board × BoardAnswer) Refusal → Outcome
 applied w (Ok r) = record { world = record w { boards = change_board r.0.number (λ _. r.0) w.boards }; answer = Ok (OnBoard r.1) }
 applied w (Err refusal) = record { world = w; answer = Err refusal }
 
+abbrev pub on_board : World → Seen → Command → ℕ → Outcome
+on_board w seen c m = applied w (decided seen.caller seen.board c m)
+
+-- an owner gives roles, and a board is left with an owner
+abbrev pub role_refusals : Seen → SeenBoard → Option Role → List (Option Refusal)
+role_refusals seen b role =
+    where_holds NotAllowed (not (is_owner b.role))
+    ∷ where_holds NoPerson (not (is_some seen.other))
+    ∷ where_holds LastOwner (leaves_none seen.other role seen.owners)
+    ∷ []
+
+abbrev pub with_role : World → Board → ℕ → Option Role → World
+with_role w b person role = record w { boards = change_board b.number (λ _. b) w.boards; roles = set_role w.roles b.number person role }
+
+abbrev pub role_answer : Board → Answer
+role_answer b = OnBoard (record { board = b.number; added = 0; more = false; told = Swept })
+
+-- the role is set, on the board that is awake
+abbrev pub role_given : World → Seen → Option ℕ → Option SeenBoard → Option Role → ℕ → Outcome
+role_given w seen None b role m = record { world = w; answer = Err UnknownCaller }
+role_given w seen (Some caller) None role m = record { world = w; answer = Err NoBoard }
+role_given w seen (Some caller) (Some b) role m =
+    given (least (role_refusals seen b role)) w (with_role w (wake b.board m) (person_number seen.other) role) (role_answer b.board)
+
+-- a command at a moment, by what it looks at
+abbrev pub apply_seen : World → Seen → Command → ℕ → Outcome
+apply_seen w seen (Add n i) m = on_board w seen (Add n i) m
+apply_seen w seen (OnTask n id a) m = on_board w seen (OnTask n id a) m
+apply_seen w seen (Sweep n) m = on_board w seen (Sweep n) m
+apply_seen w seen (SetRole n name role) m = role_given w seen seen.caller seen.board role m
+apply_seen w seen (NewPerson name key) m = new_person w seen seen.caller name key
+apply_seen w seen (NewBoard title) m = new_board w seen seen.caller title
+
 -- a person's command at a moment
 abbrev pub apply : World → List ℕ → Command → ℕ → Outcome
-apply w name c m = applied w (decided (seen_of w name c).caller (seen_of w name c).board c m)
+apply w name c m = apply_seen w (seen_of w name c) c m
 
 -- the decision's answer is the outcome's, and its changes make of the world the outcome's
 pub record IsDecision (w : World) (d : Decision) (o : Outcome) : Type 0 where

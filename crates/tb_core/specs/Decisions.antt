@@ -1,6 +1,6 @@
 -- What a decision on a board gives.
 use Rattle.std.specs.Prelude.{◌≡◌, Result, Ok, Err}
-use Rattle.tb_core.specs.declared.board.Board.{Board}
+use Rattle.tb_board.specs.declared.board.Board.{Board}
 use Rattle.tb_core.specs.declared.command.BoardAnswer.{BoardAnswer}
 use Rattle.tb_core.specs.declared.deciding.Accepted.{Accepted}
 use Rattle.tb_core.specs.declared.judged.Stop.{Stop}

@@ -1,7 +1,7 @@
 -- How refusals are chosen, and what a step that can stop gives.
 use Rattle.std.specs.Prelude.{◌≡◌, Bool, if◌then◌else◌, List, [], ◌∷◌, Option, Some, None, Result, Ok, Err}
 use Rattle.tb_task.specs.declared.checks.Field.{Field}
-use Rattle.tb_core.specs.declared.board.Board.{Board}
+use Rattle.tb_board.specs.declared.board.Board.{Board}
 use Rattle.tb_core.specs.declared.command.Told.{Told}
 use Rattle.tb_core.specs.declared.judged.Judged.{Judged}
 use Rattle.tb_core.specs.declared.judged.Stop.{Stop}

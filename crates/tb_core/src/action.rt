@@ -1,19 +1,17 @@
 ghost use Rattle.std.specs.Prelude.{◌≡◌, IfOk};
 ghost use Rattle.tb_core.specs.Actions.{acted, action_fault, judged_action, lacks, takes};
-ghost use Rattle.tb_core.specs.Changes.{Follows};
+ghost use Rattle.tb_board.specs.Changes.{Follows};
 ghost use Rattle.tb_core.specs.Refusals.{Gives};
 
 use crate::command::Told;
-use crate::draft::Draft;
-use crate::first::place_of_task;
 use crate::judged::{Judged, Stop};
 use crate::notes::{annotated_task, denotated_task, fault_in_note, has_note_of};
 use crate::refusal::Refusal;
-use crate::statuses::{
-    completed_task, deleted_task, is_open_status, is_pending_or_waiting_status, is_pending_status,
-    reopened_task, started_task, stopped_task,
-};
+use crate::transitions::{completed_task, deleted_task, reopened_task, started_task, stopped_task};
 use std::alloc::{AllocError, Global};
+use tb_board::{
+    Draft, is_open_status, is_pending_or_waiting_status, is_pending_status, place_of_task,
+};
 use tb_task::{Field, Moment, Task, TaskId};
 use tb_values::Text;
 

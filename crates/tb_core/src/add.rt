@@ -1,16 +1,15 @@
 ghost use Rattle.std.specs.Prelude.{◌≡◌, ◌<◌, ◌||◌, Some, length, is_some, IfOk};
 ghost use Rattle.std.specs.List.{list_any};
-ghost use Rattle.tb_core.specs.Add.{add_fault, entered_id, is_full, is_linked, judged_add, lacks_depends};
-ghost use Rattle.tb_core.specs.Changes.{Follows};
+ghost use Rattle.tb_core.specs.Add.{add_fault, entered_id, is_full, is_linked, judged_add};
+ghost use Rattle.tb_board.specs.Board.{lacks_depends};
+ghost use Rattle.tb_board.specs.Changes.{Follows};
 ghost use Rattle.tb_core.specs.Refusals.{Gives};
 
-use crate::board::Board;
 use crate::command::Told;
-use crate::draft::Draft;
 use crate::judged::{Judged, Stop};
-use crate::numbers::{next_number, taken_numbers};
 use crate::refusal::Refusal;
 use std::alloc::{AllocError, Global};
+use tb_board::{Board, Draft, next_number, taken_numbers};
 use tb_task::{Field, Incoming, Moment, Task, TaskId, check};
 use tb_values::Duplicate;
 

@@ -1,4 +1,5 @@
 use crate::action::Action;
+use tb_board::{Key, Name, Role, Title};
 use tb_task::{Incoming, TaskId};
 
 /// What a person asks for.
@@ -19,12 +20,30 @@ pub enum Command {
     Sweep {
         board: u32,
     },
+    /// Gives a person a role on a board, or takes it.
+    SetRole {
+        board: u32,
+        name: Name,
+        role: Option<Role>,
+    },
+    /// Lets a person in.
+    NewPerson {
+        name: Name,
+        key: Key,
+    },
+    /// Begins a board, which the caller owns.
+    NewBoard {
+        title: Title,
+    },
 }
 
 /// What the reply to an accepted command says.
-#[derive(Clone, Copy, Debug, PartialEq, Eq)]
+#[derive(Debug, Drop)]
 pub enum Answer {
     OnBoard(BoardAnswer),
+    NewPerson { name: Name },
+    /// The number of the new board.
+    NewBoard { board: u32 },
 }
 
 /// What the reply to an accepted command on a board says: how many instances came by themselves, and whether some are still wanted.
@@ -43,5 +62,6 @@ pub enum Told {
     Added { id: TaskId, dropped: u32 },
     /// The identifier of the one task that the command is about.
     Changed { id: TaskId },
+    /// Nothing.
     Swept,
 }

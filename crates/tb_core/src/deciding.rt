@@ -1,22 +1,22 @@
 ghost use Rattle.std.specs.Prelude.{◌≡◌, ℕ, [], List, IfOk, Ok, Err};
-ghost use Rattle.tb_core.specs.Apply.{apply, judged, outcome, seen_of, IsDecision};
-ghost use Rattle.tb_core.specs.Changes.{Follows, IsDraft};
+ghost use Rattle.tb_core.specs.Apply.{apply, judged, on_board, outcome, role_given, seen_of, IsDecision};
+ghost use Rattle.tb_board.specs.Changes.{Follows, IsDraft};
 ghost use Rattle.tb_core.specs.Refusals.{Gives};
 ghost use Rattle.tb_core.specs.Decisions.{GivesOutcome};
 ghost use Rattle.tb_core.specs.declared.command.Answer.TheVariants.{OnBoard};
-ghost use Rattle.tb_core.specs.declared.world.World.{World};
+ghost use Rattle.tb_core.specs.declared.command.Command.TheVariants.{SetRole};
+ghost use Rattle.tb_board.specs.declared.world.World.{World};
 
 use crate::action::act;
 use crate::add::add;
-use crate::board::Board;
-use crate::change::Change;
 use crate::command::{Answer, BoardAnswer, Command, Told};
-use crate::draft::Draft;
+use crate::giving::{is_last_owner, is_owner_role, role_decision};
 use crate::judged::{Judged, Stop};
 use crate::look::Seen;
+use crate::people::{decide_board, decide_person};
 use crate::refusal::Refusal;
-use crate::waking::wake_draft;
 use std::alloc::{AllocError, Global};
+use tb_board::{Board, Change, Draft, Role, wake_draft};
 use tb_task::Moment;
 use tb_values::Items;
 
@@ -55,20 +55,65 @@ pub fn decide(
 ) -> Result<Decision, AllocError>
     ensures { IfOk result (λ d. (w : World) (name : List ℕ) → seen.now ≡ seen_of w name command.now → IsDecision w d (apply w name command.now at)) }
 {
+    match command {
+        Command::NewPerson { name, key } => decide_person(alloc, seen, name, key),
+        Command::NewBoard { title } => decide_board(alloc, seen, title),
+        Command::SetRole { role, .. } => decide_role(alloc, seen, *role, at),
+        Command::Add { .. } | Command::OnTask { .. } | Command::Sweep { .. } => {
+            decide_on_board(alloc, seen, command, at)
+        }
+    }
+}
+
+fn decide_on_board(
+    alloc: Global,
+    seen: &Seen,
+    command: &Command,
+    at: Moment,
+) -> Result<Decision, AllocError>
+    ensures { IfOk result (λ d. (w : World) (name : List ℕ) → seen.now ≡ seen_of w name command.now → IsDecision w d (on_board w seen.now command.now at)) }
+{
     if seen.caller.is_none() {
         return Ok(refused(alloc, Refusal::UnknownCaller));
     }
     let Some(found) = &seen.board else {
         return Ok(refused(alloc, Refusal::NoBoard));
     };
-    match decide_on(alloc, found.board.get(), command, at) {
+    match judge_board(alloc, found.board.get(), command, at) {
         Ok(accepted) => Ok(accepted.into_decision()),
         Err(Stop::Refused(refusal)) => Ok(refused(alloc, refusal)),
         Err(Stop::Memory) => Err(AllocError),
     }
 }
 
-fn refused(alloc: Global, refusal: Refusal) -> Decision
+fn decide_role(
+    alloc: Global,
+    seen: &Seen,
+    role: Option<Role>,
+    at: Moment,
+) -> Result<Decision, AllocError>
+    ensures { IfOk result (λ d. (w : World) (name : List ℕ) (n : ℕ) (other : List ℕ) → seen.now ≡ seen_of w name (SetRole n other role) → IsDecision w d (role_given w seen.now seen.now.caller seen.now.board role at)) }
+{
+    if seen.caller.is_none() {
+        return Ok(refused(alloc, Refusal::UnknownCaller));
+    }
+    let Some(found) = &seen.board else {
+        return Ok(refused(alloc, Refusal::NoBoard));
+    };
+    if !is_owner_role(found.role) {
+        return Ok(refused(alloc, Refusal::NotAllowed));
+    }
+    let Some(other) = seen.other else {
+        return Ok(refused(alloc, Refusal::NoPerson));
+    };
+    if is_last_owner(other, role, seen.owners) {
+        return Ok(refused(alloc, Refusal::LastOwner));
+    }
+    role_decision(alloc, found.board.get(), other.number, role, at)
+}
+
+/// A refusal has no changes.
+pub fn refused(alloc: Global, refusal: Refusal) -> Decision
     ensures { result ≡ record { changes = []; answer = Err refusal } }
 {
     Decision {
@@ -78,7 +123,12 @@ fn refused(alloc: Global, refusal: Refusal) -> Decision
 }
 
 /// What a command makes of a board at a moment.
-fn decide_on(alloc: Global, board: &Board, command: &Command, at: Moment) -> Result<Accepted, Stop>
+fn judge_board(
+    alloc: Global,
+    board: &Board,
+    command: &Command,
+    at: Moment,
+) -> Result<Accepted, Stop>
     ensures gives { GivesOutcome result (outcome board.now command.now at) }
     ensures made { IfOk result (λ accepted. IsDraft board.now accepted.draft) }
 {
@@ -102,7 +152,10 @@ fn judge(alloc: Global, draft: Draft, command: &Command, at: Moment) -> Result<J
     match command {
         Command::Add { incoming, .. } => add(alloc, draft, incoming, at),
         Command::OnTask { id, action, .. } => act(alloc, draft, *id, action, at),
-        Command::Sweep { .. } => Ok(Judged {
+        Command::Sweep { .. }
+        | Command::SetRole { .. }
+        | Command::NewPerson { .. }
+        | Command::NewBoard { .. } => Ok(Judged {
             draft,
             told: Told::Swept,
         }),

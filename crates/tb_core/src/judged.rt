@@ -1,7 +1,7 @@
 use crate::command::Told;
-use crate::draft::Draft;
 use crate::refusal::Refusal;
 use std::alloc::AllocError;
+use tb_board::Draft;
 
 /// What an accepted command made of a board that is awake.
 #[derive(Drop)]

@@ -1,6 +1,6 @@
 //! Laws over the definitions of commands.
 
-ghost use Rattle.tb_core.specs.Good.{KeepsGood, KeepsPeople, OpensGood};
+ghost use Rattle.tb_core.specs.GoodWorld.{KeepsGood, KeepsPeople, OpensGood};
 
 /// Each command leaves a good world good.
 pub fn keeps_good()

@@ -1,12 +1,10 @@
 ghost use Rattle.std.specs.Prelude.{◌≡◌, Some, None, length, IfOk};
-ghost use Rattle.tb_core.specs.Apply.{board_for, seen_of};
-ghost use Rattle.tb_core.specs.World.{number_of, owners};
+ghost use Rattle.tb_core.specs.Apply.{bare_person, board_for, person_for, seen_of};
+ghost use Rattle.tb_board.specs.World.{number_of, owners};
 
-use crate::board::Board;
 use crate::command::Command;
-use crate::name::Name;
-use crate::world::{Role, World};
 use std::alloc::AllocError;
+use tb_board::{Board, Name, Role, World};
 use tb_values::Shared;
 
 /// The part of a world that a command looks at.
@@ -38,44 +36,103 @@ pub struct SeenPerson {
     pub role: Option<Role>,
 }
 
-impl World {
-    /// What the command of a person looks at.
-    pub fn look(&self, name: &Name, command: &Command) -> Result<Seen, AllocError>
-        ensures { IfOk result (λ seen. seen ≡ seen_of self.now name.now command.now) }
-    {
-        match command {
-            Command::Add { board, .. } | Command::OnTask { board, .. } | Command::Sweep { board } =>
-                self.look_at_board(name, *board),
-        }
+/// What the command of a person looks at.
+pub fn look_for(world: &World, name: &Name, command: &Command) -> Result<Seen, AllocError>
+    ensures { IfOk result (λ seen. seen ≡ seen_of world.now name.now command.now) }
+{
+    match command {
+        Command::Add { board, .. } | Command::OnTask { board, .. } | Command::Sweep { board } =>
+            look_at_board(world, name, *board),
+        Command::SetRole {
+            board,
+            name: other,
+            ..
+        } => look_at_person(world, name, *board, other),
+        Command::NewPerson { name: other, .. } => Ok(look_at_people(world, name, other)),
+        Command::NewBoard { .. } => Ok(look_at_counts(world, name)),
     }
+}
 
-    fn look_at_board(&self, name: &Name, board: u32) -> Result<Seen, AllocError>
-        ensures { IfOk result (λ seen. seen ≡ record { caller = number_of self.now name.now; board = board_for self.now (number_of self.now name.now) (Some board); other = None; owners = owners self.now board; people = length self.now.people; boards = length self.now.boards }) }
-    {
-        let caller = self.number_of(name);
-        let found = self.board_for(caller, board)?;
-        Ok(Seen {
-            caller,
-            board: found,
-            other: None,
-            owners: self.owners(board),
-            people: self.people.len(),
-            boards: self.boards.len(),
-        })
+fn look_at_board(world: &World, name: &Name, board: u32) -> Result<Seen, AllocError>
+    ensures { IfOk result (λ seen. seen ≡ record { caller = number_of world.now name.now; board = board_for world.now (number_of world.now name.now) (Some board); other = None; owners = owners world.now board; people = length world.now.people; boards = length world.now.boards }) }
+{
+    let caller = world.number_of(name);
+    let found = board_for(world, caller, board)?;
+    Ok(Seen {
+        caller,
+        board: found,
+        other: None,
+        owners: world.owners(board),
+        people: world.people.len(),
+        boards: world.boards.len(),
+    })
+}
+
+fn look_at_person(world: &World, name: &Name, board: u32, other: &Name) -> Result<Seen, AllocError>
+    ensures { IfOk result (λ seen. seen ≡ record { caller = number_of world.now name.now; board = board_for world.now (number_of world.now name.now) (Some board); other = person_for world.now (Some board) (number_of world.now other.now); owners = owners world.now board; people = length world.now.people; boards = length world.now.boards }) }
+{
+    let mut seen = look_at_board(world, name, board)?;
+    seen.other = person_on(world, board, world.number_of(other));
+    Ok(seen)
+}
+
+fn look_at_people(world: &World, name: &Name, other: &Name) -> Seen
+    ensures { result ≡ record { caller = number_of world.now name.now; board = None; other = person_for world.now None (number_of world.now other.now); owners = 0; people = length world.now.people; boards = length world.now.boards } }
+{
+    let mut seen = look_at_counts(world, name);
+    seen.other = person_off(world.number_of(other));
+    seen
+}
+
+fn look_at_counts(world: &World, name: &Name) -> Seen
+    ensures { result ≡ record { caller = number_of world.now name.now; board = None; other = None; owners = 0; people = length world.now.people; boards = length world.now.boards } }
+{
+    Seen {
+        caller: world.number_of(name),
+        board: None,
+        other: None,
+        owners: 0,
+        people: world.people.len(),
+        boards: world.boards.len(),
     }
+}
 
-    fn board_for(&self, caller: Option<usize>, board: u32) -> Result<Option<SeenBoard>, AllocError>
-        ensures { IfOk result (λ seen. seen ≡ board_for self.now caller (Some board)) }
-    {
-        let Some(caller) = caller else {
-            return Ok(None);
-        };
-        let Some(role) = self.role_of(board, caller) else {
-            return Ok(None);
-        };
-        match self.board(board)? {
-            Some(board) => Ok(Some(SeenBoard { board, role })),
-            None => Ok(None),
-        }
+fn person_on(world: &World, board: u32, person: Option<usize>) -> Option<SeenPerson>
+    ensures { result ≡ person_for world.now (Some board) person }
+{
+    match person {
+        Some(number) => Some(SeenPerson {
+            number,
+            role: world.role_of(board, number),
+        }),
+        None => None,
+    }
+}
+
+fn board_for(
+    world: &World,
+    caller: Option<usize>,
+    board: u32,
+) -> Result<Option<SeenBoard>, AllocError>
+    ensures { IfOk result (λ seen. seen ≡ board_for world.now caller (Some board)) }
+{
+    let Some(caller) = caller else {
+        return Ok(None);
+    };
+    let Some(role) = world.role_of(board, caller) else {
+        return Ok(None);
+    };
+    match world.board(board)? {
+        Some(board) => Ok(Some(SeenBoard { board, role })),
+        None => Ok(None),
+    }
+}
+
+fn person_off(person: Option<usize>) -> Option<SeenPerson>
+    ensures { result ≡ bare_person person }
+{
+    match person {
+        Some(number) => Some(SeenPerson { number, role: None }),
+        None => None,
     }
 }

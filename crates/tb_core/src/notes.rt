@@ -1,6 +1,6 @@
 ghost use Rattle.std.specs.Prelude.{◌≡◌, IfOk, MatchOption, position};
 ghost use Rattle.std.specs.Set.{remove_key};
-ghost use Rattle.tb_core.specs.First.{IsFirst, IsNone};
+ghost use Rattle.tb_board.specs.First.{IsFirst, IsNone};
 ghost use Rattle.tb_core.specs.Notes.{annotated, denotated, has_note, note_fault, says};
 
 use std::alloc::AllocError;

@@ -2,13 +2,13 @@
 use Rattle.std.proofs.Common.{◌≡◌, ℕ, Bool, true, false, List, Option, Some, None, refl, sym, ap, ◌∙◌, subst, rules}
 use Rattle.std.specs.Prelude.{IsSome}
 use Rattle.std.specs.FinMap.{insert}
-use Rattle.tb_core.specs.declared.change.Change.{Change}
+use Rattle.tb_board.specs.declared.change.Change.{Change}
 use Rattle.tb_core.specs.declared.deciding.Decision.{Decision}
-use Rattle.tb_core.specs.declared.world.World.{World}
+use Rattle.tb_board.specs.declared.world.World.{World}
 use Rattle.tb_core.specs.Apply.{IsDecision, apply}
-use Rattle.tb_core.specs.Changes.{changed}
-use Rattle.tb_core.specs.Good.{IsGoodWorld}
-use Rattle.tb_core.specs.World.{key_of}
+use Rattle.tb_board.specs.Changes.{changed}
+use Rattle.tb_core.specs.GoodWorld.{IsGoodWorld}
+use Rattle.tb_board.specs.World.{key_of}
 use Rattle.tb_core.proofs.Stays.{stays_good}
 use Rattle.tb_desk.specs.declared.call.Call.{Call}
 use Rattle.tb_desk.specs.declared.call.Reply.{Reply}

@@ -1,10 +1,10 @@
 -- What the lists stand for after a commit.
 use Rattle.std.proofs.Common.{◌≡◌, ◌⊎◌, ℕ, List, [], ◌∷◌, ◌++◌, map, None, refl, sym, ap, ◌∙◌, inl, inr}
 use Rattle.std.specs.FinMap.{get, insert, from_entries, get-from_entries, from_entries_push}
-use Rattle.tb_core.specs.declared.change.Change.{Change}
-use Rattle.tb_core.specs.declared.world.World.{World}
-use Rattle.tb_core.specs.Changes.{changed}
-use Rattle.tb_core.specs.World.{opening as opening_world}
+use Rattle.tb_board.specs.declared.change.Change.{Change}
+use Rattle.tb_board.specs.declared.world.World.{World}
+use Rattle.tb_board.specs.Changes.{changed}
+use Rattle.tb_board.specs.World.{opening as opening_world}
 use Rattle.tb_core.proofs.Opening.{opens}
 use Rattle.tb_desk.specs.declared.call.Call.{Call}
 use Rattle.tb_desk.specs.declared.call.KeptReply.{KeptReply}

@@ -10,10 +10,10 @@ use Rattle.serde_json.specs.Written.{compact_text}
 use Rattle.tb_core.specs.declared.command.Answer.{Answer}
 use Rattle.tb_core.specs.declared.refusal.Refusal.{Refusal}
 use Rattle.tb_core.specs.declared.refusal.Refusal.TheVariants.{UnknownCaller, IdReused}
-use Rattle.tb_core.specs.declared.world.World.{World}
+use Rattle.tb_board.specs.declared.world.World.{World}
 use Rattle.tb_core.specs.Apply.{Outcome, apply}
 use Rattle.tb_core.specs.Refusal.{number_of, status_of}
-use Rattle.tb_core.specs.World.{key_of}
+use Rattle.tb_board.specs.World.{key_of}
 use Rattle.tb_desk.specs.declared.call.Call.{Call}
 use Rattle.tb_desk.specs.declared.call.KeptReply.{KeptReply}
 use Rattle.tb_desk.specs.declared.call.Reply.{Reply}

@@ -1,10 +1,10 @@
 -- What a keeper's calls leave, and what a stop leaves.
 use Rattle.std.specs.Prelude.{◌≡◌, ◌⊎◌, ℕ, ◌+◌, ◌≤◌, Bool, true, false, List, [], ◌∷◌, take, None, Result, Ok, Err, IsSome}
 use Rattle.std.specs.FinMap.{insert}
-use Rattle.tb_core.specs.declared.change.Change.{Change}
-use Rattle.tb_core.specs.Changes.{changed}
-use Rattle.tb_core.specs.Good.{IsGoodWorld}
-use Rattle.tb_core.specs.World.{key_of}
+use Rattle.tb_board.specs.declared.change.Change.{Change}
+use Rattle.tb_board.specs.Changes.{changed}
+use Rattle.tb_core.specs.GoodWorld.{IsGoodWorld}
+use Rattle.tb_board.specs.World.{key_of}
 use Rattle.tb_desk.specs.declared.call.Call.{Call}
 use Rattle.tb_desk.specs.declared.call.Reply.{Reply}
 use Rattle.tb_desk.specs.declared.fault.KeepFault.{KeepFault}

@@ -2,8 +2,8 @@
 use Rattle.std.specs.Prelude.{◌≡◌, List, map}
 use Rattle.std.specs.FinMap.{from_entries}
 use Rattle.std.proofs.Common.{◌∙◌, sym}
-use Rattle.tb_core.specs.declared.world.World.{World}
-use Rattle.tb_core.specs.Good.{IsGoodWorld}
+use Rattle.tb_board.specs.declared.world.World.{World}
+use Rattle.tb_core.specs.GoodWorld.{IsGoodWorld}
 use Rattle.tb_desk.specs.declared.call.KeptReply.{KeptReply}
 use Rattle.tb_desk.specs.declared.list_keep.Entry.{Entry}
 use Rattle.tb_desk.specs.Calls.{CallName, State}

@@ -1,7 +1,7 @@
 -- What a new keeper holds.
 use Rattle.std.specs.Prelude.{ℕ, List}
 use Rattle.std.specs.FinMap.{empty}
-use Rattle.tb_core.specs.World.{opening as opening_world}
+use Rattle.tb_board.specs.World.{opening as opening_world}
 use Rattle.tb_desk.specs.Calls.{State}
 
 -- one person, who owns the one board, and no kept reply

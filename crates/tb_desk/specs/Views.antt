@@ -3,13 +3,13 @@ use Rattle.std.specs.Prelude.{ℕ, List, Option, Some, None, Result, Ok, Err, fi
 use Rattle.tb_task.specs.declared.task.Task.{Task}
 use Rattle.tb_json.specs.ListText.{list_text}
 use Rattle.tb_json.specs.Writing.{shown_text}
-use Rattle.tb_core.specs.declared.board.Board.{Board}
+use Rattle.tb_board.specs.declared.board.Board.{Board}
 use Rattle.tb_core.specs.declared.look.SeenBoard.{SeenBoard}
 use Rattle.tb_core.specs.declared.refusal.Refusal.{Refusal}
 use Rattle.tb_core.specs.declared.refusal.Refusal.TheVariants.{NoBoard, NoTask}
 use Rattle.tb_core.specs.Apply.{board_for}
-use Rattle.tb_core.specs.Board.{has_id}
-use Rattle.tb_core.specs.World.{key_of, number_of}
+use Rattle.tb_board.specs.Board.{has_id}
+use Rattle.tb_board.specs.World.{key_of, number_of}
 use Rattle.tb_report.specs.Listing.{listing}
 use Rattle.tb_report.specs.Shown.{shown, shown_task}
 use Rattle.tb_desk.specs.declared.call.Reply.{Reply}

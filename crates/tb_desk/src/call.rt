@@ -1,5 +1,6 @@
 use std::alloc::AllocError;
-use tb_core::{Command, Key, Name};
+use tb_board::{Key, Name};
+use tb_core::Command;
 use tb_task::{Moment, TaskId};
 use tb_values::{Duplicate, Items, Text};
 

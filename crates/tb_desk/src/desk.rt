@@ -12,7 +12,7 @@ use crate::view::View;
 use crate::viewing::show;
 use std::alloc::Global;
 use std::marker::Model;
-use tb_core::{Key, Name};
+use tb_board::{Key, Name};
 use tb_task::Moment;
 use tb_values::Items;
 

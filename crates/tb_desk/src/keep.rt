@@ -1,8 +1,8 @@
 ghost use Rattle.std.specs.Prelude.{◌≡◌, Bool, true, false, if◌then◌else◌, IfOk, OnOk, IsErrOf, IsSome};
 ghost use Rattle.std.specs.FinMap.{get};
 ghost use Rattle.tb_core.specs.Apply.{seen_of};
-ghost use Rattle.tb_core.specs.Good.{IsGoodWorld};
-ghost use Rattle.tb_core.specs.World.{key_of};
+ghost use Rattle.tb_core.specs.GoodWorld.{IsGoodWorld};
+ghost use Rattle.tb_board.specs.World.{key_of};
 ghost use Rattle.tb_desk.specs.declared.fault.KeepFault.TheVariants.{Memory, Store};
 ghost use Rattle.tb_desk.specs.Calls.{State};
 ghost use Rattle.tb_desk.specs.Keeping.{HoldsEither, IsStill, MayCommit, Only, is_store, with_reply};
@@ -10,7 +10,8 @@ ghost use Rattle.tb_desk.specs.Keeping.{HoldsEither, IsStill, MayCommit, Only, i
 use crate::call::{Call, KeptReply, Reply};
 use crate::fault::KeepFault;
 use std::alloc::Global;
-use tb_core::{Change, Command, Key, Name, Seen};
+use tb_board::{Change, Key, Name};
+use tb_core::{Command, Seen};
 use tb_task::TaskId;
 
 /// Keeps people, boards and roles, and the replies given. A keeper is sound where it holds a state, and its content is the state that

@@ -1,6 +1,6 @@
 //! What holds of every run, whoever keeps it.
 ghost use Rattle.std.specs.Prelude.{List};
-ghost use Rattle.tb_core.specs.Good.{IsGoodWorld};
+ghost use Rattle.tb_core.specs.GoodWorld.{IsGoodWorld};
 ghost use Rattle.tb_desk.specs.declared.call.Call.{Call};
 ghost use Rattle.tb_desk.specs.Calls.{State, once, plain};
 ghost use Rattle.tb_desk.specs.Sessions.{SessionsJoin, SessionsResume, ToldIsKept};

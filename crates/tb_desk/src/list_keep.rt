@@ -1,7 +1,7 @@
 ghost use Rattle.std.specs.Prelude.{◌≡◌, ◌&&◌, IfOk, map};
 ghost use Rattle.std.specs.FinMap.{find};
 ghost use Rattle.std.specs.Ordering.{eq_by_cmp};
-ghost use Rattle.tb_core.specs.World.{key_of};
+ghost use Rattle.tb_board.specs.World.{key_of};
 ghost use Rattle.tb_desk.specs.Calls.{name_cmp};
 ghost use Rattle.tb_desk.specs.Listed.{named};
 ghost use Rattle.tb_desk.specs.Opening.{opening};
@@ -10,7 +10,8 @@ use crate::call::{Call, KeptReply, Reply};
 use crate::fault::KeepFault;
 use crate::keep::Keep;
 use std::alloc::{AllocError, Global};
-use tb_core::{Change, Command, Key, Name, Seen, World};
+use tb_board::{Change, Key, Name, World};
+use tb_core::{Command, Seen, look_for};
 use tb_task::TaskId;
 use tb_values::Duplicate;
 
@@ -83,7 +84,7 @@ impl Keep for ListKeep {
     }
 
     fn look(&mut self, _alloc: Global, name: &Name, command: &Command) -> Result<Seen, KeepFault> {
-        Ok(self.world.look(name, command)?)
+        Ok(look_for(&self.world, name, command)?)
     }
 
     fn commit(

@@ -1,6 +1,6 @@
 //! How a view is answered, over any keeper.
 ghost use Rattle.std.specs.Prelude.{◌≡◌, Err, IfOk, IsErrOf, Ok, find, option_map, true};
-ghost use Rattle.tb_core.specs.Board.{has_id};
+ghost use Rattle.tb_board.specs.Board.{has_id};
 ghost use Rattle.tb_json.specs.Writing.{shown_text};
 ghost use Rattle.tb_report.specs.Shown.{shown_task as shown_task_of};
 ghost use Rattle.tb_desk.specs.declared.fault.KeepFault.TheVariants.{Store};
@@ -14,7 +14,8 @@ use crate::keep::Keep;
 use crate::replies::refused;
 use crate::view::View;
 use std::alloc::{AllocError, Global};
-use tb_core::{Board, Command, Key, Name, Refusal, SeenBoard};
+use tb_board::{Board, Key, Name};
+use tb_core::{Command, Refusal, SeenBoard};
 use tb_json::{write_task, write_tasks};
 use tb_report::{listing, shown, shown_task};
 use tb_task::{Moment, Task, TaskId};

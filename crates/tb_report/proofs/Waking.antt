@@ -6,7 +6,7 @@ use Rattle.std.proofs.lemmas.List.{length-map}
 use Rattle.tb_task.specs.declared.task.Task.{Task}
 use Rattle.tb_task.specs.declared.status.Status.{Status}
 use Rattle.tb_task.specs.declared.status.Status.TheVariants.{Pending, Waiting, Recurring, Completed, Deleted}
-use Rattle.tb_core.specs.Board.{woken, wakes, status_at, is_waiting, has_come}
+use Rattle.tb_board.specs.Board.{woken, wakes, status_at, is_waiting, has_come}
 use Rattle.tb_report.specs.Ranking.{Rank, rank_order, ordered}
 use Rattle.tb_report.specs.Listing.{is_listed, rank, rank_if_listed, ranks_from, line, lines, last_line, listed, tasks_listed, header}
 

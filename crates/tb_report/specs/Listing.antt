@@ -3,8 +3,8 @@ use Rattle.std.specs.Prelude.{ℕ, ℤ, pos, Bool, true, false, List, [], ◌∷
 use Rattle.tb_task.specs.declared.task.Task.{Task}
 use Rattle.tb_task.specs.declared.status.Status.{Status}
 use Rattle.tb_task.specs.declared.status.Status.TheVariants.{Pending, Waiting, Recurring, Completed, Deleted}
-use Rattle.tb_core.specs.declared.board.Board.{Board}
-use Rattle.tb_core.specs.Board.{wake}
+use Rattle.tb_board.specs.declared.board.Board.{Board}
+use Rattle.tb_board.specs.Board.{wake}
 use Rattle.tb_report.specs.Ranking.{Rank, rank_order, ordered}
 use Rattle.tb_report.specs.Row.{unit, row_text, shown_text}
 

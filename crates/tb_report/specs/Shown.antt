@@ -2,8 +2,8 @@
 use Rattle.std.specs.Prelude.{ℕ, List, map, Option, None}
 use Rattle.tb_task.specs.declared.task.Task.{Task}
 use Rattle.tb_task.specs.declared.incoming.Shown.{Shown}
-use Rattle.tb_core.specs.declared.board.Board.{Board}
-use Rattle.tb_core.specs.Board.{woken}
+use Rattle.tb_board.specs.declared.board.Board.{Board}
+use Rattle.tb_board.specs.Board.{woken}
 
 -- a task of the woken board; boards have no templates yet, so there is no mask
 abbrev pub shown_task : ℕ → Task → Shown

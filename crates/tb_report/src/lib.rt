@@ -1,6 +1,6 @@
 //! What a board shows at a moment: its tasks, and their listing.
 //!
-//! It owns the order of the listing and the form of its lines. It stands on `tb_core` for boards, on `tb_task` and on `tb_values`.
+//! It owns the order of the listing and the form of its lines. It stands on `tb_board` for boards, on `tb_task` and on `tb_values`.
 #![tactic(auto)]
 
 mod lists;

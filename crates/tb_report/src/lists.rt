@@ -1,5 +1,5 @@
 ghost use Rattle.std.specs.Prelude.{◌≡◌, ◌++◌, IfOk, OnOk, Some, length, map, slice_get, option_map, string_bytes};
-ghost use Rattle.tb_core.specs.Board.{woken};
+ghost use Rattle.tb_board.specs.Board.{woken};
 ghost use Rattle.tb_report.specs.Listing.{is_listed as is_listed_status, listing as listing_of, header, lines, line, last_line, rank, rank_if_listed, ranks_from, urgency};
 ghost use Rattle.tb_report.specs.Ranking.{Rank as RankValue};
 
@@ -8,7 +8,7 @@ use crate::row::{Row, URGENCY_UNIT, push_row, without_controls};
 use std::alloc::{AllocError, Global};
 use std::cmp::Reverse;
 use std::fmt::Write;
-use tb_core::Board;
+use tb_board::Board;
 use tb_task::{Moment, Status, Task};
 use tb_values::{Shared, Text};
 

@@ -2,7 +2,7 @@ ghost use Rattle.std.specs.Prelude.{◌≡◌, IfOk, map};
 ghost use Rattle.tb_report.specs.Shown.{shown as shown_of, shown_task as shown_task_of};
 
 use std::alloc::{AllocError, Global};
-use tb_core::{Board, woken_task};
+use tb_board::{Board, woken_task};
 use tb_task::{Moment, Shown, Task};
 use tb_values::{Items, Shared};
 

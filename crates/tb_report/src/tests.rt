@@ -3,7 +3,7 @@
 use crate::{listing, shown};
 use std::alloc::{AllocError, Global};
 use std::test::Fail;
-use tb_core::{Board, Title};
+use tb_board::{Board, Title};
 use tb_task::{Moment, Shown, Status, Task, TaskId};
 use tb_values::{Items, Shared, Text};
 

@@ -3,9 +3,9 @@ use Rattle.std.proofs.Common.{◌≡◌, ℕ, suc, ◌+◌, ◌<◌, Bool, true,
 use Rattle.std.specs.List.{position_from}
 use Rattle.std.proofs.lemmas.Bool.{cases_Bool}
 use Rattle.std.proofs.lemmas.Iterator.Adapters.{position_from-zero}
-use Rattle.tb_core.specs.declared.board.Board.{Board}
-use Rattle.tb_core.specs.World.{has_number}
-use Rattle.tb_core.specs.Changes.{change_board}
+use Rattle.tb_board.specs.declared.board.Board.{Board}
+use Rattle.tb_board.specs.World.{has_number}
+use Rattle.tb_board.specs.Changes.{change_board}
 use Rattle.tb_script.specs.Boards.{LacksBoard, IsBoardAt}
 
 board_here : (n : ℕ) (b : Board) (bs : List Board) → has_number n b ≡ true → IsBoardAt n (b ∷ bs) 0

@@ -5,7 +5,7 @@ use Rattle.std.proofs.lemmas.Bool.{le-leb, lt-leb, and_from, and_left, and_right
 use Rattle.std.proofs.lemmas.Str.{IsUtf8-from_is_utf8, is_utf8-from_IsUtf8}
 use Rattle.tb_script.specs.Answer.{is_readable, answer, answered, request_of}
 use Rattle.tb_script.specs.declared.line_fault.Unreadable.TheVariants.{BadLine}
-use Rattle.tb_core.specs.declared.world.World.{World}
+use Rattle.tb_board.specs.declared.world.World.{World}
 use Rattle.tb_script.proofs.LineLaws.{AnswersTooLong}
 
 pub readable_text : (line : List ℕ) → IsUtf8 line → length line ≤ 1048576 → is_readable line ≡ true

@@ -2,11 +2,11 @@
 use Rattle.std.specs.Prelude.{ℕ, Bool, List, [], ◌&&◌, ◌==◌, Result, Ok, Err, if◌then◌else◌, length, codes, nat_le}
 use Rattle.std.specs.Str.{is_utf8}
 use Rattle.tb_core.specs.Apply.{apply, Outcome}
-use Rattle.tb_core.specs.World.{opening, is_known}
+use Rattle.tb_board.specs.World.{opening, is_known}
 use Rattle.tb_core.specs.declared.command.Command.{Command}
 use Rattle.tb_core.specs.declared.refusal.Refusal.{Refusal}
 use Rattle.tb_core.specs.declared.refusal.Refusal.TheVariants.{UnknownCaller}
-use Rattle.tb_core.specs.declared.world.World.{World}
+use Rattle.tb_board.specs.declared.world.World.{World}
 use Rattle.tb_script.specs.declared.asked.Asked.{Asked}
 use Rattle.tb_script.specs.declared.asked.Request.{Request}
 use Rattle.tb_script.specs.declared.asked.Request.TheVariants.{Call, View as ViewOf}

@@ -1,7 +1,7 @@
 -- Where a board stands among others.
 use Rattle.std.specs.Prelude.{◌≡◌, ℕ, ◌<◌, List, length, slice_index_or, insert, remove}
-use Rattle.tb_core.specs.declared.board.Board.{Board}
-use Rattle.tb_core.specs.Changes.{change_board}
+use Rattle.tb_board.specs.declared.board.Board.{Board}
+use Rattle.tb_board.specs.Changes.{change_board}
 
 -- no board has this number
 abbrev pub LacksBoard : ℕ → List Board → Type 0

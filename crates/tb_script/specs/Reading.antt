@@ -5,7 +5,7 @@ use Rattle.std.specs.Str.{bytes_eq, all_ascii_digits}
 use Rattle.std.specs.Str.Parse.{digits_value}
 use Rattle.tb_task.specs.MomentText.{moment_of}
 use Rattle.tb_task.specs.TaskId.{read_id}
-use Rattle.tb_core.specs.Names.{read_name, read_key}
+use Rattle.tb_board.specs.Names.{read_name, read_key}
 use Rattle.tb_script.specs.declared.line_fault.Unreadable.{Unreadable}
 use Rattle.tb_script.specs.declared.line_fault.Unreadable.TheVariants.{BadLine}
 use Rattle.tb_script.specs.declared.asked.Asked.{Asked}

@@ -5,13 +5,13 @@ use Rattle.tb_task.specs.declared.task.Task.{Task}
 use Rattle.tb_json.specs.ListText.{list_text}
 use Rattle.tb_json.specs.Writing.{shown_text}
 use Rattle.tb_core.specs.Apply.{board_for}
-use Rattle.tb_core.specs.Board.{has_id}
-use Rattle.tb_core.specs.World.{number_of}
-use Rattle.tb_core.specs.declared.board.Board.{Board}
+use Rattle.tb_board.specs.Board.{has_id}
+use Rattle.tb_board.specs.World.{number_of}
+use Rattle.tb_board.specs.declared.board.Board.{Board}
 use Rattle.tb_core.specs.declared.look.SeenBoard.{SeenBoard}
 use Rattle.tb_core.specs.declared.refusal.Refusal.{Refusal}
 use Rattle.tb_core.specs.declared.refusal.Refusal.TheVariants.{NoBoard, NoTask}
-use Rattle.tb_core.specs.declared.world.World.{World}
+use Rattle.tb_board.specs.declared.world.World.{World}
 use Rattle.tb_report.specs.Listing.{listing}
 use Rattle.tb_report.specs.Shown.{shown, shown_task}
 use Rattle.tb_script.specs.declared.asked.View.{View}

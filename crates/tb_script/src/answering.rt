@@ -11,14 +11,15 @@ use crate::reading::read_line;
 use crate::replies::{write_call, write_refusal, write_unreadable};
 use crate::viewing::show;
 use std::alloc::{AllocError, Global};
-use tb_core::{Command, Decision, Key, Name, Refusal, World, decide};
+use tb_board::{Key, Name, World};
+use tb_core::{Command, Decision, Refusal, decide, look_for};
 use tb_values::Text;
 
 /// The longest line that is read.
 pub(crate) const LINE_LIMIT: usize = 1_048_576;
 
 /// The world in which a script begins.
-#[tactic(auto, unfolding(tb_core::specs::Names::is_name, tb_core::specs::Names::is_name_byte, tb_core::specs::Names::is_key))]
+#[tactic(auto, unfolding(tb_board::specs::Names::is_name, tb_board::specs::Names::is_name_byte, tb_board::specs::Names::is_key))]
 pub(crate) fn begin(alloc: Global) -> Result<World, AllocError>
     ensures { IfOk result (λ world. world ≡ first_world) }
 {
@@ -110,7 +111,7 @@ fn decide_for(
 ) -> Result<Decision, AllocError>
     ensures { IfOk result (λ decision. IsDecision world.now decision (apply world.now asked.now.member command.now asked.now.at)) }
 {
-    let seen = world.look(&asked.member, command)?;
+    let seen = look_for(world, &asked.member, command)?;
     decide(alloc, &seen, command, asked.at)
 }
 

@@ -1,5 +1,6 @@
 //! What a line asks.
-use tb_core::{Command, Key, Name};
+use tb_board::{Key, Name};
+use tb_core::Command;
 use tb_task::{Moment, TaskId};
 
 /// What is asked, by whom, when, and under which identifier.

@@ -1,12 +1,12 @@
 //! The changes of a world, made in place.
 ghost use Rattle.std.specs.Prelude.{◌≡◌, position, IfOk, OnOk, MatchOption};
-ghost use Rattle.tb_core.specs.World.{has_number};
+ghost use Rattle.tb_board.specs.World.{has_number};
 ghost use Rattle.tb_script.specs.Boards.{IsBoardAt, LacksBoard};
-ghost use Rattle.tb_core.specs.Changes.{change_board, changed, changed_by, put, with_task_at};
+ghost use Rattle.tb_board.specs.Changes.{change_board, changed, changed_by, put, with_task_at};
 
 use std::alloc::{AllocError, Global};
 use std::mem;
-use tb_core::{Board, Change, World};
+use tb_board::{Board, Change, World};
 use tb_task::Task;
 use tb_values::{Items, Shared};
 

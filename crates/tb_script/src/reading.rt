@@ -1,6 +1,6 @@
 //! Reading a line.
 ghost use Rattle.std.specs.Prelude.{◌≡◌, IfOk, map, nat_lt, slice_index};
-ghost use Rattle.tb_core.specs.Names.{read_name, read_key};
+ghost use Rattle.tb_board.specs.Names.{read_name, read_key};
 ghost use Rattle.tb_task.specs.MomentText.{moment_of};
 ghost use Rattle.tb_task.specs.TaskId.{read_id};
 ghost use Rattle.tb_script.specs.Outcome.{Reads, or_bad_line};
@@ -10,7 +10,8 @@ use crate::asked::{Asked, Request, View};
 use crate::body::read_incoming;
 use crate::line_fault::LineFault;
 use std::alloc::{AllocError, Global};
-use tb_core::{Command, Key, Name};
+use tb_board::{Key, Name};
+use tb_core::Command;
 use tb_task::{Moment, TaskId};
 
 /// What a line asks.

@@ -5,7 +5,7 @@ ghost use Rattle.tb_script.specs.Answer.{answer, first_world};
 
 use crate::answering::{LINE_LIMIT, answer_line, begin};
 use std::alloc::{AllocError, Global};
-use tb_core::World;
+use tb_board::World;
 
 const LINE_FEED: u8 = b'\n';
 

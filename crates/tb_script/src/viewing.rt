@@ -1,13 +1,14 @@
 //! Views of a board.
 ghost use Rattle.std.specs.Prelude.{◌≡◌, ◌∷◌, ◌++◌, [], IfOk, find, option_map};
-ghost use Rattle.tb_core.specs.Board.{has_id};
+ghost use Rattle.tb_board.specs.Board.{has_id};
 ghost use Rattle.tb_json.specs.Writing.{shown_text};
 ghost use Rattle.tb_report.specs.Shown.{shown_task as shown_task_of};
 ghost use Rattle.tb_script.specs.Views.{board_of as board_of_view, board_view, export_text, one_text, shown_view, viewed_board};
 
 use crate::asked::View;
 use std::alloc::{AllocError, Global};
-use tb_core::{Board, Name, Refusal, World};
+use tb_board::{Board, Name, World};
+use tb_core::Refusal;
 use tb_json::{write_task, write_tasks};
 use tb_report::{listing, shown, shown_task};
 use tb_task::{Moment, Task, TaskId};

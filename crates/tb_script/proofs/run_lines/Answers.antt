@@ -2,7 +2,7 @@ use Rattle.std.proofs.Common.{◌≡◌, ◌∙◌, ap, sym, ◌++◌, [], take,
 use Rattle.std.proofs.lemmas.Result.{on_err_weaker, on_ok_weaker}
 use Rattle.tb_script.specs.Lines.{answers_from}
 use Rattle.tb_script.specs.Answer.{answer, first_world}
-use Rattle.tb_core.specs.declared.world.World.{World}
+use Rattle.tb_board.specs.declared.world.World.{World}
 use Rattle.tb_script.proofs.Runs.{answered_so_far, answered_last_front, answered_whole, answered_more, answered_front, fed, none_eaten}
 use Rattle.tb_script.proofs.Runs.{on_err_since, answered_none}
 use Rattle.tb_script.proofs.run_lines.Goals as goal

@@ -1,7 +1,7 @@
 use Rattle.std.proofs.Common.{◌≡◌, true, IfSome}
 use Rattle.tb_script.specs.Lines.{is_one_line}
 use Rattle.tb_script.specs.Answer.{answer, first_world}
-use Rattle.tb_core.specs.declared.world.World.{World}
+use Rattle.tb_board.specs.declared.world.World.{World}
 use Rattle.tb_script.proofs.Runs.{IsAnswered}
 use Rattle.tb_script.proofs.run_lines.Given as goal
 

@@ -1,9 +1,11 @@
-use Rattle.tb_core.proofs.Decided.{is_accepted}
+use Rattle.std.proofs.lemmas.Result.{IfOk-weaker}
+use Rattle.tb_core.proofs.Decided.{role_applies}
 use Rattle.tb_core.proofs.deciding.decide.Goals as goal
 
-pub returns-in-Ok : goal.returns-in-Ok
-returns-in-Ok c = λ w name is.
-    let gives = rw c.get.ensures at c.in-Ok.ensures.gives in
-    let made = rw c.get.ensures at c.in-Ok.ensures.made in
-    rw c.into_decision.ensures
-    (is_accepted w c.args.seen.now name c.args.command.now c.args.at c.in-Some.found c.in-Ok.accepted.draft c.in-Ok.accepted.answer is c.in-Some.is gives made)
+pub returns-in-SetRole : goal.returns-in-SetRole
+returns-in-SetRole c =
+    IfOk-weaker c.decide_role.result _ _
+    (λ d decides w name is.
+    let here = rw c.in-SetRole.is at is in
+    rw c.in-SetRole.is (role_applies w c.args.seen.now name c.in-SetRole.board c.in-SetRole.name c.in-SetRole.role c.args.at d here (decides w name _ _ here)))
+    c.decide_role.ensures

@@ -1,5 +1,5 @@
 use Rattle.std.proofs.Common.{◌≡◌}
-use Rattle.tb_core.specs.Changes.{changed}
+use Rattle.tb_board.specs.Changes.{changed}
 use Rattle.tb_script.proofs.changing.apply_changes.Given as goal
 
 abbrev pub invariant-loop-change : goal.invariant-loop-change

@@ -1,5 +1,5 @@
 use Rattle.std.proofs.Common.{◌≡◌, ◌∙◌, sym, slice_index_or}
-use Rattle.tb_core.specs.Changes.{with_task_at}
+use Rattle.tb_board.specs.Changes.{with_task_at}
 use Rattle.tb_script.specs.Boards.{IsBoardAt}
 use Rattle.tb_script.proofs.changing.put_task.Goals as goal
 

@@ -1,7 +1,7 @@
 use Rattle.std.proofs.Common.{◌≡◌, ◌++◌, ◌∷◌, [], ap, arith, append_assoc, List, ℕ}
 use Rattle.tb_script.specs.Lines.{answers_from}
 use Rattle.tb_script.specs.Answer.{answer}
-use Rattle.tb_core.specs.declared.world.World.{World}
+use Rattle.tb_board.specs.declared.world.World.{World}
 use Rattle.tb_script.proofs.LineLaws.{line_fed, one_line_push, skipped}
 use Rattle.tb_script.proofs.Readable.{too_long_alike}
 use Rattle.tb_script.proofs.session.Session.take_byte.Goals as goal

@@ -1,0 +1,137 @@
+-- What waking and one task more keep of a good board.
+use Rattle.std.proofs.Common.{◌≡◌, ℕ, suc, ◌<◌, ◌≤◌, ◌==◌, ◌||◌, nat_eq, Bool, true, false, not, List, [], ◌∷◌, ◌++◌, Some, find, length, map, refl, sym, ◌∙◌, ap, arith, subst, inl, inr, true≢false, length-append}
+use Rattle.std.specs.List.{IsDistinct, AllByRecursion, list_any}
+use Rattle.std.specs.Cmp.{nat_eq_equiv}
+use Rattle.std.proofs.lemmas.Bool.{cases_Bool}
+use Rattle.std.proofs.lemmas.List.{map-append, length-map}
+use Rattle.std.proofs.lemmas.List.Folds.{list_any-append}
+use Rattle.std.proofs.lemmas.Map.Keys.{IsDistinct-push}
+use Rattle.tb_task.specs.declared.task.Task.{Task}
+use Rattle.tb_board.specs.declared.board.Board.{Board}
+use Rattle.tb_board.specs.Board.{lacks_depends}
+use Rattle.tb_board.specs.Board.{ids, is_on, wake, woken, with_task}
+use Rattle.tb_board.specs.Good.{IsGood, IsSound, IsLinkedOn}
+use Rattle.tb_board.specs.First.{change_first}
+use Rattle.tb_board.proofs.Fresh.{on_ids, among-swapped}
+use Rattle.tb_board.proofs.Fits.{sound_woken}
+
+ids-wake : (m : ℕ) (ts : List Task) → ids (map (woken m) ts) ≡ ids ts
+ids-wake m [] = refl
+ids-wake m (t ∷ ts) = ap (λ is. t.id ∷ is) (ids-wake m ts)
+
+on-same : (b c : Board) (id : ℕ) → ids c.tasks ≡ ids b.tasks → is_on c id ≡ is_on b id
+on-same b c id same = on_ids id c.tasks ∙ ap (λ is. list_any (λ x. x == id) is) same ∙ sym (on_ids id b.tasks)
+
+lacks-same : (b c : Board) (is : List ℕ) → ids c.tasks ≡ ids b.tasks → lacks_depends c is ≡ lacks_depends b is
+lacks-same b c [] same = refl
+lacks-same b c (i ∷ is) same = rw (on-same b c i same) (ap (λ q. not (is_on b i) || q) (lacks-same b c is same))
+
+sound-wake : (m : ℕ) (ts : List Task) → AllByRecursion IsSound ts → AllByRecursion IsSound (map (woken m) ts)
+sound-wake m [] h = tt
+sound-wake m (t ∷ ts) h = (sound_woken m t h.0, sound-wake m ts h.1)
+
+linked-wake : (b : Board) (m : ℕ) (ts : List Task) → AllByRecursion (IsLinkedOn b) ts → AllByRecursion (IsLinkedOn (wake b m)) (map (woken m) ts)
+linked-wake b m [] h = tt
+linked-wake b m (t ∷ ts) h = (lacks-same b (wake b m) t.depends (ids-wake m b.tasks) ∙ h.0, linked-wake b m ts h.1)
+
+pub good-wake : (b : Board) (m : ℕ) → IsGood b → IsGood (wake b m)
+good-wake b m good =
+    record {
+      distinct = subst (IsDistinct nat_eq) (sym (ids-wake m b.tasks)) good.distinct;
+      few = subst (λ n. n ≤ 10000) (sym (length-map b.tasks (woken m))) good.few;
+      sound = sound-wake m b.tasks good.sound;
+      linked = linked-wake b m b.tasks good.linked;
+    }
+
+pub all_push : {A : Type 0} (P : A → Type 0) (xs : List A) (x : A) → AllByRecursion P xs → P x → AllByRecursion P (xs ++ x ∷ [])
+all_push P [] x h p = (p, tt)
+all_push P (y ∷ ys) x h p = (h.0, all_push P ys x h.1 p)
+
+on-more : (b : Board) (t : Task) (id : ℕ) → not (is_on b id) ≡ false → not (is_on (with_task b t) id) ≡ false
+on-more b t id on = rw (list_any-append (λ (u : Task). u.id == id) b.tasks (t ∷ [])) (either (is_on b id) (list_any (λ (u : Task). u.id == id) (t ∷ [])) on)
+  where
+    either : (p q : Bool) → not p ≡ false → not (p || q) ≡ false
+    either true q h = refl
+    either false q h = absurd (true≢false h)
+
+lacks-more : (b : Board) (t : Task) (is : List ℕ) → lacks_depends b is ≡ false → lacks_depends (with_task b t) is ≡ false
+lacks-more b t [] h = refl
+lacks-more b t (i ∷ is) h =
+    elim (cases_Bool (not (is_on b i))) [
+      | inl missing ↦ let wrong : true ≡ false = rw missing at h in absurd (true≢false wrong)
+      | inr there ↦ let rest : lacks_depends b is ≡ false = rw there at h in rw (on-more b t i there) (lacks-more b t is rest)
+    ]
+
+linked-more : (b : Board) (t : Task) (ts : List Task) → AllByRecursion (IsLinkedOn b) ts → AllByRecursion (IsLinkedOn (with_task b t)) ts
+linked-more b t [] h = tt
+linked-more b t (u ∷ us) h = (lacks-more b t u.depends h.0, linked-more b t us h.1)
+
+pub good-push : (b : Board) (t : Task) → IsGood b → length b.tasks < 10000 → is_on b t.id ≡ false → IsSound t → IsLinkedOn b t → IsGood (with_task b t)
+good-push b t good room alone sound linked =
+    let apart : list_any (nat_eq t.id) (ids b.tasks) ≡ false = among-swapped t.id (ids b.tasks) ∙ sym (on_ids t.id b.tasks) ∙ alone in
+    record {
+      distinct = subst (IsDistinct nat_eq) (sym (map-append (λ (u : Task). u.id) b.tasks (t ∷ [])))
+          (IsDistinct-push nat_eq_equiv (ids b.tasks) t.id good.distinct apart);
+      few = omega (arith, room, length-append b.tasks (t ∷ []));
+      sound = all_push IsSound b.tasks t good.sound sound;
+      linked = all_push (IsLinkedOn (with_task b t)) b.tasks t (linked-more b t b.tasks good.linked) (lacks-more b t t.depends linked);
+    }
+
+-- f keeps identifiers and links
+pub record Keeps (f : Task → Task) : Type 0 where
+  pub id : (t : Task) → (f t).id ≡ t.id
+  pub depends : (t : Task) → (f t).depends ≡ t.depends
+
+ids-change : (test : Task → Bool) (f : Task → Task) → Keeps f → (ts : List Task) → ids (change_first test f ts) ≡ ids ts
+ids-change test f keeps [] = refl
+ids-change test f keeps (t ∷ ts) =
+    elim (cases_Bool (test t)) [
+      | inl here ↦ rw here (ap (λ i. i ∷ ids ts) (keeps.id t))
+      | inr other ↦ rw other (ap (λ is. t.id ∷ is) (ids-change test f keeps ts))
+    ]
+
+length-change : (test : Task → Bool) (f : Task → Task) (ts : List Task) → length (change_first test f ts) ≡ length ts
+length-change test f [] = refl
+length-change test f (t ∷ ts) =
+    elim (cases_Bool (test t)) [
+      | inl here ↦ rw here refl
+      | inr other ↦ rw other (ap suc (length-change test f ts))
+    ]
+
+sound-change : (test : Task → Bool) (f : Task → Task) (ts : List Task) (x : Task) → find test ts ≡ Some x → (IsSound x → IsSound (f x))
+    → AllByRecursion IsSound ts → AllByRecursion IsSound (change_first test f ts)
+sound-change test f [] x h sound all = tt
+sound-change test f (t ∷ ts) x h sound all =
+    elim (cases_Bool (test t)) [
+      | inl here ↦
+          let found : Some t ≡ Some x = rw here at h in
+          let is : x ≡ t = cc in
+          rw here (subst (λ (u : Task). IsSound u → IsSound (f u)) is sound all.0, all.1)
+      | inr other ↦
+          let later : find test ts ≡ Some x = rw other at h in
+          rw other (all.0, sound-change test f ts x later sound all.1)
+    ]
+
+linked-change : (b c : Board) (test : Task → Bool) (f : Task → Task) → Keeps f → ids c.tasks ≡ ids b.tasks → (ts : List Task)
+    → AllByRecursion (IsLinkedOn b) ts → AllByRecursion (IsLinkedOn c) (change_first test f ts)
+linked-change b c test f keeps same [] h = tt
+linked-change b c test f keeps same (t ∷ ts) h =
+    elim (cases_Bool (test t)) [
+      | inl here ↦ rw here (ap (lacks_depends c) (keeps.depends t) ∙ lacks-same b c t.depends same ∙ h.0, others ts h.1)
+      | inr other ↦ rw other (lacks-same b c t.depends same ∙ h.0, linked-change b c test f keeps same ts h.1)
+    ]
+  where
+    others : (us : List Task) → AllByRecursion (IsLinkedOn b) us → AllByRecursion (IsLinkedOn c) us
+    others [] h = tt
+    others (u ∷ us) h = (lacks-same b c u.depends same ∙ h.0, others us h.1)
+
+pub good-change : (b : Board) (test : Task → Bool) (f : Task → Task) (x : Task) → Keeps f → find test b.tasks ≡ Some x → (IsSound x → IsSound (f x)) → IsGood b
+    → IsGood (record b { tasks = change_first test f b.tasks })
+good-change b test f x keeps found sound good =
+    let later : Board = record b { tasks = change_first test f b.tasks } in
+    record {
+      distinct = subst (IsDistinct nat_eq) (sym (ids-change test f keeps b.tasks)) good.distinct;
+      few = subst (λ n. n ≤ 10000) (sym (length-change test f b.tasks)) good.few;
+      sound = sound-change test f b.tasks x found sound good.sound;
+      linked = linked-change b later test f keeps (ids-change test f keeps b.tasks) b.tasks good.linked;
+    }

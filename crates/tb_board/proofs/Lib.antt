@@ -1,0 +1,9 @@
+pub mod Awake
+pub mod Drafts
+pub mod Fits
+pub mod Fresh
+pub mod Goodness
+pub mod KnownNumbers
+pub mod Marking
+pub mod Places
+pub mod Worlds

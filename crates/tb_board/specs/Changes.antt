@@ -1,0 +1,62 @@
+-- What changes make of a board and of a world.
+use Rattle.std.specs.Prelude.{◌≡◌, ℕ, List, [], ◌∷◌, ◌++◌, if◌then◌else◌, length, nat_lt, slice_set}
+use Rattle.std.specs.List.{AllByRecursion}
+use Rattle.tb_task.specs.declared.task.Task.{Task}
+use Rattle.tb_board.specs.declared.board.Board.{Board}
+use Rattle.tb_board.specs.declared.change.Change.{Change}
+use Rattle.tb_board.specs.declared.change.Change.TheVariants.{PutTask, AddPerson, AddBoard, SetRole}
+use Rattle.tb_board.specs.declared.draft.Draft.{Draft}
+use Rattle.tb_board.specs.declared.world.World.{World}
+use Rattle.tb_board.specs.First.{change_first}
+use Rattle.tb_board.specs.Roles.{set_role}
+use Rattle.tb_board.specs.World.{has_number}
+
+-- a task at its place, or last where the list has no such place
+abbrev pub put : List Task → ℕ → Task → List Task
+put tasks place t = if nat_lt place (length tasks) then slice_set tasks place t else tasks ++ t ∷ []
+
+abbrev pub with_task_at : ℕ → Task → Board → Board
+with_task_at place t b = record b { tasks = put b.tasks place t }
+
+-- the first board with this number is changed by f, and nothing else
+abbrev pub change_board : ℕ → (Board → Board) → List Board → List Board
+change_board n f bs = change_first (has_number n) f bs
+
+abbrev pub changed_by : World → Change → World
+changed_by w (PutTask n place t) = record w { boards = change_board n (with_task_at place t) w.boards }
+changed_by w (AddPerson name key) = record w { people = w.people ++ record { name = name; key = key } ∷ [] }
+changed_by w (AddBoard n title) = record w { boards = w.boards ++ record { number = n; title = title; tasks = []; gone = [] } ∷ [] }
+changed_by w (SetRole n person role) = record w { roles = set_role w.roles n person role }
+
+-- the world after the changes, one after the other
+abbrev pub changed : World → List Change → World
+changed w [] = w
+changed w (c ∷ cs) = changed (changed_by w c) cs
+
+-- what a change makes of the board that it names
+abbrev pub changed_on : Board → Change → Board
+changed_on b (PutTask n place t) = with_task_at place t b
+changed_on b (AddPerson name key) = b
+changed_on b (AddBoard n title) = b
+changed_on b (SetRole n person role) = b
+
+-- a board after the changes, all of which are its own
+abbrev pub replayed : Board → List Change → Board
+replayed b [] = b
+replayed b (c ∷ cs) = replayed (changed_on b c) cs
+
+-- the change is one of board n
+abbrev pub IsOn : ℕ → Change → Type 0
+IsOn n (PutTask m place t) = m ≡ n
+IsOn n (AddPerson name key) = ⊥
+IsOn n (AddBoard m title) = ⊥
+IsOn n (SetRole m person role) = ⊥
+
+-- the draft's changes are those of its board, and make it of the first one
+pub record IsDraft (start : Board) (d : Draft) : Type 0 where
+  pub own : AllByRecursion (IsOn d.board.number) d.changes
+  pub made : replayed start d.changes ≡ d.board
+
+-- the later draft is made of what the earlier one was made of
+abbrev pub Follows : Draft → Draft → Type 0
+Follows earlier later = (start : Board) → IsDraft start earlier → IsDraft start later

@@ -1,0 +1,10 @@
+pub mod Board
+pub mod Changes
+pub mod First
+pub mod Good
+pub mod Marks
+pub mod Names
+pub mod Numbers
+pub mod Roles
+pub mod Statuses
+pub mod World

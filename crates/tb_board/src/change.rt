@@ -1,0 +1,33 @@
+use crate::key::Key;
+use crate::name::Name;
+use crate::title::Title;
+use crate::world::Role;
+use tb_task::Task;
+use tb_values::Shared;
+
+/// One step by which a world changes.
+#[derive(Drop)]
+pub enum Change {
+    /// A task of a board, at its place: a changed one, or a new one at the end. Places count from 0.
+    PutTask {
+        board: u32,
+        place: usize,
+        task: Shared<Task>,
+    },
+    /// A person goes last.
+    AddPerson {
+        name: Name,
+        key: Key,
+    },
+    /// A board without tasks goes last.
+    AddBoard {
+        number: u32,
+        title: Title,
+    },
+    /// A person has this role on a board, or none, both by their numbers.
+    SetRole {
+        board: u32,
+        person: usize,
+        role: Option<Role>,
+    },
+}

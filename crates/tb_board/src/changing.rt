@@ -1,0 +1,175 @@
+ghost use Rattle.std.specs.Prelude.{◌≡◌, [], ◌∷◌, ◌++◌, Some, None, IfOk};
+ghost use Rattle.tb_board.specs.Changes.{change_board, changed, changed_by, put, with_task_at};
+ghost use Rattle.tb_board.specs.Roles.{set_role};
+
+use crate::board::Board;
+use crate::change::Change;
+use crate::first::{place_of_board, place_of_role};
+use crate::key::Key;
+use crate::name::Name;
+use crate::title::Title;
+use crate::world::{Person, Role, RoleOn, World};
+use std::alloc::{AllocError, Global};
+use tb_task::Task;
+use tb_values::{Duplicate, Items, Shared};
+
+impl World {
+    /// The world after the changes, one after the other. It shares with this one whatever stays.
+    pub fn changed(&self, alloc: Global, changes: &[Change]) -> Result<World, AllocError>
+        ensures { IfOk result (λ world. world ≡ changed self.now changes.now) }
+    {
+        let mut world = self.duplicate()?;
+        for change in changes {
+            world = changed_world(alloc, world, change)?;
+        }
+        Ok(world)
+    }
+}
+
+fn changed_world(alloc: Global, world: World, change: &Change) -> Result<World, AllocError>
+    ensures { IfOk result (λ later. later ≡ changed_by world change.now) }
+{
+    match change {
+        Change::PutTask { board, place, task } => put_task(alloc, world, *board, *place, task),
+        Change::AddPerson { name, key } => add_person(world, name, key),
+        Change::AddBoard { number, title } => add_board(alloc, world, *number, title),
+        Change::SetRole {
+            board,
+            person,
+            role,
+        } => set_role(world, *board, *person, *role),
+    }
+}
+
+fn add_person(mut world: World, name: &Name, key: &Key) -> Result<World, AllocError>
+    ensures { IfOk result (λ later. later ≡ record world { people = world.people ++ record { name = name.now; key = key.now } ∷ [] }) }
+{
+    let name = name.duplicate()?;
+    let key = key.duplicate()?;
+    world.people.push(Person { name, key })?;
+    Ok(world)
+}
+
+fn add_board(
+    alloc: Global,
+    mut world: World,
+    number: u32,
+    title: &Title,
+) -> Result<World, AllocError>
+    ensures { IfOk result (λ later. later ≡ record world { boards = world.boards ++ record { number = number; title = title.now; tasks = []; gone = [] } ∷ [] }) }
+{
+    let board = Board::new(alloc, number, title.duplicate()?);
+    world.boards.push(Shared::new(alloc, board)?)?;
+    Ok(world)
+}
+
+fn set_role(
+    world: World,
+    board: u32,
+    person: usize,
+    role: Option<Role>,
+) -> Result<World, AllocError>
+    ensures { IfOk result (λ later. later ≡ record world { roles = set_role world.roles board person role }) }
+{
+    let World {
+        people,
+        boards,
+        roles,
+    } = world;
+    let roles = match role {
+        Some(role) => roles_with(roles, board, person, role)?,
+        None => roles_without(roles, board, person),
+    };
+    Ok(World {
+        people,
+        boards,
+        roles,
+    })
+}
+
+fn roles_with(
+    mut roles: Items<RoleOn>,
+    board: u32,
+    person: usize,
+    role: Role,
+) -> Result<Items<RoleOn>, AllocError>
+    ensures { IfOk result (λ later. later ≡ set_role roles board person (Some role)) }
+{
+    let Some(place) = place_of_role(roles.as_slice(), board, person) else {
+        roles.push(RoleOn {
+            board,
+            person,
+            role,
+        })?;
+        return Ok(roles);
+    };
+    let item = with_role(roles.as_slice()[place], role);
+    roles.set(place, item);
+    Ok(roles)
+}
+
+fn with_role(item: RoleOn, role: Role) -> RoleOn
+    ensures { result ≡ record item { role = role } }
+{
+    RoleOn {
+        board: item.board,
+        person: item.person,
+        role,
+    }
+}
+
+fn roles_without(mut roles: Items<RoleOn>, board: u32, person: usize) -> Items<RoleOn>
+    ensures { result ≡ set_role roles board person None }
+{
+    let Some(place) = place_of_role(roles.as_slice(), board, person) else {
+        return roles;
+    };
+    roles.remove(place);
+    roles
+}
+
+fn put_task(
+    alloc: Global,
+    mut world: World,
+    number: u32,
+    place: usize,
+    task: &Shared<Task>,
+) -> Result<World, AllocError>
+    ensures { IfOk result (λ later. later ≡ record world { boards = change_board number (with_task_at place task.now) world.boards }) }
+{
+    let Some(at) = place_of_board(world.boards.as_slice(), number) else {
+        return Ok(world);
+    };
+    let board = board_with(world.boards.as_slice()[at].get(), place, task)?;
+    world.boards.set(at, Shared::new(alloc, board)?);
+    Ok(world)
+}
+
+fn board_with(board: &Board, place: usize, task: &Shared<Task>) -> Result<Board, AllocError>
+    ensures { IfOk result (λ b. b ≡ with_task_at place task.now board.now) }
+{
+    let title = board.title.duplicate()?;
+    let tasks = tasks_with(board.tasks.duplicate()?, place, task.share()?)?;
+    let gone = board.gone.duplicate()?;
+    Ok(Board {
+        number: board.number,
+        title,
+        tasks,
+        gone,
+    })
+}
+
+fn tasks_with(
+    mut tasks: Items<Shared<Task>>,
+    place: usize,
+    task: Shared<Task>,
+) -> Result<Items<Shared<Task>>, AllocError>
+    ensures { IfOk result (λ later. later ≡ put tasks place task) }
+{
+    if place < tasks.len() {
+        tasks.set(place, task);
+    } else {
+        tasks.push(task)?;
+    }
+    Ok(tasks)
+}

@@ -1,0 +1,37 @@
+//! Boards of tasks and the world of people, boards and roles, as they stand at a moment.
+//!
+//! It owns boards, names, keys, titles and roles, the list of changes by which a world changes, waking, and the numbers that a board
+//! gives to new tasks. It stands on `tb_task` for tasks and identifiers and on `tb_values` for lists.
+#![tactic(auto)]
+
+mod board;
+mod change;
+mod changing;
+mod draft;
+mod first;
+mod gone;
+mod key;
+mod name;
+mod numbers;
+mod statuses;
+mod title;
+mod viewing;
+mod waking;
+mod world;
+
+pub use board::Board;
+pub use change::Change;
+pub use draft::Draft;
+pub use first::place_of_task;
+pub use gone::Gone;
+pub use key::Key;
+pub use name::Name;
+pub use numbers::{next_number, taken_numbers};
+pub use statuses::{
+    is_open_status, is_pending_or_waiting_status, is_pending_status, is_template_task,
+    settled_status,
+};
+pub use title::Title;
+pub use viewing::woken_task;
+pub use waking::wake_draft;
+pub use world::{Person, Role, RoleOn, World};

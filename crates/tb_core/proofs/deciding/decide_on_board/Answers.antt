@@ -1,0 +1,10 @@
+use Rattle.std.proofs.Common.{ap, not, ◌∙◌}
+use Rattle.tb_core.proofs.Decided.{is_accepted}
+use Rattle.tb_core.proofs.deciding.decide_on_board.Goals as goal
+
+pub returns-in-Ok : goal.returns-in-Ok
+returns-in-Ok c = λ w name is.
+    let gives = rw c.get.ensures at c.in-Ok.ensures.gives in
+    let made = rw c.get.ensures at c.in-Ok.ensures.made in
+    rw c.into_decision.ensures
+    (is_accepted w c.args.seen.now name c.args.command.now c.args.at c.in-Some.found c.in-Ok.accepted.draft c.in-Ok.accepted.answer is (ap not (c.is_none.ensures ∙ ap not c.if-is_none.false)) c.in-Some.is gives made)

@@ -1,6 +1,0 @@
-use Rattle.tb_core.specs.World.{has_name}
-use Rattle.tb_core.proofs.Places.{place}
-use Rattle.tb_core.proofs.first.place_of_person.Goals as goal
-
-pub returns-clause-first : goal.returns-clause-first
-returns-clause-first c = rw c.first_person.ensures (place (has_name c.args.name.now) c.args.people.now)
