@@ -1,7 +1,10 @@
 pub mod Decided
+pub mod EditSteps
 pub mod GoodPeople
 pub mod GoodRoles
 pub mod GoodWorlds
+pub mod Modifying
 pub mod Opening
 pub mod Sound
+pub mod SoundEdits
 pub mod Stays

@@ -13,6 +13,7 @@ use crate::command::{Answer, BoardAnswer, Command, Told};
 use crate::giving::{is_last_owner, is_owner_role, role_decision};
 use crate::judged::{Judged, Stop};
 use crate::look::Seen;
+use crate::modify::modify;
 use crate::people::{decide_board, decide_person};
 use crate::refusal::Refusal;
 use std::alloc::{AllocError, Global};
@@ -59,9 +60,10 @@ pub fn decide(
         Command::NewPerson { name, key } => decide_person(alloc, seen, name, key),
         Command::NewBoard { title } => decide_board(alloc, seen, title),
         Command::SetRole { role, .. } => decide_role(alloc, seen, *role, at),
-        Command::Add { .. } | Command::OnTask { .. } | Command::Sweep { .. } => {
-            decide_on_board(alloc, seen, command, at)
-        }
+        Command::Add { .. }
+        | Command::OnTask { .. }
+        | Command::Modify { .. }
+        | Command::Sweep { .. } => decide_on_board(alloc, seen, command, at),
     }
 }
 
@@ -152,6 +154,7 @@ fn judge(alloc: Global, draft: Draft, command: &Command, at: Moment) -> Result<J
     match command {
         Command::Add { incoming, .. } => add(alloc, draft, incoming, at),
         Command::OnTask { id, action, .. } => act(alloc, draft, *id, action, at),
+        Command::Modify { id, edits, .. } => modify(alloc, draft, *id, edits.as_slice(), at),
         Command::Sweep { .. }
         | Command::SetRole { .. }
         | Command::NewPerson { .. }
