@@ -1,4 +1,5 @@
 pub mod Decided
+pub mod Early
 pub mod EditSteps
 pub mod GoodPeople
 pub mod GoodRoles
