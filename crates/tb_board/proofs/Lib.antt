@@ -4,6 +4,7 @@ pub mod Fits
 pub mod Fresh
 pub mod Goodness
 pub mod KnownNumbers
+pub mod Linking
 pub mod Marking
 pub mod Places
 pub mod Worlds
