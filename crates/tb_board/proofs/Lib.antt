@@ -1,3 +1,4 @@
+pub mod Acyclic
 pub mod Awake
 pub mod Drafts
 pub mod Fits
@@ -7,4 +8,6 @@ pub mod KnownNumbers
 pub mod Linking
 pub mod Marking
 pub mod Places
+pub mod Relinked
+pub mod Relinking
 pub mod Worlds

@@ -1,11 +1,11 @@
 -- The places of identifiers, and the links that they give.
-use Rattle.std.proofs.Common.{◌≡◌, ◌↔◌, IsTrue, ℕ, zero, suc, ◌+◌, ◌-◌, ◌<◌, ◌≤◌, ◌==◌, nat_lt, Bool, true, false, cond, List, [], ◌∷◌, ◌++◌, Option, Some, None, length, get_or, set, map, take, drop, replicate, position, refl, sym, ◌∙◌, ap, arith, subst, inl, inr}
+use Rattle.std.proofs.Common.{◌≡◌, ◌↔◌, IsTrue, ℕ, zero, suc, ◌+◌, ◌-◌, ◌<◌, ◌≤◌, ◌==◌, nat_lt, Bool, true, false, cond, List, [], ◌∷◌, ◌++◌, Option, Some, None, length, get_or, set, map, take, drop, replicate, position, refl, sym, ◌∙◌, ap, arith, inl, inr}
 use Rattle.std.specs.List.{position_from}
 use Rattle.std.specs.Ordering.{nat_cmp, is_eq}
-use Rattle.std.specs.declared.cmp.Ordering.TheVariants.{Less, Equal, Greater}
+use Rattle.std.specs.declared.cmp.Ordering.TheVariants.{Equal, Greater}
 use Rattle.std.proofs.lemmas.Bool.{cases_Bool, ltb-true, ne_eqb}
 use Rattle.std.proofs.lemmas.Iterator.Adapters.{position_from-zero}
-use Rattle.std.proofs.lemmas.List.{length-set, get_or-set_same, map-append, length-map, append_assoc, append-nil, length-take-le}
+use Rattle.std.proofs.lemmas.List.{get_or-set_same, map-append, length-map, append_assoc, append-nil, length-take-le}
 use Rattle.std.proofs.Math.Seq.{take-suc, take-length, set-append_seam, get_or-append_seam}
 use Rattle.std.specs.BTreeMap.{BTreeMap, get}
 use Rattle.tb_task.specs.declared.task.Task.{Task}
@@ -20,7 +20,7 @@ use Rattle.tb_graph.proofs.Leading.{leads_decides}
 abbrev pub place_from : List Task → ℕ → ℕ → Option ℕ
 place_from ts k id = position_from (λ i. i == id) k (drop k (ids ts))
 
-same_number : (x y : ℕ) → is_eq (nat_cmp x y) ≡ (x == y)
+pub same_number : (x y : ℕ) → is_eq (nat_cmp x y) ≡ (x == y)
 same_number x y =
     elim (cases_Bool (nat_lt x y)) [
       | inl less ↦ let below = ltb-true x y less in rw (less, ne_eqb x y (λ same. omega (arith, below, same))) refl

@@ -1,4 +1,6 @@
 pub mod Decided
+pub mod Depending
+pub mod GoodLinks
 pub mod GoodPeople
 pub mod GoodRoles
 pub mod GoodWorlds

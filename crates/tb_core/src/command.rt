@@ -16,6 +16,18 @@ pub enum Command {
         id: TaskId,
         action: Action,
     },
+    /// Makes a task of a board depend on another one.
+    Depend {
+        board: u32,
+        id: TaskId,
+        on: TaskId,
+    },
+    /// Ends that a task of a board depends on another one.
+    Undepend {
+        board: u32,
+        id: TaskId,
+        on: TaskId,
+    },
     /// Lets a board come up to the moment.
     Sweep {
         board: u32,

@@ -12,6 +12,7 @@ use crate::add::add;
 use crate::command::{Answer, BoardAnswer, Command, Told};
 use crate::giving::{is_last_owner, is_owner_role, role_decision};
 use crate::judged::{Judged, Stop};
+use crate::linking::{depend, undepend};
 use crate::look::Seen;
 use crate::people::{decide_board, decide_person};
 use crate::refusal::Refusal;
@@ -59,9 +60,11 @@ pub fn decide(
         Command::NewPerson { name, key } => decide_person(alloc, seen, name, key),
         Command::NewBoard { title } => decide_board(alloc, seen, title),
         Command::SetRole { role, .. } => decide_role(alloc, seen, *role, at),
-        Command::Add { .. } | Command::OnTask { .. } | Command::Sweep { .. } => {
-            decide_on_board(alloc, seen, command, at)
-        }
+        Command::Add { .. }
+        | Command::OnTask { .. }
+        | Command::Depend { .. }
+        | Command::Undepend { .. }
+        | Command::Sweep { .. } => { decide_on_board(alloc, seen, command, at) }
     }
 }
 
@@ -152,6 +155,8 @@ fn judge(alloc: Global, draft: Draft, command: &Command, at: Moment) -> Result<J
     match command {
         Command::Add { incoming, .. } => add(alloc, draft, incoming, at),
         Command::OnTask { id, action, .. } => act(alloc, draft, *id, action, at),
+        Command::Depend { id, on, .. } => depend(alloc, draft, *id, *on, at),
+        Command::Undepend { id, on, .. } => undepend(alloc, draft, *id, *on, at),
         Command::Sweep { .. }
         | Command::SetRole { .. }
         | Command::NewPerson { .. }

@@ -11,6 +11,7 @@ mod deciding;
 mod giving;
 mod judged;
 pub mod laws;
+mod linking;
 mod look;
 mod notes;
 mod people;
