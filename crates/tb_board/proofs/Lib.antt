@@ -1,5 +1,6 @@
 pub mod Acyclic
 pub mod Awake
+pub mod BlockedTasks
 pub mod Drafts
 pub mod Fits
 pub mod Fresh

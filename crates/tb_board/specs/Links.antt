@@ -8,7 +8,6 @@ use Rattle.tb_graph.specs.Leads.{leads}
 use Rattle.tb_task.specs.declared.task.Task.{Task}
 use Rattle.tb_board.specs.declared.board.Board.{Board}
 use Rattle.tb_board.specs.Board.{ids}
-use Rattle.tb_board.specs.Statuses.{is_open}
 
 -- the place of an identifier among these
 abbrev pub place_in : List ℕ → ℕ → Option ℕ
@@ -42,10 +41,6 @@ leads_between g (Some from) (Some to) = leads g from to
 -- one task depends on another, directly or by other ones
 abbrev pub leads_on : Board → ℕ → ℕ → Bool
 leads_on b from to = leads_between (links b) (place_in (ids b.tasks) from) (place_in (ids b.tasks) to)
-
--- for each task whether it is neither completed nor deleted
-abbrev pub are_open : List Task → List Bool
-are_open ts = map (λ (t : Task). is_open t.status) ts
 
 -- the map has the place of each identifier
 abbrev pub ArePlaces : List ℕ → BTreeMap ℕ ℕ → Type 0

@@ -1,8 +1,7 @@
 ghost use Rattle.std.specs.Prelude.{◌≡◌, ◌<◌, [], ◌∷◌, ◌++◌, length, IfOk, OnOk, slice_index_or, slice_set};
+ghost use Rattle.tb_board.specs.Blocked.{are_open, blocked, blocking};
 ghost use Rattle.tb_board.specs.Board.{ids};
-ghost use Rattle.tb_board.specs.Links.{ArePlaces, are_open, depends_of, leads_on, links, place_in, places_in};
-ghost use Rattle.tb_graph.specs.Blocked.{AreBlocking, is_blocked};
-ghost use Rattle.tb_graph.specs.Marks.{AreMarks};
+ghost use Rattle.tb_board.specs.Links.{ArePlaces, depends_of, leads_on, links, place_in, places_in};
 
 use crate::board::Board;
 use crate::first::first_task;
@@ -29,7 +28,7 @@ pub fn is_led(alloc: Global, board: &Board, from: TaskId, to: TaskId) -> Result<
 
 /// Which tasks are blocked, by their places.
 pub fn blocked_tasks(alloc: Global, board: &Board) -> Result<Vec<bool>, AllocError>
-    ensures { IfOk result (λ marks. AreMarks (length board.now.tasks) (is_blocked (links board.now) (are_open board.now.tasks)) marks.items) }
+    ensures { IfOk result (λ marks. marks.items ≡ blocked board.now) }
 {
     let open_tasks = open_tasks(alloc, board.tasks.as_slice())?;
     links_of(alloc, board)?.blocked(open_tasks.as_slice())
@@ -37,7 +36,7 @@ pub fn blocked_tasks(alloc: Global, board: &Board) -> Result<Vec<bool>, AllocErr
 
 /// Which tasks are blocking, by their places.
 pub fn blocking_tasks(alloc: Global, board: &Board) -> Result<Vec<bool>, AllocError>
-    ensures { IfOk result (λ marks. AreBlocking (links board.now) (are_open board.now.tasks) marks.items) }
+    ensures { IfOk result (λ marks. marks.items ≡ blocking board.now) }
 {
     let open_tasks = open_tasks(alloc, board.tasks.as_slice())?;
     links_of(alloc, board)?.blocking(open_tasks.as_slice())

@@ -1,5 +1,5 @@
 -- Links between the tasks of a board.
-use Rattle.std.specs.Prelude.{ℕ, ◌==◌, Bool, not, ◌||◌, List, [], ◌∷◌, Option, Some, Result, if◌then◌else◌, find}
+use Rattle.std.specs.Prelude.{◌≡◌, ℕ, ◌==◌, Bool, true, not, ◌||◌, List, [], ◌∷◌, Option, Some, Result, if◌then◌else◌, find}
 use Rattle.std.specs.BTreeSet.{replace_key}
 use Rattle.std.specs.List.{list_any}
 use Rattle.std.specs.Ordering.{nat_cmp}
@@ -7,7 +7,7 @@ use Rattle.std.specs.Set.{remove_key}
 use Rattle.tb_task.specs.declared.task.Task.{Task}
 use Rattle.tb_board.specs.declared.board.Board.{Board}
 use Rattle.tb_board.specs.Board.{has_id, is_on}
-use Rattle.tb_board.specs.First.{change_first}
+use Rattle.tb_board.specs.First.{change_first, IsFirst}
 use Rattle.tb_board.specs.Links.{leads_on}
 use Rattle.tb_board.specs.Statuses.{is_open}
 use Rattle.tb_core.specs.declared.command.Told.{Told}
@@ -39,19 +39,25 @@ lacks_either b id on = not (is_on b id) || not (is_on b on)
 abbrev pub closes_walk : Board → ℕ → ℕ → Bool
 closes_walk b id on = (id == on) || leads_on b on id
 
-abbrev pub depend_refusals : Board → ℕ → ℕ → List (Option Refusal)
-depend_refusals b id on =
+-- a link is added or removed between two tasks of the board, of which the first is open; a last refusal is the command's own
+abbrev pub link_refusals : Board → ℕ → ℕ → Option Refusal → List (Option Refusal)
+link_refusals b id on last =
     where_holds NoTask (lacks_either b id on)
     ∷ where_holds WrongStatus (not (of_task is_open_task (find (has_id id) b.tasks)))
-    ∷ where_holds Cycle (closes_walk b id on)
+    ∷ last
     ∷ []
 
+abbrev pub depend_refusals : Board → ℕ → ℕ → List (Option Refusal)
+depend_refusals b id on = link_refusals b id on (where_holds Cycle (closes_walk b id on))
+
 abbrev pub undepend_refusals : Board → ℕ → ℕ → List (Option Refusal)
-undepend_refusals b id on =
-    where_holds NoTask (lacks_either b id on)
-    ∷ where_holds WrongStatus (not (of_task is_open_task (find (has_id id) b.tasks)))
-    ∷ where_holds NoLink (not (of_task (depends_on on) (find (has_id id) b.tasks)))
-    ∷ []
+undepend_refusals b id on = link_refusals b id on (where_holds NoLink (not (of_task (depends_on on) (find (has_id id) b.tasks))))
+
+-- the first task stands at the place and is open, and the other one is on the board
+pub record IsPlaceToLink (b : Board) (id on place : ℕ) : Type 0 where
+  pub first : IsFirst (has_id id) b.tasks place
+  pub there : is_on b on ≡ true
+  pub standing : of_task is_open_task (find (has_id id) b.tasks) ≡ true
 
 abbrev pub judged_depend : Board → ℕ → ℕ → ℕ → Result (Board × Told) Refusal
 judged_depend b id on m =

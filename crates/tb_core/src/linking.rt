@@ -1,9 +1,12 @@
-ghost use Rattle.std.specs.Prelude.{◌≡◌, ◌==◌, Some, IfOk};
+ghost use Rattle.std.specs.Prelude.{◌≡◌, Option, Some, IfOk, IfErr};
 ghost use Rattle.std.specs.BTreeSet.{replace_key};
 ghost use Rattle.std.specs.Ordering.{nat_cmp};
 ghost use Rattle.tb_board.specs.Changes.{Follows};
-ghost use Rattle.tb_core.specs.Depends.{closes_walk, depends_on, judged_depend, judged_undepend, unlinked};
-ghost use Rattle.tb_core.specs.Refusals.{Gives};
+ghost use Rattle.tb_core.specs.Depends.{closes_walk, depends_on, IsPlaceToLink, judged_depend, judged_undepend, link_refusals, unlinked};
+ghost use Rattle.tb_core.specs.Refusals.{Fails, Gives, least, unless_refused};
+ghost use Rattle.tb_core.specs.declared.command.Told.{Told};
+ghost use Rattle.tb_core.specs.declared.refusal.Refusal.{Refusal};
+ghost use Rattle.tb_board.specs.declared.board.Board.{Board};
 
 use crate::command::Told;
 use crate::judged::{Judged, Stop};
@@ -24,26 +27,23 @@ pub fn depend(
     ensures gives { Gives result (judged_depend draft.board id on at) }
     ensures follows { IfOk result (λ judged. Follows draft judged.draft) }
 {
-    let told = Told::Changed { id };
-    let Some(place) = place_of_task(draft.board.tasks.as_slice(), id) else {
-        return Err(Stop::Refused(Refusal::NoTask));
-    };
-    if !draft.board.has(on) {
-        return Err(Stop::Refused(Refusal::NoTask));
-    }
+    let place = place_to_link(&draft.board, id, on)?;
     let task = draft.board.task_at(place);
-    if !is_open_status(task.status) {
-        return Err(Stop::Refused(Refusal::WrongStatus));
-    }
     if is_cycle(alloc, &draft.board, id, on)? {
         return Err(Stop::Refused(Refusal::Cycle));
     }
     if is_linked_to(task, on) {
-        return Ok(Judged { draft, told });
+        return Ok(Judged {
+            draft,
+            told: Told::Changed { id },
+        });
     }
     let task = linked_task(task, on, at)?;
     let draft = draft.set(alloc, place, task)?;
-    Ok(Judged { draft, told })
+    Ok(Judged {
+        draft,
+        told: Told::Changed { id },
+    })
 }
 
 /// Ends that a task depends on another one, on a board that is awake.
@@ -57,23 +57,34 @@ pub fn undepend(
     ensures gives { Gives result (judged_undepend draft.board id on at) }
     ensures follows { IfOk result (λ judged. Follows draft judged.draft) }
 {
-    let Some(place) = place_of_task(draft.board.tasks.as_slice(), id) else {
-        return Err(Stop::Refused(Refusal::NoTask));
-    };
-    if !draft.board.has(on) {
-        return Err(Stop::Refused(Refusal::NoTask));
-    }
+    let place = place_to_link(&draft.board, id, on)?;
     let task = draft.board.task_at(place);
-    if !is_open_status(task.status) {
-        return Err(Stop::Refused(Refusal::WrongStatus));
-    }
     if !is_linked_to(task, on) {
         return Err(Stop::Refused(Refusal::NoLink));
     }
     let task = unlinked_task(task, on, at)?;
     let draft = draft.set(alloc, place, task)?;
-    let told = Told::Changed { id };
-    Ok(Judged { draft, told })
+    Ok(Judged {
+        draft,
+        told: Told::Changed { id },
+    })
+}
+
+/// The place of a task that is open, where the other task is on the board too.
+fn place_to_link(board: &Board, id: TaskId, on: TaskId) -> Result<usize, Stop>
+    ensures place { IfOk result (IsPlaceToLink board.now id on) }
+    ensures refused { IfErr result (λ stop. (last : Option Refusal) (later : Board) (told : Told) → Fails stop (unless_refused (least (link_refusals board.now id on last)) later told)) }
+{
+    let Some(place) = place_of_task(board.tasks.as_slice(), id) else {
+        return Err(Stop::Refused(Refusal::NoTask));
+    };
+    if !board.has(on) {
+        return Err(Stop::Refused(Refusal::NoTask));
+    }
+    if !is_open_status(board.task_at(place).status) {
+        return Err(Stop::Refused(Refusal::WrongStatus));
+    }
+    Ok(place)
 }
 
 /// Whether a link from the first task to the second would close a walk.

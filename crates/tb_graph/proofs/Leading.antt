@@ -22,19 +22,19 @@ or_right : (a b : Bool) → b ≡ true → (a || b) ≡ true
 or_right true b h = refl
 or_right false b h = h
 
-and_parts : (a b : Bool) → (a && b) ≡ true → (a ≡ true) × (b ≡ true)
+pub and_parts : (a b : Bool) → (a && b) ≡ true → (a ≡ true) × (b ≡ true)
 and_parts true b h = (refl, h)
 and_parts false b h = absurd (true≢false (sym h))
 
-and_both : (a b : Bool) → a ≡ true → b ≡ true → (a && b) ≡ true
+pub and_both : (a b : Bool) → a ≡ true → b ≡ true → (a && b) ≡ true
 and_both true b h k = k
 and_both false b h k = h
 
-is_in : (b : ℕ) (ts : List ℕ) → list_any (λ t. t == b) ts ≡ true → IsIn b ts
+pub is_in : (b : ℕ) (ts : List ℕ) → list_any (λ t. t == b) ts ≡ true → IsIn b ts
 is_in b [] h = absurd (true≢false (sym h))
 is_in b (t ∷ ts) h = elim (or_cases (t == b) (list_any (λ t. t == b) ts) h) [ inl here ↦ inl (eqb-true t b here) | inr later ↦ inr (is_in b ts later) ]
 
-in_is : (b : ℕ) (ts : List ℕ) → IsIn b ts → list_any (λ t. t == b) ts ≡ true
+pub in_is : (b : ℕ) (ts : List ℕ) → IsIn b ts → list_any (λ t. t == b) ts ≡ true
 in_is b [] h = absurd h
 in_is b (t ∷ ts) (inl e) = or_left (t == b) (list_any (λ t. t == b) ts) (subst (λ n. (t == n) ≡ true) e (eqb-same t))
 in_is b (t ∷ ts) (inr h) = or_right (t == b) (list_any (λ t. t == b) ts) (in_is b ts h)

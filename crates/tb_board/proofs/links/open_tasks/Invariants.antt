@@ -1,5 +1,5 @@
 use Rattle.std.proofs.Common.{◌≡◌, take}
-use Rattle.tb_board.specs.Links.{are_open}
+use Rattle.tb_board.specs.Blocked.{are_open}
 use Rattle.tb_board.proofs.links.open_tasks.Given as goal
 
 abbrev pub invariant-loop-task : goal.invariant-loop-task
