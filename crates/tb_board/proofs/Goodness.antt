@@ -54,7 +54,7 @@ on-more b t id on = rw (list_any-append (λ (u : Task). u.id == id) b.tasks (t �
     either true q h = refl
     either false q h = absurd (true≢false h)
 
-lacks-more : (b : Board) (t : Task) (is : List ℕ) → lacks_depends b is ≡ false → lacks_depends (with_task b t) is ≡ false
+pub lacks-more : (b : Board) (t : Task) (is : List ℕ) → lacks_depends b is ≡ false → lacks_depends (with_task b t) is ≡ false
 lacks-more b t [] h = refl
 lacks-more b t (i ∷ is) h =
     elim (cases_Bool (not (is_on b i))) [
@@ -62,7 +62,7 @@ lacks-more b t (i ∷ is) h =
       | inr there ↦ let rest : lacks_depends b is ≡ false = rw there at h in rw (on-more b t i there) (lacks-more b t is rest)
     ]
 
-linked-more : (b : Board) (t : Task) (ts : List Task) → AllByRecursion (IsLinkedOn b) ts → AllByRecursion (IsLinkedOn (with_task b t)) ts
+pub linked-more : (b : Board) (t : Task) (ts : List Task) → AllByRecursion (IsLinkedOn b) ts → AllByRecursion (IsLinkedOn (with_task b t)) ts
 linked-more b t [] h = tt
 linked-more b t (u ∷ us) h = (lacks-more b t u.depends h.0, linked-more b t us h.1)
 

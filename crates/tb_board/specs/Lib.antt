@@ -7,4 +7,5 @@ pub mod Names
 pub mod Numbers
 pub mod Roles
 pub mod Statuses
+pub mod Templates
 pub mod World

@@ -1,0 +1,4 @@
+pub mod Counts
+pub mod Growing
+pub mod Kept
+pub mod Sweep
