@@ -3,5 +3,6 @@ pub mod GoodPeople
 pub mod GoodRoles
 pub mod GoodWorlds
 pub mod Opening
+pub mod RoleDecisions
 pub mod Sound
 pub mod Stays

@@ -4,7 +4,7 @@ use Rattle.std.proofs.lemmas.Bool.{cases_Bool, leb-false}
 use Rattle.tb_task.specs.declared.incoming.Incoming.{Incoming}
 use Rattle.tb_task.specs.declared.task.Task.{Task}
 use Rattle.tb_task.specs.declared.checks.Field.{Field}
-use Rattle.tb_task.specs.Check.{fault_of, has_bad_text, has_bad_pair, has_bad_recurrence, is_recurring, is_step}
+use Rattle.tb_task.specs.Check.{fault_of, has_bad_text, has_bad_pair, has_bad_recurrence}
 use Rattle.tb_board.specs.declared.board.Board.{Board}
 use Rattle.tb_core.specs.declared.command.Answer.{Answer}
 use Rattle.tb_core.specs.declared.command.Answer.TheVariants as Answers
@@ -23,7 +23,7 @@ use Rattle.tb_board.specs.declared.world.World.{World}
 use Rattle.tb_core.specs.declared.action.Action.{Action}
 use Rattle.tb_core.specs.declared.action.Action.TheVariants.{Done, Delete, Reopen, Start, Stop, Annotate, Denotate}
 use Rattle.tb_core.specs.Actions.{acted, action_fault, action_refusals, of_task, takes}
-use Rattle.tb_core.specs.Add.{add_fault, add_refusals, entered, entered_id, first_fault, is_full, is_linked}
+use Rattle.tb_core.specs.Add.{add_fault, add_refusals, entered, entered_id, first_fault, is_full, is_linked, is_misread}
 use Rattle.tb_board.specs.Board.{lacks_depends}
 use Rattle.tb_core.specs.Apply.{answered, applied, board_for, decided, outcome, person_for, role_answer, role_given, role_refusals, seen_of, seen_with, with_role}
 use Rattle.tb_board.specs.Board.{has_id, is_on, wake, with_task}
@@ -37,11 +37,13 @@ use Rattle.tb_core.specs.People.{board_refusals, new_board, new_person, person_r
 use Rattle.tb_core.specs.Owners.{leaves_none, person_number}
 use Rattle.tb_board.specs.World.{find_board, has_name, has_number, is_owner, key_of, number_of, owners, role_of}
 use Rattle.std.specs.Option.{option_map}
+use Rattle.tb_sweep.specs.Sweep.{sweep}
+use Rattle.tb_sweep.proofs.Adding.{number-sweep}
+use Rattle.tb_sweep.proofs.Keeping.{sweep_kept}
 use Rattle.tb_core.proofs.GoodPeople.{good-new_board, good-person, good-role, number_in}
 use Rattle.tb_board.proofs.Fresh.{fresh}
 use Rattle.tb_core.proofs.GoodWorlds.{all-found, good-with_board, with_board}
 use Rattle.tb_board.proofs.Goodness.{good-change, good-push, good-wake, Keeps}
-use Rattle.tb_board.proofs.Fits.{fit_if}
 use Rattle.tb_core.proofs.Sound.{sound_acted}
 use Rattle.tb_board.proofs.Worlds.{number_found}
 
@@ -71,34 +73,26 @@ taken_entered : (b : Board) (i : Incoming) (m : ℕ) → fault_of (entered b i m
 unfolding fault_of has_bad_text has_bad_pair has_bad_recurrence
 taken_entered b i m = refl
 
--- a task that is added has no recurrence
-first_plain : (o : Option Field) (linked : Bool) → first_fault o linked ≡ None → linked ≡ false
-first_plain None false h = refl
-first_plain None true h = absurd (cc)
-first_plain (Some f) linked h = absurd (cc)
+-- a task that is added is as a reader leaves it
+first_well : (o : Option Field) (wrong : Bool) → first_fault o wrong ≡ None → wrong ≡ false
+first_well None false h = refl
+first_well None true h = absurd (cc)
+first_well (Some f) wrong h = absurd (cc)
 
-no_recur : (a b c d : Bool) → (a || b || c || d) ≡ false → d ≡ false
-no_recur a b c false h = refl
-no_recur true b c true h = h
-no_recur false true c true h = h
-no_recur false false true true h = h
-no_recur false false false true h = h
+or_second : (p q : Bool) → (p || q) ≡ false → q ≡ false
+or_second true q h = absurd (true≢false h)
+or_second false q h = h
 
-plain_form : (t : Task) → is_some t.recur ≡ false → has_bad_recurrence t ≡ false → has_template_form t ≡ true
-unfolding has_bad_recurrence
-plain_form t none h = rw none (no_step (is_recurring t.status) (is_some t.due) t.recur none h)
-  where
-    no_step : (r d : Bool) (recur : Option (List ℕ)) → is_some recur ≡ false → (r && not (d && is_step recur)) ≡ false → not r ≡ true
-    no_step false d recur none h = refl
-    no_step true d (Some text) none h = absurd (true≢false none)
-    no_step true true None none h = absurd (true≢false h)
-    no_step true false None none h = absurd (true≢false h)
+not_false : (p : Bool) → not p ≡ false → p ≡ true
+not_false true h = refl
+not_false false h = absurd (true≢false h)
 
 sound_entered : (b : Board) (i : Incoming) (m : ℕ) → add_fault i ≡ None → IsSound (entered b i m)
 sound_entered b i m h =
-    let taken = taken_entered b i m ∙ first_none (fault_of i.task) (is_linked i) h in
-    let none = no_recur (is_some i.raw_parent) (is_some i.raw_imask) (is_some i.raw_mask) (is_some i.task.recur) (first_plain (fault_of i.task) (is_linked i) h) in
-    record { taken = taken; template = plain_form (entered b i m) none (fit_if (entered b i m) taken).recurrence }
+    let taken = taken_entered b i m ∙ first_none (fault_of i.task) (is_linked i || is_misread i.task) h in
+    let well = first_well (fault_of i.task) (is_linked i || is_misread i.task) h in
+    let read = or_second (is_linked i) (is_misread i.task) well in
+    record { taken = taken; template = not_false (has_template_form i.task) (or_second (is_some i.task.parent) (not (has_template_form i.task)) read) }
 
 good-add : (b : Board) (i : Incoming) (m : ℕ) → IsGood b → least (add_refusals b i) ≡ None → IsGood (with_task b (entered b i m))
 good-add b i m good h =
@@ -121,10 +115,6 @@ keeps_acted m Stop = record { id = λ t. refl; depends = λ t. refl }
 keeps_acted m (Annotate text) = record { id = λ t. refl; depends = λ t. refl }
 keeps_acted m (Denotate text) = record { id = λ t. refl; depends = λ t. refl }
 
-not_false : (p : Bool) → not p ≡ false → p ≡ true
-not_false true h = refl
-not_false false h = absurd (true≢false h)
-
 good_at : (b : Board) (id : ℕ) (a : Action) (m : ℕ) (o : Option Task) → find (has_id id) b.tasks ≡ o → of_task (takes a) o ≡ true → action_fault a ≡ None → IsGood b
     → IsGood (record b { tasks = change_first (has_id id) (acted m a) b.tasks })
 good_at b id a m None found taken fault good = absurd (true≢false (sym taken))
@@ -144,23 +134,24 @@ record Follows (x b : Board) : Type 0 where
   good : IsGood b
 
 -- where a world is good unless the command is refused
-kept : (w : World) (x : Board) (o : Option Refusal) (b : Board) (told : Told) → IsGoodWorld w → find (has_number x.number) w.boards ≡ Some x → (o ≡ None → Follows x b)
-    → IsGoodWorld (applied w (answered (unless_refused o b told))).world
-kept w x (Some r) b told good found later = good
-kept w x None b told good found later = good-with_board w x b good found (later refl).number (later refl).good
+kept : (m : ℕ) (w : World) (x : Board) (o : Option Refusal) (b : Board) (told : Told) → IsGoodWorld w → find (has_number x.number) w.boards ≡ Some x → (o ≡ None → Follows x b)
+    → IsGoodWorld (applied w (answered m (unless_refused o b told))).world
+kept m w x (Some r) b told good found later = good
+kept m w x None b told good found later =
+    good-with_board w x (sweep b m) good found (number-sweep b m ∙ (later refl).number) (sweep_kept b m (later refl).good)
 
 kept_outcome : (w : World) (x : Board) (c : Command) (m : ℕ) → IsGoodWorld w → find (has_number x.number) w.boards ≡ Some x → IsGood x
     → IsGoodWorld (applied w (outcome x c m)).world
 kept_outcome w x (Add n i) m good found is_good =
-    kept w x (least (add_refusals (wake x m) i)) (with_task (wake x m) (entered (wake x m) i m)) (Added (entered_id (wake x m) i) i.dropped) good found
+    kept m w x (least (add_refusals (wake x m) i)) (with_task (wake x m) (entered (wake x m) i m)) (Added (entered_id (wake x m) i) i.dropped) good found
     (λ none. record { number = refl; good = good-add (wake x m) i m (good-wake x m is_good) none })
 kept_outcome w x (OnTask n id a) m good found is_good =
-    kept w x (least (action_refusals (wake x m) id a)) (record (wake x m) { tasks = change_first (has_id id) (acted m a) (wake x m).tasks }) (Changed id) good found
+    kept m w x (least (action_refusals (wake x m) id a)) (record (wake x m) { tasks = change_first (has_id id) (acted m a) (wake x m).tasks }) (Changed id) good found
     (λ none. record { number = refl; good = good-action (wake x m) id a m (good-wake x m is_good) none })
-kept_outcome w x (Sweep n) m good found is_good = kept w x None (wake x m) Swept good found (λ none. record { number = refl; good = good-wake x m is_good })
-kept_outcome w x (SetRole n name role) m good found is_good = kept w x None (wake x m) Swept good found (λ none. record { number = refl; good = good-wake x m is_good })
-kept_outcome w x (NewPerson name key) m good found is_good = kept w x None (wake x m) Swept good found (λ none. record { number = refl; good = good-wake x m is_good })
-kept_outcome w x (NewBoard title) m good found is_good = kept w x None (wake x m) Swept good found (λ none. record { number = refl; good = good-wake x m is_good })
+kept_outcome w x (Sweep n) m good found is_good = kept m w x None (wake x m) Swept good found (λ none. record { number = refl; good = good-wake x m is_good })
+kept_outcome w x (SetRole n name role) m good found is_good = kept m w x None (wake x m) Swept good found (λ none. record { number = refl; good = good-wake x m is_good })
+kept_outcome w x (NewPerson name key) m good found is_good = kept m w x None (wake x m) Swept good found (λ none. record { number = refl; good = good-wake x m is_good })
+kept_outcome w x (NewBoard title) m good found is_good = kept m w x None (wake x m) Swept good found (λ none. record { number = refl; good = good-wake x m is_good })
 
 kept_seen : (w : World) (caller n : ℕ) (role : Option Role) (o : Option Board) (c : Command) (m : ℕ) → IsGoodWorld w → find_board w n ≡ o
     → IsGoodWorld (applied w (decided (Some caller) (seen_with role o) c m)).world
@@ -180,19 +171,19 @@ kept_given : (o : Option Refusal) (w v : World) (a : Answer) → IsGoodWorld w �
 kept_given None w v a good later = later refl
 kept_given (Some refusal) w v a good later = good
 
--- the role of a person who is there, on a board that is awake
+-- the role of a person who is there, on a board that is swept
 good_role_at : (w : World) (x : Board) (n k : ℕ) (role : Option Role) (m : ℕ) → IsGoodWorld w → find (has_number n) w.boards ≡ Some x → x.number ≡ n → 1 ≤ k → k ≤ length w.people
-    → leaves_none (Some (record { number = k; role = role_of w n k })) role (owners w n) ≡ false → IsGoodWorld (with_role w (wake x m) k role)
+    → leaves_none (Some (record { number = k; role = role_of w n k })) role (owners w n) ≡ false → IsGoodWorld (with_role w (sweep x m) k role)
 good_role_at w x n k role m good is number from to stays =
     let found : find (has_number x.number) w.boards ≡ Some x = subst (λ i. find (has_number i) w.boards ≡ Some x) (sym number) is in
-    let awake = good-with_board w x (wake x m) good found refl (good-wake x m (all-found IsGood (has_number n) w.boards x good.good is)) in
-    let owner = all-found (HasOwner w) (has_number n) w.boards x good.owned is in
-    let stays' = subst (λ i. leaves_none (Some (record { number = k; role = role_of w i k })) role (owners w i) ≡ false) (sym number) stays in
-    good-role (with_board w (wake x m)) x.number k role awake owner from to stays'
+    let swept = good-with_board w x (sweep x m) good found (number-sweep x m) (sweep_kept x m (all-found IsGood (has_number n) w.boards x good.good is)) in
+    let owner : HasOwner w (sweep x m) = rw (number-sweep x m) (all-found (HasOwner w) (has_number n) w.boards x good.owned is) in
+    let stays' = subst (λ i. leaves_none (Some (record { number = k; role = role_of w i k })) role (owners w i) ≡ false) (sym (number-sweep x m ∙ number)) stays in
+    good-role (with_board w (sweep x m)) (sweep x m).number k role swept owner from to stays'
 
 kept_role : (w : World) (seen : Seen) (x : Board) (own : Role) (n : ℕ) (person : Option ℕ) (role : Option Role) (m : ℕ) → IsGoodWorld w → find (has_number n) w.boards ≡ Some x
     → seen.other ≡ person_for w (Some n) person → seen.owners ≡ owners w n → ((k : ℕ) → person ≡ Some k → (1 ≤ k) × (k ≤ length w.people))
-    → least (role_refusals seen (record { board = x; role = own }) role) ≡ None → IsGoodWorld (with_role w (wake x m) (person_number seen.other) role)
+    → least (role_refusals seen (record { board = x; role = own }) role) ≡ None → IsGoodWorld (with_role w (sweep x m) (person_number seen.other) role)
 kept_role w seen x own n None role m good is other owners' within h =
     let allowed = none_least (where_holds NotAllowed (not (is_owner own))) _ h in
     let missing = none_least (where_holds NoPerson (not (is_some seen.other))) _ allowed.1 in
@@ -214,7 +205,7 @@ kept_role_seen : (w : World) (seen : Seen) (caller n : ℕ) (own : Option Role) 
 kept_role_seen w seen caller n None o person role m good is other owners' within = good
 kept_role_seen w seen caller n (Some own) None person role m good is other owners' within = good
 kept_role_seen w seen caller n (Some own) (Some x) person role m good is other owners' within =
-    kept_given (least (role_refusals seen (record { board = x; role = own }) role)) w (with_role w (wake x m) (person_number seen.other) role) (role_answer x) good
+    kept_given (least (role_refusals seen (record { board = x; role = own }) role)) w (with_role w (sweep x m) (person_number seen.other) role) (role_answer x m) good
     (kept_role w seen x own n person role m good is other owners' within)
 
 kept_role_by : (w : World) (seen : Seen) (caller : Option ℕ) (n : ℕ) (person : Option ℕ) (role : Option Role) (m : ℕ) → IsGoodWorld w
@@ -283,7 +274,7 @@ known_role : (w : World) (seen : Seen) (caller : Option ℕ) (b : Option SeenBoa
 known_role w seen None b role m person key known = known
 known_role w seen (Some caller) None role m person key known = known
 known_role w seen (Some caller) (Some b) role m person key known =
-    known_given (least (role_refusals seen b role)) w (with_role w (wake b.board m) (person_number seen.other) role) (role_answer b.board) person key known known
+    known_given (least (role_refusals seen b role)) w (with_role w (sweep b.board m) (person_number seen.other) role) (role_answer b.board m) person key known known
 
 known_person : (w : World) (seen : Seen) (caller : Option ℕ) (p k : List ℕ) (person key : List ℕ) → key_of w person ≡ Some key
     → key_of (new_person w seen caller p k).world person ≡ Some key

@@ -144,3 +144,22 @@ more_none b awake m is none = rw (sweep_none b awake m is none) (sym (none_lacks
 pub id-instance : (t : Task) (k n m : ℕ) → (instance t k n m).id ≡ n
 unfolding instance
 id-instance t k n m = refl
+
+number-instances : (m : ℕ) (t : Task) (k n : ℕ) (b : Board) → (with_instances m t k n b).number ≡ b.number
+number-instances m t k zero b = refl
+number-instances m t k (suc n) b = number-instances m t (k + 1) n (with_task b (instance t k (free_id b) m))
+
+number-grown : (m : ℕ) (b : Board) (t : Task) → (grown m b t).number ≡ b.number
+number-grown m b t =
+    elim (cases_Bool (is_recurring t.status)) [
+      | inl recurring ↦ rw recurring (number-instances m t (count b t.id) (batch m b t) b)
+      | inr other ↦ rw other refl
+    ]
+
+number-all : (m : ℕ) (b : Board) (ts : List Task) → (grown_all m b ts).number ≡ b.number
+number-all m b [] = refl
+number-all m b (t ∷ ts) = number-all m (grown m b t) ts ∙ number-grown m b t
+
+-- the sweep keeps the board's number
+pub number-sweep : (b : Board) (m : ℕ) → (sweep b m).number ≡ b.number
+number-sweep b m = number-all m (wake b m) (wake b m).tasks
