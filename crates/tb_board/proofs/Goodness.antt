@@ -14,6 +14,8 @@ use Rattle.tb_board.specs.Good.{IsGood, IsSound, IsLinkedOn}
 use Rattle.tb_board.specs.First.{change_first}
 use Rattle.tb_board.proofs.Fresh.{on_ids, among-swapped}
 use Rattle.tb_board.proofs.Fits.{sound_woken}
+use Rattle.tb_board.specs.Instances.{HasRuns, HasTemplateOn}
+use Rattle.tb_board.proofs.Runs.{parent-more, parents-change, parents-more, parents-wake, run_empty, runs-change, runs-wake, KeepsLinks}
 
 ids-wake : (m : ℕ) (ts : List Task) → ids (map (woken m) ts) ≡ ids ts
 ids-wake m [] = refl
@@ -41,6 +43,8 @@ good-wake b m good =
       few = subst (λ n. n ≤ 10000) (sym (length-map b.tasks (woken m))) good.few;
       sound = sound-wake m b.tasks good.sound;
       linked = linked-wake b m b.tasks good.linked;
+      runs = runs-wake b m good.runs;
+      parents = parents-wake b m good.parents;
     }
 
 pub all_push : {A : Type 0} (P : A → Type 0) (xs : List A) (x : A) → AllByRecursion P xs → P x → AllByRecursion P (xs ++ x ∷ [])
@@ -66,8 +70,9 @@ pub linked-more : (b : Board) (t : Task) (ts : List Task) → AllByRecursion (Is
 linked-more b t [] h = tt
 linked-more b t (u ∷ us) h = (lacks-more b t u.depends h.0, linked-more b t us h.1)
 
-pub good-push : (b : Board) (t : Task) → IsGood b → length b.tasks < 10000 → is_on b t.id ≡ false → IsSound t → IsLinkedOn b t → IsGood (with_task b t)
-good-push b t good room alone sound linked =
+pub good-push : (b : Board) (t : Task) → IsGood b → length b.tasks < 10000 → is_on b t.id ≡ false → IsSound t → IsLinkedOn b t
+    → HasRuns (with_task b t) → HasTemplateOn b t → IsGood (with_task b t)
+good-push b t good room alone sound linked runs parent =
     let apart : list_any (nat_eq t.id) (ids b.tasks) ≡ false = among-swapped t.id (ids b.tasks) ∙ sym (on_ids t.id b.tasks) ∙ alone in
     record {
       distinct = subst (IsDistinct nat_eq) (sym (map-append (λ (u : Task). u.id) b.tasks (t ∷ [])))
@@ -75,12 +80,15 @@ good-push b t good room alone sound linked =
       few = omega (arith, room, length-append b.tasks (t ∷ []));
       sound = all_push IsSound b.tasks t good.sound sound;
       linked = all_push (IsLinkedOn (with_task b t)) b.tasks t (linked-more b t b.tasks good.linked) (lacks-more b t t.depends linked);
+      runs = runs;
+      parents = all_push (HasTemplateOn (with_task b t)) b.tasks t (parents-more b t b.tasks good.parents) (parent-more b t t parent);
     }
 
--- f keeps identifiers and links
+-- f keeps identifiers, dependencies, and the links between templates and instances
 pub record Keeps (f : Task → Task) : Type 0 where
   pub id : (t : Task) → (f t).id ≡ t.id
   pub depends : (t : Task) → (f t).depends ≡ t.depends
+  pub links : KeepsLinks f
 
 ids-change : (test : Task → Bool) (f : Task → Task) → Keeps f → (ts : List Task) → ids (change_first test f ts) ≡ ids ts
 ids-change test f keeps [] = refl
@@ -134,4 +142,11 @@ good-change b test f x keeps found sound good =
       few = subst (λ n. n ≤ 10000) (sym (length-change test f b.tasks)) good.few;
       sound = sound-change test f b.tasks x found sound good.sound;
       linked = linked-change b later test f keeps (ids-change test f keeps b.tasks) b.tasks good.linked;
+      runs = runs-change b test f keeps.links good.runs;
+      parents = parents-change b test f keeps.id keeps.links good.parents;
     }
+
+-- a board without tasks
+pub good-empty : (number : ℕ) (title : List ℕ) → IsGood (record { number = number; title = title; tasks = []; gone = [] })
+good-empty number title =
+    record { distinct = run_empty.distinct; few = omega arith; sound = tt; linked = tt; runs = λ id. run_empty; parents = tt }

@@ -6,4 +6,5 @@ pub mod Goodness
 pub mod KnownNumbers
 pub mod Marking
 pub mod Places
+pub mod Runs
 pub mod Worlds

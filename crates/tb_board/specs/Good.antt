@@ -9,6 +9,7 @@ use Rattle.tb_board.specs.declared.board.Board.{Board}
 use Rattle.tb_board.specs.Board.{lacks_depends}
 use Rattle.tb_board.specs.Board.{ids}
 use Rattle.tb_board.specs.Statuses.{is_template}
+use Rattle.tb_board.specs.Instances.{HasRuns, HasTemplateOn}
 
 abbrev pub is_deleted : Status → Bool
 is_deleted Pending = false
@@ -35,3 +36,5 @@ pub record IsGood (b : Board) : Type 0 where
   pub few : length b.tasks ≤ 10000
   pub sound : AllByRecursion IsSound b.tasks
   pub linked : AllByRecursion (IsLinkedOn b) b.tasks
+  pub runs : HasRuns b
+  pub parents : AllByRecursion (HasTemplateOn b) b.tasks

@@ -43,6 +43,8 @@ use Rattle.tb_sweep.proofs.Keeping.{sweep_kept}
 use Rattle.tb_core.proofs.GoodPeople.{good-new_board, good-person, good-role, number_in}
 use Rattle.tb_board.proofs.Fresh.{fresh}
 use Rattle.tb_core.proofs.GoodWorlds.{all-found, good-with_board, with_board}
+use Rattle.tb_board.specs.Instances.{has_template}
+use Rattle.tb_board.proofs.Runs.{runs-plain}
 use Rattle.tb_board.proofs.Goodness.{good-change, good-push, good-wake, Keeps}
 use Rattle.tb_core.proofs.Sound.{sound_acted}
 use Rattle.tb_board.proofs.Worlds.{number_found}
@@ -87,12 +89,25 @@ not_false : (p : Bool) → not p ≡ false → p ≡ true
 not_false true h = refl
 not_false false h = absurd (true≢false h)
 
+or_first : (p q : Bool) → (p || q) ≡ false → p ≡ false
+or_first true q h = absurd (true≢false h)
+or_first false q h = refl
+
+is_none : (o : Option ℕ) → is_some o ≡ false → o ≡ None
+is_none None h = refl
+is_none (Some x) h = absurd (true≢false h)
+
+read_well : (i : Incoming) → add_fault i ≡ None → is_misread i.task ≡ false
+read_well i h = or_second (is_linked i) (is_misread i.task) (first_well (fault_of i.task) (is_linked i || is_misread i.task) h)
+
 sound_entered : (b : Board) (i : Incoming) (m : ℕ) → add_fault i ≡ None → IsSound (entered b i m)
-sound_entered b i m h =
-    let taken = taken_entered b i m ∙ first_none (fault_of i.task) (is_linked i || is_misread i.task) h in
-    let well = first_well (fault_of i.task) (is_linked i || is_misread i.task) h in
-    let read = or_second (is_linked i) (is_misread i.task) well in
-    record { taken = taken; template = not_false (has_template_form i.task) (or_second (is_some i.task.parent) (not (has_template_form i.task)) read) }
+sound_entered b i m h = record {
+  taken = taken_entered b i m ∙ first_none (fault_of i.task) (is_linked i || is_misread i.task) h;
+  template = not_false (has_template_form i.task) (or_second (is_some i.task.parent) (not (has_template_form i.task)) (read_well i h));
+}
+
+no_parent : (i : Incoming) → add_fault i ≡ None → i.task.parent ≡ None
+no_parent i h = is_none i.task.parent (or_first (is_some i.task.parent) (not (has_template_form i.task)) (read_well i h))
 
 good-add : (b : Board) (i : Incoming) (m : ℕ) → IsGood b → least (add_refusals b i) ≡ None → IsGood (with_task b (entered b i m))
 good-add b i m good h =
@@ -100,20 +115,23 @@ good-add b i m good h =
     let taken = none_least (where_holds UuidTaken (i.named && is_on b i.task.id)) _ depends.1 in
     let fault = none_least (bad_task (add_fault i)) _ taken.1 in
     let full = none_least (where_holds Full (is_full b)) [] fault.1 in
+    let parent = no_parent i (no_fault (add_fault i) fault.0) in
     good-push b (entered b i m) good
     (leb-false 10000 (length b.tasks) (none_holds Full (is_full b) full.0))
     (new_id b i.named i.task.id (free_id b) (none_holds UuidTaken (i.named && is_on b i.task.id) taken.0) (fresh b))
     (sound_entered b i m (no_fault (add_fault i) fault.0))
     (none_holds NoTask (lacks_depends b i.task.depends) depends.0)
+    (runs-plain b (entered b i m) parent good.runs)
+    (ap (has_template b) parent)
 
 keeps_acted : (m : ℕ) (a : Action) → Keeps (acted m a)
-keeps_acted m Done = record { id = λ t. refl; depends = λ t. refl }
-keeps_acted m Delete = record { id = λ t. refl; depends = λ t. refl }
-keeps_acted m Reopen = record { id = λ t. refl; depends = λ t. refl }
-keeps_acted m Start = record { id = λ t. refl; depends = λ t. refl }
-keeps_acted m Stop = record { id = λ t. refl; depends = λ t. refl }
-keeps_acted m (Annotate text) = record { id = λ t. refl; depends = λ t. refl }
-keeps_acted m (Denotate text) = record { id = λ t. refl; depends = λ t. refl }
+keeps_acted m Done = record { id = λ t. refl; depends = λ t. refl; links = record { parent = λ t. refl; imask = λ t. refl; template = λ t. refl } }
+keeps_acted m Delete = record { id = λ t. refl; depends = λ t. refl; links = record { parent = λ t. refl; imask = λ t. refl; template = λ t. refl } }
+keeps_acted m Reopen = record { id = λ t. refl; depends = λ t. refl; links = record { parent = λ t. refl; imask = λ t. refl; template = λ t. refl } }
+keeps_acted m Start = record { id = λ t. refl; depends = λ t. refl; links = record { parent = λ t. refl; imask = λ t. refl; template = λ t. refl } }
+keeps_acted m Stop = record { id = λ t. refl; depends = λ t. refl; links = record { parent = λ t. refl; imask = λ t. refl; template = λ t. refl } }
+keeps_acted m (Annotate text) = record { id = λ t. refl; depends = λ t. refl; links = record { parent = λ t. refl; imask = λ t. refl; template = λ t. refl } }
+keeps_acted m (Denotate text) = record { id = λ t. refl; depends = λ t. refl; links = record { parent = λ t. refl; imask = λ t. refl; template = λ t. refl } }
 
 good_at : (b : Board) (id : ℕ) (a : Action) (m : ℕ) (o : Option Task) → find (has_id id) b.tasks ≡ o → of_task (takes a) o ≡ true → action_fault a ≡ None → IsGood b
     → IsGood (record b { tasks = change_first (has_id id) (acted m a) b.tasks })

@@ -6,21 +6,10 @@ use Rattle.tb_task.specs.declared.task.Task.{Task}
 use Rattle.tb_recur.specs.Instance.{instance}
 use Rattle.tb_board.specs.declared.board.Board.{Board}
 use Rattle.tb_board.specs.Board.{with_task}
+use Rattle.tb_board.proofs.Runs.{places-push}
 use Rattle.tb_board.specs.Templates.{place_in, with_place, instance_places, places, count}
 use Rattle.tb_sweep.specs.declared.counts.Counts.{Counts}
 use Rattle.tb_sweep.specs.Counts.{AreCounts, number_at}
-
-with_place-append : (o : Option ℕ) (xs ys : List ℕ) → with_place o (xs ++ ys) ≡ with_place o xs ++ ys
-with_place-append None xs ys = refl
-with_place-append (Some k) xs ys = refl
-
-instance_places-push : (id : ℕ) (ts : List Task) (t : Task) → instance_places id (ts ++ t ∷ []) ≡ instance_places id ts ++ with_place (place_in id t) []
-instance_places-push id [] t = refl
-instance_places-push id (u ∷ us) t =
-    ap (with_place (place_in id u)) (instance_places-push id us t) ∙ with_place-append (place_in id u) (instance_places id us) (with_place (place_in id t) [])
-
-pub places-push : (b : Board) (id : ℕ) (t : Task) → places (with_task b t) id ≡ places b id ++ with_place (place_in id t) []
-places-push b id t = rw (instance_places-push id b.tasks t) (sym (append_assoc _ (instance_places id b.tasks) (with_place (place_in id t) [])))
 
 pub place-own : (t : Task) (k n m : ℕ) (id : ℕ) → (t.id == id) ≡ true → place_in id (instance t k n m) ≡ Some k
 unfolding instance
