@@ -1,5 +1,5 @@
 -- Counts of places, one by one.
-use Rattle.std.proofs.Common.{◌≡◌, ℕ, ◌+◌, ◌<◌, ◌≤◌, ◌==◌, min, true, false, List, [], ◌∷◌, ◌++◌, Option, Some, None, refl, sym, ◌∙◌, ap, arith, inl, inr, length-append, append_assoc, if◌then◌else◌}
+use Rattle.std.proofs.Common.{◌≡◌, ℕ, ◌+◌, ◌<◌, ◌≤◌, ◌==◌, min, true, false, [], ◌∷◌, Some, None, refl, arith, inl, inr, length-append, if◌then◌else◌}
 use Rattle.std.proofs.lemmas.Bool.{cases_Bool}
 use Rattle.std.proofs.lemmas.List.{append-nil}
 use Rattle.tb_task.specs.declared.task.Task.{Task}
@@ -7,7 +7,7 @@ use Rattle.tb_recur.specs.Instance.{instance}
 use Rattle.tb_board.specs.declared.board.Board.{Board}
 use Rattle.tb_board.specs.Board.{with_task}
 use Rattle.tb_board.proofs.Runs.{places-push}
-use Rattle.tb_board.specs.Templates.{place_in, with_place, instance_places, places, count}
+use Rattle.tb_board.specs.Templates.{place_in, places, count}
 use Rattle.tb_sweep.specs.declared.counts.Counts.{Counts}
 use Rattle.tb_sweep.specs.Counts.{AreCounts, number_at}
 
