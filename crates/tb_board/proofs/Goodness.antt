@@ -15,16 +15,22 @@ use Rattle.tb_board.specs.First.{change_first}
 use Rattle.tb_board.proofs.Fresh.{on_ids, among-swapped}
 use Rattle.tb_board.proofs.Fits.{sound_woken}
 use Rattle.tb_board.specs.Instances.{HasRuns, HasTemplateOn}
-use Rattle.tb_board.proofs.Runs.{parent-more, parents-change, parents-more, parents-wake, run_empty, runs-change, runs-wake, KeepsLinks}
+use Rattle.tb_board.proofs.Runs.{parent-more, parents-change, parents-more, parents-wake, run_empty, runs-change, runs-wake, SameLinks}
+use Rattle.tb_board.specs.Links.{depends_of, IsAcyclic}
+use Rattle.tb_board.proofs.Relinking.{acyclic-empty, acyclic-push, acyclic-same}
 
-ids-wake : (m : ℕ) (ts : List Task) → ids (map (woken m) ts) ≡ ids ts
+pub ids-wake : (m : ℕ) (ts : List Task) → ids (map (woken m) ts) ≡ ids ts
 ids-wake m [] = refl
 ids-wake m (t ∷ ts) = ap (λ is. t.id ∷ is) (ids-wake m ts)
 
-on-same : (b c : Board) (id : ℕ) → ids c.tasks ≡ ids b.tasks → is_on c id ≡ is_on b id
+depends-wake : (m : ℕ) (ts : List Task) → depends_of (map (woken m) ts) ≡ depends_of ts
+depends-wake m [] = refl
+depends-wake m (t ∷ ts) = ap (λ ds. t.depends ∷ ds) (depends-wake m ts)
+
+pub on-same : (b c : Board) (id : ℕ) → ids c.tasks ≡ ids b.tasks → is_on c id ≡ is_on b id
 on-same b c id same = on_ids id c.tasks ∙ ap (λ is. list_any (λ x. x == id) is) same ∙ sym (on_ids id b.tasks)
 
-lacks-same : (b c : Board) (is : List ℕ) → ids c.tasks ≡ ids b.tasks → lacks_depends c is ≡ lacks_depends b is
+pub lacks-same : (b c : Board) (is : List ℕ) → ids c.tasks ≡ ids b.tasks → lacks_depends c is ≡ lacks_depends b is
 lacks-same b c [] same = refl
 lacks-same b c (i ∷ is) same = rw (on-same b c i same) (ap (λ q. not (is_on b i) || q) (lacks-same b c is same))
 
@@ -43,6 +49,7 @@ good-wake b m good =
       few = subst (λ n. n ≤ 10000) (sym (length-map b.tasks (woken m))) good.few;
       sound = sound-wake m b.tasks good.sound;
       linked = linked-wake b m b.tasks good.linked;
+      acyclic = acyclic-same b (wake b m) (ids-wake m b.tasks) (depends-wake m b.tasks) good.acyclic;
       runs = runs-wake b m good.runs;
       parents = parents-wake b m good.parents;
     }
@@ -80,21 +87,21 @@ good-push b t good room alone sound linked runs parent =
       few = omega (arith, room, length-append b.tasks (t ∷ []));
       sound = all_push IsSound b.tasks t good.sound sound;
       linked = all_push (IsLinkedOn (with_task b t)) b.tasks t (linked-more b t b.tasks good.linked) (lacks-more b t t.depends linked);
+      acyclic = acyclic-push b t good.acyclic good.linked linked;
       runs = runs;
       parents = all_push (HasTemplateOn (with_task b t)) b.tasks t (parents-more b t b.tasks good.parents) (parent-more b t t parent);
     }
 
--- f keeps identifiers, dependencies, and the links between templates and instances
+-- f keeps identifiers and links
 pub record Keeps (f : Task → Task) : Type 0 where
   pub id : (t : Task) → (f t).id ≡ t.id
   pub depends : (t : Task) → (f t).depends ≡ t.depends
-  pub links : KeepsLinks f
 
-ids-change : (test : Task → Bool) (f : Task → Task) → Keeps f → (ts : List Task) → ids (change_first test f ts) ≡ ids ts
+pub ids-change : (test : Task → Bool) (f : Task → Task) → ((t : Task) → (f t).id ≡ t.id) → (ts : List Task) → ids (change_first test f ts) ≡ ids ts
 ids-change test f keeps [] = refl
 ids-change test f keeps (t ∷ ts) =
     elim (cases_Bool (test t)) [
-      | inl here ↦ rw here (ap (λ i. i ∷ ids ts) (keeps.id t))
+      | inl here ↦ rw here (ap (λ i. i ∷ ids ts) (keeps t))
       | inr other ↦ rw other (ap (λ is. t.id ∷ is) (ids-change test f keeps ts))
     ]
 
@@ -106,18 +113,27 @@ length-change test f (t ∷ ts) =
       | inr other ↦ rw other (ap suc (length-change test f ts))
     ]
 
-sound-change : (test : Task → Bool) (f : Task → Task) (ts : List Task) (x : Task) → find test ts ≡ Some x → (IsSound x → IsSound (f x))
-    → AllByRecursion IsSound ts → AllByRecursion IsSound (change_first test f ts)
-sound-change test f [] x h sound all = tt
-sound-change test f (t ∷ ts) x h sound all =
+depends-change : (test : Task → Bool) (f : Task → Task) → Keeps f → (ts : List Task) → depends_of (change_first test f ts) ≡ depends_of ts
+depends-change test f keeps [] = refl
+depends-change test f keeps (t ∷ ts) =
+    elim (cases_Bool (test t)) [
+      | inl here ↦ rw here (ap (λ ds. ds ∷ depends_of ts) (keeps.depends t))
+      | inr other ↦ rw other (ap (λ ds. t.depends ∷ ds) (depends-change test f keeps ts))
+    ]
+
+-- what holds of each task still does where f keeps it at the one that is found
+all-change : (P : Task → Type 0) (test : Task → Bool) (f : Task → Task) (ts : List Task) (x : Task) → find test ts ≡ Some x → (P x → P (f x))
+    → AllByRecursion P ts → AllByRecursion P (change_first test f ts)
+all-change P test f [] x h keeps all = tt
+all-change P test f (t ∷ ts) x h keeps all =
     elim (cases_Bool (test t)) [
       | inl here ↦
           let found : Some t ≡ Some x = rw here at h in
           let is : x ≡ t = cc in
-          rw here (subst (λ (u : Task). IsSound u → IsSound (f u)) is sound all.0, all.1)
+          rw here (subst (λ (u : Task). P u → P (f u)) is keeps all.0, all.1)
       | inr other ↦
           let later : find test ts ≡ Some x = rw other at h in
-          rw other (all.0, sound-change test f ts x later sound all.1)
+          rw other (all.0, all-change P test f ts x later keeps all.1)
     ]
 
 linked-change : (b c : Board) (test : Task → Bool) (f : Task → Task) → Keeps f → ids c.tasks ≡ ids b.tasks → (ts : List Task)
@@ -133,20 +149,42 @@ linked-change b c test f keeps same (t ∷ ts) h =
     others [] h = tt
     others (u ∷ us) h = (lacks-same b c u.depends same ∙ h.0, others us h.1)
 
-pub good-change : (b : Board) (test : Task → Bool) (f : Task → Task) (x : Task) → Keeps f → find test b.tasks ≡ Some x → (IsSound x → IsSound (f x)) → IsGood b
+pub good-change : (b : Board) (test : Task → Bool) (f : Task → Task) (x : Task) → Keeps f → SameLinks x (f x) → find test b.tasks ≡ Some x → (IsSound x → IsSound (f x)) → IsGood b
     → IsGood (record b { tasks = change_first test f b.tasks })
-good-change b test f x keeps found sound good =
+good-change b test f x keeps links found sound good =
     let later : Board = record b { tasks = change_first test f b.tasks } in
     record {
-      distinct = subst (IsDistinct nat_eq) (sym (ids-change test f keeps b.tasks)) good.distinct;
+      distinct = subst (IsDistinct nat_eq) (sym (ids-change test f keeps.id b.tasks)) good.distinct;
       few = subst (λ n. n ≤ 10000) (sym (length-change test f b.tasks)) good.few;
-      sound = sound-change test f b.tasks x found sound good.sound;
-      linked = linked-change b later test f keeps (ids-change test f keeps b.tasks) b.tasks good.linked;
-      runs = runs-change b test f keeps.links good.runs;
-      parents = parents-change b test f keeps.id keeps.links good.parents;
+      sound = all-change IsSound test f b.tasks x found sound good.sound;
+      linked = linked-change b later test f keeps (ids-change test f keeps.id b.tasks) b.tasks good.linked;
+      acyclic = acyclic-same b later (ids-change test f keeps.id b.tasks) (depends-change test f keeps b.tasks) good.acyclic;
+      runs = runs-change b test f x links found good.runs;
+      parents = parents-change b test f x keeps.id links found good.parents;
+    }
+
+linked-same : (b c : Board) (ts : List Task) → ids c.tasks ≡ ids b.tasks → AllByRecursion (IsLinkedOn b) ts → AllByRecursion (IsLinkedOn c) ts
+linked-same b c [] same h = tt
+linked-same b c (t ∷ ts) same h = (lacks-same b c t.depends same ∙ h.0, linked-same b c ts same h.1)
+
+-- f keeps identifiers, and its links stay on the board and close no walk
+pub good-relink : (b : Board) (test : Task → Bool) (f : Task → Task) (x : Task) → ((t : Task) → (f t).id ≡ t.id) → SameLinks x (f x) → find test b.tasks ≡ Some x
+    → (IsSound x → IsSound (f x)) → (IsLinkedOn b x → IsLinkedOn b (f x)) → IsAcyclic (record b { tasks = change_first test f b.tasks }) → IsGood b
+    → IsGood (record b { tasks = change_first test f b.tasks })
+good-relink b test f x keeps links found sound linked acyclic good =
+    let later : Board = record b { tasks = change_first test f b.tasks } in
+    let same = ids-change test f keeps b.tasks in
+    record {
+      distinct = subst (IsDistinct nat_eq) (sym same) good.distinct;
+      few = subst (λ n. n ≤ 10000) (sym (length-change test f b.tasks)) good.few;
+      sound = all-change IsSound test f b.tasks x found sound good.sound;
+      linked = linked-same b later later.tasks same (all-change (IsLinkedOn b) test f b.tasks x found linked good.linked);
+      acyclic = acyclic;
+      runs = runs-change b test f x links found good.runs;
+      parents = parents-change b test f x keeps links found good.parents;
     }
 
 -- a board without tasks
 pub good-empty : (number : ℕ) (title : List ℕ) → IsGood (record { number = number; title = title; tasks = []; gone = [] })
 good-empty number title =
-    record { distinct = run_empty.distinct; few = omega arith; sound = tt; linked = tt; runs = λ id. run_empty; parents = tt }
+    record { distinct = run_empty.distinct; few = omega arith; sound = tt; linked = tt; acyclic = acyclic-empty _ refl; runs = λ id. run_empty; parents = tt }

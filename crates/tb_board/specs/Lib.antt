@@ -3,6 +3,7 @@ pub mod Changes
 pub mod First
 pub mod Good
 pub mod Instances
+pub mod Links
 pub mod Marks
 pub mod Names
 pub mod Numbers

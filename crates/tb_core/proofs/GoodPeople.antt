@@ -25,6 +25,7 @@ use Rattle.tb_core.proofs.GoodRoles.{all-set, distinct-set, new_owner, owner_lea
 use Rattle.tb_board.proofs.Goodness.{all_push, good-empty}
 use Rattle.tb_core.proofs.Opening.{none_distinct}
 use Rattle.tb_board.proofs.Places.{place}
+use Rattle.tb_board.proofs.Relinking.{acyclic-empty}
 
 roles-within : (w v : World) → length w.people ≤ length v.people → length w.boards ≤ length v.boards → (rs : List RoleOn) → AllByRecursion (IsRoleIn w) rs → AllByRecursion (IsRoleIn v) rs
 roles-within w v people boards [] all = tt

@@ -1,8 +1,14 @@
 pub mod Decided
+pub mod Depending
+pub mod Early
+pub mod EditSteps
+pub mod GoodLinks
 pub mod GoodPeople
 pub mod GoodRoles
 pub mod GoodWorlds
+pub mod Modifying
 pub mod Opening
 pub mod RoleDecisions
 pub mod Sound
+pub mod SoundEdits
 pub mod Stays

@@ -1,9 +1,11 @@
 -- Each command leaves a good world good.
-use Rattle.std.proofs.Common.{◌≡◌, ℕ, ◌+◌, ◌==◌, ◌++◌, ◌<◌, ◌≤◌, nat_le, Bool, true, false, ◌&&◌, ◌||◌, not, is_some, true≢false, List, [], ◌∷◌, Option, Some, None, Result, Ok, Err, length, find, refl, sym, ◌∙◌, ap, arith, subst, inl, inr, if◌then◌else◌}
+use Rattle.std.proofs.Common.{◌≡◌, ℕ, ◌+◌, ◌==◌, ◌++◌, ◌<◌, ◌≤◌, nat_le, Bool, true, false, ◌&&◌, ◌||◌, not, is_some, true≢false, List, [], ◌∷◌, Option, Some, None, Result, Ok, Err, length, find, refl, sym, ◌∙◌, ap, arith, subst, inl, inr, if◌then◌else◌, option_and_then}
 use Rattle.std.proofs.lemmas.Bool.{cases_Bool, leb-false}
 use Rattle.tb_task.specs.declared.incoming.Incoming.{Incoming}
 use Rattle.tb_task.specs.declared.task.Task.{Task}
 use Rattle.tb_task.specs.declared.checks.Field.{Field}
+use Rattle.tb_task.specs.declared.checks.Field.TheVariants.{BadPair}
+use Rattle.tb_task.specs.declared.edit.Edit.{Edit}
 use Rattle.tb_task.specs.Check.{fault_of, has_bad_text, has_bad_pair, has_bad_recurrence}
 use Rattle.tb_board.specs.declared.board.Board.{Board}
 use Rattle.tb_core.specs.declared.command.Answer.{Answer}
@@ -13,21 +15,26 @@ use Rattle.tb_core.specs.declared.look.Seen.{Seen}
 use Rattle.tb_core.specs.declared.look.SeenBoard.{SeenBoard}
 use Rattle.tb_board.specs.declared.world.Person.{Person}
 use Rattle.tb_core.specs.declared.command.Command.{Command}
-use Rattle.tb_core.specs.declared.command.Command.TheVariants.{Add, OnTask, Sweep, SetRole, NewPerson, NewBoard}
+use Rattle.tb_core.specs.declared.command.Command.TheVariants.{Add, OnTask, Modify, Sweep, SetRole, NewPerson, NewBoard, Depend, Undepend}
 use Rattle.tb_core.specs.declared.command.Told.{Told}
 use Rattle.tb_core.specs.declared.command.Told.TheVariants.{Added, Changed, Swept}
 use Rattle.tb_core.specs.declared.refusal.Refusal.{Refusal}
-use Rattle.tb_core.specs.declared.refusal.Refusal.TheVariants.{NoTask, UuidTaken, Full, WrongStatus, NotAllowed, NoPerson, LastOwner, NameTaken}
+use Rattle.tb_core.specs.declared.refusal.Refusal.TheVariants.{NoTask, UuidTaken, Full, WrongStatus, TemplateFixed, NotAllowed, NoPerson, LastOwner, NameTaken, Cycle}
 use Rattle.tb_board.specs.declared.world.Role.{Role}
 use Rattle.tb_board.specs.declared.world.World.{World}
 use Rattle.tb_core.specs.declared.action.Action.{Action}
 use Rattle.tb_core.specs.declared.action.Action.TheVariants.{Done, Delete, Reopen, Start, Stop, Annotate, Denotate}
 use Rattle.tb_core.specs.Actions.{acted, action_fault, action_refusals, of_task, takes}
+use Rattle.tb_core.specs.Edits.{modified}
+use Rattle.tb_core.specs.Modify.{is_fixed, is_misplaced, modify_fault, modify_refusals}
+use Rattle.tb_core.specs.Depends.{closes_walk, depend_refusals, is_open_task, lacks_either, linked, undepend_refusals, unlinked}
+use Rattle.tb_core.proofs.GoodLinks.{good-linked, good-unlinked}
 use Rattle.tb_core.specs.Add.{add_fault, add_refusals, entered, entered_id, first_fault, is_full, is_linked, is_misread}
 use Rattle.tb_board.specs.Board.{lacks_depends}
 use Rattle.tb_core.specs.Apply.{answered, applied, board_for, decided, outcome, person_for, role_answer, role_given, role_refusals, seen_of, seen_with, with_role}
 use Rattle.tb_board.specs.Board.{has_id, is_on, wake, with_task}
 use Rattle.tb_board.specs.First.{change_first}
+use Rattle.tb_board.specs.Statuses.{is_open}
 use Rattle.tb_board.specs.Good.{has_template_form, IsGood, IsSound}
 use Rattle.tb_core.specs.GoodWorld.{HasOwner, IsGoodWorld, KeepsGood, KeepsPeople}
 use Rattle.tb_board.specs.Numbers.{free_id}
@@ -44,9 +51,10 @@ use Rattle.tb_core.proofs.GoodPeople.{good-new_board, good-person, good-role, nu
 use Rattle.tb_board.proofs.Fresh.{fresh}
 use Rattle.tb_core.proofs.GoodWorlds.{all-found, good-with_board, with_board}
 use Rattle.tb_board.specs.Instances.{has_template}
-use Rattle.tb_board.proofs.Runs.{runs-plain}
+use Rattle.tb_board.proofs.Runs.{runs-plain, SameLinks}
 use Rattle.tb_board.proofs.Goodness.{good-change, good-push, good-wake, Keeps}
 use Rattle.tb_core.proofs.Sound.{sound_acted}
+use Rattle.tb_core.proofs.SoundEdits.{keeps_modified, links_modified, sound_modified}
 use Rattle.tb_board.proofs.Worlds.{number_found}
 
 -- where none is the least, none holds
@@ -125,18 +133,27 @@ good-add b i m good h =
     (ap (has_template b) parent)
 
 keeps_acted : (m : ℕ) (a : Action) → Keeps (acted m a)
-keeps_acted m Done = record { id = λ t. refl; depends = λ t. refl; links = record { parent = λ t. refl; imask = λ t. refl; template = λ t. refl } }
-keeps_acted m Delete = record { id = λ t. refl; depends = λ t. refl; links = record { parent = λ t. refl; imask = λ t. refl; template = λ t. refl } }
-keeps_acted m Reopen = record { id = λ t. refl; depends = λ t. refl; links = record { parent = λ t. refl; imask = λ t. refl; template = λ t. refl } }
-keeps_acted m Start = record { id = λ t. refl; depends = λ t. refl; links = record { parent = λ t. refl; imask = λ t. refl; template = λ t. refl } }
-keeps_acted m Stop = record { id = λ t. refl; depends = λ t. refl; links = record { parent = λ t. refl; imask = λ t. refl; template = λ t. refl } }
-keeps_acted m (Annotate text) = record { id = λ t. refl; depends = λ t. refl; links = record { parent = λ t. refl; imask = λ t. refl; template = λ t. refl } }
-keeps_acted m (Denotate text) = record { id = λ t. refl; depends = λ t. refl; links = record { parent = λ t. refl; imask = λ t. refl; template = λ t. refl } }
+keeps_acted m Done = record { id = λ t. refl; depends = λ t. refl }
+keeps_acted m Delete = record { id = λ t. refl; depends = λ t. refl }
+keeps_acted m Reopen = record { id = λ t. refl; depends = λ t. refl }
+keeps_acted m Start = record { id = λ t. refl; depends = λ t. refl }
+keeps_acted m Stop = record { id = λ t. refl; depends = λ t. refl }
+keeps_acted m (Annotate text) = record { id = λ t. refl; depends = λ t. refl }
+keeps_acted m (Denotate text) = record { id = λ t. refl; depends = λ t. refl }
+
+links_acted : (m : ℕ) (a : Action) (t : Task) → SameLinks t (acted m a t)
+links_acted m Done t = record { parent = refl; imask = refl; template = refl }
+links_acted m Delete t = record { parent = refl; imask = refl; template = refl }
+links_acted m Reopen t = record { parent = refl; imask = refl; template = refl }
+links_acted m Start t = record { parent = refl; imask = refl; template = refl }
+links_acted m Stop t = record { parent = refl; imask = refl; template = refl }
+links_acted m (Annotate text) t = record { parent = refl; imask = refl; template = refl }
+links_acted m (Denotate text) t = record { parent = refl; imask = refl; template = refl }
 
 good_at : (b : Board) (id : ℕ) (a : Action) (m : ℕ) (o : Option Task) → find (has_id id) b.tasks ≡ o → of_task (takes a) o ≡ true → action_fault a ≡ None → IsGood b
     → IsGood (record b { tasks = change_first (has_id id) (acted m a) b.tasks })
 good_at b id a m None found taken fault good = absurd (true≢false (sym taken))
-good_at b id a m (Some x) found taken fault good = good-change b (has_id id) (acted m a) x (keeps_acted m a) found (λ sound. sound_acted m a x taken fault sound) good
+good_at b id a m (Some x) found taken fault good = good-change b (has_id id) (acted m a) x (keeps_acted m a) (links_acted m a x) found (λ sound. sound_acted m a x taken fault sound) good
 
 good-action : (b : Board) (id : ℕ) (a : Action) (m : ℕ) → IsGood b → least (action_refusals b id a) ≡ None
     → IsGood (record b { tasks = change_first (has_id id) (acted m a) b.tasks })
@@ -145,6 +162,55 @@ good-action b id a m good h =
     let taken = none_least (where_holds WrongStatus (not (of_task (takes a) (find (has_id id) b.tasks)))) _ there.1 in
     let fault = none_least (bad_task (action_fault a)) _ taken.1 in
     good_at b id a m (find (has_id id) b.tasks) refl (not_false _ (none_holds WrongStatus _ taken.0)) (no_fault (action_fault a) fault.0) good
+
+-- edits without a fault of their own
+well_placed : (c : Bool) (o : Option Field) → (if c then Some BadPair else o) ≡ None → (c ≡ false) × (o ≡ None)
+well_placed true o h = absurd (cc)
+well_placed false o h = (refl, h)
+
+good_modified_at : (b : Board) (id : ℕ) (es : List Edit) (m : ℕ) (o : Option Task) → find (has_id id) b.tasks ≡ o → of_task (λ t. is_open t.status) o ≡ true
+    → option_and_then (modify_fault m es) o ≡ None → of_task (is_fixed es) o ≡ false → IsGood b → IsGood (record b { tasks = change_first (has_id id) (modified m es) b.tasks })
+good_modified_at b id es m None found standing fault free good = absurd (true≢false (sym standing))
+good_modified_at b id es m (Some x) found standing fault free good =
+    let well = well_placed (is_misplaced es x) (fault_of (modified m es x)) fault in
+    good-change b (has_id id) (modified m es) x (keeps_modified m es) (links_modified m es x well.0 free) found (λ sound. sound_modified m es x well.0 well.1 free sound) good
+
+good-modify : (b : Board) (id : ℕ) (es : List Edit) (m : ℕ) → IsGood b → least (modify_refusals b id es m) ≡ None
+    → IsGood (record b { tasks = change_first (has_id id) (modified m es) b.tasks })
+good-modify b id es m good h =
+    let o = find (has_id id) b.tasks in
+    let there = none_least (where_holds NoTask (not (is_on b id))) _ h in
+    let standing = none_least (where_holds WrongStatus (not (of_task (λ t. is_open t.status) o))) _ there.1 in
+    let fault = none_least (bad_task (option_and_then (modify_fault m es) o)) _ standing.1 in
+    let free = none_least (where_holds TemplateFixed (of_task (is_fixed es) o)) [] fault.1 in
+    good_modified_at b id es m o refl (not_false _ (none_holds WrongStatus _ standing.0)) (no_fault _ fault.0) (none_holds TemplateFixed _ free.0) good
+
+linked_at : (b : Board) (id on m : ℕ) (o : Option Task) → find (has_id id) b.tasks ≡ o → of_task is_open_task o ≡ true → lacks_either b id on ≡ false → closes_walk b id on ≡ false
+    → IsGood b → IsGood (record b { tasks = change_first (has_id id) (linked m on) b.tasks })
+linked_at b id on m None found standing there none good = absurd (true≢false (sym standing))
+linked_at b id on m (Some x) found standing there none good = good-linked b id on m x found (other_there (not (is_on b id)) (not (is_on b on)) there) none good
+  where
+    other_there : (p q : Bool) → (p || q) ≡ false → q ≡ false
+    other_there true q h = absurd (true≢false h)
+    other_there false q h = h
+
+good-depend : (b : Board) (id on m : ℕ) → IsGood b → least (depend_refusals b id on) ≡ None → IsGood (record b { tasks = change_first (has_id id) (linked m on) b.tasks })
+good-depend b id on m good h =
+    let there = none_least (where_holds NoTask (lacks_either b id on)) _ h in
+    let standing = none_least (where_holds WrongStatus (not (of_task is_open_task (find (has_id id) b.tasks)))) _ there.1 in
+    let walks = none_least (where_holds Cycle (closes_walk b id on)) [] standing.1 in
+    linked_at b id on m (find (has_id id) b.tasks) refl (not_false _ (none_holds WrongStatus _ standing.0)) (none_holds NoTask _ there.0) (none_holds Cycle _ walks.0) good
+
+unlinked_at : (b : Board) (id on m : ℕ) (o : Option Task) → find (has_id id) b.tasks ≡ o → of_task is_open_task o ≡ true → IsGood b
+    → IsGood (record b { tasks = change_first (has_id id) (unlinked m on) b.tasks })
+unlinked_at b id on m None found standing good = absurd (true≢false (sym standing))
+unlinked_at b id on m (Some x) found standing good = good-unlinked b id on m x found good
+
+good-undepend : (b : Board) (id on m : ℕ) → IsGood b → least (undepend_refusals b id on) ≡ None → IsGood (record b { tasks = change_first (has_id id) (unlinked m on) b.tasks })
+good-undepend b id on m good h =
+    let there = none_least (where_holds NoTask (lacks_either b id on)) _ h in
+    let standing = none_least (where_holds WrongStatus (not (of_task is_open_task (find (has_id id) b.tasks)))) _ there.1 in
+    unlinked_at b id on m (find (has_id id) b.tasks) refl (not_false _ (none_holds WrongStatus _ standing.0)) good
 
 -- a board that may stand in the place of x
 record Follows (x b : Board) : Type 0 where
@@ -166,6 +232,15 @@ kept_outcome w x (Add n i) m good found is_good =
 kept_outcome w x (OnTask n id a) m good found is_good =
     kept m w x (least (action_refusals (wake x m) id a)) (record (wake x m) { tasks = change_first (has_id id) (acted m a) (wake x m).tasks }) (Changed id) good found
     (λ none. record { number = refl; good = good-action (wake x m) id a m (good-wake x m is_good) none })
+kept_outcome w x (Modify n id es) m good found is_good =
+    kept m w x (least (modify_refusals (wake x m) id es m)) (record (wake x m) { tasks = change_first (has_id id) (modified m es) (wake x m).tasks }) (Changed id) good found
+    (λ none. record { number = refl; good = good-modify (wake x m) id es m (good-wake x m is_good) none })
+kept_outcome w x (Depend n id on) m good found is_good =
+    kept m w x (least (depend_refusals (wake x m) id on)) (record (wake x m) { tasks = change_first (has_id id) (linked m on) (wake x m).tasks }) (Changed id) good found
+    (λ none. record { number = refl; good = good-depend (wake x m) id on m (good-wake x m is_good) none })
+kept_outcome w x (Undepend n id on) m good found is_good =
+    kept m w x (least (undepend_refusals (wake x m) id on)) (record (wake x m) { tasks = change_first (has_id id) (unlinked m on) (wake x m).tasks }) (Changed id) good found
+    (λ none. record { number = refl; good = good-undepend (wake x m) id on m (good-wake x m is_good) none })
 kept_outcome w x (Sweep n) m good found is_good = kept m w x None (wake x m) Swept good found (λ none. record { number = refl; good = good-wake x m is_good })
 kept_outcome w x (SetRole n name role) m good found is_good = kept m w x None (wake x m) Swept good found (λ none. record { number = refl; good = good-wake x m is_good })
 kept_outcome w x (NewPerson name key) m good found is_good = kept m w x None (wake x m) Swept good found (λ none. record { number = refl; good = good-wake x m is_good })
@@ -264,6 +339,9 @@ kept_board w seen (Some caller) title good boards within =
 pub stays_good : KeepsGood
 stays_good w name (Add n i) m good = kept_decided w (number_of w name) (Some n) (Add n i) m good
 stays_good w name (OnTask n id a) m good = kept_decided w (number_of w name) (Some n) (OnTask n id a) m good
+stays_good w name (Modify n id es) m good = kept_decided w (number_of w name) (Some n) (Modify n id es) m good
+stays_good w name (Depend n id on) m good = kept_decided w (number_of w name) (Some n) (Depend n id on) m good
+stays_good w name (Undepend n id on) m good = kept_decided w (number_of w name) (Some n) (Undepend n id on) m good
 stays_good w name (Sweep n) m good = kept_decided w (number_of w name) (Some n) (Sweep n) m good
 stays_good w name (SetRole n other role) m good =
     kept_role_by w (seen_of w name (SetRole n other role)) (number_of w name) n (number_of w other) role m good refl refl (number_in w other)
@@ -310,6 +388,9 @@ known_board w seen (Some caller) title person key known =
 pub stay_known : KeepsPeople
 stay_known w name (Add n i) m person key known = rw (same_people w (decided (number_of w name) (board_for w (number_of w name) (Some n)) (Add n i) m)) known
 stay_known w name (OnTask n id a) m person key known = rw (same_people w (decided (number_of w name) (board_for w (number_of w name) (Some n)) (OnTask n id a) m)) known
+stay_known w name (Modify n id es) m person key known = rw (same_people w (decided (number_of w name) (board_for w (number_of w name) (Some n)) (Modify n id es) m)) known
+stay_known w name (Depend n id on) m person key known = rw (same_people w (decided (number_of w name) (board_for w (number_of w name) (Some n)) (Depend n id on) m)) known
+stay_known w name (Undepend n id on) m person key known = rw (same_people w (decided (number_of w name) (board_for w (number_of w name) (Some n)) (Undepend n id on) m)) known
 stay_known w name (Sweep n) m person key known = rw (same_people w (decided (number_of w name) (board_for w (number_of w name) (Some n)) (Sweep n) m)) known
 stay_known w name (SetRole n other role) m person key known =
     let seen = seen_of w name (SetRole n other role) in known_role w seen seen.caller seen.board role m person key known

@@ -2,8 +2,11 @@ pub mod Actions
 pub mod Add
 pub mod Apply
 pub mod Decisions
+pub mod Depends
+pub mod Edits
 pub mod Giving
 pub mod GoodWorld
+pub mod Modify
 pub mod Notes
 pub mod Outcomes
 pub mod Owners
