@@ -92,10 +92,11 @@ good-push b t good room alone sound linked runs parent =
       parents = all_push (HasTemplateOn (with_task b t)) b.tasks t (parents-more b t b.tasks good.parents) (parent-more b t t parent);
     }
 
--- f keeps identifiers and links
+-- f keeps identifiers, dependencies, and the links between templates and instances
 pub record Keeps (f : Task → Task) : Type 0 where
   pub id : (t : Task) → (f t).id ≡ t.id
   pub depends : (t : Task) → (f t).depends ≡ t.depends
+  pub links : KeepsLinks f
 
 pub ids-change : (test : Task → Bool) (f : Task → Task) → ((t : Task) → (f t).id ≡ t.id) → (ts : List Task) → ids (change_first test f ts) ≡ ids ts
 ids-change test f keeps [] = refl
@@ -149,9 +150,9 @@ linked-change b c test f keeps same (t ∷ ts) h =
     others [] h = tt
     others (u ∷ us) h = (lacks-same b c u.depends same ∙ h.0, others us h.1)
 
-pub good-change : (b : Board) (test : Task → Bool) (f : Task → Task) (x : Task) → Keeps f → SameLinks x (f x) → find test b.tasks ≡ Some x → (IsSound x → IsSound (f x)) → IsGood b
+pub good-change : (b : Board) (test : Task → Bool) (f : Task → Task) (x : Task) → Keeps f → find test b.tasks ≡ Some x → (IsSound x → IsSound (f x)) → IsGood b
     → IsGood (record b { tasks = change_first test f b.tasks })
-good-change b test f x keeps links found sound good =
+good-change b test f x keeps found sound good =
     let later : Board = record b { tasks = change_first test f b.tasks } in
     record {
       distinct = subst (IsDistinct nat_eq) (sym (ids-change test f keeps.id b.tasks)) good.distinct;

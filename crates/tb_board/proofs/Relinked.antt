@@ -14,7 +14,6 @@ use Rattle.tb_board.specs.First.{change_first, IsFirst, IsNone}
 use Rattle.tb_board.specs.Good.{IsGood, IsSound}
 use Rattle.tb_board.specs.Links.{leads_between, leads_on, links, place_in, places_in}
 use Rattle.tb_board.proofs.Goodness.{good-relink, ids-change}
-use Rattle.tb_board.proofs.Runs.{SameLinks}
 use Rattle.tb_board.proofs.Linking.{place_by_id}
 use Rattle.tb_board.proofs.Places.{place}
 use Rattle.tb_board.proofs.Runs.{KeepsLinks}

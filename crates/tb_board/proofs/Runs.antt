@@ -1,5 +1,5 @@
 -- The places of templates, where tasks come, wake or change.
-use Rattle.std.proofs.Common.{◌≡◌, ℕ, ◌+◌, ◌<◌, ◌≤◌, nat_eq, Bool, true, false, ◌&&◌, ◌||◌, List, [], ◌∷◌, ◌++◌, Option, Some, None, find, length, map, refl, sym, ◌∙◌, ap, arith, subst, inl, inr, length-append, append_assoc}
+use Rattle.std.proofs.Common.{◌≡◌, ℕ, ◌+◌, ◌<◌, ◌≤◌, nat_eq, Bool, true, false, ◌&&◌, ◌||◌, List, [], ◌∷◌, ◌++◌, Option, Some, None, length, map, refl, sym, ◌∙◌, ap, arith, subst, inl, inr, length-append, append_assoc}
 use Rattle.std.specs.Cmp.{nat_eq_equiv}
 use Rattle.std.specs.List.{AllByRecursion, list_any}
 use Rattle.std.proofs.lemmas.Bool.{cases_Bool, ne_eqb}
@@ -64,35 +64,26 @@ instance_places-wake id m (t ∷ ts) = ap (with_place (place_in id t)) (instance
 pub runs-wake : (b : Board) (m : ℕ) → HasRuns b → HasRuns (wake b m)
 runs-wake b m runs id = subst IsRun (sym (ap (λ ps. gone_places id b.gone ++ ps) (instance_places-wake id m b.tasks))) (runs id)
 
--- a task in the place of another one, with its links between template and instance
-pub record SameLinks (t u : Task) : Type 0 where
-  pub parent : u.parent ≡ t.parent
-  pub imask : u.imask ≡ t.imask
-  pub template : is_template u ≡ is_template t
+-- f keeps the links between templates and instances
+pub record KeepsLinks (f : Task → Task) : Type 0 where
+  pub parent : (t : Task) → (f t).parent ≡ t.parent
+  pub imask : (t : Task) → (f t).imask ≡ t.imask
+  pub template : (t : Task) → is_template (f t) ≡ is_template t
 
-place-kept : (id : ℕ) (t u : Task) → SameLinks t u → place_in id u ≡ place_in id t
-place-kept id t u same = rw (same.parent, same.imask) refl
+place-kept : (id : ℕ) (t u : Task) → u.parent ≡ t.parent → u.imask ≡ t.imask → place_in id u ≡ place_in id t
+place-kept id t u parent imask = rw (parent, imask) refl
 
-found_here : (test : Task → Bool) (t x : Task) (ts : List Task) → test t ≡ true → find test (t ∷ ts) ≡ Some x → x ≡ t
-found_here test t x ts here found = let first : Some t ≡ Some x = rw here at found in cc
-
-instance_places-change : (id : ℕ) (test : Task → Bool) (f : Task → Task) (x : Task) → SameLinks x (f x) → (ts : List Task) → find test ts ≡ Some x
-    → instance_places id (change_first test f ts) ≡ instance_places id ts
-instance_places-change id test f x same [] found = refl
-instance_places-change id test f x same (t ∷ ts) found =
+instance_places-change : (id : ℕ) (test : Task → Bool) (f : Task → Task) → KeepsLinks f → (ts : List Task) → instance_places id (change_first test f ts) ≡ instance_places id ts
+instance_places-change id test f keeps [] = refl
+instance_places-change id test f keeps (t ∷ ts) =
     elim (cases_Bool (test t)) [
-      | inl here ↦
-          let links = subst (λ (u : Task). SameLinks u (f u)) (found_here test t x ts here found) same in
-          rw here (ap (λ o. with_place o (instance_places id ts)) (place-kept id t (f t) links))
-      | inr other ↦
-          let later : find test ts ≡ Some x = rw other at found in
-          rw other (ap (with_place (place_in id t)) (instance_places-change id test f x same ts later))
+      | inl here ↦ rw here (ap (λ o. with_place o (instance_places id ts)) (place-kept id t (f t) (keeps.parent t) (keeps.imask t)))
+      | inr other ↦ rw other (ap (with_place (place_in id t)) (instance_places-change id test f keeps ts))
     ]
 
-pub runs-change : (b : Board) (test : Task → Bool) (f : Task → Task) (x : Task) → SameLinks x (f x) → find test b.tasks ≡ Some x → HasRuns b
-    → HasRuns (record b { tasks = change_first test f b.tasks })
-runs-change b test f x same found runs id =
-    subst IsRun (sym (ap (λ ps. gone_places id b.gone ++ ps) (instance_places-change id test f x same b.tasks found))) (runs id)
+pub runs-change : (b : Board) (test : Task → Bool) (f : Task → Task) → KeepsLinks f → HasRuns b → HasRuns (record b { tasks = change_first test f b.tasks })
+runs-change b test f keeps runs id =
+    subst IsRun (sym (ap (λ ps. gone_places id b.gone ++ ps) (instance_places-change id test f keeps b.tasks))) (runs id)
 
 -- c has the templates that b has
 abbrev HasTemplatesOf : Board → Board → Type 0
@@ -130,34 +121,26 @@ parents-woken c m (t ∷ ts) h = (h.0, parents-woken c m ts h.1)
 pub parents-wake : (b : Board) (m : ℕ) → AllByRecursion (HasTemplateOn b) b.tasks → AllByRecursion (HasTemplateOn (wake b m)) (wake b m).tasks
 parents-wake b m h = parents-woken (wake b m) m b.tasks (parents-there b (wake b m) (λ id there. templates-wake id m b.tasks ∙ there) b.tasks h)
 
-templates-change : (id : ℕ) (test : Task → Bool) (f : Task → Task) (x : Task) → ((t : Task) → (f t).id ≡ t.id) → SameLinks x (f x) → (ts : List Task) → find test ts ≡ Some x
+templates-change : (id : ℕ) (test : Task → Bool) (f : Task → Task) → ((t : Task) → (f t).id ≡ t.id) → KeepsLinks f → (ts : List Task)
     → list_any (is_template_with id) (change_first test f ts) ≡ list_any (is_template_with id) ts
-templates-change id test f x ids same [] found = refl
-templates-change id test f x ids same (t ∷ ts) found =
+templates-change id test f ids keeps [] = refl
+templates-change id test f ids keeps (t ∷ ts) =
     elim (cases_Bool (test t)) [
-      | inl here ↦
-          let links = subst (λ (u : Task). SameLinks u (f u)) (found_here test t x ts here found) same in
-          rw (here, ids t, links.template) refl
-      | inr other ↦
-          let later : find test ts ≡ Some x = rw other at found in
-          rw other (ap (λ q. is_template_with id t || q) (templates-change id test f x ids same ts later))
+      | inl here ↦ rw (here, ids t, keeps.template t) refl
+      | inr other ↦ rw other (ap (λ q. is_template_with id t || q) (templates-change id test f ids keeps ts))
     ]
 
-parents-changed : (c : Board) (test : Task → Bool) (f : Task → Task) (x : Task) → SameLinks x (f x) → (ts : List Task) → find test ts ≡ Some x
+parents-changed : (c : Board) (test : Task → Bool) (f : Task → Task) → KeepsLinks f → (ts : List Task)
     → AllByRecursion (HasTemplateOn c) ts → AllByRecursion (HasTemplateOn c) (change_first test f ts)
-parents-changed c test f x same [] found h = tt
-parents-changed c test f x same (t ∷ ts) found h =
+parents-changed c test f keeps [] h = tt
+parents-changed c test f keeps (t ∷ ts) h =
     elim (cases_Bool (test t)) [
-      | inl here ↦
-          let links = subst (λ (u : Task). SameLinks u (f u)) (found_here test t x ts here found) same in
-          rw here (ap (has_template c) links.parent ∙ h.0, h.1)
-      | inr other ↦
-          let later : find test ts ≡ Some x = rw other at found in
-          rw other (h.0, parents-changed c test f x same ts later h.1)
+      | inl here ↦ rw here (ap (has_template c) (keeps.parent t) ∙ h.0, h.1)
+      | inr other ↦ rw other (h.0, parents-changed c test f keeps ts h.1)
     ]
 
-pub parents-change : (b : Board) (test : Task → Bool) (f : Task → Task) (x : Task) → ((t : Task) → (f t).id ≡ t.id) → SameLinks x (f x) → find test b.tasks ≡ Some x
-    → AllByRecursion (HasTemplateOn b) b.tasks → AllByRecursion (HasTemplateOn (record b { tasks = change_first test f b.tasks })) (change_first test f b.tasks)
-parents-change b test f x ids same found h =
+pub parents-change : (b : Board) (test : Task → Bool) (f : Task → Task) → ((t : Task) → (f t).id ≡ t.id) → KeepsLinks f → AllByRecursion (HasTemplateOn b) b.tasks
+    → AllByRecursion (HasTemplateOn (record b { tasks = change_first test f b.tasks })) (change_first test f b.tasks)
+parents-change b test f ids keeps h =
     let later : Board = record b { tasks = change_first test f b.tasks } in
-    parents-changed later test f x same b.tasks found (parents-there b later (λ id there. templates-change id test f x ids same b.tasks found ∙ there) b.tasks h)
+    parents-changed later test f keeps b.tasks (parents-there b later (λ id there. templates-change id test f ids keeps b.tasks ∙ there) b.tasks h)

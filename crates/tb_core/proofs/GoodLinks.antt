@@ -12,7 +12,6 @@ use Rattle.tb_board.specs.Good.{IsGood, IsSound}
 use Rattle.tb_board.proofs.Runs.{KeepsLinks}
 use Rattle.tb_board.proofs.Relinked.{good-less, good-more, HasOneMore}
 use Rattle.tb_board.proofs.Relinking.{or_false}
-use Rattle.tb_board.proofs.Runs.{SameLinks}
 use Rattle.tb_core.specs.Depends.{closes_walk, depends_on, linked, unlinked}
 
 sound_unlinked : (m on : ℕ) (t : Task) → IsSound t → IsSound (unlinked m on t)

@@ -5,7 +5,6 @@ use Rattle.tb_board.specs.Good.{has_template_form, IsSound}
 use Rattle.tb_board.specs.Statuses.{is_pending_or_waiting, is_template, settled}
 use Rattle.tb_board.proofs.Fits.{no_template}
 use Rattle.tb_board.proofs.Goodness.{Keeps}
-use Rattle.tb_board.proofs.Runs.{SameLinks}
 use Rattle.tb_core.specs.Edits.{edited, edited_by, extended, modified, names}
 use Rattle.tb_core.specs.Modify.{is_fixed, is_misplaced}
 use Rattle.tb_core.proofs.Sound.{settled_plain}
@@ -99,26 +98,6 @@ recur_unnamed es t placed free =
     first_of : (p : Bool) → (p && true) ≡ false → p ≡ false
     first_of true h = absurd (true≢false h)
     first_of false h = refl
-
--- a step is named for no task whose edits are taken
-no_step_named : (es : List Edit) (t : Task) → is_misplaced es t ≡ false → is_fixed es t ≡ false → names (codes "recur") es ≡ false
-no_step_named es t placed free =
-    elim (cases_Bool (is_template t)) [
-      | inl template ↦
-          let unnamed : (names (codes "due") es || names (codes "recur") es) ≡ false = rw template at free in
-          (or_false (names (codes "due") es) (names (codes "recur") es) unnamed).1
-      | inr plain ↦ let named : (names (codes "recur") es && true) ≡ false = rw plain at placed in and_true_false (names (codes "recur") es) named
-    ]
-  where
-    and_true_false : (p : Bool) → (p && true) ≡ false → p ≡ false
-    and_true_false true h = absurd (true≢false h)
-    and_true_false false h = refl
-
-pub links_modified : (m : ℕ) (es : List Edit) (t : Task) → is_misplaced es t ≡ false → is_fixed es t ≡ false → SameLinks t (modified m es t)
-links_modified m es t placed free =
-    let left = is_edited_by es t in
-    let recur = left.recur (no_step_named es t placed free) in
-    record { parent = left.parent; imask = left.imask; template = rw (recur, left.parent) refl }
 
 -- a template is neither pending nor waiting
 stays_template : (t : Task) → is_template t ≡ true → has_template_form t ≡ true → is_pending_or_waiting t.status ≡ false

@@ -51,7 +51,7 @@ use Rattle.tb_core.proofs.GoodPeople.{good-new_board, good-person, good-role, nu
 use Rattle.tb_board.proofs.Fresh.{fresh}
 use Rattle.tb_core.proofs.GoodWorlds.{all-found, good-with_board, with_board}
 use Rattle.tb_board.specs.Instances.{has_template}
-use Rattle.tb_board.proofs.Runs.{runs-plain, SameLinks}
+use Rattle.tb_board.proofs.Runs.{runs-plain}
 use Rattle.tb_board.proofs.Goodness.{good-change, good-push, good-wake, Keeps}
 use Rattle.tb_core.proofs.Sound.{sound_acted}
 use Rattle.tb_core.proofs.SoundEdits.{keeps_modified, recur_unnamed, sound_modified}
@@ -133,27 +133,18 @@ good-add b i m good h =
     (ap (has_template b) parent)
 
 keeps_acted : (m : ℕ) (a : Action) → Keeps (acted m a)
-keeps_acted m Done = record { id = λ t. refl; depends = λ t. refl }
-keeps_acted m Delete = record { id = λ t. refl; depends = λ t. refl }
-keeps_acted m Reopen = record { id = λ t. refl; depends = λ t. refl }
-keeps_acted m Start = record { id = λ t. refl; depends = λ t. refl }
-keeps_acted m Stop = record { id = λ t. refl; depends = λ t. refl }
-keeps_acted m (Annotate text) = record { id = λ t. refl; depends = λ t. refl }
-keeps_acted m (Denotate text) = record { id = λ t. refl; depends = λ t. refl }
-
-links_acted : (m : ℕ) (a : Action) (t : Task) → SameLinks t (acted m a t)
-links_acted m Done t = record { parent = refl; imask = refl; template = refl }
-links_acted m Delete t = record { parent = refl; imask = refl; template = refl }
-links_acted m Reopen t = record { parent = refl; imask = refl; template = refl }
-links_acted m Start t = record { parent = refl; imask = refl; template = refl }
-links_acted m Stop t = record { parent = refl; imask = refl; template = refl }
-links_acted m (Annotate text) t = record { parent = refl; imask = refl; template = refl }
-links_acted m (Denotate text) t = record { parent = refl; imask = refl; template = refl }
+keeps_acted m Done = record { id = λ t. refl; depends = λ t. refl; links = record { parent = λ t. refl; imask = λ t. refl; template = λ t. refl } }
+keeps_acted m Delete = record { id = λ t. refl; depends = λ t. refl; links = record { parent = λ t. refl; imask = λ t. refl; template = λ t. refl } }
+keeps_acted m Reopen = record { id = λ t. refl; depends = λ t. refl; links = record { parent = λ t. refl; imask = λ t. refl; template = λ t. refl } }
+keeps_acted m Start = record { id = λ t. refl; depends = λ t. refl; links = record { parent = λ t. refl; imask = λ t. refl; template = λ t. refl } }
+keeps_acted m Stop = record { id = λ t. refl; depends = λ t. refl; links = record { parent = λ t. refl; imask = λ t. refl; template = λ t. refl } }
+keeps_acted m (Annotate text) = record { id = λ t. refl; depends = λ t. refl; links = record { parent = λ t. refl; imask = λ t. refl; template = λ t. refl } }
+keeps_acted m (Denotate text) = record { id = λ t. refl; depends = λ t. refl; links = record { parent = λ t. refl; imask = λ t. refl; template = λ t. refl } }
 
 good_at : (b : Board) (id : ℕ) (a : Action) (m : ℕ) (o : Option Task) → find (has_id id) b.tasks ≡ o → of_task (takes a) o ≡ true → action_fault a ≡ None → IsGood b
     → IsGood (record b { tasks = change_first (has_id id) (acted m a) b.tasks })
 good_at b id a m None found taken fault good = absurd (true≢false (sym taken))
-good_at b id a m (Some x) found taken fault good = good-change b (has_id id) (acted m a) x (keeps_acted m a) (links_acted m a x) found (λ sound. sound_acted m a x taken fault sound) good
+good_at b id a m (Some x) found taken fault good = good-change b (has_id id) (acted m a) x (keeps_acted m a) found (λ sound. sound_acted m a x taken fault sound) good
 
 good-action : (b : Board) (id : ℕ) (a : Action) (m : ℕ) → IsGood b → least (action_refusals b id a) ≡ None
     → IsGood (record b { tasks = change_first (has_id id) (acted m a) b.tasks })
