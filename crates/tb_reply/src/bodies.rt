@@ -3,10 +3,11 @@ ghost use Rattle.std.specs.Prelude.{◌≡◌, IfOk};
 ghost use Rattle.std.specs.Option.{option_map};
 ghost use Rattle.serde_json.specs.View.{view};
 ghost use Rattle.tb_task.specs.TaskId.{id_text};
-ghost use Rattle.tb_desk.specs.Bodies.{added_body, answer_body, changed_body, field_name, refusal_body, refusal_name, refused_field, swept_body, told_body};
+ghost use Rattle.tb_reply.specs.Bodies.{added_body, answer_body, board_body, changed_body, field_name, person_body, refusal_body, refusal_name, refused_field, swept_body, told_body};
 
 use serde_json::{Value, json};
 use std::alloc::{AllocError, Global};
+use tb_board::Name;
 use tb_core::{Answer, BoardAnswer, Refusal, Told};
 use tb_task::{Field, TaskId};
 
@@ -26,7 +27,22 @@ pub(crate) fn body_of_answer(alloc: Global, answer: &Answer) -> Result<Value, Al
 {
     match answer {
         Answer::OnBoard(answer) => body_on_board(alloc, answer, &answer.told),
+        Answer::NewPerson { name } => body_of_person(alloc, name),
+        Answer::NewBoard { board } => body_of_board(alloc, *board),
     }
+}
+
+fn body_of_person(alloc: Global, name: &Name) -> Result<Value, AllocError>
+    ensures { IfOk result (λ body. view body ≡ person_body name.now) }
+{
+    let name = name.as_str();
+    json!(in alloc; {"person": name})
+}
+
+fn body_of_board(alloc: Global, board: u32) -> Result<Value, AllocError>
+    ensures { IfOk result (λ body. view body ≡ board_body board) }
+{
+    json!(in alloc; {"board": board})
 }
 
 fn body_on_board(alloc: Global, answer: &BoardAnswer, told: &Told) -> Result<Value, AllocError>
