@@ -1,4 +1,4 @@
-use Rattle.std.proofs.Common.{◌≡◌, ◌∙◌, sym}
+use Rattle.std.proofs.Common.{◌∙◌, sym}
 use Rattle.tb_script.proofs.Numerals.{parsed, no_number}
 use Rattle.tb_script.proofs.arguments.board_of.Goals as goal
 
