@@ -15,14 +15,14 @@ use Rattle.tb_board.specs.First.{change_first}
 use Rattle.tb_board.proofs.Fresh.{on_ids, among-swapped}
 use Rattle.tb_board.proofs.Fits.{sound_woken}
 
-ids-wake : (m : ℕ) (ts : List Task) → ids (map (woken m) ts) ≡ ids ts
+pub ids-wake : (m : ℕ) (ts : List Task) → ids (map (woken m) ts) ≡ ids ts
 ids-wake m [] = refl
 ids-wake m (t ∷ ts) = ap (λ is. t.id ∷ is) (ids-wake m ts)
 
-on-same : (b c : Board) (id : ℕ) → ids c.tasks ≡ ids b.tasks → is_on c id ≡ is_on b id
+pub on-same : (b c : Board) (id : ℕ) → ids c.tasks ≡ ids b.tasks → is_on c id ≡ is_on b id
 on-same b c id same = on_ids id c.tasks ∙ ap (λ is. list_any (λ x. x == id) is) same ∙ sym (on_ids id b.tasks)
 
-lacks-same : (b c : Board) (is : List ℕ) → ids c.tasks ≡ ids b.tasks → lacks_depends c is ≡ lacks_depends b is
+pub lacks-same : (b c : Board) (is : List ℕ) → ids c.tasks ≡ ids b.tasks → lacks_depends c is ≡ lacks_depends b is
 lacks-same b c [] same = refl
 lacks-same b c (i ∷ is) same = rw (on-same b c i same) (ap (λ q. not (is_on b i) || q) (lacks-same b c is same))
 

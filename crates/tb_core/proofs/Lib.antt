@@ -1,7 +1,11 @@
 pub mod Decided
+pub mod Early
+pub mod EditSteps
 pub mod GoodPeople
 pub mod GoodRoles
 pub mod GoodWorlds
+pub mod Modifying
 pub mod Opening
 pub mod Sound
+pub mod SoundEdits
 pub mod Stays

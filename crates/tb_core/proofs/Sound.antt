@@ -1,5 +1,5 @@
 -- Actions leave a sound task sound.
-use Rattle.std.proofs.Common.{◌≡◌, ℕ, ◌&&◌, ◌||◌, Bool, true, false, List, [], ◌∷◌, Option, Some, None, is_some, refl, true≢false, inl, inr, if◌then◌else◌, nat_lt}
+use Rattle.std.proofs.Common.{◌≡◌, ℕ, ◌&&◌, ◌||◌, Bool, true, false, List, [], ◌∷◌, Option, Some, None, is_some, refl, true≢false, inl, inr, nat_lt}
 use Rattle.std.specs.List.{list_any}
 use Rattle.std.specs.Set.{remove_key}
 use Rattle.std.proofs.Math.Bool.{or-false}
@@ -25,7 +25,7 @@ planned t template form =
     (and_true (is_recurring t.status || is_deleted t.status) (is_some t.due && is_step t.recur) whole).1
 
 -- a settled task doesn't recur
-settled_plain : (wait : Option ℕ) (m : ℕ) → is_recurring (settled wait m) ≡ false
+pub settled_plain : (wait : Option ℕ) (m : ℕ) → is_recurring (settled wait m) ≡ false
 settled_plain None m = refl
 settled_plain (Some wait) m =
     elim (cases_Bool (nat_lt m wait)) [

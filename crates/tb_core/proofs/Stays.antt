@@ -1,9 +1,11 @@
 -- Each command leaves a good world good.
-use Rattle.std.proofs.Common.{◌≡◌, ℕ, ◌+◌, ◌==◌, ◌++◌, ◌<◌, ◌≤◌, nat_le, Bool, true, false, ◌&&◌, ◌||◌, not, is_some, true≢false, List, [], ◌∷◌, Option, Some, None, Result, Ok, Err, length, find, refl, sym, ◌∙◌, ap, arith, subst, inl, inr, if◌then◌else◌}
+use Rattle.std.proofs.Common.{◌≡◌, ℕ, ◌+◌, ◌==◌, ◌++◌, ◌<◌, ◌≤◌, nat_le, Bool, true, false, ◌&&◌, ◌||◌, not, is_some, true≢false, List, [], ◌∷◌, Option, Some, None, Result, Ok, Err, length, find, refl, sym, ◌∙◌, ap, arith, subst, inl, inr, if◌then◌else◌, option_and_then}
 use Rattle.std.proofs.lemmas.Bool.{cases_Bool, leb-false}
 use Rattle.tb_task.specs.declared.incoming.Incoming.{Incoming}
 use Rattle.tb_task.specs.declared.task.Task.{Task}
 use Rattle.tb_task.specs.declared.checks.Field.{Field}
+use Rattle.tb_task.specs.declared.checks.Field.TheVariants.{BadPair}
+use Rattle.tb_task.specs.declared.edit.Edit.{Edit}
 use Rattle.tb_task.specs.Check.{fault_of, has_bad_text, has_bad_pair, has_bad_recurrence, is_recurring, is_step}
 use Rattle.tb_board.specs.declared.board.Board.{Board}
 use Rattle.tb_core.specs.declared.command.Answer.{Answer}
@@ -13,21 +15,24 @@ use Rattle.tb_core.specs.declared.look.Seen.{Seen}
 use Rattle.tb_core.specs.declared.look.SeenBoard.{SeenBoard}
 use Rattle.tb_board.specs.declared.world.Person.{Person}
 use Rattle.tb_core.specs.declared.command.Command.{Command}
-use Rattle.tb_core.specs.declared.command.Command.TheVariants.{Add, OnTask, Sweep, SetRole, NewPerson, NewBoard}
+use Rattle.tb_core.specs.declared.command.Command.TheVariants.{Add, OnTask, Modify, Sweep, SetRole, NewPerson, NewBoard}
 use Rattle.tb_core.specs.declared.command.Told.{Told}
 use Rattle.tb_core.specs.declared.command.Told.TheVariants.{Added, Changed, Swept}
 use Rattle.tb_core.specs.declared.refusal.Refusal.{Refusal}
-use Rattle.tb_core.specs.declared.refusal.Refusal.TheVariants.{NoTask, UuidTaken, Full, WrongStatus, NotAllowed, NoPerson, LastOwner, NameTaken}
+use Rattle.tb_core.specs.declared.refusal.Refusal.TheVariants.{NoTask, UuidTaken, Full, WrongStatus, TemplateFixed, NotAllowed, NoPerson, LastOwner, NameTaken}
 use Rattle.tb_board.specs.declared.world.Role.{Role}
 use Rattle.tb_board.specs.declared.world.World.{World}
 use Rattle.tb_core.specs.declared.action.Action.{Action}
 use Rattle.tb_core.specs.declared.action.Action.TheVariants.{Done, Delete, Reopen, Start, Stop, Annotate, Denotate}
 use Rattle.tb_core.specs.Actions.{acted, action_fault, action_refusals, of_task, takes}
+use Rattle.tb_core.specs.Edits.{modified}
+use Rattle.tb_core.specs.Modify.{is_fixed, is_misplaced, modify_fault, modify_refusals}
 use Rattle.tb_core.specs.Add.{add_fault, add_refusals, entered, entered_id, first_fault, is_full, is_linked}
 use Rattle.tb_board.specs.Board.{lacks_depends}
 use Rattle.tb_core.specs.Apply.{answered, applied, board_for, decided, outcome, person_for, role_answer, role_given, role_refusals, seen_of, seen_with, with_role}
 use Rattle.tb_board.specs.Board.{has_id, is_on, wake, with_task}
 use Rattle.tb_board.specs.First.{change_first}
+use Rattle.tb_board.specs.Statuses.{is_open}
 use Rattle.tb_board.specs.Good.{has_template_form, IsGood, IsSound}
 use Rattle.tb_core.specs.GoodWorld.{HasOwner, IsGoodWorld, KeepsGood, KeepsPeople}
 use Rattle.tb_board.specs.Numbers.{free_id}
@@ -43,6 +48,7 @@ use Rattle.tb_core.proofs.GoodWorlds.{all-found, good-with_board, with_board}
 use Rattle.tb_board.proofs.Goodness.{good-change, good-push, good-wake, Keeps}
 use Rattle.tb_board.proofs.Fits.{fit_if}
 use Rattle.tb_core.proofs.Sound.{sound_acted}
+use Rattle.tb_core.proofs.SoundEdits.{keeps_modified, sound_modified}
 use Rattle.tb_board.proofs.Worlds.{number_found}
 
 -- where none is the least, none holds
@@ -138,6 +144,28 @@ good-action b id a m good h =
     let fault = none_least (bad_task (action_fault a)) _ taken.1 in
     good_at b id a m (find (has_id id) b.tasks) refl (not_false _ (none_holds WrongStatus _ taken.0)) (no_fault (action_fault a) fault.0) good
 
+-- edits without a fault of their own
+well_placed : (c : Bool) (o : Option Field) → (if c then Some BadPair else o) ≡ None → (c ≡ false) × (o ≡ None)
+well_placed true o h = absurd (cc)
+well_placed false o h = (refl, h)
+
+good_modified_at : (b : Board) (id : ℕ) (es : List Edit) (m : ℕ) (o : Option Task) → find (has_id id) b.tasks ≡ o → of_task (λ t. is_open t.status) o ≡ true
+    → option_and_then (modify_fault m es) o ≡ None → of_task (is_fixed es) o ≡ false → IsGood b → IsGood (record b { tasks = change_first (has_id id) (modified m es) b.tasks })
+good_modified_at b id es m None found standing fault free good = absurd (true≢false (sym standing))
+good_modified_at b id es m (Some x) found standing fault free good =
+    let well = well_placed (is_misplaced es x) (fault_of (modified m es x)) fault in
+    good-change b (has_id id) (modified m es) x (keeps_modified m es) found (λ sound. sound_modified m es x well.0 well.1 free sound) good
+
+good-modify : (b : Board) (id : ℕ) (es : List Edit) (m : ℕ) → IsGood b → least (modify_refusals b id es m) ≡ None
+    → IsGood (record b { tasks = change_first (has_id id) (modified m es) b.tasks })
+good-modify b id es m good h =
+    let o = find (has_id id) b.tasks in
+    let there = none_least (where_holds NoTask (not (is_on b id))) _ h in
+    let standing = none_least (where_holds WrongStatus (not (of_task (λ t. is_open t.status) o))) _ there.1 in
+    let fault = none_least (bad_task (option_and_then (modify_fault m es) o)) _ standing.1 in
+    let free = none_least (where_holds TemplateFixed (of_task (is_fixed es) o)) [] fault.1 in
+    good_modified_at b id es m o refl (not_false _ (none_holds WrongStatus _ standing.0)) (no_fault _ fault.0) (none_holds TemplateFixed _ free.0) good
+
 -- a board that may stand in the place of x
 record Follows (x b : Board) : Type 0 where
   number : b.number ≡ x.number
@@ -157,6 +185,9 @@ kept_outcome w x (Add n i) m good found is_good =
 kept_outcome w x (OnTask n id a) m good found is_good =
     kept w x (least (action_refusals (wake x m) id a)) (record (wake x m) { tasks = change_first (has_id id) (acted m a) (wake x m).tasks }) (Changed id) good found
     (λ none. record { number = refl; good = good-action (wake x m) id a m (good-wake x m is_good) none })
+kept_outcome w x (Modify n id es) m good found is_good =
+    kept w x (least (modify_refusals (wake x m) id es m)) (record (wake x m) { tasks = change_first (has_id id) (modified m es) (wake x m).tasks }) (Changed id) good found
+    (λ none. record { number = refl; good = good-modify (wake x m) id es m (good-wake x m is_good) none })
 kept_outcome w x (Sweep n) m good found is_good = kept w x None (wake x m) Swept good found (λ none. record { number = refl; good = good-wake x m is_good })
 kept_outcome w x (SetRole n name role) m good found is_good = kept w x None (wake x m) Swept good found (λ none. record { number = refl; good = good-wake x m is_good })
 kept_outcome w x (NewPerson name key) m good found is_good = kept w x None (wake x m) Swept good found (λ none. record { number = refl; good = good-wake x m is_good })
@@ -255,6 +286,7 @@ kept_board w seen (Some caller) title good boards within =
 pub stays_good : KeepsGood
 stays_good w name (Add n i) m good = kept_decided w (number_of w name) (Some n) (Add n i) m good
 stays_good w name (OnTask n id a) m good = kept_decided w (number_of w name) (Some n) (OnTask n id a) m good
+stays_good w name (Modify n id es) m good = kept_decided w (number_of w name) (Some n) (Modify n id es) m good
 stays_good w name (Sweep n) m good = kept_decided w (number_of w name) (Some n) (Sweep n) m good
 stays_good w name (SetRole n other role) m good =
     kept_role_by w (seen_of w name (SetRole n other role)) (number_of w name) n (number_of w other) role m good refl refl (number_in w other)
@@ -301,6 +333,7 @@ known_board w seen (Some caller) title person key known =
 pub stay_known : KeepsPeople
 stay_known w name (Add n i) m person key known = rw (same_people w (decided (number_of w name) (board_for w (number_of w name) (Some n)) (Add n i) m)) known
 stay_known w name (OnTask n id a) m person key known = rw (same_people w (decided (number_of w name) (board_for w (number_of w name) (Some n)) (OnTask n id a) m)) known
+stay_known w name (Modify n id es) m person key known = rw (same_people w (decided (number_of w name) (board_for w (number_of w name) (Some n)) (Modify n id es) m)) known
 stay_known w name (Sweep n) m person key known = rw (same_people w (decided (number_of w name) (board_for w (number_of w name) (Some n)) (Sweep n) m)) known
 stay_known w name (SetRole n other role) m person key known =
     let seen = seen_of w name (SetRole n other role) in known_role w seen seen.caller seen.board role m person key known

@@ -2,8 +2,10 @@ pub mod Actions
 pub mod Add
 pub mod Apply
 pub mod Decisions
+pub mod Edits
 pub mod Giving
 pub mod GoodWorld
+pub mod Modify
 pub mod Notes
 pub mod Outcomes
 pub mod Owners

@@ -1,9 +1,9 @@
-ghost use Rattle.std.specs.Prelude.{◌≡◌, ◌<◌, ◌||◌, Some, length, is_some, IfOk};
+ghost use Rattle.std.specs.Prelude.{◌≡◌, ◌<◌, ◌||◌, Some, None, length, is_some, IfOk};
 ghost use Rattle.std.specs.List.{list_any};
-ghost use Rattle.tb_core.specs.Add.{add_fault, entered_id, is_full, is_linked, judged_add};
+ghost use Rattle.tb_core.specs.Add.{add_fault, add_refusals, entered_id, is_full, is_linked, judged_add};
 ghost use Rattle.tb_board.specs.Board.{lacks_depends};
 ghost use Rattle.tb_board.specs.Changes.{Follows};
-ghost use Rattle.tb_core.specs.Refusals.{Gives};
+ghost use Rattle.tb_core.specs.Refusals.{Gives, least};
 
 use crate::command::Told;
 use crate::judged::{Judged, Stop};
@@ -15,23 +15,31 @@ use tb_values::Duplicate;
 
 const MOST_TASKS: usize = 10000;
 
-/// Adds a task to a board that is awake.
+/// Why the board doesn't take the task, if it doesn't. It is the same for a board that is awake.
+pub fn add_refusal(board: &Board, incoming: &Incoming) -> Option<Refusal>
+    ensures { result ≡ least (add_refusals board.now incoming.now) }
+{
+    if lacks_one(board, incoming.task.depends.as_slice()) {
+        return Some(Refusal::NoTask);
+    }
+    if incoming.named && board.has(incoming.task.id) {
+        return Some(Refusal::UuidTaken);
+    }
+    if let Some(fault) = fault_in(incoming) {
+        return Some(Refusal::BadTask(fault));
+    }
+    if has_no_room(board) {
+        return Some(Refusal::Full);
+    }
+    None
+}
+
+/// Adds a task to a board that is awake, and that takes it.
 pub fn add(alloc: Global, draft: Draft, incoming: &Incoming, at: Moment) -> Result<Judged, Stop>
+    requires { least (add_refusals draft.board incoming.now) ≡ None }
     ensures gives { Gives result (judged_add draft.board incoming.now at) }
     ensures follows { IfOk result (λ judged. Follows draft judged.draft) }
 {
-    if lacks_one(&draft.board, incoming.task.depends.as_slice()) {
-        return Err(Stop::Refused(Refusal::NoTask));
-    }
-    if incoming.named && draft.board.has(incoming.task.id) {
-        return Err(Stop::Refused(Refusal::UuidTaken));
-    }
-    if let Some(fault) = fault_in(incoming) {
-        return Err(Stop::Refused(Refusal::BadTask(fault)));
-    }
-    if has_no_room(&draft.board) {
-        return Err(Stop::Refused(Refusal::Full));
-    }
     let id = id_for(alloc, &draft.board, incoming)?;
     let task = entered_task(&incoming.task, id, at)?;
     let draft = draft.push(alloc, task)?;

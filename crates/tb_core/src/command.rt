@@ -1,6 +1,7 @@
 use crate::action::Action;
 use tb_board::{Key, Name, Role, Title};
-use tb_task::{Incoming, TaskId};
+use tb_task::{Edit, Incoming, TaskId};
+use tb_values::Items;
 
 /// What a person asks for.
 #[derive(Drop)]
@@ -15,6 +16,13 @@ pub enum Command {
         board: u32,
         id: TaskId,
         action: Action,
+    },
+    /// Sets and removes attributes of one task of a board.
+    Modify {
+        board: u32,
+        id: TaskId,
+        /// One after the other. A value of another kind than its attribute's, which no edit has that was read, counts as none.
+        edits: Items<Edit>,
     },
     /// Lets a board come up to the moment.
     Sweep {

@@ -1,18 +1,19 @@
-ghost use Rattle.std.specs.Prelude.{◌≡◌, ℕ, [], List, IfOk, Ok, Err};
+ghost use Rattle.std.specs.Prelude.{◌≡◌, ℕ, [], List, IfOk, Ok, Err, MatchOption};
 ghost use Rattle.tb_core.specs.Apply.{apply, judged, on_board, outcome, role_given, seen_of, IsDecision};
 ghost use Rattle.tb_board.specs.Changes.{Follows, IsDraft};
 ghost use Rattle.tb_core.specs.Refusals.{Gives};
-ghost use Rattle.tb_core.specs.Decisions.{GivesOutcome};
+ghost use Rattle.tb_core.specs.Decisions.{GivesOutcome, IsRefused, TakesAdded};
 ghost use Rattle.tb_core.specs.declared.command.Answer.TheVariants.{OnBoard};
 ghost use Rattle.tb_core.specs.declared.command.Command.TheVariants.{SetRole};
 ghost use Rattle.tb_board.specs.declared.world.World.{World};
 
 use crate::action::act;
-use crate::add::add;
+use crate::add::{add, add_refusal};
 use crate::command::{Answer, BoardAnswer, Command, Told};
 use crate::giving::{is_last_owner, is_owner_role, role_decision};
 use crate::judged::{Judged, Stop};
 use crate::look::Seen;
+use crate::modify::modify;
 use crate::people::{decide_board, decide_person};
 use crate::refusal::Refusal;
 use std::alloc::{AllocError, Global};
@@ -59,9 +60,10 @@ pub fn decide(
         Command::NewPerson { name, key } => decide_person(alloc, seen, name, key),
         Command::NewBoard { title } => decide_board(alloc, seen, title),
         Command::SetRole { role, .. } => decide_role(alloc, seen, *role, at),
-        Command::Add { .. } | Command::OnTask { .. } | Command::Sweep { .. } => {
-            decide_on_board(alloc, seen, command, at)
-        }
+        Command::Add { .. }
+        | Command::OnTask { .. }
+        | Command::Modify { .. }
+        | Command::Sweep { .. } => decide_on_board(alloc, seen, command, at),
     }
 }
 
@@ -132,6 +134,9 @@ fn judge_board(
     ensures gives { GivesOutcome result (outcome board.now command.now at) }
     ensures made { IfOk result (λ accepted. IsDraft board.now accepted.draft) }
 {
+    if let Some(refusal) = early_refusal(board, command) {
+        return Err(Stop::Refused(refusal));
+    }
     let draft = Draft::of(alloc, board)?;
     let draft = wake_draft(alloc, draft, at)?;
     let Judged { draft, told } = judge(alloc, draft, command, at)?;
@@ -144,14 +149,26 @@ fn judge_board(
     Ok(Accepted { draft, answer })
 }
 
+/// Why a command is refused, where the board needn't wake for it to show.
+fn early_refusal(board: &Board, command: &Command) -> Option<Refusal>
+    ensures { MatchOption result (TakesAdded board.now command.now) (IsRefused board.now command.now) }
+{
+    match command {
+        Command::Add { incoming, .. } => add_refusal(board, incoming),
+        _ => None,
+    }
+}
+
 /// What a command makes of a board that is awake.
 fn judge(alloc: Global, draft: Draft, command: &Command, at: Moment) -> Result<Judged, Stop>
+    requires { TakesAdded draft.board command.now }
     ensures gives { Gives result (judged draft.board command.now at) }
     ensures follows { IfOk result (λ judged. Follows draft judged.draft) }
 {
     match command {
         Command::Add { incoming, .. } => add(alloc, draft, incoming, at),
         Command::OnTask { id, action, .. } => act(alloc, draft, *id, action, at),
+        Command::Modify { id, edits, .. } => modify(alloc, draft, *id, edits.as_slice(), at),
         Command::Sweep { .. }
         | Command::SetRole { .. }
         | Command::NewPerson { .. }

@@ -41,8 +41,10 @@ pub fn look_for(world: &World, name: &Name, command: &Command) -> Result<Seen, A
     ensures { IfOk result (λ seen. seen ≡ seen_of world.now name.now command.now) }
 {
     match command {
-        Command::Add { board, .. } | Command::OnTask { board, .. } | Command::Sweep { board } =>
-            look_at_board(world, name, *board),
+        Command::Add { board, .. }
+        | Command::OnTask { board, .. }
+        | Command::Modify { board, .. }
+        | Command::Sweep { board } => look_at_board(world, name, *board),
         Command::SetRole {
             board,
             name: other,

@@ -1,0 +1,43 @@
+-- Changing attributes of one task of a board.
+use Rattle.std.specs.Prelude.{ℕ, Bool, not, ◌&&◌, ◌||◌, List, [], ◌∷◌, Option, Some, option_and_then, Result, codes, find, if◌then◌else◌}
+use Rattle.tb_board.specs.declared.board.Board.{Board}
+use Rattle.tb_board.specs.Board.{has_id, is_on}
+use Rattle.tb_board.specs.First.{change_first}
+use Rattle.tb_board.specs.Statuses.{is_open, is_template}
+use Rattle.tb_core.specs.declared.command.Told.{Told}
+use Rattle.tb_core.specs.declared.command.Told.TheVariants.{Changed}
+use Rattle.tb_core.specs.declared.refusal.Refusal.{Refusal}
+use Rattle.tb_core.specs.declared.refusal.Refusal.TheVariants.{NoTask, WrongStatus, TemplateFixed}
+use Rattle.tb_core.specs.Actions.{of_task}
+use Rattle.tb_core.specs.Edits.{modified, names}
+use Rattle.tb_core.specs.Refusals.{bad_task, least, unless_refused, where_holds}
+use Rattle.tb_task.specs.declared.checks.Field.{Field}
+use Rattle.tb_task.specs.declared.checks.Field.TheVariants.{BadPair}
+use Rattle.tb_task.specs.declared.edit.Edit.{Edit}
+use Rattle.tb_task.specs.declared.task.Task.{Task}
+use Rattle.tb_task.specs.Check.{fault_of}
+
+-- only a template's step can be named
+abbrev pub is_misplaced : List Edit → Task → Bool
+is_misplaced edits t = names (codes "recur") edits && not (is_template t)
+
+-- the fault of the edits, and then that of the task with all of them
+abbrev pub modify_fault : ℕ → List Edit → Task → Option Field
+modify_fault m edits t = if is_misplaced edits t then Some BadPair else fault_of (modified m edits t)
+
+-- a template's due date and step stay
+abbrev pub is_fixed : List Edit → Task → Bool
+is_fixed edits t = is_template t && (names (codes "due") edits || names (codes "recur") edits)
+
+abbrev pub modify_refusals : Board → ℕ → List Edit → ℕ → List (Option Refusal)
+modify_refusals b id edits m =
+    where_holds NoTask (not (is_on b id))
+    ∷ where_holds WrongStatus (not (of_task (λ t. is_open t.status) (find (has_id id) b.tasks)))
+    ∷ bad_task (option_and_then (modify_fault m edits) (find (has_id id) b.tasks))
+    ∷ where_holds TemplateFixed (of_task (is_fixed edits) (find (has_id id) b.tasks))
+    ∷ []
+
+-- the task is changed at its place
+abbrev pub judged_modify : Board → ℕ → List Edit → ℕ → Result (Board × Told) Refusal
+judged_modify b id edits m =
+    unless_refused (least (modify_refusals b id edits m)) (record b { tasks = change_first (has_id id) (modified m edits) b.tasks }) (Changed id)
