@@ -6,14 +6,14 @@ use Rattle.tb_task.specs.TaskId.{read_id}
 use Rattle.tb_board.specs.Names.{read_name, read_key, read_title}
 use Rattle.tb_core.specs.declared.action.Action.{Action}
 use Rattle.tb_core.specs.declared.action.Action.TheVariants.{Done, Delete, Reopen, Start, Stop, Annotate, Denotate}
-use Rattle.tb_core.specs.declared.command.Command.TheVariants.{Add, OnTask, Sweep, SetRole, NewPerson, NewBoard}
+use Rattle.tb_core.specs.declared.command.Command.TheVariants.{Add, Modify, OnTask, Sweep, SetRole, NewPerson, NewBoard}
 use Rattle.tb_script.specs.declared.asked.Request.{Request}
 use Rattle.tb_script.specs.declared.asked.Request.TheVariants.{Call, View as ViewOf}
 use Rattle.tb_script.specs.declared.asked.View.TheVariants.{Listing, Export, One}
 use Rattle.tb_script.specs.declared.line_fault.Unreadable.{Unreadable}
 use Rattle.tb_script.specs.declared.line_fault.Unreadable.TheVariants.{BadLine}
 use Rattle.tb_script.specs.Arguments.{board_number, role_named}
-use Rattle.tb_script.specs.Bodies.{incoming_in}
+use Rattle.tb_script.specs.Bodies.{edits_in, incoming_in}
 use Rattle.tb_script.specs.Outcome.{or_bad_line}
 
 -- ---- a word has its number of arguments
@@ -78,6 +78,12 @@ acting_with action board uuid text = do
   t ← task board uuid
   Ok (Call (OnTask t.0 t.1 (action text)))
 
+abbrev pub modifying : List ℕ → List ℕ → List ℕ → Result Request Unreadable
+modifying board uuid body = do
+  t ← task board uuid
+  edits ← edits_in body
+  Ok (Call (Modify t.0 t.1 edits))
+
 abbrev pub sweeping : List ℕ → Result Request Unreadable
 sweeping board = do
   n ← or_bad_line (board_number board)
@@ -116,6 +122,7 @@ request_in word arguments at =
     else if bytes_eq word (codes "stop") then acting Stop arguments
     else if bytes_eq word (codes "annotate") then three (acting_with Annotate) arguments
     else if bytes_eq word (codes "denotate") then three (acting_with Denotate) arguments
+    else if bytes_eq word (codes "modify") then three modifying arguments
     else if bytes_eq word (codes "sweep") then one sweeping arguments
     else if bytes_eq word (codes "person") then two letting_in arguments
     else if bytes_eq word (codes "board") then one beginning arguments

@@ -210,6 +210,11 @@ fn refused_lines(rt: HostRuntime) -> std::result::Result<(), Fail> {
         ("list\t1\t1", BAD_LINE),
         ("list\t4294967296", BAD_LINE),
         ("task\t1\t2", BAD_LINE),
+        ("modify\t1\t2\t{", BAD_LINE),
+        (
+            "modify\t1\t00000001-0000-8000-8000-000000000001\t{\"priority\":\"high\"}",
+            "400 - {\"field\":\"priority\",\"name\":\"BadBody\"}\n",
+        ),
         ("done\t1", BAD_LINE),
         (
             "annotate\t1\t00000001-0000-8000-8000-000000000001",

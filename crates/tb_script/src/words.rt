@@ -2,11 +2,11 @@
 ghost use Rattle.std.specs.Prelude.{◌≡◌, map};
 ghost use Rattle.tb_core.specs.declared.action.Action.TheVariants.{Annotate, Denotate};
 ghost use Rattle.tb_script.specs.Outcome.{Reads};
-ghost use Rattle.tb_script.specs.Words.{acting, acting_with, adding, beginning, export, giving, letting_in, listing, one, request_in, showing, sweeping, task, three, two};
+ghost use Rattle.tb_script.specs.Words.{acting, acting_with, adding, beginning, export, giving, letting_in, listing, modifying, one, request_in, showing, sweeping, task, three, two};
 
 use crate::arguments::{read_board, read_heading, read_person, read_role, read_secret, read_uuid};
 use crate::asked::{Request, View};
-use crate::body::read_incoming;
+use crate::body::{read_edits, read_incoming};
 use crate::line_fault::LineFault;
 use std::alloc::Global;
 use tb_core::{Action, Command};
@@ -34,6 +34,7 @@ pub(crate) fn read_request(
         "stop" => read_action(arguments, Action::Stop),
         "annotate" => read_annotate(alloc, arguments),
         "denotate" => read_denotate(alloc, arguments),
+        "modify" => read_modify(alloc, arguments),
         "sweep" => read_sweep(arguments),
         "person" => read_new_person(alloc, arguments),
         "board" => read_new_board(alloc, arguments),
@@ -125,6 +126,17 @@ fn read_denotate(alloc: Global, arguments: &[&str]) -> Result<Request, LineFault
     let (board, id) = read_task(board, uuid)?;
     let action = Action::Denotate(Text::from_str(alloc, text)?);
     Ok(Request::Call(Command::OnTask { board, id, action }))
+}
+
+fn read_modify(alloc: Global, arguments: &[&str]) -> Result<Request, LineFault>
+    ensures { Reads result (three modifying (map (λ argument. argument.now) arguments.entry.now)) }
+{
+    let [board, uuid, body] = arguments else {
+        return Err(LineFault::bad_line());
+    };
+    let (board, id) = read_task(board, uuid)?;
+    let edits = read_edits(alloc, body)?;
+    Ok(Request::Call(Command::Modify { board, id, edits }))
 }
 
 fn read_sweep(arguments: &[&str]) -> Result<Request, LineFault>
