@@ -14,10 +14,16 @@ use Rattle.tb_board.specs.Good.{IsGood, IsSound, IsLinkedOn}
 use Rattle.tb_board.specs.First.{change_first}
 use Rattle.tb_board.proofs.Fresh.{on_ids, among-swapped}
 use Rattle.tb_board.proofs.Fits.{sound_woken}
+use Rattle.tb_board.specs.Links.{depends_of, IsAcyclic}
+use Rattle.tb_board.proofs.Relinking.{acyclic-push, acyclic-same}
 
 pub ids-wake : (m : ℕ) (ts : List Task) → ids (map (woken m) ts) ≡ ids ts
 ids-wake m [] = refl
 ids-wake m (t ∷ ts) = ap (λ is. t.id ∷ is) (ids-wake m ts)
+
+depends-wake : (m : ℕ) (ts : List Task) → depends_of (map (woken m) ts) ≡ depends_of ts
+depends-wake m [] = refl
+depends-wake m (t ∷ ts) = ap (λ ds. t.depends ∷ ds) (depends-wake m ts)
 
 pub on-same : (b c : Board) (id : ℕ) → ids c.tasks ≡ ids b.tasks → is_on c id ≡ is_on b id
 on-same b c id same = on_ids id c.tasks ∙ ap (λ is. list_any (λ x. x == id) is) same ∙ sym (on_ids id b.tasks)
@@ -41,6 +47,7 @@ good-wake b m good =
       few = subst (λ n. n ≤ 10000) (sym (length-map b.tasks (woken m))) good.few;
       sound = sound-wake m b.tasks good.sound;
       linked = linked-wake b m b.tasks good.linked;
+      acyclic = acyclic-same b (wake b m) (ids-wake m b.tasks) (depends-wake m b.tasks) good.acyclic;
     }
 
 pub all_push : {A : Type 0} (P : A → Type 0) (xs : List A) (x : A) → AllByRecursion P xs → P x → AllByRecursion P (xs ++ x ∷ [])
@@ -75,6 +82,7 @@ good-push b t good room alone sound linked =
       few = omega (arith, room, length-append b.tasks (t ∷ []));
       sound = all_push IsSound b.tasks t good.sound sound;
       linked = all_push (IsLinkedOn (with_task b t)) b.tasks t (linked-more b t b.tasks good.linked) (lacks-more b t t.depends linked);
+      acyclic = acyclic-push b t good.acyclic good.linked linked;
     }
 
 -- f keeps identifiers and links
@@ -82,11 +90,11 @@ pub record Keeps (f : Task → Task) : Type 0 where
   pub id : (t : Task) → (f t).id ≡ t.id
   pub depends : (t : Task) → (f t).depends ≡ t.depends
 
-ids-change : (test : Task → Bool) (f : Task → Task) → Keeps f → (ts : List Task) → ids (change_first test f ts) ≡ ids ts
+pub ids-change : (test : Task → Bool) (f : Task → Task) → ((t : Task) → (f t).id ≡ t.id) → (ts : List Task) → ids (change_first test f ts) ≡ ids ts
 ids-change test f keeps [] = refl
 ids-change test f keeps (t ∷ ts) =
     elim (cases_Bool (test t)) [
-      | inl here ↦ rw here (ap (λ i. i ∷ ids ts) (keeps.id t))
+      | inl here ↦ rw here (ap (λ i. i ∷ ids ts) (keeps t))
       | inr other ↦ rw other (ap (λ is. t.id ∷ is) (ids-change test f keeps ts))
     ]
 
@@ -98,18 +106,27 @@ length-change test f (t ∷ ts) =
       | inr other ↦ rw other (ap suc (length-change test f ts))
     ]
 
-sound-change : (test : Task → Bool) (f : Task → Task) (ts : List Task) (x : Task) → find test ts ≡ Some x → (IsSound x → IsSound (f x))
-    → AllByRecursion IsSound ts → AllByRecursion IsSound (change_first test f ts)
-sound-change test f [] x h sound all = tt
-sound-change test f (t ∷ ts) x h sound all =
+depends-change : (test : Task → Bool) (f : Task → Task) → Keeps f → (ts : List Task) → depends_of (change_first test f ts) ≡ depends_of ts
+depends-change test f keeps [] = refl
+depends-change test f keeps (t ∷ ts) =
+    elim (cases_Bool (test t)) [
+      | inl here ↦ rw here (ap (λ ds. ds ∷ depends_of ts) (keeps.depends t))
+      | inr other ↦ rw other (ap (λ ds. t.depends ∷ ds) (depends-change test f keeps ts))
+    ]
+
+-- what holds of each task still does where f keeps it at the one that is found
+all-change : (P : Task → Type 0) (test : Task → Bool) (f : Task → Task) (ts : List Task) (x : Task) → find test ts ≡ Some x → (P x → P (f x))
+    → AllByRecursion P ts → AllByRecursion P (change_first test f ts)
+all-change P test f [] x h keeps all = tt
+all-change P test f (t ∷ ts) x h keeps all =
     elim (cases_Bool (test t)) [
       | inl here ↦
           let found : Some t ≡ Some x = rw here at h in
           let is : x ≡ t = cc in
-          rw here (subst (λ (u : Task). IsSound u → IsSound (f u)) is sound all.0, all.1)
+          rw here (subst (λ (u : Task). P u → P (f u)) is keeps all.0, all.1)
       | inr other ↦
           let later : find test ts ≡ Some x = rw other at h in
-          rw other (all.0, sound-change test f ts x later sound all.1)
+          rw other (all.0, all-change P test f ts x later keeps all.1)
     ]
 
 linked-change : (b c : Board) (test : Task → Bool) (f : Task → Task) → Keeps f → ids c.tasks ≡ ids b.tasks → (ts : List Task)
@@ -130,8 +147,28 @@ pub good-change : (b : Board) (test : Task → Bool) (f : Task → Task) (x : Ta
 good-change b test f x keeps found sound good =
     let later : Board = record b { tasks = change_first test f b.tasks } in
     record {
-      distinct = subst (IsDistinct nat_eq) (sym (ids-change test f keeps b.tasks)) good.distinct;
+      distinct = subst (IsDistinct nat_eq) (sym (ids-change test f keeps.id b.tasks)) good.distinct;
       few = subst (λ n. n ≤ 10000) (sym (length-change test f b.tasks)) good.few;
-      sound = sound-change test f b.tasks x found sound good.sound;
-      linked = linked-change b later test f keeps (ids-change test f keeps b.tasks) b.tasks good.linked;
+      sound = all-change IsSound test f b.tasks x found sound good.sound;
+      linked = linked-change b later test f keeps (ids-change test f keeps.id b.tasks) b.tasks good.linked;
+      acyclic = acyclic-same b later (ids-change test f keeps.id b.tasks) (depends-change test f keeps b.tasks) good.acyclic;
+    }
+
+linked-same : (b c : Board) (ts : List Task) → ids c.tasks ≡ ids b.tasks → AllByRecursion (IsLinkedOn b) ts → AllByRecursion (IsLinkedOn c) ts
+linked-same b c [] same h = tt
+linked-same b c (t ∷ ts) same h = (lacks-same b c t.depends same ∙ h.0, linked-same b c ts same h.1)
+
+-- f keeps identifiers, and its links stay on the board and close no walk
+pub good-relink : (b : Board) (test : Task → Bool) (f : Task → Task) (x : Task) → ((t : Task) → (f t).id ≡ t.id) → find test b.tasks ≡ Some x
+    → (IsSound x → IsSound (f x)) → (IsLinkedOn b x → IsLinkedOn b (f x)) → IsAcyclic (record b { tasks = change_first test f b.tasks }) → IsGood b
+    → IsGood (record b { tasks = change_first test f b.tasks })
+good-relink b test f x keeps found sound linked acyclic good =
+    let later : Board = record b { tasks = change_first test f b.tasks } in
+    let same = ids-change test f keeps b.tasks in
+    record {
+      distinct = subst (IsDistinct nat_eq) (sym same) good.distinct;
+      few = subst (λ n. n ≤ 10000) (sym (length-change test f b.tasks)) good.few;
+      sound = all-change IsSound test f b.tasks x found sound good.sound;
+      linked = linked-same b later later.tasks same (all-change (IsLinkedOn b) test f b.tasks x found linked good.linked);
+      acyclic = acyclic;
     }

@@ -1,9 +1,13 @@
+pub mod Acyclic
 pub mod Awake
 pub mod Drafts
 pub mod Fits
 pub mod Fresh
 pub mod Goodness
 pub mod KnownNumbers
+pub mod Linking
 pub mod Marking
 pub mod Places
+pub mod Relinked
+pub mod Relinking
 pub mod Worlds

@@ -8,6 +8,7 @@ use Rattle.tb_task.specs.Check.{fault_of, is_recurring, is_step}
 use Rattle.tb_board.specs.declared.board.Board.{Board}
 use Rattle.tb_board.specs.Board.{lacks_depends}
 use Rattle.tb_board.specs.Board.{ids}
+use Rattle.tb_board.specs.Links.{IsAcyclic}
 use Rattle.tb_board.specs.Statuses.{is_template}
 
 abbrev pub is_deleted : Status → Bool
@@ -35,3 +36,4 @@ pub record IsGood (b : Board) : Type 0 where
   pub few : length b.tasks ≤ 10000
   pub sound : AllByRecursion IsSound b.tasks
   pub linked : AllByRecursion (IsLinkedOn b) b.tasks
+  pub acyclic : IsAcyclic b

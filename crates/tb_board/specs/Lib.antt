@@ -2,6 +2,7 @@ pub mod Board
 pub mod Changes
 pub mod First
 pub mod Good
+pub mod Links
 pub mod Marks
 pub mod Names
 pub mod Numbers

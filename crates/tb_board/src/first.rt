@@ -45,7 +45,7 @@ pub fn place_of_task(tasks: &[Shared<Task>], id: TaskId) -> Option<usize>
     first_task(tasks, id)
 }
 
-fn first_task(tasks: &[Shared<Task>], id: TaskId) -> Option<usize>
+pub(crate) fn first_task(tasks: &[Shared<Task>], id: TaskId) -> Option<usize>
     ensures { result ≡ position (has_id id) tasks.now }
 {
     tasks.iter().position(|task| task.get().id == id)

@@ -11,6 +11,7 @@ mod draft;
 mod first;
 mod gone;
 mod key;
+mod links;
 mod name;
 mod numbers;
 mod statuses;
@@ -26,6 +27,7 @@ pub use draft::Draft;
 pub use first::{place_of_board, place_of_task};
 pub use gone::Gone;
 pub use key::Key;
+pub use links::{blocked_tasks, blocking_tasks, is_led};
 pub use name::Name;
 pub use numbers::{next_number, taken_numbers};
 pub use statuses::{

@@ -1,6 +1,8 @@
 pub mod Decided
+pub mod Depending
 pub mod Early
 pub mod EditSteps
+pub mod GoodLinks
 pub mod GoodPeople
 pub mod GoodRoles
 pub mod GoodWorlds

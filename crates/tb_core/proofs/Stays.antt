@@ -15,11 +15,11 @@ use Rattle.tb_core.specs.declared.look.Seen.{Seen}
 use Rattle.tb_core.specs.declared.look.SeenBoard.{SeenBoard}
 use Rattle.tb_board.specs.declared.world.Person.{Person}
 use Rattle.tb_core.specs.declared.command.Command.{Command}
-use Rattle.tb_core.specs.declared.command.Command.TheVariants.{Add, OnTask, Modify, Sweep, SetRole, NewPerson, NewBoard}
+use Rattle.tb_core.specs.declared.command.Command.TheVariants.{Add, OnTask, Modify, Sweep, SetRole, NewPerson, NewBoard, Depend, Undepend}
 use Rattle.tb_core.specs.declared.command.Told.{Told}
 use Rattle.tb_core.specs.declared.command.Told.TheVariants.{Added, Changed, Swept}
 use Rattle.tb_core.specs.declared.refusal.Refusal.{Refusal}
-use Rattle.tb_core.specs.declared.refusal.Refusal.TheVariants.{NoTask, UuidTaken, Full, WrongStatus, TemplateFixed, NotAllowed, NoPerson, LastOwner, NameTaken}
+use Rattle.tb_core.specs.declared.refusal.Refusal.TheVariants.{NoTask, UuidTaken, Full, WrongStatus, TemplateFixed, NotAllowed, NoPerson, LastOwner, NameTaken, Cycle}
 use Rattle.tb_board.specs.declared.world.Role.{Role}
 use Rattle.tb_board.specs.declared.world.World.{World}
 use Rattle.tb_core.specs.declared.action.Action.{Action}
@@ -27,6 +27,8 @@ use Rattle.tb_core.specs.declared.action.Action.TheVariants.{Done, Delete, Reope
 use Rattle.tb_core.specs.Actions.{acted, action_fault, action_refusals, of_task, takes}
 use Rattle.tb_core.specs.Edits.{modified}
 use Rattle.tb_core.specs.Modify.{is_fixed, is_misplaced, modify_fault, modify_refusals}
+use Rattle.tb_core.specs.Depends.{closes_walk, depend_refusals, is_open_task, lacks_either, linked, undepend_refusals, unlinked}
+use Rattle.tb_core.proofs.GoodLinks.{good-linked, good-unlinked}
 use Rattle.tb_core.specs.Add.{add_fault, add_refusals, entered, entered_id, first_fault, is_full, is_linked}
 use Rattle.tb_board.specs.Board.{lacks_depends}
 use Rattle.tb_core.specs.Apply.{answered, applied, board_for, decided, outcome, person_for, role_answer, role_given, role_refusals, seen_of, seen_with, with_role}
@@ -166,6 +168,33 @@ good-modify b id es m good h =
     let free = none_least (where_holds TemplateFixed (of_task (is_fixed es) o)) [] fault.1 in
     good_modified_at b id es m o refl (not_false _ (none_holds WrongStatus _ standing.0)) (no_fault _ fault.0) (none_holds TemplateFixed _ free.0) good
 
+linked_at : (b : Board) (id on m : ℕ) (o : Option Task) → find (has_id id) b.tasks ≡ o → of_task is_open_task o ≡ true → lacks_either b id on ≡ false → closes_walk b id on ≡ false
+    → IsGood b → IsGood (record b { tasks = change_first (has_id id) (linked m on) b.tasks })
+linked_at b id on m None found standing there none good = absurd (true≢false (sym standing))
+linked_at b id on m (Some x) found standing there none good = good-linked b id on m x found (other_there (not (is_on b id)) (not (is_on b on)) there) none good
+  where
+    other_there : (p q : Bool) → (p || q) ≡ false → q ≡ false
+    other_there true q h = absurd (true≢false h)
+    other_there false q h = h
+
+good-depend : (b : Board) (id on m : ℕ) → IsGood b → least (depend_refusals b id on) ≡ None → IsGood (record b { tasks = change_first (has_id id) (linked m on) b.tasks })
+good-depend b id on m good h =
+    let there = none_least (where_holds NoTask (lacks_either b id on)) _ h in
+    let standing = none_least (where_holds WrongStatus (not (of_task is_open_task (find (has_id id) b.tasks)))) _ there.1 in
+    let walks = none_least (where_holds Cycle (closes_walk b id on)) [] standing.1 in
+    linked_at b id on m (find (has_id id) b.tasks) refl (not_false _ (none_holds WrongStatus _ standing.0)) (none_holds NoTask _ there.0) (none_holds Cycle _ walks.0) good
+
+unlinked_at : (b : Board) (id on m : ℕ) (o : Option Task) → find (has_id id) b.tasks ≡ o → of_task is_open_task o ≡ true → IsGood b
+    → IsGood (record b { tasks = change_first (has_id id) (unlinked m on) b.tasks })
+unlinked_at b id on m None found standing good = absurd (true≢false (sym standing))
+unlinked_at b id on m (Some x) found standing good = good-unlinked b id on m x found good
+
+good-undepend : (b : Board) (id on m : ℕ) → IsGood b → least (undepend_refusals b id on) ≡ None → IsGood (record b { tasks = change_first (has_id id) (unlinked m on) b.tasks })
+good-undepend b id on m good h =
+    let there = none_least (where_holds NoTask (lacks_either b id on)) _ h in
+    let standing = none_least (where_holds WrongStatus (not (of_task is_open_task (find (has_id id) b.tasks)))) _ there.1 in
+    unlinked_at b id on m (find (has_id id) b.tasks) refl (not_false _ (none_holds WrongStatus _ standing.0)) good
+
 -- a board that may stand in the place of x
 record Follows (x b : Board) : Type 0 where
   number : b.number ≡ x.number
@@ -188,6 +217,12 @@ kept_outcome w x (OnTask n id a) m good found is_good =
 kept_outcome w x (Modify n id es) m good found is_good =
     kept w x (least (modify_refusals (wake x m) id es m)) (record (wake x m) { tasks = change_first (has_id id) (modified m es) (wake x m).tasks }) (Changed id) good found
     (λ none. record { number = refl; good = good-modify (wake x m) id es m (good-wake x m is_good) none })
+kept_outcome w x (Depend n id on) m good found is_good =
+    kept w x (least (depend_refusals (wake x m) id on)) (record (wake x m) { tasks = change_first (has_id id) (linked m on) (wake x m).tasks }) (Changed id) good found
+    (λ none. record { number = refl; good = good-depend (wake x m) id on m (good-wake x m is_good) none })
+kept_outcome w x (Undepend n id on) m good found is_good =
+    kept w x (least (undepend_refusals (wake x m) id on)) (record (wake x m) { tasks = change_first (has_id id) (unlinked m on) (wake x m).tasks }) (Changed id) good found
+    (λ none. record { number = refl; good = good-undepend (wake x m) id on m (good-wake x m is_good) none })
 kept_outcome w x (Sweep n) m good found is_good = kept w x None (wake x m) Swept good found (λ none. record { number = refl; good = good-wake x m is_good })
 kept_outcome w x (SetRole n name role) m good found is_good = kept w x None (wake x m) Swept good found (λ none. record { number = refl; good = good-wake x m is_good })
 kept_outcome w x (NewPerson name key) m good found is_good = kept w x None (wake x m) Swept good found (λ none. record { number = refl; good = good-wake x m is_good })
@@ -287,6 +322,8 @@ pub stays_good : KeepsGood
 stays_good w name (Add n i) m good = kept_decided w (number_of w name) (Some n) (Add n i) m good
 stays_good w name (OnTask n id a) m good = kept_decided w (number_of w name) (Some n) (OnTask n id a) m good
 stays_good w name (Modify n id es) m good = kept_decided w (number_of w name) (Some n) (Modify n id es) m good
+stays_good w name (Depend n id on) m good = kept_decided w (number_of w name) (Some n) (Depend n id on) m good
+stays_good w name (Undepend n id on) m good = kept_decided w (number_of w name) (Some n) (Undepend n id on) m good
 stays_good w name (Sweep n) m good = kept_decided w (number_of w name) (Some n) (Sweep n) m good
 stays_good w name (SetRole n other role) m good =
     kept_role_by w (seen_of w name (SetRole n other role)) (number_of w name) n (number_of w other) role m good refl refl (number_in w other)
@@ -334,6 +371,8 @@ pub stay_known : KeepsPeople
 stay_known w name (Add n i) m person key known = rw (same_people w (decided (number_of w name) (board_for w (number_of w name) (Some n)) (Add n i) m)) known
 stay_known w name (OnTask n id a) m person key known = rw (same_people w (decided (number_of w name) (board_for w (number_of w name) (Some n)) (OnTask n id a) m)) known
 stay_known w name (Modify n id es) m person key known = rw (same_people w (decided (number_of w name) (board_for w (number_of w name) (Some n)) (Modify n id es) m)) known
+stay_known w name (Depend n id on) m person key known = rw (same_people w (decided (number_of w name) (board_for w (number_of w name) (Some n)) (Depend n id on) m)) known
+stay_known w name (Undepend n id on) m person key known = rw (same_people w (decided (number_of w name) (board_for w (number_of w name) (Some n)) (Undepend n id on) m)) known
 stay_known w name (Sweep n) m person key known = rw (same_people w (decided (number_of w name) (board_for w (number_of w name) (Some n)) (Sweep n) m)) known
 stay_known w name (SetRole n other role) m person key known =
     let seen = seen_of w name (SetRole n other role) in known_role w seen seen.caller seen.board role m person key known

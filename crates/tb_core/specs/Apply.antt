@@ -5,7 +5,7 @@ use Rattle.tb_core.specs.declared.command.Answer.{Answer}
 use Rattle.tb_core.specs.declared.command.Answer.TheVariants.{OnBoard}
 use Rattle.tb_core.specs.declared.command.BoardAnswer.{BoardAnswer}
 use Rattle.tb_core.specs.declared.command.Command.{Command}
-use Rattle.tb_core.specs.declared.command.Command.TheVariants.{Add, OnTask, Modify, Sweep, SetRole, NewPerson, NewBoard}
+use Rattle.tb_core.specs.declared.command.Command.TheVariants.{Add, OnTask, Modify, Sweep, SetRole, NewPerson, NewBoard, Depend, Undepend}
 use Rattle.tb_core.specs.declared.command.Told.{Told}
 use Rattle.tb_core.specs.declared.command.Told.TheVariants.{Swept}
 use Rattle.tb_core.specs.declared.deciding.Decision.{Decision}
@@ -18,6 +18,7 @@ use Rattle.tb_board.specs.declared.world.Role.{Role}
 use Rattle.tb_board.specs.declared.world.World.{World}
 use Rattle.tb_core.specs.Actions.{judged_action}
 use Rattle.tb_core.specs.Add.{judged_add}
+use Rattle.tb_core.specs.Depends.{judged_depend, judged_undepend}
 use Rattle.tb_board.specs.Board.{wake}
 use Rattle.tb_board.specs.Changes.{change_board, changed}
 use Rattle.tb_core.specs.Modify.{judged_modify}
@@ -33,6 +34,8 @@ abbrev pub board_of : Command → Option ℕ
 board_of (Add n i) = Some n
 board_of (OnTask n id a) = Some n
 board_of (Modify n id edits) = Some n
+board_of (Depend n id on) = Some n
+board_of (Undepend n id on) = Some n
 board_of (Sweep n) = Some n
 board_of (SetRole n name role) = Some n
 board_of (NewPerson name key) = None
@@ -43,6 +46,8 @@ abbrev pub other_of : Command → Option (List ℕ)
 other_of (Add n i) = None
 other_of (OnTask n id a) = None
 other_of (Modify n id edits) = None
+other_of (Depend n id on) = None
+other_of (Undepend n id on) = None
 other_of (Sweep n) = None
 other_of (SetRole n name role) = Some name
 other_of (NewPerson name key) = Some name
@@ -93,6 +98,8 @@ abbrev pub judged : Board → Command → ℕ → Result (Board × Told) Refusal
 judged b (Add n i) m = judged_add b i m
 judged b (OnTask n id a) m = judged_action b id a m
 judged b (Modify n id edits) m = judged_modify b id edits m
+judged b (Depend n id on) m = judged_depend b id on m
+judged b (Undepend n id on) m = judged_undepend b id on m
 judged b (Sweep n) m = Ok (b, Swept)
 judged b (SetRole n name role) m = Ok (b, Swept)
 judged b (NewPerson name key) m = Ok (b, Swept)
@@ -146,6 +153,8 @@ abbrev pub apply_seen : World → Seen → Command → ℕ → Outcome
 apply_seen w seen (Add n i) m = on_board w seen (Add n i) m
 apply_seen w seen (OnTask n id a) m = on_board w seen (OnTask n id a) m
 apply_seen w seen (Modify n id edits) m = on_board w seen (Modify n id edits) m
+apply_seen w seen (Depend n id on) m = on_board w seen (Depend n id on) m
+apply_seen w seen (Undepend n id on) m = on_board w seen (Undepend n id on) m
 apply_seen w seen (Sweep n) m = on_board w seen (Sweep n) m
 apply_seen w seen (SetRole n name role) m = role_given w seen seen.caller seen.board role m
 apply_seen w seen (NewPerson name key) m = new_person w seen seen.caller name key

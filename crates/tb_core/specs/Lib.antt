@@ -2,6 +2,7 @@ pub mod Actions
 pub mod Add
 pub mod Apply
 pub mod Decisions
+pub mod Depends
 pub mod Edits
 pub mod Giving
 pub mod GoodWorld

@@ -24,6 +24,18 @@ pub enum Command {
         /// One after the other. A value of another kind than its attribute's, which no edit has that was read, counts as none.
         edits: Items<Edit>,
     },
+    /// Makes a task of a board depend on another one.
+    Depend {
+        board: u32,
+        id: TaskId,
+        on: TaskId,
+    },
+    /// Ends that a task of a board depends on another one.
+    Undepend {
+        board: u32,
+        id: TaskId,
+        on: TaskId,
+    },
     /// Lets a board come up to the moment.
     Sweep {
         board: u32,

@@ -12,6 +12,7 @@ use crate::add::{add, add_refusal};
 use crate::command::{Answer, BoardAnswer, Command, Told};
 use crate::giving::{is_last_owner, is_owner_role, role_decision};
 use crate::judged::{Judged, Stop};
+use crate::linking::{depend, undepend};
 use crate::look::Seen;
 use crate::modify::modify;
 use crate::people::{decide_board, decide_person};
@@ -63,6 +64,8 @@ pub fn decide(
         Command::Add { .. }
         | Command::OnTask { .. }
         | Command::Modify { .. }
+        | Command::Depend { .. }
+        | Command::Undepend { .. }
         | Command::Sweep { .. } => decide_on_board(alloc, seen, command, at),
     }
 }
@@ -169,6 +172,8 @@ fn judge(alloc: Global, draft: Draft, command: &Command, at: Moment) -> Result<J
         Command::Add { incoming, .. } => add(alloc, draft, incoming, at),
         Command::OnTask { id, action, .. } => act(alloc, draft, *id, action, at),
         Command::Modify { id, edits, .. } => modify(alloc, draft, *id, edits.as_slice(), at),
+        Command::Depend { id, on, .. } => depend(alloc, draft, *id, *on, at),
+        Command::Undepend { id, on, .. } => undepend(alloc, draft, *id, *on, at),
         Command::Sweep { .. }
         | Command::SetRole { .. }
         | Command::NewPerson { .. }

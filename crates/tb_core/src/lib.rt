@@ -12,6 +12,7 @@ mod edits;
 mod giving;
 mod judged;
 pub mod laws;
+mod linking;
 mod look;
 mod modify;
 mod notes;

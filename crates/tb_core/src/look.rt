@@ -44,6 +44,8 @@ pub fn look_for(world: &World, name: &Name, command: &Command) -> Result<Seen, A
         Command::Add { board, .. }
         | Command::OnTask { board, .. }
         | Command::Modify { board, .. }
+        | Command::Depend { board, .. }
+        | Command::Undepend { board, .. }
         | Command::Sweep { board } => look_at_board(world, name, *board),
         Command::SetRole {
             board,

@@ -1,0 +1,124 @@
+ghost use Rattle.std.specs.Prelude.{◌≡◌, ◌<◌, [], ◌∷◌, ◌++◌, length, IfOk, OnOk, slice_index_or, slice_set};
+ghost use Rattle.tb_board.specs.Board.{ids};
+ghost use Rattle.tb_board.specs.Links.{ArePlaces, are_open, depends_of, leads_on, links, place_in, places_in};
+ghost use Rattle.tb_graph.specs.Blocked.{AreBlocking, is_blocked};
+ghost use Rattle.tb_graph.specs.Marks.{AreMarks};
+
+use crate::board::Board;
+use crate::first::first_task;
+use crate::statuses::is_open_status;
+use std::alloc::{AllocError, Global};
+use std::collections::BTreeMap;
+use tb_graph::Links;
+use tb_task::{Task, TaskId};
+use tb_values::Shared;
+
+/// Whether one task depends on another, directly or by other ones.
+pub fn is_led(alloc: Global, board: &Board, from: TaskId, to: TaskId) -> Result<bool, AllocError>
+    ensures { IfOk result (λ answer. answer ≡ leads_on board.now from to) }
+{
+    let tasks = board.tasks.as_slice();
+    let Some(from) = place_by_id(tasks, from) else {
+        return Ok(false);
+    };
+    let Some(to) = place_by_id(tasks, to) else {
+        return Ok(false);
+    };
+    links_of(alloc, board)?.reaches(from, to)
+}
+
+/// Which tasks are blocked, by their places.
+pub fn blocked_tasks(alloc: Global, board: &Board) -> Result<Vec<bool>, AllocError>
+    ensures { IfOk result (λ marks. AreMarks (length board.now.tasks) (is_blocked (links board.now) (are_open board.now.tasks)) marks.items) }
+{
+    let open_tasks = open_tasks(alloc, board.tasks.as_slice())?;
+    links_of(alloc, board)?.blocked(open_tasks.as_slice())
+}
+
+/// Which tasks are blocking, by their places.
+pub fn blocking_tasks(alloc: Global, board: &Board) -> Result<Vec<bool>, AllocError>
+    ensures { IfOk result (λ marks. AreBlocking (links board.now) (are_open board.now.tasks) marks.items) }
+{
+    let open_tasks = open_tasks(alloc, board.tasks.as_slice())?;
+    links_of(alloc, board)?.blocking(open_tasks.as_slice())
+}
+
+fn open_tasks(alloc: Global, tasks: &[Shared<Task>]) -> Result<Vec<bool>, AllocError>
+    ensures { IfOk result (λ open_tasks. open_tasks.items ≡ are_open tasks.now) }
+{
+    let mut open_tasks = Vec::with_capacity(alloc, tasks.len())?;
+    for task in tasks {
+        open_tasks.push(is_open_status(task.get().status))?;
+    }
+    Ok(open_tasks)
+}
+
+/// The links of a board, in time that grows little faster than tasks and links.
+fn links_of(alloc: Global, board: &Board) -> Result<Links, AllocError>
+    ensures { IfOk result (λ g. g ≡ links board.now) }
+{
+    let tasks = board.tasks.as_slice();
+    let places = places_of(alloc, tasks)?;
+    let mut links = Links::new(alloc, tasks.len())?;
+    for from in 0..tasks.len() {
+        add_depends(&mut links, &places, tasks, from)?;
+    }
+    Ok(links)
+}
+
+/// The place of each identifier among those of the tasks.
+fn places_of(alloc: Global, tasks: &[Shared<Task>]) -> Result<BTreeMap<TaskId, usize>, AllocError>
+    ensures { IfOk result (λ places. ArePlaces (ids tasks.now) places) }
+{
+    let mut places = BTreeMap::new(alloc);
+    let mut place = tasks.len();
+    while place > 0 {
+        place -= 1;
+        places.insert(tasks[place].get().id, place)?;
+    }
+    Ok(places)
+}
+
+/// Links a task to those on which it depends.
+fn add_depends(
+    links: &mut Links,
+    places: &BTreeMap<TaskId, usize>,
+    tasks: &[Shared<Task>],
+    from: usize,
+) -> Result<(), AllocError>
+    requires places { ArePlaces (ids tasks.now) places.now }
+    requires nodes { length links.old ≡ length tasks.now }
+    requires from { from < length tasks.now }
+    ensures { OnOk result (links.new ≡ slice_set links.old from (slice_index_or links.old from [] ++ places_in (ids tasks.now) (slice_index_or (depends_of tasks.now) from []))) }
+{
+    for id in tasks[from].get().depends.as_slice() {
+        add_link(links, places, tasks, from, *id)?;
+    }
+    Ok(())
+}
+
+/// Links a task to the one of this identifier, if there is one.
+fn add_link(
+    links: &mut Links,
+    places: &BTreeMap<TaskId, usize>,
+    tasks: &[Shared<Task>],
+    from: usize,
+    id: TaskId,
+) -> Result<(), AllocError>
+    requires places { ArePlaces (ids tasks.now) places.now }
+    requires nodes { length links.old ≡ length tasks.now }
+    requires from { from < length tasks.now }
+    ensures { OnOk result (links.new ≡ slice_set links.old from (slice_index_or links.old from [] ++ places_in (ids tasks.now) (id ∷ []))) }
+{
+    match places.get(&id) {
+        Some(to) => links.add(from, *to),
+        None => Ok(()),
+    }
+}
+
+/// The place of the first task of that identifier.
+fn place_by_id(tasks: &[Shared<Task>], id: TaskId) -> Option<usize>
+    ensures { result ≡ place_in (ids tasks.now) id }
+{
+    first_task(tasks, id)
+}
