@@ -12,10 +12,11 @@ use Rattle.tb_board.specs.Board.{has_id}
 use Rattle.tb_board.specs.World.{key_of, number_of}
 use Rattle.tb_report.specs.Listing.{listing}
 use Rattle.tb_report.specs.Shown.{shown, shown_task}
-use Rattle.tb_desk.specs.declared.call.Reply.{Reply}
+use Rattle.tb_reply.specs.declared.reply.Reply.{Reply}
 use Rattle.tb_desk.specs.declared.view.View.{View}
 use Rattle.tb_desk.specs.declared.view.View.TheVariants.{Export, Listing, One}
-use Rattle.tb_desk.specs.Calls.{State, has_key, reply_of, unknown_caller}
+use Rattle.tb_desk.specs.Calls.{State, has_key, unknown_caller}
+use Rattle.tb_reply.specs.Replies.{reply_of}
 
 abbrev pub board_of : View → ℕ
 board_of (Listing n) = n

@@ -1,6 +1,6 @@
-use Rattle.std.proofs.Common.{◌≡◌, ◌∙◌, sym}
+use Rattle.std.proofs.Common.{◌∙◌, sym}
 use Rattle.tb_script.proofs.Numerals.{parsed, no_number}
-use Rattle.tb_script.proofs.reading.board_of.Goals as goal
+use Rattle.tb_script.proofs.arguments.board_of.Goals as goal
 
 pub returns : goal.returns
 returns c = c.ok.ensures.value ∙ parsed c.args.text.now c.parse.result (sym c.begins_above_zero.ensures ∙ c.if-not-begins_above_zero.false) c.parse.ensures.value.0

@@ -3,11 +3,11 @@ use Rattle.std.proofs.Common.{◌≡◌, ℕ, List, false, refl}
 use Rattle.serde_json.specs.Written.{has_float}
 use Rattle.tb_task.specs.TaskId.{id_text}
 use Rattle.tb_core.specs.declared.command.Answer.{Answer}
-use Rattle.tb_core.specs.declared.command.Answer.TheVariants.{OnBoard}
+use Rattle.tb_core.specs.declared.command.Answer.TheVariants.{OnBoard, NewPerson, NewBoard}
 use Rattle.tb_core.specs.declared.command.BoardAnswer.{BoardAnswer}
 use Rattle.tb_core.specs.declared.command.Told.{Told}
 use Rattle.tb_core.specs.declared.command.Told.TheVariants.{Added, Changed, Swept}
-use Rattle.tb_desk.specs.Bodies.{added_body, answer_body, changed_body, swept_body, told_body}
+use Rattle.tb_reply.specs.Bodies.{added_body, answer_body, changed_body, swept_body, told_body}
 
 added_without_float : (a : BoardAnswer) (uuid : List ℕ) (dropped : ℕ) → has_float (added_body a uuid dropped) ≡ false
 unfolding added_body
@@ -28,3 +28,5 @@ told_without_float a Swept = swept_without_float a
 
 pub answer_without_float : (a : Answer) → has_float (answer_body a) ≡ false
 answer_without_float (OnBoard a) = told_without_float a a.told
+answer_without_float (NewPerson name) = refl
+answer_without_float (NewBoard n) = refl

@@ -3,11 +3,11 @@ ghost use Rattle.std.specs.Prelude.{◌≡◌, IfOk};
 ghost use Rattle.std.specs.Option.{option_map};
 ghost use Rattle.serde_json.specs.View.{view};
 ghost use Rattle.tb_task.specs.TaskId.{id_text};
-ghost use Rattle.tb_script.specs.Replies.{added_body, answer_body, changed_body, field_name, refusal_body, refusal_name, refused_field, swept_body, told_body, unreadable_body};
+ghost use Rattle.tb_reply.specs.Bodies.{added_body, answer_body, board_body, changed_body, field_name, person_body, refusal_body, refusal_name, refused_field, swept_body, told_body};
 
-use crate::line_fault::Unreadable;
 use serde_json::{Value, json};
 use std::alloc::{AllocError, Global};
+use tb_board::Name;
 use tb_core::{Answer, BoardAnswer, Refusal, Told};
 use tb_task::{Field, TaskId};
 
@@ -27,7 +27,22 @@ pub(crate) fn body_of_answer(alloc: Global, answer: &Answer) -> Result<Value, Al
 {
     match answer {
         Answer::OnBoard(answer) => body_on_board(alloc, answer, &answer.told),
+        Answer::NewPerson { name } => body_of_person(alloc, name),
+        Answer::NewBoard { board } => body_of_board(alloc, *board),
     }
+}
+
+fn body_of_person(alloc: Global, name: &Name) -> Result<Value, AllocError>
+    ensures { IfOk result (λ body. view body ≡ person_body name.now) }
+{
+    let name = name.as_str();
+    json!(in alloc; {"person": name})
+}
+
+fn body_of_board(alloc: Global, board: u32) -> Result<Value, AllocError>
+    ensures { IfOk result (λ body. view body ≡ board_body board) }
+{
+    json!(in alloc; {"board": board})
 }
 
 fn body_on_board(alloc: Global, answer: &BoardAnswer, told: &Told) -> Result<Value, AllocError>
@@ -38,33 +53,6 @@ fn body_on_board(alloc: Global, answer: &BoardAnswer, told: &Told) -> Result<Val
         Told::Changed { id } => body_of_changed(alloc, answer, *id),
         Told::Swept => body_of_sweep(alloc, answer),
     }
-}
-
-#[tactic(auto, unfolding(crate::specs::Replies::swept_body))]
-fn body_of_sweep(alloc: Global, answer: &BoardAnswer) -> Result<Value, AllocError>
-    ensures { IfOk result (λ body. view body ≡ swept_body answer.now) }
-{
-    let added = answer.added;
-    let board = answer.board;
-    let more = answer.more;
-    json!(in alloc; {"added": added, "board": board, "more": more})
-}
-
-fn body_of_changed(alloc: Global, answer: &BoardAnswer, id: TaskId) -> Result<Value, AllocError>
-    ensures { IfOk result (λ body. view body ≡ changed_body answer.now (id_text id)) }
-{
-    let uuid = id.text(alloc)?;
-    body_with_task(alloc, answer, uuid.as_str())
-}
-
-#[tactic(auto, unfolding(crate::specs::Replies::changed_body))]
-fn body_with_task(alloc: Global, answer: &BoardAnswer, uuid: &str) -> Result<Value, AllocError>
-    ensures { IfOk result (λ body. view body ≡ changed_body answer.now uuid.now) }
-{
-    let added = answer.added;
-    let board = answer.board;
-    let more = answer.more;
-    json!(in alloc; {"added": added, "board": board, "more": more, "uuid": uuid})
 }
 
 fn body_of_added(
@@ -79,7 +67,7 @@ fn body_of_added(
     body_with_uuid(alloc, answer, uuid.as_str(), dropped)
 }
 
-#[tactic(auto, unfolding(crate::specs::Replies::added_body))]
+#[tactic(auto, unfolding(crate::specs::Bodies::added_body))]
 fn body_with_uuid(
     alloc: Global,
     answer: &BoardAnswer,
@@ -94,15 +82,31 @@ fn body_with_uuid(
     json!(in alloc; {"added": added, "board": board, "dropped": dropped, "more": more, "uuid": uuid})
 }
 
-pub(crate) fn body_of_fault(alloc: Global, fault: &Unreadable) -> Result<Value, AllocError>
-    ensures { IfOk result (λ body. view body ≡ unreadable_body fault.now) }
+fn body_of_changed(alloc: Global, answer: &BoardAnswer, id: TaskId) -> Result<Value, AllocError>
+    ensures { IfOk result (λ body. view body ≡ changed_body answer.now (id_text id)) }
 {
-    match fault {
-        Unreadable::BadLine => json!(in alloc; {"name": "BadLine"}),
-        Unreadable::BadBody(None) => json!(in alloc; {"name": "BadBody"}),
-        Unreadable::BadBody(Some(field)) =>
-            json!(in alloc; {"field": field.as_str(), "name": "BadBody"}),
-    }
+    let uuid = id.text(alloc)?;
+    body_of_one(alloc, answer, uuid.as_str())
+}
+
+#[tactic(auto, unfolding(crate::specs::Bodies::changed_body))]
+fn body_of_one(alloc: Global, answer: &BoardAnswer, uuid: &str) -> Result<Value, AllocError>
+    ensures { IfOk result (λ body. view body ≡ changed_body answer.now uuid.now) }
+{
+    let added = answer.added;
+    let board = answer.board;
+    let more = answer.more;
+    json!(in alloc; {"added": added, "board": board, "more": more, "uuid": uuid})
+}
+
+#[tactic(auto, unfolding(crate::specs::Bodies::swept_body))]
+fn body_of_sweep(alloc: Global, answer: &BoardAnswer) -> Result<Value, AllocError>
+    ensures { IfOk result (λ body. view body ≡ swept_body answer.now) }
+{
+    let added = answer.added;
+    let board = answer.board;
+    let more = answer.more;
+    json!(in alloc; {"added": added, "board": board, "more": more})
 }
 
 fn name_of_refusal(refusal: Refusal) -> &'static str

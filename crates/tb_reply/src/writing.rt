@@ -2,18 +2,18 @@
 ghost use Rattle.std.specs.Prelude.{◌≡◌, false, Err, IfOk};
 ghost use Rattle.serde_json.specs.View.{view};
 ghost use Rattle.serde_json.specs.Written.{compact_text, has_float};
-ghost use Rattle.tb_desk.specs.Calls.{reply_of};
+ghost use Rattle.tb_reply.specs.Replies.{reply_of};
 
 use crate::bodies::{body_of_answer, body_of_refusal};
-use crate::call::Reply;
+use crate::reply::Reply;
 use serde_json::Value;
 use std::alloc::{AllocError, Global};
 use tb_core::{Answer, Refusal};
 use tb_values::Text;
 
 /// The reply to a command.
-#[tactic(auto, unfolding(crate::specs::Calls::reply_of))]
-pub(crate) fn reply_to(alloc: Global, answer: &Result<Answer, Refusal>) -> Result<Reply, AllocError>
+#[tactic(auto, unfolding(crate::specs::Replies::reply_of))]
+pub fn reply_to(alloc: Global, answer: &Result<Answer, Refusal>) -> Result<Reply, AllocError>
     ensures { IfOk result (λ reply. reply ≡ reply_of answer.now) }
 {
     match answer {
@@ -21,13 +21,13 @@ pub(crate) fn reply_to(alloc: Global, answer: &Result<Answer, Refusal>) -> Resul
             let body = body_of_answer(alloc, answer)?;
             write_reply(alloc, 0, 200, &body)
         }
-        Err(refusal) => refused(alloc, *refusal),
+        Err(refusal) => reply_to_refused(alloc, *refusal),
     }
 }
 
 /// The reply to what is refused.
-#[tactic(auto, unfolding(crate::specs::Calls::reply_of))]
-pub(crate) fn refused(alloc: Global, refusal: Refusal) -> Result<Reply, AllocError>
+#[tactic(auto, unfolding(crate::specs::Replies::reply_of))]
+pub fn reply_to_refused(alloc: Global, refusal: Refusal) -> Result<Reply, AllocError>
     ensures { IfOk result (λ reply. reply ≡ reply_of (Err refusal)) }
 {
     let body = body_of_refusal(alloc, refusal)?;

@@ -1,12 +1,12 @@
 -- The bodies of replies, as JSON.
-use Rattle.std.specs.Prelude.{ℕ, List, Option, Some, None, Result, Ok, Err, codes}
+use Rattle.std.specs.Prelude.{ℕ, List, Option, Some, None, codes}
 use Rattle.serde_json.specs.Data.{Data, boolean, number, unsigned, string, object, Members, member, no_members}
 use Rattle.tb_task.specs.TaskId.{id_text}
 use Rattle.tb_task.specs.declared.checks.Field.{Field}
 use Rattle.tb_task.specs.declared.checks.Field.TheVariants.{EmptyDescription, BadTag, BadText, BadPair}
 use Rattle.tb_core.specs.Refusal.{number_of}
 use Rattle.tb_core.specs.declared.command.Answer.{Answer}
-use Rattle.tb_core.specs.declared.command.Answer.TheVariants.{OnBoard}
+use Rattle.tb_core.specs.declared.command.Answer.TheVariants.{OnBoard, NewPerson, NewBoard}
 use Rattle.tb_core.specs.declared.command.BoardAnswer.{BoardAnswer}
 use Rattle.tb_core.specs.declared.command.Told.{Told}
 use Rattle.tb_core.specs.declared.command.Told.TheVariants.{Added, Changed, Swept}
@@ -89,5 +89,13 @@ told_body a (Added id dropped) = added_body a (id_text id) dropped
 told_body a (Changed id) = changed_body a (id_text id)
 told_body a Swept = swept_body a
 
+abbrev pub person_body : List ℕ → Data
+person_body name = object (member (codes "person") (string name) no_members)
+
+abbrev pub board_body : ℕ → Data
+board_body n = object (member (codes "board") (number (unsigned n)) no_members)
+
 abbrev pub answer_body : Answer → Data
 answer_body (OnBoard a) = told_body a a.told
+answer_body (NewPerson name) = person_body name
+answer_body (NewBoard n) = board_body n
