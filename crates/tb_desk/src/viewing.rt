@@ -93,7 +93,7 @@ fn show_board(
     match view {
         View::Listing(_) => Ok(Ok(listing(alloc, board, at)?)),
         View::Export(_) => Ok(Ok(export(alloc, board, at)?)),
-        View::One(_, id) => show_one(alloc, task_on(board, *id), at),
+        View::One(_, id) => show_one(alloc, board, task_on(board, *id), at),
     }
 }
 
@@ -118,20 +118,26 @@ fn task_on(board: &Board, id: TaskId) -> Option<&Shared<Task>>
 /// A task as JSON.
 fn show_one(
     alloc: Global,
+    board: &Board,
     task: Option<&Shared<Task>>,
     at: Moment,
 ) -> Result<Result<Text, Refusal>, AllocError>
-    ensures { IfOk result (λ shown. shown ≡ one_text (option_map (λ task. task.now) task.entry) at) }
+    ensures { IfOk result (λ shown. shown ≡ one_text board.now (option_map (λ task. task.now) task.entry) at) }
 {
     let Some(task) = task else {
         return Ok(Err(Refusal::NoTask));
     };
-    Ok(Ok(write_one(alloc, task, at)?))
+    Ok(Ok(write_one(alloc, board, task, at)?))
 }
 
-fn write_one(alloc: Global, task: &Shared<Task>, at: Moment) -> Result<Text, AllocError>
-    ensures { IfOk result (λ text. text ≡ shown_text (shown_task_of at task.now)) }
+fn write_one(
+    alloc: Global,
+    board: &Board,
+    task: &Shared<Task>,
+    at: Moment,
+) -> Result<Text, AllocError>
+    ensures { IfOk result (λ text. text ≡ shown_text (shown_task_of board.now at task.now)) }
 {
-    let shown = shown_task(alloc, task, at)?;
+    let shown = shown_task(alloc, board, task, at)?;
     write_task(alloc, &shown)
 }
