@@ -6,7 +6,7 @@ use Rattle.tb_task.specs.TaskId.{read_id}
 use Rattle.tb_board.specs.Names.{read_name, read_key, read_title}
 use Rattle.tb_core.specs.declared.action.Action.{Action}
 use Rattle.tb_core.specs.declared.action.Action.TheVariants.{Done, Delete, Reopen, Start, Stop, Annotate, Denotate}
-use Rattle.tb_core.specs.declared.command.Command.TheVariants.{Add, Modify, OnTask, Sweep, SetRole, NewPerson, NewBoard}
+use Rattle.tb_core.specs.declared.command.Command.TheVariants.{Add, Depend, Modify, NewBoard, NewPerson, OnTask, SetRole, Sweep, Undepend}
 use Rattle.tb_script.specs.declared.asked.Request.{Request}
 use Rattle.tb_script.specs.declared.asked.Request.TheVariants.{Call, View as ViewOf}
 use Rattle.tb_script.specs.declared.asked.View.TheVariants.{Listing, Export, One}
@@ -42,6 +42,13 @@ task board uuid = do
   n ← or_bad_line (board_number board)
   id ← or_bad_line (read_id uuid)
   Ok (n, id)
+
+-- a task, and the identifier of the one on which it depends
+unfoldable pub link : List ℕ → List ℕ → List ℕ → Result ((ℕ × ℕ) × ℕ) Unreadable
+link board uuid other = do
+  t ← task board uuid
+  on ← or_bad_line (read_id other)
+  Ok (t, on)
 
 -- ---- views
 
@@ -84,6 +91,16 @@ modifying board uuid body = do
   edits ← edits_in body
   Ok (Call (Modify t.0 t.1 edits))
 
+abbrev pub linking : List (List ℕ) → Result Request Unreadable
+linking arguments = do
+  l ← three link arguments
+  Ok (Call (Depend l.0.0 l.0.1 l.1))
+
+abbrev pub unlinking : List (List ℕ) → Result Request Unreadable
+unlinking arguments = do
+  l ← three link arguments
+  Ok (Call (Undepend l.0.0 l.0.1 l.1))
+
 abbrev pub sweeping : List ℕ → Result Request Unreadable
 sweeping board = do
   n ← or_bad_line (board_number board)
@@ -123,6 +140,8 @@ request_in word arguments at =
     else if bytes_eq word (codes "annotate") then three (acting_with Annotate) arguments
     else if bytes_eq word (codes "denotate") then three (acting_with Denotate) arguments
     else if bytes_eq word (codes "modify") then three modifying arguments
+    else if bytes_eq word (codes "depend") then linking arguments
+    else if bytes_eq word (codes "undepend") then unlinking arguments
     else if bytes_eq word (codes "sweep") then one sweeping arguments
     else if bytes_eq word (codes "person") then two letting_in arguments
     else if bytes_eq word (codes "board") then one beginning arguments

@@ -215,6 +215,14 @@ fn refused_lines(rt: HostRuntime) -> std::result::Result<(), Fail> {
             "modify\t1\t00000001-0000-8000-8000-000000000001\t{\"priority\":\"high\"}",
             "400 - {\"field\":\"priority\",\"name\":\"BadBody\"}\n",
         ),
+        (
+            "depend\t1\t00000001-0000-8000-8000-000000000001\tT",
+            BAD_LINE,
+        ),
+        (
+            "depend\t1\t00000001-0000-8000-8000-000000000001\t00000001-0000-8000-8000-000000000001",
+            "404 5 {\"name\":\"NoTask\",\"refused\":5}\n",
+        ),
         ("done\t1", BAD_LINE),
         (
             "annotate\t1\t00000001-0000-8000-8000-000000000001",

@@ -2,7 +2,7 @@
 ghost use Rattle.std.specs.Prelude.{◌≡◌, map};
 ghost use Rattle.tb_core.specs.declared.action.Action.TheVariants.{Annotate, Denotate};
 ghost use Rattle.tb_script.specs.Outcome.{Reads};
-ghost use Rattle.tb_script.specs.Words.{acting, acting_with, adding, beginning, export, giving, letting_in, listing, modifying, one, request_in, showing, sweeping, task, three, two};
+ghost use Rattle.tb_script.specs.Words.{acting, acting_with, adding, beginning, export, giving, letting_in, link, linking, listing, modifying, one, request_in, showing, sweeping, task, three, two, unlinking};
 
 use crate::arguments::{read_board, read_heading, read_person, read_role, read_secret, read_uuid};
 use crate::asked::{Request, View};
@@ -35,6 +35,8 @@ pub(crate) fn read_request(
         "annotate" => read_annotate(alloc, arguments),
         "denotate" => read_denotate(alloc, arguments),
         "modify" => read_modify(alloc, arguments),
+        "depend" => read_depend(arguments),
+        "undepend" => read_undepend(arguments),
         "sweep" => read_sweep(arguments),
         "person" => read_new_person(alloc, arguments),
         "board" => read_new_board(alloc, arguments),
@@ -58,6 +60,28 @@ fn read_task(board: &str, uuid: &str) -> Result<(u32, TaskId), LineFault>
     let board = read_board(board)?;
     let id = read_uuid(uuid)?;
     Ok((board, id))
+}
+
+fn read_link(arguments: &[&str]) -> Result<((u32, TaskId), TaskId), LineFault>
+    ensures { Reads result (three link (map (λ argument. argument.now) arguments.entry.now)) }
+{
+    let [board, uuid, other] = arguments else {
+        return Err(LineFault::bad_line());
+    };
+    read_link_between(board, uuid, other)
+}
+
+#[tactic(auto, unfolding(crate::specs::Words::link))]
+fn read_link_between(
+    board: &str,
+    uuid: &str,
+    other: &str,
+) -> Result<((u32, TaskId), TaskId), LineFault>
+    ensures { Reads result (link board.now uuid.now other.now) }
+{
+    let task = read_task(board, uuid)?;
+    let on = read_uuid(other)?;
+    Ok((task, on))
 }
 
 fn read_listing(arguments: &[&str]) -> Result<Request, LineFault>
@@ -137,6 +161,20 @@ fn read_modify(alloc: Global, arguments: &[&str]) -> Result<Request, LineFault>
     let (board, id) = read_task(board, uuid)?;
     let edits = read_edits(alloc, body)?;
     Ok(Request::Call(Command::Modify { board, id, edits }))
+}
+
+fn read_depend(arguments: &[&str]) -> Result<Request, LineFault>
+    ensures { Reads result (linking (map (λ argument. argument.now) arguments.entry.now)) }
+{
+    let ((board, id), on) = read_link(arguments)?;
+    Ok(Request::Call(Command::Depend { board, id, on }))
+}
+
+fn read_undepend(arguments: &[&str]) -> Result<Request, LineFault>
+    ensures { Reads result (unlinking (map (λ argument. argument.now) arguments.entry.now)) }
+{
+    let ((board, id), on) = read_link(arguments)?;
+    Ok(Request::Call(Command::Undepend { board, id, on }))
 }
 
 fn read_sweep(arguments: &[&str]) -> Result<Request, LineFault>
