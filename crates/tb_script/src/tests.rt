@@ -125,30 +125,6 @@ fn number_used_by_hand(rt: HostRuntime) -> std::result::Result<(), Fail> {
 }
 
 #[test]
-fn people_and_roles(rt: HostRuntime) -> std::result::Result<(), Fail> {
-    let root = "root\troot-key-1";
-    let bob = "bob\tbob-key-01";
-    let mut script = String::new(rt.alloc());
-    for (caller, asked) in [
-        (root, "person\tbob\tbob-key-01"),
-        (bob, "list\t1"),
-        (root, "role\t1\tbob\tmember"),
-        (bob, "person\teve\teve-key-01"),
-        (root, "role\t1\tzed\tmember"),
-        (root, "role\t1\troot\tnone"),
-        (root, "person\tbob\tbob-key-02"),
-        (root, "board\tShop"),
-    ] {
-        script.push_str(&line_of(rt.alloc(), caller, asked)?)?;
-    }
-    assert_eq!(rt;
-        answers(rt.alloc(), script.as_bytes())?.as_str(),
-        "200 0 {\"person\":\"bob\"}\n404 3 {\"name\":\"NoBoard\",\"refused\":3}\n200 0 {\"added\":0,\"board\":1,\"more\":false}\n403 4 {\"name\":\"NotAllowed\",\"refused\":4}\n404 13 {\"name\":\"NoPerson\",\"refused\":13}\n409 14 {\"name\":\"LastOwner\",\"refused\":14}\n409 15 {\"name\":\"NameTaken\",\"refused\":15}\n200 0 {\"board\":2}\n"
-    );
-    Ok(())
-}
-
-#[test]
 fn notes_removed(rt: HostRuntime) -> std::result::Result<(), Fail> {
     let changed =
         "200 0 {\"added\":0,\"board\":1,\"more\":false,\"uuid\":\"00000001-0000-8000-8000-000000000001\"}\n";
@@ -228,9 +204,6 @@ fn refused_lines(rt: HostRuntime) -> std::result::Result<(), Fail> {
             "annotate\t1\t00000001-0000-8000-8000-000000000001",
             BAD_LINE,
         ),
-        ("person\tBob\tbob-key-01", BAD_LINE),
-        ("board\t", BAD_LINE),
-        ("role\t1\troot\tOwner", BAD_LINE),
         ("list\t4294967295", no_board),
         ("export\t2", no_board),
         ("add\t2\t{\"description\":\"a\"}", no_board),

@@ -2,9 +2,9 @@
 ghost use Rattle.std.specs.Prelude.{◌≡◌, map};
 ghost use Rattle.tb_core.specs.declared.action.Action.TheVariants.{Annotate, Denotate};
 ghost use Rattle.tb_script.specs.Outcome.{Reads};
-ghost use Rattle.tb_script.specs.Words.{acting, acting_with, adding, beginning, export, giving, letting_in, link, linking, listing, modifying, one, request_in, showing, sweeping, task, three, two, unlinking};
+ghost use Rattle.tb_script.specs.Words.{acting, acting_with, adding, export, link, linking, listing, modifying, one, request_in, showing, sweeping, task, three, two, unlinking};
 
-use crate::arguments::{read_board, read_heading, read_person, read_role, read_secret, read_uuid};
+use crate::arguments::{read_board, read_uuid};
 use crate::asked::{Request, View};
 use crate::body::{read_edits, read_incoming};
 use crate::line_fault::LineFault;
@@ -38,9 +38,6 @@ pub(crate) fn read_request(
         "depend" => read_depend(arguments),
         "undepend" => read_undepend(arguments),
         "sweep" => read_sweep(arguments),
-        "person" => read_new_person(alloc, arguments),
-        "board" => read_new_board(alloc, arguments),
-        "role" => read_set_role(alloc, arguments),
         _ => Err(LineFault::bad_line()),
     }
 }
@@ -185,37 +182,4 @@ fn read_sweep(arguments: &[&str]) -> Result<Request, LineFault>
     };
     let board = read_board(board)?;
     Ok(Request::Call(Command::Sweep { board }))
-}
-
-fn read_new_person(alloc: Global, arguments: &[&str]) -> Result<Request, LineFault>
-    ensures { Reads result (two letting_in (map (λ argument. argument.now) arguments.entry.now)) }
-{
-    let [name, key] = arguments else {
-        return Err(LineFault::bad_line());
-    };
-    let name = read_person(alloc, name)?;
-    let key = read_secret(alloc, key)?;
-    Ok(Request::Call(Command::NewPerson { name, key }))
-}
-
-fn read_new_board(alloc: Global, arguments: &[&str]) -> Result<Request, LineFault>
-    ensures { Reads result (one beginning (map (λ argument. argument.now) arguments.entry.now)) }
-{
-    let [title] = arguments else {
-        return Err(LineFault::bad_line());
-    };
-    let title = read_heading(alloc, title)?;
-    Ok(Request::Call(Command::NewBoard { title }))
-}
-
-fn read_set_role(alloc: Global, arguments: &[&str]) -> Result<Request, LineFault>
-    ensures { Reads result (three giving (map (λ argument. argument.now) arguments.entry.now)) }
-{
-    let [board, name, role] = arguments else {
-        return Err(LineFault::bad_line());
-    };
-    let board = read_board(board)?;
-    let name = read_person(alloc, name)?;
-    let role = read_role(role)?;
-    Ok(Request::Call(Command::SetRole { board, name, role }))
 }
