@@ -11,4 +11,5 @@ pub mod Marking
 pub mod Places
 pub mod Relinked
 pub mod Relinking
+pub mod Walking
 pub mod Worlds

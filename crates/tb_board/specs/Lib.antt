@@ -9,4 +9,5 @@ pub mod Names
 pub mod Numbers
 pub mod Roles
 pub mod Statuses
+pub mod Walks
 pub mod World
