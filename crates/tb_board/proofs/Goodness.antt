@@ -15,7 +15,9 @@ use Rattle.tb_board.specs.First.{change_first}
 use Rattle.tb_board.proofs.Fresh.{on_ids, among-swapped}
 use Rattle.tb_board.proofs.Fits.{sound_woken}
 use Rattle.tb_board.specs.Links.{depends_of, IsAcyclic}
-use Rattle.tb_board.proofs.Relinking.{acyclic-push, acyclic-same}
+use Rattle.tb_board.proofs.Relinking.{acyclic-empty, acyclic-push, acyclic-same}
+use Rattle.tb_board.specs.Instances.{HasRuns, HasTemplateOn}
+use Rattle.tb_board.proofs.Runs.{parent-more, parents-change, parents-more, parents-wake, run_empty, runs-change, runs-wake, KeepsLinks}
 
 pub ids-wake : (m : ℕ) (ts : List Task) → ids (map (woken m) ts) ≡ ids ts
 ids-wake m [] = refl
@@ -48,6 +50,8 @@ good-wake b m good =
       sound = sound-wake m b.tasks good.sound;
       linked = linked-wake b m b.tasks good.linked;
       acyclic = acyclic-same b (wake b m) (ids-wake m b.tasks) (depends-wake m b.tasks) good.acyclic;
+      runs = runs-wake b m good.runs;
+      parents = parents-wake b m good.parents;
     }
 
 pub all_push : {A : Type 0} (P : A → Type 0) (xs : List A) (x : A) → AllByRecursion P xs → P x → AllByRecursion P (xs ++ x ∷ [])
@@ -61,7 +65,7 @@ on-more b t id on = rw (list_any-append (λ (u : Task). u.id == id) b.tasks (t �
     either true q h = refl
     either false q h = absurd (true≢false h)
 
-lacks-more : (b : Board) (t : Task) (is : List ℕ) → lacks_depends b is ≡ false → lacks_depends (with_task b t) is ≡ false
+pub lacks-more : (b : Board) (t : Task) (is : List ℕ) → lacks_depends b is ≡ false → lacks_depends (with_task b t) is ≡ false
 lacks-more b t [] h = refl
 lacks-more b t (i ∷ is) h =
     elim (cases_Bool (not (is_on b i))) [
@@ -69,12 +73,13 @@ lacks-more b t (i ∷ is) h =
       | inr there ↦ let rest : lacks_depends b is ≡ false = rw there at h in rw (on-more b t i there) (lacks-more b t is rest)
     ]
 
-linked-more : (b : Board) (t : Task) (ts : List Task) → AllByRecursion (IsLinkedOn b) ts → AllByRecursion (IsLinkedOn (with_task b t)) ts
+pub linked-more : (b : Board) (t : Task) (ts : List Task) → AllByRecursion (IsLinkedOn b) ts → AllByRecursion (IsLinkedOn (with_task b t)) ts
 linked-more b t [] h = tt
 linked-more b t (u ∷ us) h = (lacks-more b t u.depends h.0, linked-more b t us h.1)
 
-pub good-push : (b : Board) (t : Task) → IsGood b → length b.tasks < 10000 → is_on b t.id ≡ false → IsSound t → IsLinkedOn b t → IsGood (with_task b t)
-good-push b t good room alone sound linked =
+pub good-push : (b : Board) (t : Task) → IsGood b → length b.tasks < 10000 → is_on b t.id ≡ false → IsSound t → IsLinkedOn b t
+    → HasRuns (with_task b t) → HasTemplateOn b t → IsGood (with_task b t)
+good-push b t good room alone sound linked runs parent =
     let apart : list_any (nat_eq t.id) (ids b.tasks) ≡ false = among-swapped t.id (ids b.tasks) ∙ sym (on_ids t.id b.tasks) ∙ alone in
     record {
       distinct = subst (IsDistinct nat_eq) (sym (map-append (λ (u : Task). u.id) b.tasks (t ∷ [])))
@@ -83,12 +88,15 @@ good-push b t good room alone sound linked =
       sound = all_push IsSound b.tasks t good.sound sound;
       linked = all_push (IsLinkedOn (with_task b t)) b.tasks t (linked-more b t b.tasks good.linked) (lacks-more b t t.depends linked);
       acyclic = acyclic-push b t good.acyclic good.linked linked;
+      runs = runs;
+      parents = all_push (HasTemplateOn (with_task b t)) b.tasks t (parents-more b t b.tasks good.parents) (parent-more b t t parent);
     }
 
--- f keeps identifiers and links
+-- f keeps identifiers, dependencies, and the links between templates and instances
 pub record Keeps (f : Task → Task) : Type 0 where
   pub id : (t : Task) → (f t).id ≡ t.id
   pub depends : (t : Task) → (f t).depends ≡ t.depends
+  pub links : KeepsLinks f
 
 pub ids-change : (test : Task → Bool) (f : Task → Task) → ((t : Task) → (f t).id ≡ t.id) → (ts : List Task) → ids (change_first test f ts) ≡ ids ts
 ids-change test f keeps [] = refl
@@ -152,6 +160,8 @@ good-change b test f x keeps found sound good =
       sound = all-change IsSound test f b.tasks x found sound good.sound;
       linked = linked-change b later test f keeps (ids-change test f keeps.id b.tasks) b.tasks good.linked;
       acyclic = acyclic-same b later (ids-change test f keeps.id b.tasks) (depends-change test f keeps b.tasks) good.acyclic;
+      runs = runs-change b test f keeps.links good.runs;
+      parents = parents-change b test f keeps.id keeps.links good.parents;
     }
 
 linked-same : (b c : Board) (ts : List Task) → ids c.tasks ≡ ids b.tasks → AllByRecursion (IsLinkedOn b) ts → AllByRecursion (IsLinkedOn c) ts
@@ -159,10 +169,10 @@ linked-same b c [] same h = tt
 linked-same b c (t ∷ ts) same h = (lacks-same b c t.depends same ∙ h.0, linked-same b c ts same h.1)
 
 -- f keeps identifiers, and its links stay on the board and close no walk
-pub good-relink : (b : Board) (test : Task → Bool) (f : Task → Task) (x : Task) → ((t : Task) → (f t).id ≡ t.id) → find test b.tasks ≡ Some x
+pub good-relink : (b : Board) (test : Task → Bool) (f : Task → Task) (x : Task) → ((t : Task) → (f t).id ≡ t.id) → KeepsLinks f → find test b.tasks ≡ Some x
     → (IsSound x → IsSound (f x)) → (IsLinkedOn b x → IsLinkedOn b (f x)) → IsAcyclic (record b { tasks = change_first test f b.tasks }) → IsGood b
     → IsGood (record b { tasks = change_first test f b.tasks })
-good-relink b test f x keeps found sound linked acyclic good =
+good-relink b test f x keeps links found sound linked acyclic good =
     let later : Board = record b { tasks = change_first test f b.tasks } in
     let same = ids-change test f keeps b.tasks in
     record {
@@ -171,4 +181,19 @@ good-relink b test f x keeps found sound linked acyclic good =
       sound = all-change IsSound test f b.tasks x found sound good.sound;
       linked = linked-same b later later.tasks same (all-change (IsLinkedOn b) test f b.tasks x found linked good.linked);
       acyclic = acyclic;
+      runs = runs-change b test f links good.runs;
+      parents = parents-change b test f keeps links good.parents;
+    }
+
+-- a board without tasks
+pub good-empty : (number : ℕ) (title : List ℕ) → IsGood (record { number = number; title = title; tasks = []; gone = [] })
+good-empty number title =
+    record {
+      distinct = run_empty.distinct;
+      few = omega arith;
+      sound = tt;
+      linked = tt;
+      acyclic = acyclic-empty (record { number = number; title = title; tasks = []; gone = [] }) refl;
+      runs = λ id. run_empty;
+      parents = tt;
     }

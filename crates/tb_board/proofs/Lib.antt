@@ -11,5 +11,6 @@ pub mod Marking
 pub mod Places
 pub mod Relinked
 pub mod Relinking
+pub mod Runs
 pub mod Walking
 pub mod Worlds

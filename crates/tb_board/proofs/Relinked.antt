@@ -16,6 +16,7 @@ use Rattle.tb_board.specs.Links.{leads_between, leads_on, links, place_in, place
 use Rattle.tb_board.proofs.Goodness.{good-relink, ids-change}
 use Rattle.tb_board.proofs.Linking.{place_by_id}
 use Rattle.tb_board.proofs.Places.{place}
+use Rattle.tb_board.proofs.Runs.{KeepsLinks}
 use Rattle.tb_board.proofs.Relinking.{acyclic-less, acyclic-more, fewer_places, more_places, or_false, place_holds}
 
 -- the first task of an identifier, with its place
@@ -83,26 +84,26 @@ no_walk_back b id on k p apart none at other =
     )
 
 -- one link more, which closes no walk
-pub good-more : (b : Board) (id on : ℕ) (f : Task → Task) (x : Task) → ((t : Task) → (f t).id ≡ t.id) → find (has_id id) b.tasks ≡ Some x → (IsSound x → IsSound (f x))
+pub good-more : (b : Board) (id on : ℕ) (f : Task → Task) (x : Task) → ((t : Task) → (f t).id ≡ t.id) → KeepsLinks f → find (has_id id) b.tasks ≡ Some x → (IsSound x → IsSound (f x))
     → HasOneMore x.depends on (f x).depends → not (is_on b on) ≡ false → (id == on) ≡ false → leads_on b on id ≡ false → IsGood b
     → IsGood (record b { tasks = change_first (has_id id) f b.tasks })
-good-more b id on f x keeps found sound more there apart none good =
+good-more b id on f x keeps links found sound more there apart none good =
     let at = found_at b id x found in
     let later : Board = record b { tasks = change_first (has_id id) f b.tasks } in
     let put : later.tasks ≡ set b.tasks at.place (f x) = at.first.changed f x ∙ ap (λ t. set b.tasks at.place (f t)) (sym at.is) in
-    good-relink b (has_id id) f x keeps found sound (linked_more b on x.depends (f x).depends more there)
+    good-relink b (has_id id) f x keeps links found sound (linked_more b on x.depends (f x).depends more there)
     (acyclic-more b later at.place x (f x) (place_in (ids b.tasks) on) good.acyclic (ids-change (has_id id) f keeps b.tasks) put at.first.within at.is
     (placed_more (ids b.tasks) on x.depends (f x).depends more) (λ p other. no_walk_back b id on at.place p apart none at.number other))
     good
 
 -- one link less
-pub good-less : (b : Board) (id : ℕ) (f : Task → Task) (x : Task) (test : ℕ → Bool) → ((t : Task) → (f t).id ≡ t.id) → find (has_id id) b.tasks ≡ Some x
+pub good-less : (b : Board) (id : ℕ) (f : Task → Task) (x : Task) (test : ℕ → Bool) → ((t : Task) → (f t).id ≡ t.id) → KeepsLinks f → find (has_id id) b.tasks ≡ Some x
     → (IsSound x → IsSound (f x)) → (f x).depends ≡ remove_key test x.depends → IsGood b → IsGood (record b { tasks = change_first (has_id id) f b.tasks })
-good-less b id f x test keeps found sound less good =
+good-less b id f x test keeps links found sound less good =
     let at = found_at b id x found in
     let later : Board = record b { tasks = change_first (has_id id) f b.tasks } in
     let put : later.tasks ≡ set b.tasks at.place (f x) = at.first.changed f x ∙ ap (λ t. set b.tasks at.place (f t)) (sym at.is) in
-    good-relink b (has_id id) f x keeps found sound (λ h. ap (lacks_depends b) less ∙ lacks-removed b test x.depends h)
+    good-relink b (has_id id) f x keeps links found sound (λ h. ap (lacks_depends b) less ∙ lacks-removed b test x.depends h)
     (acyclic-less b later at.place x (f x) good.acyclic (ids-change (has_id id) f keeps b.tasks) put at.first.within at.is
     (λ v h. fewer_places (ids b.tasks) test x.depends v (subst (λ ks. IsIn v (places_in (ids b.tasks) ks)) less h)))
     good

@@ -10,6 +10,7 @@ use Rattle.tb_board.specs.Board.{lacks_depends}
 use Rattle.tb_board.specs.Board.{ids}
 use Rattle.tb_board.specs.Links.{IsAcyclic}
 use Rattle.tb_board.specs.Statuses.{is_template}
+use Rattle.tb_board.specs.Instances.{HasRuns, HasTemplateOn}
 
 abbrev pub is_deleted : Status → Bool
 is_deleted Pending = false
@@ -37,3 +38,5 @@ pub record IsGood (b : Board) : Type 0 where
   pub sound : AllByRecursion IsSound b.tasks
   pub linked : AllByRecursion (IsLinkedOn b) b.tasks
   pub acyclic : IsAcyclic b
+  pub runs : HasRuns b
+  pub parents : AllByRecursion (HasTemplateOn b) b.tasks

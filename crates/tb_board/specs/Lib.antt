@@ -3,11 +3,13 @@ pub mod Board
 pub mod Changes
 pub mod First
 pub mod Good
+pub mod Instances
 pub mod Links
 pub mod Marks
 pub mod Names
 pub mod Numbers
 pub mod Roles
 pub mod Statuses
+pub mod Templates
 pub mod Walks
 pub mod World

@@ -87,7 +87,8 @@ fn set_role(
     })
 }
 
-fn roles_with(
+/// The roles, where the person has this one on the board.
+pub fn roles_with(
     mut roles: Items<RoleOn>,
     board: u32,
     person: usize,
@@ -118,7 +119,8 @@ fn with_role(item: RoleOn, role: Role) -> RoleOn
     }
 }
 
-fn roles_without(mut roles: Items<RoleOn>, board: u32, person: usize) -> Items<RoleOn>
+/// The roles, where the person has none on the board.
+pub fn roles_without(mut roles: Items<RoleOn>, board: u32, person: usize) -> Items<RoleOn>
     ensures { result ≡ set_role roles board person None }
 {
     let Some(place) = place_of_role(roles.as_slice(), board, person) else {

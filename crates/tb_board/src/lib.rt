@@ -22,8 +22,9 @@ mod world;
 
 pub use board::Board;
 pub use change::Change;
+pub use changing::{roles_with, roles_without};
 pub use draft::Draft;
-pub use first::place_of_task;
+pub use first::{place_of_board, place_of_task};
 pub use gone::Gone;
 pub use key::Key;
 pub use links::{

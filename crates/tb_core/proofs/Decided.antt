@@ -14,7 +14,8 @@ use Rattle.tb_core.specs.declared.look.SeenPerson.{SeenPerson}
 use Rattle.tb_board.specs.declared.world.Role.{Role}
 use Rattle.tb_board.specs.declared.world.World.{World}
 use Rattle.tb_core.specs.Apply.{apply, board_for, board_of, decided, on_board, outcome, role_answer, role_given, role_refusals, with_role, seen_of, seen_with, IsDecision}
-use Rattle.tb_board.specs.Board.{wake}
+use Rattle.tb_sweep.specs.Sweep.{sweep}
+use Rattle.tb_sweep.proofs.Adding.{number-sweep}
 use Rattle.tb_board.specs.Changes.{change_board, changed, IsDraft}
 use Rattle.tb_core.specs.Giving.{IsRoleDecision}
 use Rattle.tb_core.specs.Outcomes.{given}
@@ -60,11 +61,11 @@ is_accepted w seen name c m found d a is known board gives made =
 
 role_known : (w : World) (seen : Seen) (caller : Option ℕ) (found : SeenBoard) (role : Option Role) (m : ℕ) → is_none caller ≡ false
     → role_given w seen caller (Some found) role m
-    ≡ given (least (role_refusals seen found role)) w (with_role w (wake found.board m) (person_number seen.other) role) (role_answer found.board)
+    ≡ given (least (role_refusals seen found role)) w (with_role w (sweep found.board m) (person_number seen.other) role) (role_answer found.board m)
 role_known w seen None found role m h = absurd (cc)
 role_known w seen (Some caller) found role m h = refl
 
--- the role is set on the board that woke
+-- the role is set, and the sweep follows
 pub is_role : (w : World) (seen : Seen) (name : List ℕ) (n : ℕ) (other : List ℕ) (role : Option Role) (m : ℕ) (found : SeenBoard) (p : SeenPerson) (d : Decision)
     → seen ≡ seen_of w name (SetRole n other role) → is_none seen.caller ≡ false → seen.board ≡ Some found → seen.other ≡ Some p
     → is_owner found.role ≡ true → leaves_none (Some p) role seen.owners ≡ false → IsRoleDecision found.board p.number role m d
@@ -75,7 +76,7 @@ is_role w seen name n other role m found p d is known board person owner stays d
     let woke = changed-draft w at.0 found.board draft at.1 decides.made in
     let accepted : least (role_refusals seen found role) ≡ None = rw (owner, person, stays) refl in
     let here : role_given w seen seen.caller seen.board role m
-    ≡ given (least (role_refusals seen found role)) w (with_role w (wake found.board m) (person_number seen.other) role) (role_answer found.board)
+    ≡ given (least (role_refusals seen found role)) w (with_role w (sweep found.board m) (person_number seen.other) role) (role_answer found.board m)
     = ap (λ (b : Option SeenBoard). role_given w seen seen.caller b role m) board ∙ role_known w seen seen.caller found role m known in
     let number : person_number seen.other ≡ p.number = ap person_number person in
     rw (here, accepted, number)
@@ -83,7 +84,8 @@ is_role w seen name n other role m found p d is known board person owner stays d
       answer = decides.answer;
       world = ap (changed w) decides.changes ∙ changed-append w draft.changes (change.SetRole found.board.number p.number role ∷ [])
           ∙ ap (λ (v : World). changed v (change.SetRole found.board.number p.number role ∷ [])) woke
-          ∙ ap (λ (b : Board). record w { boards = change_board b.number (λ _. b) w.boards; roles = set_role w.roles found.board.number p.number role }) decides.awake;
+          ∙ ap (λ (b : Board). record w { boards = change_board b.number (λ _. b) w.boards; roles = set_role w.roles found.board.number p.number role }) decides.swept
+          ∙ ap (λ n. record w { boards = change_board (sweep found.board m).number (λ _. sweep found.board m) w.boards; roles = set_role w.roles n p.number role }) (sym (number-sweep found.board m));
     })
 
 pub role_applies : (w : World) (seen : Seen) (name : List ℕ) (n : ℕ) (other : List ℕ) (role : Option Role) (m : ℕ) (d : Decision)

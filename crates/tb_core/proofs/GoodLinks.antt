@@ -9,6 +9,7 @@ use Rattle.tb_board.specs.declared.board.Board.{Board}
 use Rattle.tb_board.specs.Board.{has_id, is_on}
 use Rattle.tb_board.specs.First.{change_first}
 use Rattle.tb_board.specs.Good.{IsGood, IsSound}
+use Rattle.tb_board.proofs.Runs.{KeepsLinks}
 use Rattle.tb_board.proofs.Relinked.{good-less, good-more, HasOneMore}
 use Rattle.tb_board.proofs.Relinking.{or_false}
 use Rattle.tb_core.specs.Depends.{closes_walk, depends_on, linked, unlinked}
@@ -31,6 +32,13 @@ sound_linked m on t s =
 same_id : (m on : ℕ) (t : Task) → (linked m on t).id ≡ t.id
 same_id m on t = elim (cases_Bool (depends_on on t)) [ inl before ↦ rw before refl | inr new ↦ rw new refl ]
 
+links-linked : (m on : ℕ) → KeepsLinks (linked m on)
+links-linked m on = record {
+  parent = λ t. elim (cases_Bool (depends_on on t)) [ inl before ↦ rw before refl | inr new ↦ rw new refl ];
+  imask = λ t. elim (cases_Bool (depends_on on t)) [ inl before ↦ rw before refl | inr new ↦ rw new refl ];
+  template = λ t. elim (cases_Bool (depends_on on t)) [ inl before ↦ rw before refl | inr new ↦ rw new refl ];
+}
+
 one_more : (m on : ℕ) (t : Task) → HasOneMore t.depends on (linked m on t).depends
 one_more m on t = elim (cases_Bool (depends_on on t)) [ inl before ↦ rw before (inl refl) | inr new ↦ rw new (inr refl) ]
 
@@ -38,8 +46,8 @@ pub good-linked : (b : Board) (id on m : ℕ) (x : Task) → find (has_id id) b.
     → IsGood (record b { tasks = change_first (has_id id) (linked m on) b.tasks })
 good-linked b id on m x found there walks good =
     let none = or_false (id == on) _ walks in
-    good-more b id on (linked m on) x (same_id m on) found (sound_linked m on x) (one_more m on x) there none.0 none.1 good
+    good-more b id on (linked m on) x (same_id m on) (links-linked m on) found (sound_linked m on x) (one_more m on x) there none.0 none.1 good
 
 pub good-unlinked : (b : Board) (id on m : ℕ) (x : Task) → find (has_id id) b.tasks ≡ Some x → IsGood b
     → IsGood (record b { tasks = change_first (has_id id) (unlinked m on) b.tasks })
-good-unlinked b id on m x found good = good-less b id (unlinked m on) x (λ i. i == on) (λ t. refl) found (sound_unlinked m on x) refl good
+good-unlinked b id on m x found good = good-less b id (unlinked m on) x (λ i. i == on) (λ t. refl) (record { parent = λ t. refl; imask = λ t. refl; template = λ t. refl }) found (sound_unlinked m on x) refl good

@@ -22,7 +22,7 @@ use Rattle.tb_core.specs.Owners.{leaves_none}
 use Rattle.tb_board.specs.Roles.{set_role}
 use Rattle.tb_board.specs.World.{has_name, is_role_of, number_of, owns, role_of, owners}
 use Rattle.tb_core.proofs.GoodRoles.{all-set, distinct-set, new_owner, owner_leaves, owner_stays}
-use Rattle.tb_board.proofs.Goodness.{all_push}
+use Rattle.tb_board.proofs.Goodness.{all_push, good-empty}
 use Rattle.tb_core.proofs.Opening.{none_distinct}
 use Rattle.tb_board.proofs.Places.{place}
 use Rattle.tb_board.proofs.Relinking.{acyclic-empty}
@@ -111,7 +111,7 @@ good-new_board w caller title good room from to =
       numbered = map-append (λ (b : Board). b.number) w.boards (board ∷ []) ∙ ap (λ xs. xs ++ n ∷ []) good.numbered
           ∙ ap (λ i. range_with_len 1 (length w.boards) ++ i ∷ []) (sym next) ∙ range_push 1 (length w.boards) ∙ ap (range_with_len 1) size;
       boards = omega (arith, more, room);
-      good = all_push IsGood w.boards board good.good (record { distinct = none_distinct nat_eq_equiv; few = omega arith; sound = tt; linked = tt; acyclic = acyclic-empty board refl });
+      good = all_push IsGood w.boards board good.good (good-empty n title);
       owned = all_push (HasOwner v) w.boards board (owned-set w v n caller (Some Owner) refl stays w.boards good.owned) (new_owner w.roles n caller);
       roles = all-set (IsRoleIn v) w.roles n caller (Some Owner)
           (λ r role is. record { from_board = is.from_board; to_board = is.to_board; from_person = is.from_person; to_person = is.to_person })

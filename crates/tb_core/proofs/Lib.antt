@@ -9,6 +9,7 @@ pub mod GoodRoles
 pub mod GoodWorlds
 pub mod Modifying
 pub mod Opening
+pub mod RoleDecisions
 pub mod Sound
 pub mod SoundEdits
 pub mod Stays

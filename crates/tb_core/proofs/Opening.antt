@@ -8,6 +8,8 @@ use Rattle.std.proofs.lemmas.Map.Keys.{IsDistinct-cons}
 use Rattle.std.proofs.lemmas.Map.Made.{IsDistinct-from_count}
 use Rattle.tb_board.specs.declared.world.RoleOn.{RoleOn}
 use Rattle.tb_board.proofs.Relinking.{acyclic-empty}
+use Rattle.tb_board.proofs.Goodness.{good-empty}
+use Rattle.std.specs.Prelude.{codes}
 use Rattle.tb_core.specs.GoodWorld.{OpensGood, same_place}
 
 pub none_distinct : {K : Type 0} {eq : K → K → Bool} → IsEquivalence eq → IsDistinct eq []
@@ -41,7 +43,7 @@ opens name key =
       people = omega arith;
       numbered = refl;
       boards = omega arith;
-      good = (record { distinct = none_distinct nat_eq_equiv; few = omega arith; sound = tt; linked = tt; acyclic = acyclic-empty _ refl }, tt);
+      good = (good-empty 1 (codes "board"), tt);
       owned = (refl, tt);
       roles = (record { from_board = omega arith; to_board = omega arith; from_person = omega arith; to_person = omega arith }, tt);
       single = one_distinct same_place same_place_equiv _;

@@ -19,6 +19,7 @@ record IsEdited (names_due names_recur : Bool) (t u : Task) : Type 0 where
   id : u.id ≡ t.id
   depends : u.depends ≡ t.depends
   parent : u.parent ≡ t.parent
+  imask : u.imask ≡ t.imask
   status : u.status ≡ t.status
   due : names_due ≡ false → u.due ≡ t.due
   recur : names_recur ≡ false → u.recur ≡ t.recur
@@ -34,32 +35,32 @@ either P true x y p q = p refl
 either P false x y p q = q
 
 -- edits of the other attributes leave all of these
-leaves : (e : Edit) (t u : Task) → u.id ≡ t.id → u.depends ≡ t.depends → u.parent ≡ t.parent → u.status ≡ t.status → u.due ≡ t.due → u.recur ≡ t.recur
+leaves : (e : Edit) (t u : Task) → u.id ≡ t.id → u.depends ≡ t.depends → u.parent ≡ t.parent → u.imask ≡ t.imask → u.status ≡ t.status → u.due ≡ t.due → u.recur ≡ t.recur
     → IsEdited (is_due e) (is_recur e) t u
-leaves e t u id depends parent status due recur = record { id = id; depends = depends; parent = parent; status = status; due = λ _. due; recur = λ _. recur }
+leaves e t u id depends parent imask status due recur = record { id = id; depends = depends; parent = parent; imask = imask; status = status; due = λ _. due; recur = λ _. recur }
 
 is_edited : (e : Edit) (t : Task) → IsEdited (is_due e) (is_recur e) t (edited e t)
 unfolding edited extended
 is_edited e t =
     let P = IsEdited (is_due e) (is_recur e) t in
-    either P (bytes_eq e.name (codes "description")) _ _ (λ _. leaves e t _ refl refl refl refl refl refl)
-    (either P (is_due e) _ _ (λ h. record { id = refl; depends = refl; parent = refl; status = refl; due = λ other. absurd (true≢false (sym h ∙ other)); recur = λ _. refl })
-    (either P (bytes_eq e.name (codes "priority")) _ _ (λ _. leaves e t _ refl refl refl refl refl refl)
-    (either P (bytes_eq e.name (codes "project")) _ _ (λ _. leaves e t _ refl refl refl refl refl refl)
-    (either P (is_recur e) _ _ (λ h. record { id = refl; depends = refl; parent = refl; status = refl; due = λ _. refl; recur = λ other. absurd (true≢false (sym h ∙ other)) })
-    (either P (bytes_eq e.name (codes "scheduled")) _ _ (λ _. leaves e t _ refl refl refl refl refl refl)
-    (either P (bytes_eq e.name (codes "tags")) _ _ (λ _. leaves e t _ refl refl refl refl refl refl)
-    (either P (bytes_eq e.name (codes "until")) _ _ (λ _. leaves e t _ refl refl refl refl refl refl)
-    (either P (bytes_eq e.name (codes "wait")) _ _ (λ _. leaves e t _ refl refl refl refl refl refl)
-    (either P (is_attribute e.name) _ _ (λ _. leaves e t _ refl refl refl refl refl refl)
-    (leaves e t _ refl refl refl refl refl refl))))))))))
+    either P (bytes_eq e.name (codes "description")) _ _ (λ _. leaves e t _ refl refl refl refl refl refl refl)
+    (either P (is_due e) _ _ (λ h. record { id = refl; depends = refl; parent = refl; imask = refl; status = refl; due = λ other. absurd (true≢false (sym h ∙ other)); recur = λ _. refl })
+    (either P (bytes_eq e.name (codes "priority")) _ _ (λ _. leaves e t _ refl refl refl refl refl refl refl)
+    (either P (bytes_eq e.name (codes "project")) _ _ (λ _. leaves e t _ refl refl refl refl refl refl refl)
+    (either P (is_recur e) _ _ (λ h. record { id = refl; depends = refl; parent = refl; imask = refl; status = refl; due = λ _. refl; recur = λ other. absurd (true≢false (sym h ∙ other)) })
+    (either P (bytes_eq e.name (codes "scheduled")) _ _ (λ _. leaves e t _ refl refl refl refl refl refl refl)
+    (either P (bytes_eq e.name (codes "tags")) _ _ (λ _. leaves e t _ refl refl refl refl refl refl refl)
+    (either P (bytes_eq e.name (codes "until")) _ _ (λ _. leaves e t _ refl refl refl refl refl refl refl)
+    (either P (bytes_eq e.name (codes "wait")) _ _ (λ _. leaves e t _ refl refl refl refl refl refl refl)
+    (either P (is_attribute e.name) _ _ (λ _. leaves e t _ refl refl refl refl refl refl refl)
+    (leaves e t _ refl refl refl refl refl refl refl))))))))))
 
 or_false : (p q : Bool) → (p || q) ≡ false → (p ≡ false) × (q ≡ false)
 or_false true q h = absurd (true≢false h)
 or_false false q h = (refl, h)
 
 is_edited_by : (es : List Edit) (t : Task) → IsEdited (names (codes "due") es) (names (codes "recur") es) t (edited_by es t)
-is_edited_by [] t = record { id = refl; depends = refl; parent = refl; status = refl; due = λ _. refl; recur = λ _. refl }
+is_edited_by [] t = record { id = refl; depends = refl; parent = refl; imask = refl; status = refl; due = λ _. refl; recur = λ _. refl }
 is_edited_by (e ∷ es) t =
     let first = is_edited e t in
     let rest = is_edited_by es (edited e t) in
@@ -67,13 +68,36 @@ is_edited_by (e ∷ es) t =
       id = rest.id ∙ first.id;
       depends = rest.depends ∙ first.depends;
       parent = rest.parent ∙ first.parent;
+      imask = rest.imask ∙ first.imask;
       status = rest.status ∙ first.status;
       due = λ h. let none = or_false (is_due e) (names (codes "due") es) h in rest.due none.1 ∙ first.due none.0;
       recur = λ h. let none = or_false (is_recur e) (names (codes "recur") es) h in rest.recur none.1 ∙ first.recur none.0;
     }
 
-pub keeps_modified : (m : ℕ) (es : List Edit) → Keeps (modified m es)
-keeps_modified m es = record { id = λ t. (is_edited_by es t).id; depends = λ t. (is_edited_by es t).depends }
+pub keeps_modified : (m : ℕ) (es : List Edit) → names (codes "recur") es ≡ false → Keeps (modified m es)
+keeps_modified m es none = record {
+  id = λ t. (is_edited_by es t).id;
+  depends = λ t. (is_edited_by es t).depends;
+  links = record {
+    parent = λ t. (is_edited_by es t).parent;
+    imask = λ t. (is_edited_by es t).imask;
+    template = λ t. let left = is_edited_by es t in rw (left.recur none, left.parent) refl;
+  };
+}
+
+-- where no refusal holds the step isn't named
+pub recur_unnamed : (es : List Edit) (t : Task) → is_misplaced es t ≡ false → is_fixed es t ≡ false → names (codes "recur") es ≡ false
+recur_unnamed es t placed free =
+    elim (cases_Bool (is_template t)) [
+      | inl template ↦
+          let unnamed : (names (codes "due") es || names (codes "recur") es) ≡ false = rw template at free in
+          (or_false (names (codes "due") es) (names (codes "recur") es) unnamed).1
+      | inr plain ↦ first_of (names (codes "recur") es) (rw plain at placed)
+    ]
+  where
+    first_of : (p : Bool) → (p && true) ≡ false → p ≡ false
+    first_of true h = absurd (true≢false h)
+    first_of false h = refl
 
 -- a template is neither pending nor waiting
 stays_template : (t : Task) → is_template t ≡ true → has_template_form t ≡ true → is_pending_or_waiting t.status ≡ false

@@ -29,7 +29,7 @@ use Rattle.tb_core.specs.Edits.{modified}
 use Rattle.tb_core.specs.Modify.{is_fixed, is_misplaced, modify_fault, modify_refusals}
 use Rattle.tb_core.specs.Depends.{closes_walk, depend_refusals, is_open_task, lacks_either, linked, undepend_refusals, unlinked}
 use Rattle.tb_core.proofs.GoodLinks.{good-linked, good-unlinked}
-use Rattle.tb_core.specs.Add.{add_fault, add_refusals, entered, entered_id, first_fault, is_full, is_linked}
+use Rattle.tb_core.specs.Add.{add_fault, add_refusals, entered, entered_id, first_fault, is_full, is_linked, is_misread}
 use Rattle.tb_board.specs.Board.{lacks_depends}
 use Rattle.tb_core.specs.Apply.{answered, applied, board_for, decided, outcome, person_for, role_answer, role_given, role_refusals, seen_of, seen_with, with_role}
 use Rattle.tb_board.specs.Board.{has_id, is_on, wake, with_task}
@@ -44,13 +44,17 @@ use Rattle.tb_core.specs.People.{board_refusals, new_board, new_person, person_r
 use Rattle.tb_core.specs.Owners.{leaves_none, person_number}
 use Rattle.tb_board.specs.World.{find_board, has_name, has_number, is_owner, key_of, number_of, owners, role_of}
 use Rattle.std.specs.Option.{option_map}
+use Rattle.tb_sweep.specs.Sweep.{sweep}
+use Rattle.tb_sweep.proofs.Adding.{number-sweep}
+use Rattle.tb_sweep.proofs.Keeping.{sweep_kept}
 use Rattle.tb_core.proofs.GoodPeople.{good-new_board, good-person, good-role, number_in}
 use Rattle.tb_board.proofs.Fresh.{fresh}
 use Rattle.tb_core.proofs.GoodWorlds.{all-found, good-with_board, with_board}
+use Rattle.tb_board.specs.Instances.{has_template}
+use Rattle.tb_board.proofs.Runs.{runs-plain}
 use Rattle.tb_board.proofs.Goodness.{good-change, good-push, good-wake, Keeps}
-use Rattle.tb_board.proofs.Fits.{fit_if}
 use Rattle.tb_core.proofs.Sound.{sound_acted}
-use Rattle.tb_core.proofs.SoundEdits.{keeps_modified, sound_modified}
+use Rattle.tb_core.proofs.SoundEdits.{keeps_modified, recur_unnamed, sound_modified}
 use Rattle.tb_board.proofs.Worlds.{number_found}
 
 -- where none is the least, none holds
@@ -79,34 +83,39 @@ taken_entered : (b : Board) (i : Incoming) (m : ℕ) → fault_of (entered b i m
 unfolding fault_of has_bad_text has_bad_pair has_bad_recurrence
 taken_entered b i m = refl
 
--- a task that is added has no recurrence
-first_plain : (o : Option Field) (linked : Bool) → first_fault o linked ≡ None → linked ≡ false
-first_plain None false h = refl
-first_plain None true h = absurd (cc)
-first_plain (Some f) linked h = absurd (cc)
+-- a task that is added is as a reader leaves it
+first_well : (o : Option Field) (wrong : Bool) → first_fault o wrong ≡ None → wrong ≡ false
+first_well None false h = refl
+first_well None true h = absurd (cc)
+first_well (Some f) wrong h = absurd (cc)
 
-no_recur : (a b c d : Bool) → (a || b || c || d) ≡ false → d ≡ false
-no_recur a b c false h = refl
-no_recur true b c true h = h
-no_recur false true c true h = h
-no_recur false false true true h = h
-no_recur false false false true h = h
+or_second : (p q : Bool) → (p || q) ≡ false → q ≡ false
+or_second true q h = absurd (true≢false h)
+or_second false q h = h
 
-plain_form : (t : Task) → is_some t.recur ≡ false → has_bad_recurrence t ≡ false → has_template_form t ≡ true
-unfolding has_bad_recurrence
-plain_form t none h = rw none (no_step (is_recurring t.status) (is_some t.due) t.recur none h)
-  where
-    no_step : (r d : Bool) (recur : Option (List ℕ)) → is_some recur ≡ false → (r && not (d && is_step recur)) ≡ false → not r ≡ true
-    no_step false d recur none h = refl
-    no_step true d (Some text) none h = absurd (true≢false none)
-    no_step true true None none h = absurd (true≢false h)
-    no_step true false None none h = absurd (true≢false h)
+not_false : (p : Bool) → not p ≡ false → p ≡ true
+not_false true h = refl
+not_false false h = absurd (true≢false h)
+
+or_first : (p q : Bool) → (p || q) ≡ false → p ≡ false
+or_first true q h = absurd (true≢false h)
+or_first false q h = refl
+
+is_none : (o : Option ℕ) → is_some o ≡ false → o ≡ None
+is_none None h = refl
+is_none (Some x) h = absurd (true≢false h)
+
+read_well : (i : Incoming) → add_fault i ≡ None → is_misread i.task ≡ false
+read_well i h = or_second (is_linked i) (is_misread i.task) (first_well (fault_of i.task) (is_linked i || is_misread i.task) h)
 
 sound_entered : (b : Board) (i : Incoming) (m : ℕ) → add_fault i ≡ None → IsSound (entered b i m)
-sound_entered b i m h =
-    let taken = taken_entered b i m ∙ first_none (fault_of i.task) (is_linked i) h in
-    let none = no_recur (is_some i.raw_parent) (is_some i.raw_imask) (is_some i.raw_mask) (is_some i.task.recur) (first_plain (fault_of i.task) (is_linked i) h) in
-    record { taken = taken; template = plain_form (entered b i m) none (fit_if (entered b i m) taken).recurrence }
+sound_entered b i m h = record {
+  taken = taken_entered b i m ∙ first_none (fault_of i.task) (is_linked i || is_misread i.task) h;
+  template = not_false (has_template_form i.task) (or_second (is_some i.task.parent) (not (has_template_form i.task)) (read_well i h));
+}
+
+no_parent : (i : Incoming) → add_fault i ≡ None → i.task.parent ≡ None
+no_parent i h = is_none i.task.parent (or_first (is_some i.task.parent) (not (has_template_form i.task)) (read_well i h))
 
 good-add : (b : Board) (i : Incoming) (m : ℕ) → IsGood b → least (add_refusals b i) ≡ None → IsGood (with_task b (entered b i m))
 good-add b i m good h =
@@ -114,24 +123,23 @@ good-add b i m good h =
     let taken = none_least (where_holds UuidTaken (i.named && is_on b i.task.id)) _ depends.1 in
     let fault = none_least (bad_task (add_fault i)) _ taken.1 in
     let full = none_least (where_holds Full (is_full b)) [] fault.1 in
+    let parent = no_parent i (no_fault (add_fault i) fault.0) in
     good-push b (entered b i m) good
     (leb-false 10000 (length b.tasks) (none_holds Full (is_full b) full.0))
     (new_id b i.named i.task.id (free_id b) (none_holds UuidTaken (i.named && is_on b i.task.id) taken.0) (fresh b))
     (sound_entered b i m (no_fault (add_fault i) fault.0))
     (none_holds NoTask (lacks_depends b i.task.depends) depends.0)
+    (runs-plain b (entered b i m) parent good.runs)
+    (ap (has_template b) parent)
 
 keeps_acted : (m : ℕ) (a : Action) → Keeps (acted m a)
-keeps_acted m Done = record { id = λ t. refl; depends = λ t. refl }
-keeps_acted m Delete = record { id = λ t. refl; depends = λ t. refl }
-keeps_acted m Reopen = record { id = λ t. refl; depends = λ t. refl }
-keeps_acted m Start = record { id = λ t. refl; depends = λ t. refl }
-keeps_acted m Stop = record { id = λ t. refl; depends = λ t. refl }
-keeps_acted m (Annotate text) = record { id = λ t. refl; depends = λ t. refl }
-keeps_acted m (Denotate text) = record { id = λ t. refl; depends = λ t. refl }
-
-not_false : (p : Bool) → not p ≡ false → p ≡ true
-not_false true h = refl
-not_false false h = absurd (true≢false h)
+keeps_acted m Done = record { id = λ t. refl; depends = λ t. refl; links = record { parent = λ t. refl; imask = λ t. refl; template = λ t. refl } }
+keeps_acted m Delete = record { id = λ t. refl; depends = λ t. refl; links = record { parent = λ t. refl; imask = λ t. refl; template = λ t. refl } }
+keeps_acted m Reopen = record { id = λ t. refl; depends = λ t. refl; links = record { parent = λ t. refl; imask = λ t. refl; template = λ t. refl } }
+keeps_acted m Start = record { id = λ t. refl; depends = λ t. refl; links = record { parent = λ t. refl; imask = λ t. refl; template = λ t. refl } }
+keeps_acted m Stop = record { id = λ t. refl; depends = λ t. refl; links = record { parent = λ t. refl; imask = λ t. refl; template = λ t. refl } }
+keeps_acted m (Annotate text) = record { id = λ t. refl; depends = λ t. refl; links = record { parent = λ t. refl; imask = λ t. refl; template = λ t. refl } }
+keeps_acted m (Denotate text) = record { id = λ t. refl; depends = λ t. refl; links = record { parent = λ t. refl; imask = λ t. refl; template = λ t. refl } }
 
 good_at : (b : Board) (id : ℕ) (a : Action) (m : ℕ) (o : Option Task) → find (has_id id) b.tasks ≡ o → of_task (takes a) o ≡ true → action_fault a ≡ None → IsGood b
     → IsGood (record b { tasks = change_first (has_id id) (acted m a) b.tasks })
@@ -156,7 +164,7 @@ good_modified_at : (b : Board) (id : ℕ) (es : List Edit) (m : ℕ) (o : Option
 good_modified_at b id es m None found standing fault free good = absurd (true≢false (sym standing))
 good_modified_at b id es m (Some x) found standing fault free good =
     let well = well_placed (is_misplaced es x) (fault_of (modified m es x)) fault in
-    good-change b (has_id id) (modified m es) x (keeps_modified m es) found (λ sound. sound_modified m es x well.0 well.1 free sound) good
+    good-change b (has_id id) (modified m es) x (keeps_modified m es (recur_unnamed es x well.0 free)) found (λ sound. sound_modified m es x well.0 well.1 free sound) good
 
 good-modify : (b : Board) (id : ℕ) (es : List Edit) (m : ℕ) → IsGood b → least (modify_refusals b id es m) ≡ None
     → IsGood (record b { tasks = change_first (has_id id) (modified m es) b.tasks })
@@ -201,32 +209,34 @@ record Follows (x b : Board) : Type 0 where
   good : IsGood b
 
 -- where a world is good unless the command is refused
-kept : (w : World) (x : Board) (o : Option Refusal) (b : Board) (told : Told) → IsGoodWorld w → find (has_number x.number) w.boards ≡ Some x → (o ≡ None → Follows x b)
-    → IsGoodWorld (applied w (answered (unless_refused o b told))).world
-kept w x (Some r) b told good found later = good
-kept w x None b told good found later = good-with_board w x b good found (later refl).number (later refl).good
+kept : (m : ℕ) (w : World) (x : Board) (o : Option Refusal) (b : Board) (told : Told) → IsGoodWorld w → find (has_number x.number) w.boards ≡ Some x → (o ≡ None → Follows x b)
+    → IsGoodWorld (applied w (answered m (unless_refused o b told))).world
+kept m w x (Some r) b told good found later = good
+kept m w x None b told good found later =
+    good-with_board w x (sweep b m) good found (number-sweep b m ∙ (later refl).number) (sweep_kept b m (later refl).good)
 
 kept_outcome : (w : World) (x : Board) (c : Command) (m : ℕ) → IsGoodWorld w → find (has_number x.number) w.boards ≡ Some x → IsGood x
     → IsGoodWorld (applied w (outcome x c m)).world
 kept_outcome w x (Add n i) m good found is_good =
-    kept w x (least (add_refusals (wake x m) i)) (with_task (wake x m) (entered (wake x m) i m)) (Added (entered_id (wake x m) i) i.dropped) good found
+    kept m w x (least (add_refusals (wake x m) i)) (with_task (wake x m) (entered (wake x m) i m)) (Added (entered_id (wake x m) i) i.dropped) good found
     (λ none. record { number = refl; good = good-add (wake x m) i m (good-wake x m is_good) none })
 kept_outcome w x (OnTask n id a) m good found is_good =
-    kept w x (least (action_refusals (wake x m) id a)) (record (wake x m) { tasks = change_first (has_id id) (acted m a) (wake x m).tasks }) (Changed id) good found
+    kept m w x (least (action_refusals (wake x m) id a)) (record (wake x m) { tasks = change_first (has_id id) (acted m a) (wake x m).tasks }) (Changed id) good found
     (λ none. record { number = refl; good = good-action (wake x m) id a m (good-wake x m is_good) none })
 kept_outcome w x (Modify n id es) m good found is_good =
-    kept w x (least (modify_refusals (wake x m) id es m)) (record (wake x m) { tasks = change_first (has_id id) (modified m es) (wake x m).tasks }) (Changed id) good found
+    kept m w x (least (modify_refusals (wake x m) id es m)) (record (wake x m) { tasks = change_first (has_id id) (modified m es) (wake x m).tasks }) (Changed id) good found
     (λ none. record { number = refl; good = good-modify (wake x m) id es m (good-wake x m is_good) none })
 kept_outcome w x (Depend n id on) m good found is_good =
-    kept w x (least (depend_refusals (wake x m) id on)) (record (wake x m) { tasks = change_first (has_id id) (linked m on) (wake x m).tasks }) (Changed id) good found
+    kept m w x (least (depend_refusals (wake x m) id on)) (record (wake x m) { tasks = change_first (has_id id) (linked m on) (wake x m).tasks }) (Changed id) good found
     (λ none. record { number = refl; good = good-depend (wake x m) id on m (good-wake x m is_good) none })
 kept_outcome w x (Undepend n id on) m good found is_good =
-    kept w x (least (undepend_refusals (wake x m) id on)) (record (wake x m) { tasks = change_first (has_id id) (unlinked m on) (wake x m).tasks }) (Changed id) good found
+    kept m w x (least (undepend_refusals (wake x m) id on)) (record (wake x m) { tasks = change_first (has_id id) (unlinked m on) (wake x m).tasks }) (Changed id) good found
     (λ none. record { number = refl; good = good-undepend (wake x m) id on m (good-wake x m is_good) none })
-kept_outcome w x (Sweep n) m good found is_good = kept w x None (wake x m) Swept good found (λ none. record { number = refl; good = good-wake x m is_good })
-kept_outcome w x (SetRole n name role) m good found is_good = kept w x None (wake x m) Swept good found (λ none. record { number = refl; good = good-wake x m is_good })
-kept_outcome w x (NewPerson name key) m good found is_good = kept w x None (wake x m) Swept good found (λ none. record { number = refl; good = good-wake x m is_good })
-kept_outcome w x (NewBoard title) m good found is_good = kept w x None (wake x m) Swept good found (λ none. record { number = refl; good = good-wake x m is_good })
+
+kept_outcome w x (Sweep n) m good found is_good = kept m w x None (wake x m) Swept good found (λ none. record { number = refl; good = good-wake x m is_good })
+kept_outcome w x (SetRole n name role) m good found is_good = kept m w x None (wake x m) Swept good found (λ none. record { number = refl; good = good-wake x m is_good })
+kept_outcome w x (NewPerson name key) m good found is_good = kept m w x None (wake x m) Swept good found (λ none. record { number = refl; good = good-wake x m is_good })
+kept_outcome w x (NewBoard title) m good found is_good = kept m w x None (wake x m) Swept good found (λ none. record { number = refl; good = good-wake x m is_good })
 
 kept_seen : (w : World) (caller n : ℕ) (role : Option Role) (o : Option Board) (c : Command) (m : ℕ) → IsGoodWorld w → find_board w n ≡ o
     → IsGoodWorld (applied w (decided (Some caller) (seen_with role o) c m)).world
@@ -246,19 +256,19 @@ kept_given : (o : Option Refusal) (w v : World) (a : Answer) → IsGoodWorld w �
 kept_given None w v a good later = later refl
 kept_given (Some refusal) w v a good later = good
 
--- the role of a person who is there, on a board that is awake
+-- the role of a person who is there, on a board that is swept
 good_role_at : (w : World) (x : Board) (n k : ℕ) (role : Option Role) (m : ℕ) → IsGoodWorld w → find (has_number n) w.boards ≡ Some x → x.number ≡ n → 1 ≤ k → k ≤ length w.people
-    → leaves_none (Some (record { number = k; role = role_of w n k })) role (owners w n) ≡ false → IsGoodWorld (with_role w (wake x m) k role)
+    → leaves_none (Some (record { number = k; role = role_of w n k })) role (owners w n) ≡ false → IsGoodWorld (with_role w (sweep x m) k role)
 good_role_at w x n k role m good is number from to stays =
     let found : find (has_number x.number) w.boards ≡ Some x = subst (λ i. find (has_number i) w.boards ≡ Some x) (sym number) is in
-    let awake = good-with_board w x (wake x m) good found refl (good-wake x m (all-found IsGood (has_number n) w.boards x good.good is)) in
-    let owner = all-found (HasOwner w) (has_number n) w.boards x good.owned is in
-    let stays' = subst (λ i. leaves_none (Some (record { number = k; role = role_of w i k })) role (owners w i) ≡ false) (sym number) stays in
-    good-role (with_board w (wake x m)) x.number k role awake owner from to stays'
+    let swept = good-with_board w x (sweep x m) good found (number-sweep x m) (sweep_kept x m (all-found IsGood (has_number n) w.boards x good.good is)) in
+    let owner : HasOwner w (sweep x m) = rw (number-sweep x m) (all-found (HasOwner w) (has_number n) w.boards x good.owned is) in
+    let stays' = subst (λ i. leaves_none (Some (record { number = k; role = role_of w i k })) role (owners w i) ≡ false) (sym (number-sweep x m ∙ number)) stays in
+    good-role (with_board w (sweep x m)) (sweep x m).number k role swept owner from to stays'
 
 kept_role : (w : World) (seen : Seen) (x : Board) (own : Role) (n : ℕ) (person : Option ℕ) (role : Option Role) (m : ℕ) → IsGoodWorld w → find (has_number n) w.boards ≡ Some x
     → seen.other ≡ person_for w (Some n) person → seen.owners ≡ owners w n → ((k : ℕ) → person ≡ Some k → (1 ≤ k) × (k ≤ length w.people))
-    → least (role_refusals seen (record { board = x; role = own }) role) ≡ None → IsGoodWorld (with_role w (wake x m) (person_number seen.other) role)
+    → least (role_refusals seen (record { board = x; role = own }) role) ≡ None → IsGoodWorld (with_role w (sweep x m) (person_number seen.other) role)
 kept_role w seen x own n None role m good is other owners' within h =
     let allowed = none_least (where_holds NotAllowed (not (is_owner own))) _ h in
     let missing = none_least (where_holds NoPerson (not (is_some seen.other))) _ allowed.1 in
@@ -280,7 +290,7 @@ kept_role_seen : (w : World) (seen : Seen) (caller n : ℕ) (own : Option Role) 
 kept_role_seen w seen caller n None o person role m good is other owners' within = good
 kept_role_seen w seen caller n (Some own) None person role m good is other owners' within = good
 kept_role_seen w seen caller n (Some own) (Some x) person role m good is other owners' within =
-    kept_given (least (role_refusals seen (record { board = x; role = own }) role)) w (with_role w (wake x m) (person_number seen.other) role) (role_answer x) good
+    kept_given (least (role_refusals seen (record { board = x; role = own }) role)) w (with_role w (sweep x m) (person_number seen.other) role) (role_answer x m) good
     (kept_role w seen x own n person role m good is other owners' within)
 
 kept_role_by : (w : World) (seen : Seen) (caller : Option ℕ) (n : ℕ) (person : Option ℕ) (role : Option Role) (m : ℕ) → IsGoodWorld w
@@ -352,7 +362,7 @@ known_role : (w : World) (seen : Seen) (caller : Option ℕ) (b : Option SeenBoa
 known_role w seen None b role m person key known = known
 known_role w seen (Some caller) None role m person key known = known
 known_role w seen (Some caller) (Some b) role m person key known =
-    known_given (least (role_refusals seen b role)) w (with_role w (wake b.board m) (person_number seen.other) role) (role_answer b.board) person key known known
+    known_given (least (role_refusals seen b role)) w (with_role w (sweep b.board m) (person_number seen.other) role) (role_answer b.board m) person key known known
 
 known_person : (w : World) (seen : Seen) (caller : Option ℕ) (p k : List ℕ) (person key : List ℕ) → key_of w person ≡ Some key
     → key_of (new_person w seen caller p k).world person ≡ Some key

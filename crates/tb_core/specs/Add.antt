@@ -1,5 +1,5 @@
 -- Adding a task to a board.
-use Rattle.std.specs.Prelude.{ℕ, Bool, ◌&&◌, ◌||◌, List, [], ◌∷◌, Option, Some, None, is_some, Result, if◌then◌else◌, length, nat_le}
+use Rattle.std.specs.Prelude.{ℕ, Bool, not, ◌&&◌, ◌||◌, List, [], ◌∷◌, Option, Some, None, is_some, Result, if◌then◌else◌, length, nat_le}
 use Rattle.tb_task.specs.declared.task.Task.{Task}
 use Rattle.tb_task.specs.declared.checks.Field.{Field}
 use Rattle.tb_task.specs.declared.checks.Field.TheVariants.{BadPair}
@@ -14,10 +14,15 @@ use Rattle.tb_board.specs.Board.{is_on, with_task}
 use Rattle.tb_board.specs.Numbers.{free_id}
 use Rattle.tb_core.specs.Refusals.{where_holds, bad_task, least, unless_refused}
 use Rattle.tb_board.specs.Board.{lacks_depends}
+use Rattle.tb_board.specs.Good.{has_template_form}
 
--- it came as an instance or with a mask, or it recurs
+-- it came as an instance or with a mask
 abbrev pub is_linked : Incoming → Bool
-is_linked i = is_some i.raw_parent || is_some i.raw_imask || is_some i.raw_mask || is_some i.task.recur
+is_linked i = is_some i.raw_parent || is_some i.raw_imask || is_some i.raw_mask
+
+-- no reader leaves it so: it has a parent, or a recurrence that doesn't go with its status
+abbrev pub is_misread : Task → Bool
+is_misread t = is_some t.parent || not (has_template_form t)
 
 abbrev pub first_fault : Option Field → Bool → Option Field
 first_fault (Some fault) linked = Some fault
@@ -25,7 +30,7 @@ first_fault None linked = if linked then Some BadPair else None
 
 -- the fault of the task itself, or what doesn't belong to a task that is added
 abbrev pub add_fault : Incoming → Option Field
-add_fault i = first_fault (fault_of i.task) (is_linked i)
+add_fault i = first_fault (fault_of i.task) (is_linked i || is_misread i.task)
 
 abbrev pub is_full : Board → Bool
 is_full b = nat_le 10000 (length b.tasks)

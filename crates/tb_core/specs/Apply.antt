@@ -1,5 +1,5 @@
 -- What a command makes of a world.
-use Rattle.std.specs.Prelude.{◌≡◌, ℕ, false, not, List, [], ◌∷◌, Option, Some, None, is_some, Result, Ok, Err, length}
+use Rattle.std.specs.Prelude.{◌≡◌, ℕ, not, List, [], ◌∷◌, Option, Some, None, is_some, Result, Ok, Err, length}
 use Rattle.tb_board.specs.declared.board.Board.{Board}
 use Rattle.tb_core.specs.declared.command.Answer.{Answer}
 use Rattle.tb_core.specs.declared.command.Answer.TheVariants.{OnBoard}
@@ -27,6 +27,7 @@ use Rattle.tb_core.specs.People.{new_board, new_person}
 use Rattle.tb_core.specs.Refusals.{least, where_holds}
 use Rattle.tb_core.specs.Owners.{leaves_none, person_number}
 use Rattle.tb_board.specs.Roles.{set_role}
+use Rattle.tb_sweep.specs.Sweep.{added, more, sweep}
 use Rattle.tb_board.specs.World.{find_board, is_owner, number_of, owners, role_of}
 
 -- the board that a command names
@@ -105,13 +106,18 @@ judged b (SetRole n name role) m = Ok (b, Swept)
 judged b (NewPerson name key) m = Ok (b, Swept)
 judged b (NewBoard title) m = Ok (b, Swept)
 
-abbrev pub answered : Result (Board × Told) Refusal → Result (Board × BoardAnswer) Refusal
-answered (Ok r) = Ok (r.0, record { board = r.0.number; added = 0; more = false; told = r.1 })
-answered (Err refusal) = Err refusal
+-- the answer about a board that the sweep follows
+abbrev pub board_answer : Board → ℕ → Told → BoardAnswer
+board_answer b m told = record { board = b.number; added = added b m; more = more (sweep b m) m; told = told }
 
--- what a command makes of a board: it is judged on the board that is awake
+-- the sweep follows a command that is accepted
+abbrev pub answered : ℕ → Result (Board × Told) Refusal → Result (Board × BoardAnswer) Refusal
+answered m (Ok r) = Ok (sweep r.0 m, board_answer r.0 m r.1)
+answered m (Err refusal) = Err refusal
+
+-- what a command makes of a board: it is judged on the board that is awake, and the sweep follows
 abbrev pub outcome : Board → Command → ℕ → Result (Board × BoardAnswer) Refusal
-outcome b c m = answered (judged (wake b m) c m)
+outcome b c m = answered m (judged (wake b m) c m)
 
 -- who isn't known is refused, and then who has no role on the board, or where there is none
 abbrev pub decided : Option ℕ → Option SeenBoard → Command → ℕ → Result (Board × BoardAnswer) Refusal
@@ -138,15 +144,15 @@ role_refusals seen b role =
 abbrev pub with_role : World → Board → ℕ → Option Role → World
 with_role w b person role = record w { boards = change_board b.number (λ _. b) w.boards; roles = set_role w.roles b.number person role }
 
-abbrev pub role_answer : Board → Answer
-role_answer b = OnBoard (record { board = b.number; added = 0; more = false; told = Swept })
+abbrev pub role_answer : Board → ℕ → Answer
+role_answer b m = OnBoard (board_answer b m Swept)
 
--- the role is set, on the board that is awake
+-- the role is set, and the sweep follows
 abbrev pub role_given : World → Seen → Option ℕ → Option SeenBoard → Option Role → ℕ → Outcome
 role_given w seen None b role m = record { world = w; answer = Err UnknownCaller }
 role_given w seen (Some caller) None role m = record { world = w; answer = Err NoBoard }
 role_given w seen (Some caller) (Some b) role m =
-    given (least (role_refusals seen b role)) w (with_role w (wake b.board m) (person_number seen.other) role) (role_answer b.board)
+    given (least (role_refusals seen b role)) w (with_role w (sweep b.board m) (person_number seen.other) role) (role_answer b.board m)
 
 -- a command at a moment, by what it looks at
 abbrev pub apply_seen : World → Seen → Command → ℕ → Outcome

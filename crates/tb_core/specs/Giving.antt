@@ -6,13 +6,13 @@ use Rattle.tb_core.specs.declared.deciding.Decision.{Decision}
 use Rattle.tb_board.specs.declared.draft.Draft.{Draft}
 use Rattle.tb_board.specs.declared.world.Role.{Role}
 use Rattle.tb_core.specs.Apply.{role_answer}
-use Rattle.tb_board.specs.Board.{wake}
+use Rattle.tb_sweep.specs.Sweep.{sweep}
 use Rattle.tb_board.specs.Changes.{IsDraft}
 
--- the changes that wake the board, and then the role
+-- the changes of the sweep, and then the role
 pub record IsRoleDecision (b : Board) (person : ℕ) (role : Option Role) (m : ℕ) (d : Decision) : Type 0 where
   pub draft : Draft
   pub made : IsDraft b draft
-  pub awake : draft.board ≡ wake b m
+  pub swept : draft.board ≡ sweep b m
   pub changes : d.changes ≡ draft.changes ++ SetRole b.number person role ∷ []
-  pub answer : d.answer ≡ Ok (role_answer b)
+  pub answer : d.answer ≡ Ok (role_answer b m)

@@ -19,6 +19,7 @@ use crate::people::{decide_board, decide_person};
 use crate::refusal::Refusal;
 use std::alloc::{AllocError, Global};
 use tb_board::{Board, Change, Draft, Role, wake_draft};
+use tb_sweep::{Swept, sweep_draft};
 use tb_task::Moment;
 use tb_values::Items;
 
@@ -127,7 +128,7 @@ pub fn refused(alloc: Global, refusal: Refusal) -> Decision
     }
 }
 
-/// What a command makes of a board at a moment.
+/// What a command makes of a board at a moment, with the sweep that follows it.
 fn judge_board(
     alloc: Global,
     board: &Board,
@@ -143,10 +144,12 @@ fn judge_board(
     let draft = Draft::of(alloc, board)?;
     let draft = wake_draft(alloc, draft, at)?;
     let Judged { draft, told } = judge(alloc, draft, command, at)?;
+    let board = draft.board.number;
+    let Swept { draft, added, more } = sweep_draft(alloc, draft, at)?;
     let answer = BoardAnswer {
-        board: draft.board.number,
-        added: 0,
-        more: false,
+        board,
+        added,
+        more,
         told,
     };
     Ok(Accepted { draft, answer })

@@ -1,6 +1,5 @@
 ghost use Rattle.std.specs.Prelude.{◌≡◌, ◌∷◌, [], ◌++◌, Some, Ok, IfOk};
 ghost use Rattle.tb_core.specs.Apply.{role_answer};
-ghost use Rattle.tb_board.specs.Board.{wake};
 ghost use Rattle.tb_core.specs.Giving.{IsRoleDecision};
 ghost use Rattle.tb_core.specs.Owners.{is_owners, leaves_none};
 ghost use Rattle.tb_board.specs.World.{is_owner};
@@ -9,7 +8,8 @@ use crate::command::{Answer, BoardAnswer, Told};
 use crate::deciding::Decision;
 use crate::look::SeenPerson;
 use std::alloc::{AllocError, Global};
-use tb_board::{Board, Change, Draft, Role, wake_draft};
+use tb_board::{Board, Change, Draft, Role};
+use tb_sweep::{Swept, sweep_draft};
 use tb_task::Moment;
 
 /// Whether it is an owner's.
@@ -35,7 +35,7 @@ pub fn is_last_owner(person: SeenPerson, role: Option<Role>, owners: usize) -> b
     is_owner_if_some(person.role) && !is_owner_if_some(role) && owners <= 1
 }
 
-/// The board wakes, and the person has the role.
+/// The person has the role, and the sweep follows.
 pub fn role_decision(
     alloc: Global,
     board: &Board,
@@ -46,11 +46,11 @@ pub fn role_decision(
     ensures { IfOk result (IsRoleDecision board.now person role at) }
 {
     let draft = Draft::of(alloc, board)?;
-    let draft = wake_draft(alloc, draft, at)?;
+    let Swept { draft, added, more } = sweep_draft(alloc, draft, at)?;
     let answer = BoardAnswer {
         board: board.number,
-        added: 0,
-        more: false,
+        added,
+        more,
         told: Told::Swept,
     };
     let mut changes = draft.into_changes();

@@ -8,7 +8,7 @@ use Rattle.tb_board.specs.World.{opening as opening_world}
 use Rattle.tb_core.proofs.Opening.{opens}
 use Rattle.tb_desk.specs.declared.call.Call.{Call}
 use Rattle.tb_desk.specs.declared.call.KeptReply.{KeptReply}
-use Rattle.tb_desk.specs.declared.call.Reply.{Reply}
+use Rattle.tb_reply.specs.declared.reply.Reply.{Reply}
 use Rattle.tb_desk.specs.declared.list_keep.Entry.{Entry}
 use Rattle.tb_desk.specs.Calls.{CallName, State, kept_for, name_cmp, name_of}
 use Rattle.tb_desk.specs.Keeping.{HoldsEither, MayCommit, with_reply}

@@ -2,7 +2,7 @@
 use Rattle.std.proofs.Common.{◌≡◌, ◌⊎◌, ℕ, ◌+◌, ◌≤◌, ◌<◌, zero, suc, get_or, Bool, true, false, if◌then◌else◌, List, [], ◌∷◌, length, take, Result, Ok, Err, refl, sym, ap, ◌∙◌, subst, inl, inr, ⊎_elim, arith}
 use Rattle.std.specs.Prelude.{OnOk, IsErrOf, is_ok}
 use Rattle.tb_desk.specs.declared.call.Call.{Call}
-use Rattle.tb_desk.specs.declared.call.Reply.{Reply}
+use Rattle.tb_reply.specs.declared.reply.Reply.{Reply}
 use Rattle.tb_desk.specs.declared.fault.KeepFault.{KeepFault}
 use Rattle.tb_desk.specs.declared.fault.KeepFault.TheVariants.{Memory, Store}
 use Rattle.tb_desk.specs.Calls.{State, plain, once}

@@ -1,23 +1,20 @@
 -- What calls lead to: plainly, once each, and their replies.
-use Rattle.std.specs.Prelude.{ℕ, ◌==◌, Bool, true, false, not, ◌&&◌, if◌then◌else◌, List, [], ◌∷◌, ◌++◌, Option, Some, None, Result, Ok, Err, is_some}
+use Rattle.std.specs.Prelude.{ℕ, ◌==◌, Bool, true, false, not, ◌&&◌, if◌then◌else◌, List, [], ◌∷◌, ◌++◌, Option, Some, None, Err, is_some}
 use Rattle.std.specs.List.{list_any}
 use Rattle.std.specs.Str.{bytes_eq}
 use Rattle.std.specs.Ordering.{ordering_then, nat_cmp}
 use Rattle.std.specs.Cmp.Lexicographic.{slice_cmp}
 use Rattle.std.specs.declared.cmp.Ordering.{Ordering}
 use Rattle.std.specs.FinMap.{FinMap, get, insert}
-use Rattle.serde_json.specs.Written.{compact_text}
-use Rattle.tb_core.specs.declared.command.Answer.{Answer}
-use Rattle.tb_core.specs.declared.refusal.Refusal.{Refusal}
 use Rattle.tb_core.specs.declared.refusal.Refusal.TheVariants.{UnknownCaller, IdReused}
 use Rattle.tb_board.specs.declared.world.World.{World}
-use Rattle.tb_core.specs.Apply.{Outcome, apply}
-use Rattle.tb_core.specs.Refusal.{number_of, status_of}
+use Rattle.tb_core.specs.Apply.{apply}
+use Rattle.tb_core.specs.Outcomes.{Outcome}
 use Rattle.tb_board.specs.World.{key_of}
 use Rattle.tb_desk.specs.declared.call.Call.{Call}
 use Rattle.tb_desk.specs.declared.call.KeptReply.{KeptReply}
-use Rattle.tb_desk.specs.declared.call.Reply.{Reply}
-use Rattle.tb_desk.specs.Bodies.{answer_body, refusal_body}
+use Rattle.tb_reply.specs.declared.reply.Reply.{Reply}
+use Rattle.tb_reply.specs.Replies.{reply_of}
 
 -- A call's name: the person's, and the identifier that the person gave the call.
 abbrev pub CallName : Type 0
@@ -50,11 +47,6 @@ has_key (Some known) key = bytes_eq known key
 -- the call's person is there, with this key
 abbrev pub is_known : State → Call → Bool
 is_known s c = has_key (key_of s.world c.member) c.key
-
--- the reply to a command
-unfoldable pub reply_of : Result Answer Refusal → Reply
-reply_of (Ok answer) = record { number = 0; status = 200; body = compact_text (answer_body answer) }
-reply_of (Err refusal) = record { number = number_of refusal; status = status_of refusal; body = compact_text (refusal_body refusal) }
 
 abbrev pub unknown_caller : Reply
 unknown_caller = reply_of (Err UnknownCaller)

@@ -6,7 +6,7 @@ use Rattle.tb_board.specs.Changes.{changed}
 use Rattle.tb_core.specs.GoodWorld.{IsGoodWorld}
 use Rattle.tb_board.specs.World.{key_of}
 use Rattle.tb_desk.specs.declared.call.Call.{Call}
-use Rattle.tb_desk.specs.declared.call.Reply.{Reply}
+use Rattle.tb_reply.specs.declared.reply.Reply.{Reply}
 use Rattle.tb_desk.specs.declared.fault.KeepFault.{KeepFault}
 use Rattle.tb_desk.specs.declared.fault.KeepFault.TheVariants.{Memory, Store}
 use Rattle.tb_desk.specs.Calls.{State, name_of, kept_for, is_known, plain, once, reply}

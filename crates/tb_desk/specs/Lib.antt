@@ -1,4 +1,3 @@
-pub mod Bodies
 pub mod Calls
 pub mod Keeping
 pub mod Listed

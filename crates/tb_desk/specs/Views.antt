@@ -12,10 +12,11 @@ use Rattle.tb_board.specs.Board.{has_id}
 use Rattle.tb_board.specs.World.{key_of, number_of}
 use Rattle.tb_report.specs.Listing.{listing}
 use Rattle.tb_report.specs.Shown.{shown, shown_task}
-use Rattle.tb_desk.specs.declared.call.Reply.{Reply}
+use Rattle.tb_reply.specs.declared.reply.Reply.{Reply}
 use Rattle.tb_desk.specs.declared.view.View.{View}
 use Rattle.tb_desk.specs.declared.view.View.TheVariants.{Export, Listing, One}
-use Rattle.tb_desk.specs.Calls.{State, has_key, reply_of, unknown_caller}
+use Rattle.tb_desk.specs.Calls.{State, has_key, unknown_caller}
+use Rattle.tb_reply.specs.Replies.{reply_of}
 
 abbrev pub board_of : View → ℕ
 board_of (Listing n) = n
@@ -27,15 +28,15 @@ abbrev pub export_text : Board → ℕ → List ℕ
 export_text b m = list_text (map shown_text (shown b m))
 
 -- the JSON of one task
-abbrev pub one_text : Option Task → ℕ → Result (List ℕ) Refusal
-one_text None m = Err NoTask
-one_text (Some t) m = Ok (shown_text (shown_task m t))
+abbrev pub one_text : Board → Option Task → ℕ → Result (List ℕ) Refusal
+one_text b None m = Err NoTask
+one_text b (Some t) m = Ok (shown_text (shown_task b m t))
 
 -- what a view of a board shows at a moment
 abbrev pub board_view : Board → View → ℕ → Result (List ℕ) Refusal
 board_view b (Listing n) m = Ok (listing b m)
 board_view b (Export n) m = Ok (export_text b m)
-board_view b (One n id) m = one_text (find (has_id id) b.tasks) m
+board_view b (One n id) m = one_text b (find (has_id id) b.tasks) m
 
 -- a board that isn't there, or on which the person has no role, isn't shown
 abbrev pub seen_view : Option SeenBoard → View → ℕ → Result (List ℕ) Refusal

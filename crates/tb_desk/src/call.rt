@@ -1,8 +1,9 @@
 use std::alloc::AllocError;
 use tb_board::{Key, Name};
 use tb_core::Command;
+use tb_reply::Reply;
 use tb_task::{Moment, TaskId};
-use tb_values::{Duplicate, Items, Text};
+use tb_values::{Duplicate, Items};
 
 /// A command of one person, under an identifier that the person gives it. Its name is the two together: two people may use one
 /// identifier.
@@ -18,31 +19,11 @@ pub struct Call {
     pub command: Command,
 }
 
-/// What a call is told. Its number is 0 where the call is accepted, and else that of the refusal; its status is that of HTTP, and its
-/// body is JSON.
-#[derive(Drop)]
-pub struct Reply {
-    pub number: u8,
-    pub status: u16,
-    pub body: Text,
-}
-
 /// What is kept of a call that was answered.
 #[derive(Drop)]
 pub struct KeptReply {
     pub content: Items<u8>,
     pub reply: Reply,
-}
-
-impl Duplicate for Reply {
-    fn duplicate(&self) -> Result<Reply, AllocError> {
-        let body = self.body.duplicate()?;
-        Ok(Reply {
-            number: self.number,
-            status: self.status,
-            body,
-        })
-    }
 }
 
 impl Duplicate for KeptReply {

@@ -4,7 +4,7 @@ ghost use Rattle.tb_desk.specs.Calls.{State, once, plain, replies_to, reply};
 ghost use Rattle.tb_desk.specs.Keeping.{IsStill, Only, StandsAfter, is_store};
 ghost use Rattle.tb_desk.specs.Views.{shown_in};
 
-use crate::call::{Call, Reply};
+use crate::call::Call;
 use crate::fault::KeepFault;
 use crate::keep::Keep;
 use crate::serve::serve;
@@ -13,6 +13,7 @@ use crate::viewing::show;
 use std::alloc::Global;
 use std::marker::Model;
 use tb_board::{Key, Name};
+use tb_reply::Reply;
 use tb_task::Moment;
 use tb_values::Items;
 

@@ -7,11 +7,12 @@ ghost use Rattle.tb_desk.specs.declared.fault.KeepFault.TheVariants.{Memory, Sto
 ghost use Rattle.tb_desk.specs.Calls.{State};
 ghost use Rattle.tb_desk.specs.Keeping.{HoldsEither, IsStill, MayCommit, Only, is_store, with_reply};
 
-use crate::call::{Call, KeptReply, Reply};
+use crate::call::{Call, KeptReply};
 use crate::fault::KeepFault;
 use std::alloc::Global;
 use tb_board::{Change, Key, Name};
 use tb_core::{Command, Seen};
+use tb_reply::Reply;
 use tb_task::TaskId;
 
 /// Keeps people, boards and roles, and the replies given. A keeper is sound where it holds a state, and its content is the state that

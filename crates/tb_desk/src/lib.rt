@@ -1,22 +1,20 @@
 //! The desk: each call acts once, however often it is sent, and is answered from what is kept.
 //!
-//! It owns calls and their replies, the trait of what keeps a world with the replies given, and a keeper that holds lists. It stands
-//! on `tb_core` for worlds and commands, on `tb_report` and `tb_json` for what views show, and on `serde_json` for the bodies of replies.
+//! It owns calls, the trait of what keeps a world with the replies given, and a keeper that holds lists. It stands on `tb_core` for
+//! commands, on `tb_reply` for replies, and on `tb_report` and `tb_json` for what views show.
 #![tactic(auto)]
 
-mod bodies;
 mod call;
 mod desk;
 mod fault;
 mod keep;
 pub mod laws;
 mod list_keep;
-mod replies;
 mod serve;
 mod view;
 mod viewing;
 
-pub use call::{Call, KeptReply, Reply};
+pub use call::{Call, KeptReply};
 pub use desk::{Desk, RunEnd};
 pub use fault::KeepFault;
 pub use keep::Keep;

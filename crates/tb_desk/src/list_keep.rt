@@ -6,12 +6,13 @@ ghost use Rattle.tb_desk.specs.Calls.{name_cmp};
 ghost use Rattle.tb_desk.specs.Listed.{named};
 ghost use Rattle.tb_desk.specs.Opening.{opening};
 
-use crate::call::{Call, KeptReply, Reply};
+use crate::call::{Call, KeptReply};
 use crate::fault::KeepFault;
 use crate::keep::Keep;
 use std::alloc::{AllocError, Global};
 use tb_board::{Change, Key, Name, World};
 use tb_core::{Command, Seen, look_for};
+use tb_reply::Reply;
 use tb_task::TaskId;
 use tb_values::Duplicate;
 

@@ -1,15 +1,16 @@
 //! How one call is handled, over any keeper.
 ghost use Rattle.std.specs.Prelude.{◌≡◌, ◌∷◌, [], true, IfOk, OnOk, IsErrOf, MatchOption};
 ghost use Rattle.tb_desk.specs.declared.fault.KeepFault.TheVariants.{Memory, Store};
-ghost use Rattle.tb_desk.specs.Calls.{State, after_call, once, outcome, plain, reply, reply_of};
+ghost use Rattle.tb_desk.specs.Calls.{State, after_call, once, outcome, plain, reply};
+ghost use Rattle.tb_reply.specs.Replies.{reply_of};
 ghost use Rattle.tb_desk.specs.Keeping.{HoldsEither, IsNew, IsSettled, IsStill, Only, is_store};
 
-use crate::call::{Call, Reply};
+use crate::call::Call;
 use crate::fault::KeepFault;
 use crate::keep::Keep;
-use crate::replies::{refused, reply_to};
 use std::alloc::Global;
 use tb_core::{Refusal, decide};
+use tb_reply::{Reply, reply_to, reply_to_refused};
 
 /// Handles one call: it acts where its name is new, and is told what is kept for it otherwise.
 pub(crate) fn serve<K: Keep>(keep: &mut K, alloc: Global, call: &Call) -> Result<Reply, KeepFault>
@@ -40,7 +41,7 @@ fn find_settled<K: Keep>(
 {
     match keep.person(alloc, &call.member)? {
         Some(key) if key.as_str() == call.key.as_str() => {}
-        _ => return Ok(Some(refused(alloc, Refusal::UnknownCaller)?)),
+        _ => return Ok(Some(reply_to_refused(alloc, Refusal::UnknownCaller)?)),
     }
     let Some(kept) = keep.kept(alloc, &call.member, call.id)? else {
         return Ok(None);
@@ -48,7 +49,7 @@ fn find_settled<K: Keep>(
     if kept.content.is(&call.content) {
         return Ok(Some(kept.reply));
     }
-    Ok(Some(refused(alloc, Refusal::IdReused)?))
+    Ok(Some(reply_to_refused(alloc, Refusal::IdReused)?))
 }
 
 /// Answers a call whose caller is known and whose name is new. The reply is whole before it is kept.

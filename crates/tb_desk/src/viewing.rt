@@ -8,15 +8,14 @@ ghost use Rattle.tb_desk.specs.Calls.{State};
 ghost use Rattle.tb_desk.specs.Keeping.{IsStill, is_store};
 ghost use Rattle.tb_desk.specs.Views.{board_of as board_of_view, board_view, export_text, one_text, seen_view, shown_in, view_reply};
 
-use crate::call::Reply;
 use crate::fault::KeepFault;
 use crate::keep::Keep;
-use crate::replies::refused;
 use crate::view::View;
 use std::alloc::{AllocError, Global};
 use tb_board::{Board, Key, Name};
 use tb_core::{Command, Refusal, SeenBoard};
 use tb_json::{write_task, write_tasks};
+use tb_reply::{Reply, reply_to_refused};
 use tb_report::{listing, shown, shown_task};
 use tb_task::{Moment, Task, TaskId};
 use tb_values::{Shared, Text};
@@ -37,7 +36,7 @@ pub(crate) fn show<K: Keep>(
 {
     match keep.person(alloc, name)? {
         Some(known) if known.as_str() == key.as_str() => {}
-        _ => return Ok(refused(alloc, Refusal::UnknownCaller)?),
+        _ => return Ok(reply_to_refused(alloc, Refusal::UnknownCaller)?),
     }
     let look = Command::Sweep {
         board: board_of(view),
@@ -71,7 +70,7 @@ fn reply_with(alloc: Global, shown: Result<Text, Refusal>) -> Result<Reply, Allo
             status: 200,
             body,
         }),
-        Err(refusal) => refused(alloc, refusal),
+        Err(refusal) => reply_to_refused(alloc, refusal),
     }
 }
 
@@ -94,7 +93,7 @@ fn show_board(
     match view {
         View::Listing(_) => Ok(Ok(listing(alloc, board, at)?)),
         View::Export(_) => Ok(Ok(export(alloc, board, at)?)),
-        View::One(_, id) => show_one(alloc, task_on(board, *id), at),
+        View::One(_, id) => show_one(alloc, board, task_on(board, *id), at),
     }
 }
 
@@ -119,20 +118,26 @@ fn task_on(board: &Board, id: TaskId) -> Option<&Shared<Task>>
 /// A task as JSON.
 fn show_one(
     alloc: Global,
+    board: &Board,
     task: Option<&Shared<Task>>,
     at: Moment,
 ) -> Result<Result<Text, Refusal>, AllocError>
-    ensures { IfOk result (λ shown. shown ≡ one_text (option_map (λ task. task.now) task.entry) at) }
+    ensures { IfOk result (λ shown. shown ≡ one_text board.now (option_map (λ task. task.now) task.entry) at) }
 {
     let Some(task) = task else {
         return Ok(Err(Refusal::NoTask));
     };
-    Ok(Ok(write_one(alloc, task, at)?))
+    Ok(Ok(write_one(alloc, board, task, at)?))
 }
 
-fn write_one(alloc: Global, task: &Shared<Task>, at: Moment) -> Result<Text, AllocError>
-    ensures { IfOk result (λ text. text ≡ shown_text (shown_task_of at task.now)) }
+fn write_one(
+    alloc: Global,
+    board: &Board,
+    task: &Shared<Task>,
+    at: Moment,
+) -> Result<Text, AllocError>
+    ensures { IfOk result (λ text. text ≡ shown_text (shown_task_of board.now at task.now)) }
 {
-    let shown = shown_task(alloc, task, at)?;
+    let shown = shown_task(alloc, board, task, at)?;
     write_task(alloc, &shown)
 }

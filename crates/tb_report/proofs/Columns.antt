@@ -1,5 +1,5 @@
 -- What the options of a placeholder write, as columns.
-use Rattle.std.proofs.Common.{◌≡◌, ◌∙◌, ℕ, Bool, true, false, List, [], ◌∷◌, ◌++◌, ◌+◌, ◌-◌, ◌^◌, ◌<◌, ◌≤◌, ◌==◌, zero, suc, length, replicate, decimal, ◌*◌, ◌/◌, ◌%◌, ◌&&◌, ℤ, nat_le, unsigned_abs, ap, sym, refl, arith, inl, inr, if◌then◌else◌}
+use Rattle.std.proofs.Common.{◌≡◌, ℕ, false, List, [], ◌∷◌, ◌++◌, ◌-◌, ◌^◌, ◌<◌, ◌≤◌, ◌==◌, zero, suc, length, replicate, decimal, ◌*◌, ◌/◌, ◌%◌, ◌&&◌, ℤ, nat_le, unsigned_abs, ap, refl, arith, inl, inr, if◌then◌else◌}
 use Rattle.std.proofs.lemmas.Bool.{cases_Bool, ne_eqb, lt-ltb}
 use Rattle.std.proofs.lemmas.List.{append-nil}
 use Rattle.std.proofs.lemmas.Str.{encode_ascii}

@@ -1,14 +1,13 @@
 -- Waking a board doesn't change which tasks are listed, nor their lines.
-use Rattle.std.proofs.Common.{◌≡◌, ◌&&◌, ℕ, zero, suc, ◌+◌, Bool, true, false, cond, List, [], ◌∷◌, ◌++◌, length, map, Option, Some, None, option_map, refl, sym, ap, ◌∙◌, append_assoc}
+use Rattle.std.proofs.Common.{◌≡◌, ◌&&◌, ℕ, zero, suc, ◌+◌, Bool, true, false, List, [], ◌∷◌, ◌++◌, length, map, Option, Some, None, option_map, refl, ap, ◌∙◌, append_assoc}
 use Rattle.std.specs.Prelude.{slice_get, if◌then◌else◌}
-use Rattle.std.proofs.lemmas.Bool.{cases_Bool}
 use Rattle.std.proofs.lemmas.List.{length-map}
 use Rattle.tb_task.specs.declared.task.Task.{Task}
 use Rattle.tb_task.specs.declared.status.Status.{Status}
 use Rattle.tb_task.specs.declared.status.Status.TheVariants.{Pending, Waiting, Recurring, Completed, Deleted}
 use Rattle.tb_board.specs.Board.{woken, wakes, status_at, is_waiting, has_come}
 use Rattle.tb_report.specs.Ranking.{Rank, rank_order, ordered}
-use Rattle.tb_report.specs.Listing.{is_listed, rank, rank_if_listed, ranks_from, line, lines, last_line, listed, tasks_listed, header}
+use Rattle.tb_report.specs.Listing.{is_listed, rank, rank_if_listed, ranks_from, line, lines, last_line, tasks_listed, header}
 
 listed_at : (s : Status) (b : Bool) → is_listed (if is_waiting s && b then Pending else s) ≡ is_listed s
 listed_at Pending b = refl

@@ -1,5 +1,5 @@
 -- The listing of a board at a moment.
-use Rattle.std.specs.Prelude.{ℕ, ℤ, pos, Bool, true, false, List, [], ◌∷◌, ◌++◌, ◌+◌, ◌-◌, ◌*◌, min, Option, Some, None, map, codes, decimal, length, slice_get, if◌then◌else◌}
+use Rattle.std.specs.Prelude.{ℕ, ℤ, pos, Bool, true, false, List, [], ◌∷◌, ◌++◌, ◌+◌, ◌-◌, ◌*◌, min, Option, Some, None, codes, decimal, length, slice_get, if◌then◌else◌}
 use Rattle.tb_task.specs.declared.task.Task.{Task}
 use Rattle.tb_task.specs.declared.status.Status.{Status}
 use Rattle.tb_task.specs.declared.status.Status.TheVariants.{Pending, Waiting, Recurring, Completed, Deleted}

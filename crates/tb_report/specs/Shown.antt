@@ -1,14 +1,27 @@
 -- What a board shows of its tasks at a moment.
-use Rattle.std.specs.Prelude.{ℕ, List, map, Option, None}
+use Rattle.std.specs.Prelude.{ℕ, List, map, Option, Some, None, if◌then◌else◌}
 use Rattle.tb_task.specs.declared.task.Task.{Task}
 use Rattle.tb_task.specs.declared.incoming.Shown.{Shown}
 use Rattle.tb_board.specs.declared.board.Board.{Board}
-use Rattle.tb_board.specs.Board.{woken}
+use Rattle.tb_board.specs.Board.{wake, woken}
+use Rattle.tb_board.specs.Statuses.{is_template}
+use Rattle.tb_board.specs.Templates.{mask}
 
--- a task of the woken board; boards have no templates yet, so there is no mask
-abbrev pub shown_task : ℕ → Task → Shown
-shown_task m t = record { task = woken m t; mask = None }
+-- a template has a mask, of which each place tells how an instance stands
+abbrev pub mask_on : Board → Task → Option (List ℕ)
+mask_on b t = if is_template t then Some (mask b t.id) else None
 
--- every task, in order of entry
+-- a task of a board that is awake
+abbrev pub shown_on : Board → Task → Shown
+shown_on b t = record { task = t; mask = mask_on b t }
+
+abbrev pub shown_awake : Board → List Shown
+shown_awake b = map (shown_on b) b.tasks
+
+-- every task of the woken board, in order of entry
 abbrev pub shown : Board → ℕ → List Shown
-shown b m = map (shown_task m) b.tasks
+shown b m = shown_awake (wake b m)
+
+-- a task of the woken board
+abbrev pub shown_task : Board → ℕ → Task → Shown
+shown_task b m t = shown_on (wake b m) (woken m t)

@@ -1,6 +1,5 @@
-pub mod BoardPlaces
 pub mod LineLaws
-pub mod NoFloats
 pub mod Numerals
 pub mod Readable
+pub mod Reinserted
 pub mod Runs

@@ -1,5 +1,5 @@
 -- A line feed ends a line.
-use Rattle.std.proofs.Common.{◌≡◌, ℕ, Bool, true, false, not, List, [], ◌∷◌, ◌++◌, length, ◌≤◌, ◌<◌, arith, refl, inl, inr, suc, ap, ◌∙◌, append_assoc, sym, ◌==◌}
+use Rattle.std.proofs.Common.{◌≡◌, ℕ, true, false, not, List, [], ◌∷◌, ◌++◌, length, ◌<◌, arith, refl, inl, inr, ap, ◌∙◌, append_assoc, sym, ◌==◌}
 use Rattle.std.proofs.lemmas.Bool.{and_parts, and_from, not-true, ne_eqb, cases_Bool}
 use Rattle.std.proofs.lemmas.List.{append-nil, length-append}
 use Rattle.tb_script.specs.Lines.{lines_of, is_one_line, Answered, answers, answers_from}

@@ -1,5 +1,5 @@
 -- When a line is read.
-use Rattle.std.proofs.Common.{◌≡◌, ◌∙◌, ℕ, Bool, true, false, List, Err, length, ◌≤◌, ◌<◌, arith, nat_le, ◌==◌, ◌&&◌, refl, inl, inr, sym}
+use Rattle.std.proofs.Common.{◌≡◌, ◌∙◌, ℕ, true, false, List, Err, length, ◌≤◌, ◌<◌, arith, nat_le, ◌==◌, refl, inl, inr, sym}
 use Rattle.std.specs.Str.{IsUtf8, is_utf8}
 use Rattle.std.proofs.lemmas.Bool.{le-leb, lt-leb, and_from, and_left, and_right, cases_Bool, ne_eqb}
 use Rattle.std.proofs.lemmas.Str.{IsUtf8-from_is_utf8, is_utf8-from_IsUtf8}

@@ -1,5 +1,5 @@
 -- Answers that are written in steps.
-use Rattle.std.proofs.Common.{◌≡◌, ℕ, List, [], ◌∷◌, ◌++◌, Option, Some, None, IfSome, Result, Ok, Err, OnErr, ap, sym, ◌∙◌, append_assoc, refl, length, take, ◌<◌}
+use Rattle.std.proofs.Common.{◌≡◌, ℕ, List, [], ◌++◌, Option, Some, None, IfSome, Result, Ok, Err, OnErr, ap, sym, ◌∙◌, append_assoc, refl, take}
 use Rattle.std.proofs.lemmas.List.{append-nil}
 use Rattle.std.specs.Io.KnownBytes.{Appends, Consumes, IsAtEnd}
 use Rattle.tb_script.specs.Lines.{Answered, answers_from}

@@ -1,7 +1,8 @@
 -- What a line is answered, and the world that it leaves.
 use Rattle.std.specs.Prelude.{ℕ, Bool, List, [], ◌&&◌, ◌==◌, Result, Ok, Err, if◌then◌else◌, length, codes, nat_le}
 use Rattle.std.specs.Str.{is_utf8}
-use Rattle.tb_core.specs.Apply.{apply, Outcome}
+use Rattle.tb_core.specs.Apply.{apply}
+use Rattle.tb_core.specs.Outcomes.{Outcome}
 use Rattle.tb_board.specs.World.{opening, is_known}
 use Rattle.tb_core.specs.declared.command.Command.{Command}
 use Rattle.tb_core.specs.declared.refusal.Refusal.{Refusal}

@@ -2,14 +2,16 @@
 use Rattle.std.specs.Prelude.{ℕ, List, Option, Some, None, Result, Ok, Err}
 use Rattle.serde_json.specs.Data.{Data}
 use Rattle.serde_json.specs.Read.{read}
+use Rattle.tb_task.specs.declared.edit.Edit.{Edit}
 use Rattle.tb_task.specs.declared.incoming.Incoming.{Incoming}
 use Rattle.tb_json.specs.declared.fault.JsonFault.{JsonFault}
 use Rattle.tb_json.specs.declared.fault.JsonFault.TheVariants.{NotObject, BadField, Memory}
+use Rattle.tb_json.specs.Modify.{modify_of}
 use Rattle.tb_json.specs.Reading.{task_of}
 use Rattle.tb_script.specs.declared.line_fault.Unreadable.{Unreadable}
 use Rattle.tb_script.specs.declared.line_fault.Unreadable.TheVariants.{BadBody}
 
--- what isn't the JSON of a task is a bad body, with the name of the member that is in a wrong form
+-- what isn't the JSON that is expected is a bad body, with the name of the member that is in a wrong form
 abbrev pub or_bad_body : {A : Type 0} → Result A JsonFault → Result A Unreadable
 or_bad_body (Ok x) = Ok x
 or_bad_body (Err NotObject) = Err (BadBody None)
@@ -23,3 +25,11 @@ incoming_of (Some json) at = or_bad_body (task_of at json)
 -- the task that a text is when it comes in at a moment
 abbrev pub incoming_in : List ℕ → ℕ → Result Incoming Unreadable
 incoming_in text at = incoming_of (read text) at
+
+abbrev pub edits_of : Option Data → Result (List Edit) Unreadable
+edits_of None = Err (BadBody None)
+edits_of (Some json) = or_bad_body (modify_of json)
+
+-- the edits that a text asks for
+abbrev pub edits_in : List ℕ → Result (List Edit) Unreadable
+edits_in text = edits_of (read text)

@@ -1,8 +1,9 @@
 pub mod Answer
-pub mod Boards
+pub mod Arguments
 pub mod Bodies
 pub mod Lines
 pub mod Outcome
 pub mod Reading
 pub mod Replies
 pub mod Views
+pub mod Words

@@ -1,119 +1,29 @@
 -- The texts of replies. Their bodies are JSON.
-use Rattle.std.specs.Prelude.{ℕ, List, [], ◌∷◌, ◌++◌, Option, Some, None, Result, Ok, Err, codes, decimal}
-use Rattle.serde_json.specs.Data.{Data, boolean, number, unsigned, string, object, Members, member, no_members}
+use Rattle.std.specs.Prelude.{ℕ, List, [], ◌∷◌, ◌++◌, Result, Err, codes, decimal}
+use Rattle.serde_json.specs.Data.{Data, string, object, member, no_members}
 use Rattle.serde_json.specs.Written.{compact_text}
-use Rattle.tb_task.specs.TaskId.{id_text}
-use Rattle.tb_task.specs.declared.checks.Field.{Field}
-use Rattle.tb_task.specs.declared.checks.Field.TheVariants.{EmptyDescription, BadTag, BadText, BadPair}
-use Rattle.tb_core.specs.Refusal.{number_of, status_of}
 use Rattle.tb_core.specs.declared.command.Answer.{Answer}
-use Rattle.tb_core.specs.declared.command.Answer.TheVariants.{OnBoard}
-use Rattle.tb_core.specs.declared.command.BoardAnswer.{BoardAnswer}
-use Rattle.tb_core.specs.declared.command.Told.{Told}
-use Rattle.tb_core.specs.declared.command.Told.TheVariants.{Added, Changed, Swept}
 use Rattle.tb_core.specs.declared.refusal.Refusal.{Refusal}
-use Rattle.tb_core.specs.declared.refusal.Refusal.TheVariants.{UnknownCaller, IdReused, NoBoard, NotAllowed, NoTask, WrongStatus, UuidTaken, BadTask, TemplateFixed, NoLink, Cycle, Full, NoPerson, LastOwner, NameTaken}
+use Rattle.tb_reply.specs.declared.reply.Reply.{Reply}
+use Rattle.tb_reply.specs.Bodies.{with_field}
+use Rattle.tb_reply.specs.Replies.{reply_of}
 use Rattle.tb_script.specs.declared.line_fault.Unreadable.{Unreadable}
 use Rattle.tb_script.specs.declared.line_fault.Unreadable.TheVariants.{BadLine, BadBody}
 
--- ---- bodies
+-- status, number and body, with a space between them
+abbrev pub reply_text : Reply → List ℕ
+reply_text r = decimal r.status ++ 32 ∷ (decimal r.number ++ 32 ∷ (r.body ++ 10 ∷ []))
 
-abbrev pub refusal_name : Refusal → List ℕ
-refusal_name UnknownCaller = codes "UnknownCaller"
-refusal_name IdReused = codes "IdReused"
-refusal_name NoBoard = codes "NoBoard"
-refusal_name NotAllowed = codes "NotAllowed"
-refusal_name NoTask = codes "NoTask"
-refusal_name WrongStatus = codes "WrongStatus"
-refusal_name UuidTaken = codes "UuidTaken"
-refusal_name (BadTask field) = codes "BadTask"
-refusal_name TemplateFixed = codes "TemplateFixed"
-refusal_name NoLink = codes "NoLink"
-refusal_name Cycle = codes "Cycle"
-refusal_name Full = codes "Full"
-refusal_name NoPerson = codes "NoPerson"
-refusal_name LastOwner = codes "LastOwner"
-refusal_name NameTaken = codes "NameTaken"
+-- the reply to a call
+abbrev pub call_text : Result Answer Refusal → List ℕ
+call_text answer = reply_text (reply_of answer)
 
-abbrev pub field_name : Field → List ℕ
-field_name EmptyDescription = codes "EmptyDescription"
-field_name BadTag = codes "BadTag"
-field_name BadText = codes "BadText"
-field_name BadPair = codes "BadPair"
-
--- what is wrong with the task, where that is why
-abbrev pub refused_field : Refusal → Option (List ℕ)
-refused_field UnknownCaller = None
-refused_field IdReused = None
-refused_field NoBoard = None
-refused_field NotAllowed = None
-refused_field NoTask = None
-refused_field WrongStatus = None
-refused_field UuidTaken = None
-refused_field (BadTask field) = Some (field_name field)
-refused_field TemplateFixed = None
-refused_field NoLink = None
-refused_field Cycle = None
-refused_field Full = None
-refused_field NoPerson = None
-refused_field LastOwner = None
-refused_field NameTaken = None
-
--- the members in front of which a field stands, if there is one
-abbrev pub with_field : Option (List ℕ) → Members → Data
-with_field None members = object members
-with_field (Some field) members = object (member (codes "field") (string field) members)
-
-abbrev pub refusal_body : Refusal → Data
-refusal_body r = with_field (refused_field r)
-    (member (codes "name") (string (refusal_name r)) (member (codes "refused") (number (unsigned (number_of r))) no_members))
-
-unfoldable pub added_body : BoardAnswer → List ℕ → ℕ → Data
-added_body a uuid dropped = object
-    (member (codes "added") (number (unsigned a.added))
-    (member (codes "board") (number (unsigned a.board))
-    (member (codes "dropped") (number (unsigned dropped))
-    (member (codes "more") (boolean a.more)
-    (member (codes "uuid") (string uuid) no_members)))))
-
-unfoldable pub changed_body : BoardAnswer → List ℕ → Data
-changed_body a uuid = object
-    (member (codes "added") (number (unsigned a.added))
-    (member (codes "board") (number (unsigned a.board))
-    (member (codes "more") (boolean a.more)
-    (member (codes "uuid") (string uuid) no_members))))
-
-unfoldable pub swept_body : BoardAnswer → Data
-swept_body a = object
-    (member (codes "added") (number (unsigned a.added))
-    (member (codes "board") (number (unsigned a.board))
-    (member (codes "more") (boolean a.more) no_members)))
-
-abbrev pub told_body : BoardAnswer → Told → Data
-told_body a (Added id dropped) = added_body a (id_text id) dropped
-told_body a (Changed id) = changed_body a (id_text id)
-told_body a Swept = swept_body a
-
-abbrev pub answer_body : Answer → Data
-answer_body (OnBoard a) = told_body a a.told
+abbrev pub refusal_text : Refusal → List ℕ
+refusal_text refusal = call_text (Err refusal)
 
 abbrev pub unreadable_body : Unreadable → Data
 unreadable_body BadLine = object (member (codes "name") (string (codes "BadLine")) no_members)
 unreadable_body (BadBody field) = with_field field (member (codes "name") (string (codes "BadBody")) no_members)
-
--- ---- lines of text
-
--- status, number and body, with a space between them
-abbrev pub reply_text : ℕ → ℕ → Data → List ℕ
-reply_text status n body = decimal status ++ 32 ∷ (decimal n ++ 32 ∷ (compact_text body ++ 10 ∷ []))
-
-abbrev pub refusal_text : Refusal → List ℕ
-refusal_text r = reply_text (status_of r) (number_of r) (refusal_body r)
-
--- the reply to a call
-abbrev pub call_text : Result Answer Refusal → List ℕ
-call_text (Ok answer) = reply_text 200 0 (answer_body answer)
-call_text (Err refusal) = refusal_text refusal
 
 -- no call was made
 abbrev pub unreadable_text : Unreadable → List ℕ

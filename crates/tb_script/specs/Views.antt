@@ -31,14 +31,14 @@ abbrev pub export_text : Board → ℕ → List ℕ
 export_text b m = list_text (map shown_text (shown b m))
 
 -- the JSON of one task, on a line of its own
-abbrev pub one_text : Option Task → ℕ → Result (List ℕ) Refusal
-one_text None m = Err NoTask
-one_text (Some t) m = Ok (shown_text (shown_task m t) ++ 10 ∷ [])
+abbrev pub one_text : Board → Option Task → ℕ → Result (List ℕ) Refusal
+one_text b None m = Err NoTask
+one_text b (Some t) m = Ok (shown_text (shown_task b m t) ++ 10 ∷ [])
 
 abbrev pub board_view : Board → View → ℕ → Result (List ℕ) Refusal
 board_view b (Listing n) m = Ok (listing b m)
 board_view b (Export n) m = Ok (export_text b m)
-board_view b (One n id) m = one_text (find (has_id id) b.tasks) m
+board_view b (One n id) m = one_text b (find (has_id id) b.tasks) m
 
 -- what a view of a board shows at a moment
 abbrev pub shown_view : Option Board → View → ℕ → Result (List ℕ) Refusal

@@ -2,14 +2,15 @@
 ghost use Rattle.std.specs.Prelude.{◌≡◌, Some, IfOk, option_map};
 ghost use Rattle.serde_json.specs.Read.{read};
 ghost use Rattle.serde_json.specs.View.{view};
-ghost use Rattle.tb_script.specs.Bodies.{incoming_in, incoming_of};
+ghost use Rattle.tb_script.specs.Bodies.{edits_in, edits_of, incoming_in, incoming_of};
 ghost use Rattle.tb_script.specs.Outcome.{Reads};
 
 use crate::line_fault::{LineFault, Unreadable};
 use serde_json::Value;
 use std::alloc::{AllocError, Global};
-use tb_json::{JsonFault, read_task};
-use tb_task::{Incoming, Moment};
+use tb_json::{JsonFault, read_modify, read_task};
+use tb_task::{Edit, Incoming, Moment};
+use tb_values::Items;
 
 /// The task that a text is when it comes in at a moment.
 pub(crate) fn read_incoming(alloc: Global, text: &str, at: Moment) -> Result<Incoming, LineFault>
@@ -26,6 +27,27 @@ fn incoming_from(alloc: Global, value: &Value, at: Moment) -> Result<Incoming, L
 {
     match read_task(alloc, value, at) {
         Ok(incoming) => Ok(incoming),
+        Err(JsonFault::NotObject) => Err(LineFault::Refused(Unreadable::BadBody(None))),
+        Err(JsonFault::BadField(name)) => Err(LineFault::Refused(Unreadable::BadBody(Some(name)))),
+        Err(JsonFault::Memory) => Err(LineFault::Memory),
+    }
+}
+
+/// The edits that a text asks for.
+pub(crate) fn read_edits(alloc: Global, text: &str) -> Result<Items<Edit>, LineFault>
+    ensures { Reads result (edits_in text.now) }
+{
+    match read_value(alloc, text)? {
+        Some(value) => edits_from(alloc, &value),
+        None => Err(LineFault::Refused(Unreadable::BadBody(None))),
+    }
+}
+
+fn edits_from(alloc: Global, value: &Value) -> Result<Items<Edit>, LineFault>
+    ensures { Reads result (edits_of (Some (view value.now))) }
+{
+    match read_modify(alloc, value) {
+        Ok(edits) => Ok(edits),
         Err(JsonFault::NotObject) => Err(LineFault::Refused(Unreadable::BadBody(None))),
         Err(JsonFault::BadField(name)) => Err(LineFault::Refused(Unreadable::BadBody(Some(name)))),
         Err(JsonFault::Memory) => Err(LineFault::Memory),

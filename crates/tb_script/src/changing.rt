@@ -1,12 +1,13 @@
 //! The changes of a world, made in place.
-ghost use Rattle.std.specs.Prelude.{◌≡◌, position, IfOk, OnOk, MatchOption};
-ghost use Rattle.tb_board.specs.World.{has_number};
-ghost use Rattle.tb_script.specs.Boards.{IsBoardAt, LacksBoard};
+ghost use Rattle.std.specs.Prelude.{◌≡◌, IfOk, OnOk};
 ghost use Rattle.tb_board.specs.Changes.{change_board, changed, changed_by, put, with_task_at};
+ghost use Rattle.tb_board.specs.Roles.{set_role};
 
 use std::alloc::{AllocError, Global};
 use std::mem;
-use tb_board::{Board, Change, World};
+use tb_board::{
+    Board, Change, Person, Role, RoleOn, World, place_of_board, roles_with, roles_without,
+};
 use tb_task::Task;
 use tb_values::{Items, Shared};
 
@@ -33,6 +34,34 @@ fn apply_change(alloc: Global, world: &mut World, change: Change) -> Result<(), 
             world.boards = put_task(alloc, boards, board, place, task)?;
             Ok(())
         }
+        Change::AddPerson { name, key } => world.people.push(Person { name, key }),
+        Change::AddBoard { number, title } => {
+            let board = Shared::new(alloc, Board::new(alloc, number, title))?;
+            world.boards.push(board)
+        }
+        Change::SetRole {
+            board,
+            person,
+            role,
+        } => {
+            let roles = mem::replace(&mut world.roles, Items::new(alloc));
+            world.roles = set_role(roles, board, person, role)?;
+            Ok(())
+        }
+    }
+}
+
+fn set_role(
+    roles: Items<RoleOn>,
+    board: u32,
+    person: usize,
+    role: Option<Role>,
+) -> Result<Items<RoleOn>, AllocError>
+    ensures { IfOk result (λ changed. changed ≡ set_role roles board person role) }
+{
+    match role {
+        Some(role) => roles_with(roles, board, person, role),
+        None => Ok(roles_without(roles, board, person)),
     }
 }
 
@@ -46,7 +75,7 @@ fn put_task(
 ) -> Result<Items<Shared<Board>>, AllocError>
     ensures { IfOk result (λ changed. changed ≡ change_board number (with_task_at place task) boards) }
 {
-    let Some(index) = index_of(boards.as_slice(), number) else {
+    let Some(index) = place_of_board(boards.as_slice(), number) else {
         return Ok(boards);
     };
     let mut boards = boards.into_vec();
@@ -54,18 +83,6 @@ fn put_task(
     let board = board_with(board, place, task)?;
     boards.insert(index, Shared::new(alloc, board)?)?;
     Ok(Items::from_vec(boards))
-}
-
-fn index_of(boards: &[Shared<Board>], number: u32) -> Option<usize>
-    ensures { MatchOption result (LacksBoard number boards.now) (IsBoardAt number boards.now) }
-{
-    first_with(boards, number)
-}
-
-fn first_with(boards: &[Shared<Board>], number: u32) -> Option<usize>
-    ensures { result ≡ position (has_number number) boards.now }
-{
-    boards.iter().position(|board| board.get().number == number)
 }
 
 /// The board with a task at its place. It is copied only where somebody else looks at it.

@@ -1,12 +1,12 @@
 //! Runs a script of lines: each is answered, in order, whatever pieces the reader gives them in.
 //!
-//! It owns what a line asks, the texts of the answers, and the reading loop. It stands on `tb_core` for commands, on `tb_json` and
-//! `tb_report` for what is read and shown, and on `serde_json` for the bodies of replies.
+//! It owns what a line asks, the texts of the answers, and the reading loop. It stands on `tb_core` for commands, on `tb_reply` for
+//! their replies, and on `tb_json` and `tb_report` for what is read and shown.
 #![tactic(auto)]
 
 mod answering;
+mod arguments;
 mod asked;
-mod bodies;
 mod body;
 mod changing;
 mod fault;
@@ -15,6 +15,7 @@ mod reading;
 mod replies;
 mod session;
 mod viewing;
+mod words;
 
 ghost use Rattle.std.specs.Prelude.{◌≡◌, OnOk, OnErr, IfSome, List, ℕ};
 ghost use Rattle.std.specs.Io.KnownBytes.{Appends};

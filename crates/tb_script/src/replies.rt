@@ -1,14 +1,13 @@
 //! The texts of replies.
-ghost use Rattle.std.specs.Prelude.{◌≡◌, false, IfOk};
+ghost use Rattle.std.specs.Prelude.{◌≡◌, IfOk};
 ghost use Rattle.serde_json.specs.View.{view};
-ghost use Rattle.serde_json.specs.Written.{has_float};
-ghost use Rattle.tb_script.specs.Replies.{call_text, refusal_text, reply_text, unreadable_text};
+ghost use Rattle.tb_script.specs.Replies.{call_text, refusal_text, reply_text, unreadable_body, unreadable_text};
 
-use crate::bodies::{body_of_answer, body_of_fault, body_of_refusal};
 use crate::line_fault::Unreadable;
-use serde_json::Value;
+use serde_json::{Value, json};
 use std::alloc::{AllocError, Global};
 use tb_core::{Answer, Refusal};
+use tb_reply::{Reply, reply_to, reply_to_refused};
 use tb_values::Text;
 
 /// The reply to a call.
@@ -18,21 +17,16 @@ pub(crate) fn write_call(
 ) -> Result<Text, AllocError>
     ensures { IfOk result (λ text. text ≡ call_text answer.now) }
 {
-    match answer {
-        Ok(answer) => {
-            let body = body_of_answer(alloc, answer)?;
-            write_reply(alloc, 200, 0, &body)
-        }
-        Err(refusal) => write_refusal(alloc, *refusal),
-    }
+    let reply = reply_to(alloc, answer)?;
+    write_reply(alloc, &reply)
 }
 
 /// The reply to a call or a view that is refused.
 pub(crate) fn write_refusal(alloc: Global, refusal: Refusal) -> Result<Text, AllocError>
     ensures { IfOk result (λ text. text ≡ refusal_text refusal) }
 {
-    let body = body_of_refusal(alloc, refusal)?;
-    write_reply(alloc, refusal.status(), refusal.number(), &body)
+    let reply = reply_to_refused(alloc, refusal)?;
+    write_reply(alloc, &reply)
 }
 
 /// What is written for a line that can't be read.
@@ -45,11 +39,23 @@ pub(crate) fn write_unreadable(alloc: Global, fault: &Unreadable) -> Result<Text
     Ok(Text::from_string(text))
 }
 
-fn write_reply(alloc: Global, status: u16, number: u8, body: &Value) -> Result<Text, AllocError>
-    requires { has_float (view body.now) ≡ false }
-    ensures { IfOk result (λ text. text ≡ reply_text status number (view body.now)) }
+fn write_reply(alloc: Global, reply: &Reply) -> Result<Text, AllocError>
+    ensures { IfOk result (λ text. text ≡ reply_text reply.now) }
 {
-    let body = body.to_string(alloc)?;
+    let status = reply.status;
+    let number = reply.number;
+    let body = reply.body.as_str();
     let text = format!(in alloc; "{status} {number} {body}\n")?;
     Ok(Text::from_string(text))
+}
+
+fn body_of_fault(alloc: Global, fault: &Unreadable) -> Result<Value, AllocError>
+    ensures { IfOk result (λ body. view body ≡ unreadable_body fault.now) }
+{
+    match fault {
+        Unreadable::BadLine => json!(in alloc; {"name": "BadLine"}),
+        Unreadable::BadBody(None) => json!(in alloc; {"name": "BadBody"}),
+        Unreadable::BadBody(Some(field)) =>
+            json!(in alloc; {"field": field.as_str(), "name": "BadBody"}),
+    }
 }

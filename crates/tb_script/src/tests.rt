@@ -53,16 +53,23 @@ fn joined(alloc: Global, texts: &[&str]) -> std::result::Result<String, Fail> {
     Ok(all)
 }
 
-/// A line of root's on the first day of 2026.
-fn line(alloc: Global, asked: &str) -> std::result::Result<String, Fail> {
+/// A line on the first day of 2026.
+fn line_of(alloc: Global, caller: &str, asked: &str) -> std::result::Result<String, Fail> {
     joined(
         alloc,
         &[
-            "20260101T000000Z\troot\troot-key-1\t00000000-0000-4000-8000-000000000009\t",
+            "20260101T000000Z\t",
+            caller,
+            "\t00000000-0000-4000-8000-000000000009\t",
             asked,
             "\n",
         ],
     )
+}
+
+/// A line of root's.
+fn line(alloc: Global, asked: &str) -> std::result::Result<String, Fail> {
+    line_of(alloc, "root\troot-key-1", asked)
 }
 
 /// What a script is answered.
@@ -118,6 +125,49 @@ fn number_used_by_hand(rt: HostRuntime) -> std::result::Result<(), Fail> {
 }
 
 #[test]
+fn notes_removed(rt: HostRuntime) -> std::result::Result<(), Fail> {
+    let changed =
+        "200 0 {\"added\":0,\"board\":1,\"more\":false,\"uuid\":\"00000001-0000-8000-8000-000000000001\"}\n";
+    let no_link = "409 10 {\"name\":\"NoLink\",\"refused\":10}\n";
+    let mut script = joined(rt.alloc(), &[ADD_MILK])?;
+    for word in ["denotate", "annotate", "denotate"] {
+        let asked = joined(
+            rt.alloc(),
+            &[word, "\t1\t00000001-0000-8000-8000-000000000001\tx"],
+        )?;
+        script.push_str(&line(rt.alloc(), &asked)?)?;
+    }
+    for word in ["start", "stop", "done", "reopen", "delete"] {
+        let asked = joined(
+            rt.alloc(),
+            &[word, "\t1\t00000001-0000-8000-8000-000000000001"],
+        )?;
+        script.push_str(&line(rt.alloc(), &asked)?)?;
+    }
+    script.push_str(&line(rt.alloc(), "sweep\t1")?)?;
+    let wanted = joined(
+        rt.alloc(),
+        &[
+            ADDED,
+            no_link,
+            changed,
+            changed,
+            changed,
+            changed,
+            changed,
+            changed,
+            changed,
+            "200 0 {\"added\":0,\"board\":1,\"more\":false}\n",
+        ],
+    )?;
+    assert_eq!(rt;
+        answers(rt.alloc(), script.as_bytes())?.as_str(),
+        wanted.as_str()
+    );
+    Ok(())
+}
+
+#[test]
 fn refused_lines(rt: HostRuntime) -> std::result::Result<(), Fail> {
     let bad_body = "400 - {\"name\":\"BadBody\"}\n";
     let no_board = "404 3 {\"name\":\"NoBoard\",\"refused\":3}\n";
@@ -136,6 +186,24 @@ fn refused_lines(rt: HostRuntime) -> std::result::Result<(), Fail> {
         ("list\t1\t1", BAD_LINE),
         ("list\t4294967296", BAD_LINE),
         ("task\t1\t2", BAD_LINE),
+        ("modify\t1\t2\t{", BAD_LINE),
+        (
+            "modify\t1\t00000001-0000-8000-8000-000000000001\t{\"priority\":\"high\"}",
+            "400 - {\"field\":\"priority\",\"name\":\"BadBody\"}\n",
+        ),
+        (
+            "depend\t1\t00000001-0000-8000-8000-000000000001\tT",
+            BAD_LINE,
+        ),
+        (
+            "depend\t1\t00000001-0000-8000-8000-000000000001\t00000001-0000-8000-8000-000000000001",
+            "404 5 {\"name\":\"NoTask\",\"refused\":5}\n",
+        ),
+        ("done\t1", BAD_LINE),
+        (
+            "annotate\t1\t00000001-0000-8000-8000-000000000001",
+            BAD_LINE,
+        ),
         ("list\t4294967295", no_board),
         ("export\t2", no_board),
         ("add\t2\t{\"description\":\"a\"}", no_board),

@@ -63,7 +63,7 @@ fn show_board(
     match view {
         View::Listing(_) => Ok(Ok(listing(alloc, board, at)?)),
         View::Export(_) => Ok(Ok(export(alloc, board, at)?)),
-        View::One(_, id) => show_one(alloc, task_on(board, *id), at),
+        View::One(_, id) => show_one(alloc, board, task_on(board, *id), at),
     }
 }
 
@@ -88,21 +88,27 @@ fn task_on(board: &Board, id: TaskId) -> Option<&Shared<Task>>
 /// A task as JSON, on a line of its own.
 fn show_one(
     alloc: Global,
+    board: &Board,
     task: Option<&Shared<Task>>,
     at: Moment,
 ) -> Result<Result<Text, Refusal>, AllocError>
-    ensures { IfOk result (λ shown. shown ≡ one_text (option_map (λ task. task.now) task.entry) at) }
+    ensures { IfOk result (λ shown. shown ≡ one_text board.now (option_map (λ task. task.now) task.entry) at) }
 {
     let Some(task) = task else {
         return Ok(Err(Refusal::NoTask));
     };
-    Ok(Ok(write_line(alloc, task, at)?))
+    Ok(Ok(write_line(alloc, board, task, at)?))
 }
 
-fn write_line(alloc: Global, task: &Shared<Task>, at: Moment) -> Result<Text, AllocError>
-    ensures { IfOk result (λ text. text ≡ shown_text (shown_task_of at task.now) ++ 10 ∷ []) }
+fn write_line(
+    alloc: Global,
+    board: &Board,
+    task: &Shared<Task>,
+    at: Moment,
+) -> Result<Text, AllocError>
+    ensures { IfOk result (λ text. text ≡ shown_text (shown_task_of board.now at task.now) ++ 10 ∷ []) }
 {
-    let shown = shown_task(alloc, task, at)?;
+    let shown = shown_task(alloc, board, task, at)?;
     let mut line = write_task(alloc, &shown)?.into_string();
     line.push('\n')?;
     Ok(Text::from_string(line))

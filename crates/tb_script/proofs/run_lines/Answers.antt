@@ -1,4 +1,4 @@
-use Rattle.std.proofs.Common.{◌≡◌, ◌∙◌, ap, sym, ◌++◌, [], take, arith, length, IfSome}
+use Rattle.std.proofs.Common.{◌≡◌, ◌∙◌, ap, ◌++◌, take, arith}
 use Rattle.std.proofs.lemmas.Result.{on_err_weaker, on_ok_weaker}
 use Rattle.tb_script.specs.Lines.{answers_from}
 use Rattle.tb_script.specs.Answer.{answer, first_world}

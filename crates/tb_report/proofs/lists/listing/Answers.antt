@@ -1,6 +1,6 @@
 use Rattle.std.proofs.Common.{◌≡◌, ◌++◌, length, string_bytes, rules, ap, ◌∙◌}
 use Rattle.tb_report.specs.Ranking.{rank_order, ordered}
-use Rattle.tb_report.specs.Listing.{ranks_from, header, lines, last_line}
+use Rattle.tb_report.specs.Listing.{ranks_from, lines, last_line}
 use Rattle.tb_report.proofs.Waking.{written}
 use Rattle.tb_report.proofs.lists.listing.Goals as goal
 

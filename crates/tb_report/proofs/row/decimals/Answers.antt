@@ -1,5 +1,5 @@
-use Rattle.std.proofs.Common.{◌≡◌, rules, ◌++◌, ◌∷◌, [], IfOk, string_bytes, nat_le, ◌*◌, ◌&&◌, unsigned_abs, if◌then◌else◌, subst, List, ℕ}
-use Rattle.tb_report.specs.Row.{urgency_text, is_negative, unit}
+use Rattle.std.proofs.Common.{◌≡◌, rules, ◌∷◌, [], IfOk, string_bytes, nat_le, ◌*◌, ◌&&◌, unsigned_abs, if◌then◌else◌, subst, List, ℕ}
+use Rattle.tb_report.specs.Row.{is_negative, unit}
 use Rattle.tb_report.proofs.Columns.{digits_written, written_urgency}
 use Rattle.tb_report.proofs.row.decimals.Goals as goal
 

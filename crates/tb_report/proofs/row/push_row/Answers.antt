@@ -1,5 +1,4 @@
-use Rattle.std.proofs.Common.{◌≡◌, rules, ◌++◌, OnOk, string_bytes, subst, arith, List, ℕ, ◌∙◌, ap}
-use Rattle.std.proofs.lemmas.Int.{to_z-of_z}
+use Rattle.std.proofs.Common.{◌≡◌, rules, ◌++◌, OnOk, string_bytes, subst, arith, List, ℕ}
 use Rattle.tb_report.specs.Row.{urgency_text}
 use Rattle.tb_report.proofs.Columns.{written, written_row}
 use Rattle.tb_report.proofs.row.push_row.Goals as goal

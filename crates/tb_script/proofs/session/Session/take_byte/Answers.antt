@@ -1,5 +1,4 @@
-use Rattle.std.proofs.Common.{◌≡◌, ◌++◌, ◌∷◌, [], ap, arith, append_assoc, List, ℕ}
-use Rattle.tb_script.specs.Lines.{answers_from}
+use Rattle.std.proofs.Common.{◌++◌, ap, arith}
 use Rattle.tb_script.specs.Answer.{answer}
 use Rattle.tb_board.specs.declared.world.World.{World}
 use Rattle.tb_script.proofs.LineLaws.{line_fed, one_line_push, skipped}

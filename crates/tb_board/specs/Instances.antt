@@ -1,0 +1,23 @@
+-- Templates and their instances on a board.
+use Rattle.std.specs.Prelude.{◌≡◌, ℕ, Bool, true, ◌&&◌, Option, Some, None}
+use Rattle.std.specs.List.{list_any}
+use Rattle.tb_task.specs.declared.task.Task.{Task}
+use Rattle.tb_board.specs.declared.board.Board.{Board}
+use Rattle.tb_board.specs.Board.{has_id}
+use Rattle.tb_board.specs.Statuses.{is_template}
+use Rattle.tb_board.specs.Templates.{places, IsRun}
+
+-- the places of each template are 0 up to their number, each once
+abbrev pub HasRuns : Board → Type 0
+HasRuns b = (id : ℕ) → IsRun (places b id)
+
+abbrev pub is_template_with : ℕ → Task → Bool
+is_template_with id t = has_id id t && is_template t
+
+-- a parent is a template of the board
+abbrev pub has_template : Board → Option ℕ → Bool
+has_template b None = true
+has_template b (Some id) = list_any (is_template_with id) b.tasks
+
+abbrev pub HasTemplateOn : Board → Task → Type 0
+HasTemplateOn b t = has_template b t.parent ≡ true

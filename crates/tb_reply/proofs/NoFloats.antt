@@ -1,0 +1,32 @@
+-- No number in a body is a float.
+use Rattle.std.proofs.Common.{◌≡◌, ℕ, List, false, refl}
+use Rattle.serde_json.specs.Written.{has_float}
+use Rattle.tb_task.specs.TaskId.{id_text}
+use Rattle.tb_core.specs.declared.command.Answer.{Answer}
+use Rattle.tb_core.specs.declared.command.Answer.TheVariants.{OnBoard, NewPerson, NewBoard}
+use Rattle.tb_core.specs.declared.command.BoardAnswer.{BoardAnswer}
+use Rattle.tb_core.specs.declared.command.Told.{Told}
+use Rattle.tb_core.specs.declared.command.Told.TheVariants.{Added, Changed, Swept}
+use Rattle.tb_reply.specs.Bodies.{added_body, answer_body, changed_body, swept_body, told_body}
+
+added_without_float : (a : BoardAnswer) (uuid : List ℕ) (dropped : ℕ) → has_float (added_body a uuid dropped) ≡ false
+unfolding added_body
+added_without_float a uuid dropped = refl
+
+changed_without_float : (a : BoardAnswer) (uuid : List ℕ) → has_float (changed_body a uuid) ≡ false
+unfolding changed_body
+changed_without_float a uuid = refl
+
+swept_without_float : (a : BoardAnswer) → has_float (swept_body a) ≡ false
+unfolding swept_body
+swept_without_float a = refl
+
+told_without_float : (a : BoardAnswer) (told : Told) → has_float (told_body a told) ≡ false
+told_without_float a (Added id dropped) = added_without_float a (id_text id) dropped
+told_without_float a (Changed id) = changed_without_float a (id_text id)
+told_without_float a Swept = swept_without_float a
+
+pub answer_without_float : (a : Answer) → has_float (answer_body a) ≡ false
+answer_without_float (OnBoard a) = told_without_float a a.told
+answer_without_float (NewPerson name) = refl
+answer_without_float (NewBoard n) = refl

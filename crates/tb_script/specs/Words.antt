@@ -1,0 +1,127 @@
+-- What the words of a line ask of their arguments.
+use Rattle.std.specs.Prelude.{ℕ, List, [], ◌∷◌, Result, Ok, Err, if◌then◌else◌, codes}
+use Rattle.std.specs.Str.{bytes_eq}
+use Rattle.tb_values.specs.Outcome.{◌>>=◌}
+use Rattle.tb_task.specs.TaskId.{read_id}
+use Rattle.tb_core.specs.declared.action.Action.{Action}
+use Rattle.tb_core.specs.declared.action.Action.TheVariants.{Done, Delete, Reopen, Start, Stop, Annotate, Denotate}
+use Rattle.tb_core.specs.declared.command.Command.TheVariants.{Add, Depend, Modify, OnTask, Sweep, Undepend}
+use Rattle.tb_script.specs.declared.asked.Request.{Request}
+use Rattle.tb_script.specs.declared.asked.Request.TheVariants.{Call, View as ViewOf}
+use Rattle.tb_script.specs.declared.asked.View.TheVariants.{Listing, Export, One}
+use Rattle.tb_script.specs.declared.line_fault.Unreadable.{Unreadable}
+use Rattle.tb_script.specs.declared.line_fault.Unreadable.TheVariants.{BadLine}
+use Rattle.tb_script.specs.Arguments.{board_number}
+use Rattle.tb_script.specs.Bodies.{edits_in, incoming_in}
+use Rattle.tb_script.specs.Outcome.{or_bad_line}
+
+-- ---- a word has its number of arguments
+
+abbrev pub one : {A : Type 0} → (List ℕ → Result A Unreadable) → List (List ℕ) → Result A Unreadable
+one asks (a ∷ []) = asks a
+one asks [] = Err BadLine
+one asks (a ∷ b ∷ more) = Err BadLine
+
+abbrev pub two : {A : Type 0} → (List ℕ → List ℕ → Result A Unreadable) → List (List ℕ) → Result A Unreadable
+two asks (a ∷ b ∷ []) = asks a b
+two asks [] = Err BadLine
+two asks (a ∷ []) = Err BadLine
+two asks (a ∷ b ∷ c ∷ more) = Err BadLine
+
+abbrev pub three : {A : Type 0} → (List ℕ → List ℕ → List ℕ → Result A Unreadable) → List (List ℕ) → Result A Unreadable
+three asks (a ∷ b ∷ c ∷ []) = asks a b c
+three asks [] = Err BadLine
+three asks (a ∷ []) = Err BadLine
+three asks (a ∷ b ∷ []) = Err BadLine
+three asks (a ∷ b ∷ c ∷ d ∷ more) = Err BadLine
+
+-- the number of a board, and the identifier of a task
+abbrev pub task : List ℕ → List ℕ → Result (ℕ × ℕ) Unreadable
+task board uuid = do
+  n ← or_bad_line (board_number board)
+  id ← or_bad_line (read_id uuid)
+  Ok (n, id)
+
+-- a task, and the identifier of the one on which it depends
+unfoldable pub link : List ℕ → List ℕ → List ℕ → Result ((ℕ × ℕ) × ℕ) Unreadable
+link board uuid other = do
+  t ← task board uuid
+  on ← or_bad_line (read_id other)
+  Ok (t, on)
+
+-- ---- views
+
+abbrev pub listing : List ℕ → Result Request Unreadable
+listing board = do
+  n ← or_bad_line (board_number board)
+  Ok (ViewOf (Listing n))
+
+abbrev pub export : List ℕ → Result Request Unreadable
+export board = do
+  n ← or_bad_line (board_number board)
+  Ok (ViewOf (Export n))
+
+abbrev pub showing : List (List ℕ) → Result Request Unreadable
+showing arguments = do
+  t ← two task arguments
+  Ok (ViewOf (One t.0 t.1))
+
+-- ---- commands
+
+abbrev pub adding : ℕ → List ℕ → List ℕ → Result Request Unreadable
+adding at board body = do
+  n ← or_bad_line (board_number board)
+  incoming ← incoming_in body at
+  Ok (Call (Add n incoming))
+
+abbrev pub acting : Action → List (List ℕ) → Result Request Unreadable
+acting action arguments = do
+  t ← two task arguments
+  Ok (Call (OnTask t.0 t.1 action))
+
+abbrev pub acting_with : (List ℕ → Action) → List ℕ → List ℕ → List ℕ → Result Request Unreadable
+acting_with action board uuid text = do
+  t ← task board uuid
+  Ok (Call (OnTask t.0 t.1 (action text)))
+
+abbrev pub modifying : List ℕ → List ℕ → List ℕ → Result Request Unreadable
+modifying board uuid body = do
+  t ← task board uuid
+  edits ← edits_in body
+  Ok (Call (Modify t.0 t.1 edits))
+
+abbrev pub linking : List (List ℕ) → Result Request Unreadable
+linking arguments = do
+  l ← three link arguments
+  Ok (Call (Depend l.0.0 l.0.1 l.1))
+
+abbrev pub unlinking : List (List ℕ) → Result Request Unreadable
+unlinking arguments = do
+  l ← three link arguments
+  Ok (Call (Undepend l.0.0 l.0.1 l.1))
+
+abbrev pub sweeping : List ℕ → Result Request Unreadable
+sweeping board = do
+  n ← or_bad_line (board_number board)
+  Ok (Call (Sweep n))
+
+-- ---- the words
+
+unfoldable pub request_in : List ℕ → List (List ℕ) → ℕ → Result Request Unreadable
+request_in word arguments at =
+    if bytes_eq word (codes "list") then one listing arguments
+    else if bytes_eq word (codes "export") then one export arguments
+    else if bytes_eq word (codes "task") then showing arguments
+    else if bytes_eq word (codes "add") then two (adding at) arguments
+    else if bytes_eq word (codes "done") then acting Done arguments
+    else if bytes_eq word (codes "delete") then acting Delete arguments
+    else if bytes_eq word (codes "reopen") then acting Reopen arguments
+    else if bytes_eq word (codes "start") then acting Start arguments
+    else if bytes_eq word (codes "stop") then acting Stop arguments
+    else if bytes_eq word (codes "annotate") then three (acting_with Annotate) arguments
+    else if bytes_eq word (codes "denotate") then three (acting_with Denotate) arguments
+    else if bytes_eq word (codes "modify") then three modifying arguments
+    else if bytes_eq word (codes "depend") then linking arguments
+    else if bytes_eq word (codes "undepend") then unlinking arguments
+    else if bytes_eq word (codes "sweep") then one sweeping arguments
+    else Err BadLine

@@ -1,0 +1,76 @@
+//! The fields of a line, and the arguments of its word.
+ghost use Rattle.std.specs.Prelude.{◌≡◌, nat_lt, slice_index};
+ghost use Rattle.tb_board.specs.Names.{read_name, read_key};
+ghost use Rattle.tb_task.specs.MomentText.{moment_of};
+ghost use Rattle.tb_task.specs.TaskId.{read_id};
+ghost use Rattle.tb_script.specs.Arguments.{board_number};
+ghost use Rattle.tb_script.specs.Outcome.{Reads, or_bad_line};
+
+use crate::line_fault::LineFault;
+use std::alloc::Global;
+use tb_board::{Key, Name};
+use tb_task::{Moment, TaskId};
+
+pub(crate) fn read_moment(text: &str) -> Result<Moment, LineFault>
+    ensures { Reads result (or_bad_line (moment_of text.now)) }
+{
+    match Moment::read(text.as_bytes()) {
+        Some(moment) => Ok(moment),
+        None => Err(LineFault::bad_line()),
+    }
+}
+
+pub(crate) fn read_person(alloc: Global, text: &str) -> Result<Name, LineFault>
+    ensures { Reads result (or_bad_line (read_name text.now)) }
+{
+    match Name::read(alloc, text)? {
+        Some(name) => Ok(name),
+        None => Err(LineFault::bad_line()),
+    }
+}
+
+pub(crate) fn read_secret(alloc: Global, text: &str) -> Result<Key, LineFault>
+    ensures { Reads result (or_bad_line (read_key text.now)) }
+{
+    match Key::read(alloc, text)? {
+        Some(key) => Ok(key),
+        None => Err(LineFault::bad_line()),
+    }
+}
+
+pub(crate) fn read_uuid(text: &str) -> Result<TaskId, LineFault>
+    ensures { Reads result (or_bad_line (read_id text.now)) }
+{
+    match TaskId::read(text) {
+        Some(id) => Ok(id),
+        None => Err(LineFault::bad_line()),
+    }
+}
+
+pub(crate) fn read_board(text: &str) -> Result<u32, LineFault>
+    ensures { Reads result (or_bad_line (board_number text.now)) }
+{
+    match board_of(text) {
+        Some(board) => Ok(board),
+        None => Err(LineFault::bad_line()),
+    }
+}
+
+/// A decimal number from 1 on, without a leading zero.
+fn board_of(text: &str) -> Option<u32>
+    ensures { result ≡ board_number text.now }
+{
+    if !begins_above_zero(text) {
+        return None;
+    }
+    text.parse::<u32>().ok()
+}
+
+fn begins_above_zero(text: &str) -> bool
+    ensures { result ≡ nat_lt 48 (slice_index text.now 0) }
+{
+    match text.as_bytes().first() {
+        Some(first) => *first > b'0',
+        None => false,
+    }
+}

@@ -1,0 +1,185 @@
+//! What the words of a line ask of their arguments.
+ghost use Rattle.std.specs.Prelude.{◌≡◌, map};
+ghost use Rattle.tb_core.specs.declared.action.Action.TheVariants.{Annotate, Denotate};
+ghost use Rattle.tb_script.specs.Outcome.{Reads};
+ghost use Rattle.tb_script.specs.Words.{acting, acting_with, adding, export, link, linking, listing, modifying, one, request_in, showing, sweeping, task, three, two, unlinking};
+
+use crate::arguments::{read_board, read_uuid};
+use crate::asked::{Request, View};
+use crate::body::{read_edits, read_incoming};
+use crate::line_fault::LineFault;
+use std::alloc::Global;
+use tb_core::{Action, Command};
+use tb_task::{Moment, TaskId};
+use tb_values::Text;
+
+#[tactic(auto, unfolding(crate::specs::Words::request_in))]
+pub(crate) fn read_request(
+    alloc: Global,
+    word: &str,
+    arguments: &[&str],
+    at: Moment,
+) -> Result<Request, LineFault>
+    ensures { Reads result (request_in word.now (map (λ argument. argument.now) arguments.entry.now) at) }
+{
+    match word {
+        "list" => read_listing(arguments),
+        "export" => read_export(arguments),
+        "task" => read_shown(arguments),
+        "add" => read_add(alloc, arguments, at),
+        "done" => read_action(arguments, Action::Done),
+        "delete" => read_action(arguments, Action::Delete),
+        "reopen" => read_action(arguments, Action::Reopen),
+        "start" => read_action(arguments, Action::Start),
+        "stop" => read_action(arguments, Action::Stop),
+        "annotate" => read_annotate(alloc, arguments),
+        "denotate" => read_denotate(alloc, arguments),
+        "modify" => read_modify(alloc, arguments),
+        "depend" => read_depend(arguments),
+        "undepend" => read_undepend(arguments),
+        "sweep" => read_sweep(arguments),
+        _ => Err(LineFault::bad_line()),
+    }
+}
+
+fn read_task_alone(arguments: &[&str]) -> Result<(u32, TaskId), LineFault>
+    ensures { Reads result (two task (map (λ argument. argument.now) arguments.entry.now)) }
+{
+    let [board, uuid] = arguments else {
+        return Err(LineFault::bad_line());
+    };
+    read_task(board, uuid)
+}
+
+fn read_task(board: &str, uuid: &str) -> Result<(u32, TaskId), LineFault>
+    ensures { Reads result (task board.now uuid.now) }
+{
+    let board = read_board(board)?;
+    let id = read_uuid(uuid)?;
+    Ok((board, id))
+}
+
+fn read_link(arguments: &[&str]) -> Result<((u32, TaskId), TaskId), LineFault>
+    ensures { Reads result (three link (map (λ argument. argument.now) arguments.entry.now)) }
+{
+    let [board, uuid, other] = arguments else {
+        return Err(LineFault::bad_line());
+    };
+    read_link_between(board, uuid, other)
+}
+
+#[tactic(auto, unfolding(crate::specs::Words::link))]
+fn read_link_between(
+    board: &str,
+    uuid: &str,
+    other: &str,
+) -> Result<((u32, TaskId), TaskId), LineFault>
+    ensures { Reads result (link board.now uuid.now other.now) }
+{
+    let task = read_task(board, uuid)?;
+    let on = read_uuid(other)?;
+    Ok((task, on))
+}
+
+fn read_listing(arguments: &[&str]) -> Result<Request, LineFault>
+    ensures { Reads result (one listing (map (λ argument. argument.now) arguments.entry.now)) }
+{
+    let [board] = arguments else {
+        return Err(LineFault::bad_line());
+    };
+    Ok(Request::View(View::Listing(read_board(board)?)))
+}
+
+fn read_export(arguments: &[&str]) -> Result<Request, LineFault>
+    ensures { Reads result (one export (map (λ argument. argument.now) arguments.entry.now)) }
+{
+    let [board] = arguments else {
+        return Err(LineFault::bad_line());
+    };
+    Ok(Request::View(View::Export(read_board(board)?)))
+}
+
+fn read_shown(arguments: &[&str]) -> Result<Request, LineFault>
+    ensures { Reads result (showing (map (λ argument. argument.now) arguments.entry.now)) }
+{
+    let (board, id) = read_task_alone(arguments)?;
+    Ok(Request::View(View::One(board, id)))
+}
+
+fn read_add(alloc: Global, arguments: &[&str], at: Moment) -> Result<Request, LineFault>
+    ensures { Reads result (two (adding at) (map (λ argument. argument.now) arguments.entry.now)) }
+{
+    let [board, body] = arguments else {
+        return Err(LineFault::bad_line());
+    };
+    let number = read_board(board)?;
+    let incoming = read_incoming(alloc, body, at)?;
+    Ok(Request::Call(Command::Add {
+        board: number,
+        incoming,
+    }))
+}
+
+fn read_action(arguments: &[&str], action: Action) -> Result<Request, LineFault>
+    ensures { Reads result (acting action (map (λ argument. argument.now) arguments.entry.now)) }
+{
+    let (board, id) = read_task_alone(arguments)?;
+    Ok(Request::Call(Command::OnTask { board, id, action }))
+}
+
+fn read_annotate(alloc: Global, arguments: &[&str]) -> Result<Request, LineFault>
+    ensures { Reads result (three (acting_with Annotate) (map (λ argument. argument.now) arguments.entry.now)) }
+{
+    let [board, uuid, text] = arguments else {
+        return Err(LineFault::bad_line());
+    };
+    let (board, id) = read_task(board, uuid)?;
+    let action = Action::Annotate(Text::from_str(alloc, text)?);
+    Ok(Request::Call(Command::OnTask { board, id, action }))
+}
+
+fn read_denotate(alloc: Global, arguments: &[&str]) -> Result<Request, LineFault>
+    ensures { Reads result (three (acting_with Denotate) (map (λ argument. argument.now) arguments.entry.now)) }
+{
+    let [board, uuid, text] = arguments else {
+        return Err(LineFault::bad_line());
+    };
+    let (board, id) = read_task(board, uuid)?;
+    let action = Action::Denotate(Text::from_str(alloc, text)?);
+    Ok(Request::Call(Command::OnTask { board, id, action }))
+}
+
+fn read_modify(alloc: Global, arguments: &[&str]) -> Result<Request, LineFault>
+    ensures { Reads result (three modifying (map (λ argument. argument.now) arguments.entry.now)) }
+{
+    let [board, uuid, body] = arguments else {
+        return Err(LineFault::bad_line());
+    };
+    let (board, id) = read_task(board, uuid)?;
+    let edits = read_edits(alloc, body)?;
+    Ok(Request::Call(Command::Modify { board, id, edits }))
+}
+
+fn read_depend(arguments: &[&str]) -> Result<Request, LineFault>
+    ensures { Reads result (linking (map (λ argument. argument.now) arguments.entry.now)) }
+{
+    let ((board, id), on) = read_link(arguments)?;
+    Ok(Request::Call(Command::Depend { board, id, on }))
+}
+
+fn read_undepend(arguments: &[&str]) -> Result<Request, LineFault>
+    ensures { Reads result (unlinking (map (λ argument. argument.now) arguments.entry.now)) }
+{
+    let ((board, id), on) = read_link(arguments)?;
+    Ok(Request::Call(Command::Undepend { board, id, on }))
+}
+
+fn read_sweep(arguments: &[&str]) -> Result<Request, LineFault>
+    ensures { Reads result (one sweeping (map (λ argument. argument.now) arguments.entry.now)) }
+{
+    let [board] = arguments else {
+        return Err(LineFault::bad_line());
+    };
+    let board = read_board(board)?;
+    Ok(Request::Call(Command::Sweep { board }))
+}

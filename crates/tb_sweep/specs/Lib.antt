@@ -1,0 +1,5 @@
+pub mod Counts
+pub mod Growing
+pub mod Kept
+pub mod Masks
+pub mod Sweep
