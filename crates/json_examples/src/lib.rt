@@ -11,6 +11,8 @@ mod faults;
 #[cfg(test)]
 mod imports;
 #[cfg(test)]
+mod speed;
+#[cfg(test)]
 mod stored;
 #[cfg(test)]
 mod tasks;
