@@ -37,134 +37,113 @@ fn written_of(alloc: Global, text: &str) -> Result<Written, Fail> {
     })
 }
 
-#[test]
-fn buy_milk(rt: HostRuntime) -> Result<(), Fail> {
-    let written = written_of(rt.alloc(), r#"{"description":"Buy milk"}"#)?;
-    assert_eq!(rt; written.dropped, 0);
-    assert_eq!(rt;
-        written.text.as_str(),
-        r#"{"description":"Buy milk","entry":"20260101T000000Z","modified":"20260101T000000Z","status":"pending","uuid":"00000001-0000-8000-8000-000000000001"}"#
-    );
+/// Fails unless this is written of a text's task, and so many of its members are dropped.
+fn expect(alloc: Global, text: &str, dropped: u32, wanted: &str) -> Result<(), Fail> {
+    let written = written_of(alloc, text)?;
+    if written.text.as_str() != wanted {
+        return Err(Fail::from("another text is written"));
+    }
+    if written.dropped != dropped {
+        return Err(Fail::from("another number of members is dropped"));
+    }
     Ok(())
 }
 
 #[test]
+fn buy_milk(rt: HostRuntime) -> Result<(), Fail> {
+    expect(
+        rt.alloc(),
+        r#"{"description":"Buy milk"}"#,
+        0,
+        r#"{"description":"Buy milk","entry":"20260101T000000Z","modified":"20260101T000000Z","status":"pending","uuid":"00000001-0000-8000-8000-000000000001"}"#,
+    )
+}
+
+#[test]
 fn json_attributes(rt: HostRuntime) -> Result<(), Fail> {
-    let written = written_of(
+    expect(
         rt.alloc(),
         r#"{"description":"a","tags":"x,,b","rate":1.5,"note":null}"#,
-    )?;
-    assert_eq!(rt; written.dropped, 1);
-    assert_eq!(rt;
-        written.text.as_str(),
-        r#"{"description":"a","entry":"20260101T000000Z","modified":"20260101T000000Z","note":null,"status":"pending","tags":["b","x"],"uuid":"00000001-0000-8000-8000-000000000001"}"#
-    );
-    Ok(())
+        1,
+        r#"{"description":"a","entry":"20260101T000000Z","modified":"20260101T000000Z","note":null,"status":"pending","tags":["b","x"],"uuid":"00000001-0000-8000-8000-000000000001"}"#,
+    )
 }
 
 /// A step that can't be read stays with a template.
 #[test]
 fn unreadable_step(rt: HostRuntime) -> Result<(), Fail> {
-    let written = written_of(
+    expect(
         rt.alloc(),
         r#"{"description":"a","due":"20260101T090000Z","recur":"hourly"}"#,
-    )?;
-    assert_eq!(rt; written.dropped, 0);
-    assert_eq!(rt;
-        written.text.as_str(),
-        r#"{"description":"a","due":"20260101T090000Z","entry":"20260101T000000Z","modified":"20260101T000000Z","recur":"hourly","status":"recurring","uuid":"00000001-0000-8000-8000-000000000001"}"#
-    );
-    Ok(())
+        0,
+        r#"{"description":"a","due":"20260101T090000Z","entry":"20260101T000000Z","modified":"20260101T000000Z","recur":"hourly","status":"recurring","uuid":"00000001-0000-8000-8000-000000000001"}"#,
+    )
 }
 
 /// A deleted task whose step can't be read keeps neither the step nor the place.
 #[test]
 fn unreadable_step_of_a_deleted_task(rt: HostRuntime) -> Result<(), Fail> {
-    let written = written_of(
+    expect(
         rt.alloc(),
         r#"{"description":"a","imask":3,"recur":"hourly","status":"deleted"}"#,
-    )?;
-    assert_eq!(rt; written.dropped, 2);
-    assert_eq!(rt;
-        written.text.as_str(),
-        r#"{"description":"a","end":"20260101T000000Z","entry":"20260101T000000Z","modified":"20260101T000000Z","status":"deleted","uuid":"00000001-0000-8000-8000-000000000001"}"#
-    );
-    Ok(())
+        2,
+        r#"{"description":"a","end":"20260101T000000Z","entry":"20260101T000000Z","modified":"20260101T000000Z","status":"deleted","uuid":"00000001-0000-8000-8000-000000000001"}"#,
+    )
 }
 
 /// A template is no instance, and keeps its mask.
 #[test]
 fn template_with_a_parent(rt: HostRuntime) -> Result<(), Fail> {
-    let written = written_of(
+    expect(
         rt.alloc(),
         r#"{"description":"a","imask":"007","mask":"+-?","parent":"11111111-1111-4111-8111-111111111111","recur":"daily","status":"recurring"}"#,
-    )?;
-    assert_eq!(rt; written.dropped, 2);
-    assert_eq!(rt;
-        written.text.as_str(),
-        r#"{"description":"a","entry":"20260101T000000Z","mask":"+-?","modified":"20260101T000000Z","recur":"daily","status":"recurring","uuid":"00000001-0000-8000-8000-000000000001"}"#
-    );
-    Ok(())
+        2,
+        r#"{"description":"a","entry":"20260101T000000Z","mask":"+-?","modified":"20260101T000000Z","recur":"daily","status":"recurring","uuid":"00000001-0000-8000-8000-000000000001"}"#,
+    )
 }
 
 /// A plain task has no mask, no step and no end, and waits for a later moment.
 #[test]
 fn plain_task_with_a_mask(rt: HostRuntime) -> Result<(), Fail> {
-    let written = written_of(
+    expect(
         rt.alloc(),
         r#"{"description":"a","end":"20250101T000000Z","mask":"-","recur":"daily","status":"pending","wait":"20260101T000001Z"}"#,
-    )?;
-    assert_eq!(rt; written.dropped, 3);
-    assert_eq!(rt;
-        written.text.as_str(),
-        r#"{"description":"a","entry":"20260101T000000Z","modified":"20260101T000000Z","status":"waiting","uuid":"00000001-0000-8000-8000-000000000001","wait":"20260101T000001Z"}"#
-    );
-    Ok(())
+        3,
+        r#"{"description":"a","entry":"20260101T000000Z","modified":"20260101T000000Z","status":"waiting","uuid":"00000001-0000-8000-8000-000000000001","wait":"20260101T000001Z"}"#,
+    )
 }
 
 #[test]
 fn waiting_until_now(rt: HostRuntime) -> Result<(), Fail> {
-    let written = written_of(
+    expect(
         rt.alloc(),
         r#"{"description":"a","status":"waiting","wait":"20260101T000000Z"}"#,
-    )?;
-    assert_eq!(rt; written.dropped, 0);
-    assert_eq!(rt;
-        written.text.as_str(),
-        r#"{"description":"a","entry":"20260101T000000Z","modified":"20260101T000000Z","status":"pending","uuid":"00000001-0000-8000-8000-000000000001","wait":"20260101T000000Z"}"#
-    );
-    Ok(())
+        0,
+        r#"{"description":"a","entry":"20260101T000000Z","modified":"20260101T000000Z","status":"pending","uuid":"00000001-0000-8000-8000-000000000001","wait":"20260101T000000Z"}"#,
+    )
 }
 
 /// Links and tags come in order, and the last of two values of a name counts.
 #[test]
 fn links_and_annotations(rt: HostRuntime) -> Result<(), Fail> {
-    let written = written_of(
+    expect(
         rt.alloc(),
         r#"{"description":"b","description":"a","depends":"22222222-2222-4222-8222-22222222222A,11111111-1111-4111-8111-111111111111","annotations":[{"entry":"20260101T000000Z","description":"","x":1}]}"#,
-    )?;
-    assert_eq!(rt; written.dropped, 0);
-    assert_eq!(rt;
-        written.text.as_str(),
-        r#"{"annotations":[{"description":"","entry":"20260101T000000Z"}],"depends":["11111111-1111-4111-8111-111111111111","22222222-2222-4222-8222-22222222222a"],"description":"a","entry":"20260101T000000Z","modified":"20260101T000000Z","status":"pending","uuid":"00000001-0000-8000-8000-000000000001"}"#
-    );
-    Ok(())
+        0,
+        r#"{"annotations":[{"description":"","entry":"20260101T000000Z"}],"depends":["11111111-1111-4111-8111-111111111111","22222222-2222-4222-8222-22222222222a"],"description":"a","entry":"20260101T000000Z","modified":"20260101T000000Z","status":"pending","uuid":"00000001-0000-8000-8000-000000000001"}"#,
+    )
 }
 
 /// Null and the empty text are absent, but an extra attribute keeps them. An unknown priority, fractions, large numbers, arrays
 /// and the empty name are dropped.
 #[test]
 fn absent_and_dropped(rt: HostRuntime) -> Result<(), Fail> {
-    let written = written_of(
+    expect(
         rt.alloc(),
         r#"{"":1,"a":"","b":-1,"c":9223372036854775808,"d":-0,"description":"","due":null,"e":[],"id":7,"imask":-1,"priority":"Z","project":"","tags":"","urgency":1.5}"#,
-    )?;
-    assert_eq!(rt; written.dropped, 5);
-    assert_eq!(rt;
-        written.text.as_str(),
-        r#"{"a":"","b":-1,"description":"","entry":"20260101T000000Z","modified":"20260101T000000Z","status":"pending","uuid":"00000001-0000-8000-8000-000000000001"}"#
-    );
-    Ok(())
+        5,
+        r#"{"a":"","b":-1,"description":"","entry":"20260101T000000Z","modified":"20260101T000000Z","status":"pending","uuid":"00000001-0000-8000-8000-000000000001"}"#,
+    )
 }
 
 /// A task with a member of so many nested arrays.
