@@ -1,0 +1,5 @@
+pub mod DayTexts
+pub mod LetterWords
+pub mod Words
+pub mod Spelling
+pub mod Readings

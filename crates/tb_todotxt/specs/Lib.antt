@@ -1,0 +1,4 @@
+pub mod Days
+pub mod Letters
+pub mod Lines
+pub mod Reading
