@@ -1,5 +1,8 @@
 pub mod DayTexts
 pub mod LetterWords
-pub mod Words
+pub mod FirstWords
 pub mod Spelling
 pub mod Readings
+pub mod Signs
+pub mod TaskLines
+pub mod FileLines

@@ -12,7 +12,7 @@ use Rattle.tb_todotxt.specs.Lines.{IsLine, HasDates, Begins, IsDoneMark, IsPrior
 use Rattle.tb_todotxt.specs.Reading.{first_word, after_word, has_more, mark_of, past, is_done, Dated, dates_of, line_of, read_of}
 use Rattle.tb_todotxt.proofs.DayTexts.{read_day, day_read}
 use Rattle.tb_todotxt.proofs.LetterWords.{read_letter, letter_read}
-use Rattle.tb_todotxt.proofs.Words.{first_marked, split_first}
+use Rattle.tb_todotxt.proofs.FirstWords.{first_marked, split_first}
 use Rattle.tb_todotxt.proofs.Spelling.{AreWords, done_words, priority_words, date_words, day_free, full_line, spelled_once}
 
 -- a mark that the text begins with is its first word, and more follows

@@ -7,7 +7,7 @@ use Rattle.tb_todotxt.specs.Days.{day_text, IsDay, day_of}
 use Rattle.tb_todotxt.specs.Letters.{priority_word, IsLetter}
 use Rattle.tb_todotxt.specs.Lines.{IsLine, HasDates, Begins, IsDoneMark, IsPriorityMark, IsDateMark, spell, dated, marked, with_done, with_priority, with_date, done_word, is_blank, is_free_of}
 use Rattle.tb_todotxt.proofs.DayTexts.{read_day}
-use Rattle.tb_todotxt.proofs.Words.{fills, same_words}
+use Rattle.tb_todotxt.proofs.FirstWords.{fills, same_words}
 
 -- marks of this kind have no space in them
 abbrev pub AreWords : (List ℕ → Type 0) → Type 0

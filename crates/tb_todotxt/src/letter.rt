@@ -1,7 +1,8 @@
 ghost use Rattle.std.specs.Prelude.{◌≡◌, ◌≤◌, ◌<◌};
-ghost use Rattle.tb_todotxt.specs.Letters.{letter_of, IsLetter};
+ghost use Rattle.tb_todotxt.specs.Letters.{letter_of, letter_for, IsLetter};
 
 use std::marker::Model;
+use tb_task::Priority;
 
 /// The letter of a priority, from A to Z. A contract sees its code.
 #[derive(Clone, Copy, Debug, PartialEq, Eq)]
@@ -37,6 +38,18 @@ impl Letter {
             return None;
         }
         Some(Letter { code })
+    }
+
+    /// The letter that stands for a task's priority.
+    pub fn of(priority: Priority) -> Letter
+        ensures { result ≡ letter_for priority }
+    {
+        let code = match priority {
+            Priority::High => b'A',
+            Priority::Medium => b'B',
+            Priority::Low => b'C',
+        };
+        Letter { code }
     }
 
     /// The letter as a character of ASCII.

@@ -5,13 +5,20 @@
 
 mod day;
 mod fault;
+mod file;
 mod letter;
 mod line;
+mod making;
 mod marks;
 mod reading;
+mod showing;
+mod words;
 
 pub use day::Day;
-pub use fault::LineFault;
+pub use fault::{FileFault, LineFault};
+pub use file::read_file;
 pub use letter::Letter;
 pub use line::{Line, LineParts};
+pub use making::to_task;
 pub use reading::{lines_are_read, lines_are_spelled, one_spelling, read_line, write_line};
+pub use showing::from_task;

@@ -2,7 +2,7 @@ use Rattle.std.proofs.Common.{◌≡◌, ◌∙◌, false, not, sym, ap, arith, 
 use Rattle.std.proofs.lemmas.Str.Pattern.{split_parts}
 use Rattle.tb_todotxt.specs.Lines.{is_blank}
 use Rattle.tb_todotxt.specs.Reading.{has_more}
-use Rattle.tb_todotxt.proofs.Words.{no_more, free_from, first_marked}
+use Rattle.tb_todotxt.proofs.FirstWords.{no_more, free_from, first_marked}
 use Rattle.tb_todotxt.proofs.marks.first_word.Goals as goal
 
 pub returns-in_err-word : goal.returns-in_err-word
