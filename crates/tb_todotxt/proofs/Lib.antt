@@ -6,3 +6,4 @@ pub mod Readings
 pub mod Signs
 pub mod TaskLines
 pub mod FileLines
+pub mod TagLists

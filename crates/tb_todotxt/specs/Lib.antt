@@ -6,3 +6,4 @@ pub mod Words
 pub mod Tasks
 pub mod Bodies
 pub mod Files
+pub mod Tags

@@ -8,6 +8,7 @@ use Rattle.tb_task.specs.declared.status.Status.TheVariants.{Pending, Completed}
 use Rattle.tb_task.specs.declared.task.Task.{Task}
 use Rattle.tb_todotxt.specs.Days.{start_of}
 use Rattle.tb_todotxt.specs.Lines.{spell}
+use Rattle.tb_todotxt.specs.Tags.{in_order}
 use Rattle.tb_todotxt.specs.Words.{body_words}
 use Rattle.tb_todotxt.specs.declared.line.LineParts.{LineParts}
 use Rattle.tb_todotxt.specs.declared.words.BodyWords.{BodyWords}
@@ -64,7 +65,7 @@ task_with l said id m = record {
   description = filled_or said.description l.body;
   project = said.project;
   priority = priority_of l.priority;
-  tags = said.tags;
+  tags = in_order said.tags;
   annotations = [];
   depends = [];
   recur = None;

@@ -1,9 +1,6 @@
 -- The words of a body, and what they say.
 use Rattle.std.specs.Prelude.{ℕ, Bool, ◌&&◌, ◌==◌, if◌then◌else◌, nat_lt, List, [], ◌∷◌, ◌++◌, length, take, drop, slice_index, Option, Some, None, is_some, option_and_then, bytes_eq, codes}
 use Rattle.std.specs.List.{slice_split, filter, fold}
-use Rattle.std.specs.BTreeSet.{replace_key}
-use Rattle.std.specs.Ordering.{nat_cmp}
-use Rattle.std.specs.Cmp.Lexicographic.{slice_cmp}
 use Rattle.tb_task.specs.TaskId.{read_id}
 use Rattle.tb_todotxt.specs.Days.{day_of}
 use Rattle.tb_todotxt.specs.declared.words.Kind.{Kind}
@@ -65,7 +62,7 @@ with_plain b word = record b { description = joined b.description word }
 -- each tag is taken, and of a project, a due date and an identifier the first; the other words are the description's
 abbrev pub with_kind : BodyWords → List ℕ → Kind → BodyWords
 with_kind b word Project = if is_some b.project then with_plain b word else record b { project = Some (drop 1 word) }
-with_kind b word Tag = record b { tags = replace_key (slice_cmp nat_cmp) b.tags (drop 1 word) }
+with_kind b word Tag = record b { tags = b.tags ++ drop 1 word ∷ [] }
 with_kind b word (Due day) = if is_some b.due then with_plain b word else record b { due = Some day }
 with_kind b word (Id id) = if is_some b.id then with_plain b word else record b { id = Some id }
 with_kind b word Plain = with_plain b word

@@ -12,6 +12,7 @@ mod making;
 mod marks;
 mod reading;
 mod showing;
+mod tags;
 mod words;
 
 pub use day::Day;

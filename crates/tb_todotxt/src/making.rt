@@ -9,6 +9,7 @@ use crate::day::Day;
 use crate::letter::Letter;
 use crate::line::{Line, LineParts};
 use crate::reading::write_line;
+use crate::tags::in_order;
 use crate::words::BodyWords;
 use std::alloc::{AllocError, Global};
 use std::fmt::Write;
@@ -103,7 +104,7 @@ fn task_from(
     task.due = due_of(said.due);
     task.project = said.project;
     task.priority = priority_of(parts.priority);
-    task.tags = said.tags;
+    task.tags = in_order(alloc, said.tags.as_slice())?;
     Ok(task)
 }
 

@@ -7,7 +7,7 @@ ghost use Rattle.tb_todotxt.specs.declared.words.Kind.TheVariants.{Project, Tag}
 use crate::day::Day;
 use std::alloc::{AllocError, Global};
 use tb_task::TaskId;
-use tb_values::{NonEmptyText, Ordered, Text};
+use tb_values::{Items, NonEmptyText, Text};
 
 /// The parts of a text around its spaces.
 fn parts_of(alloc: Global, text: &str) -> Result<Vec<&str>, AllocError>
@@ -90,7 +90,8 @@ fn id_in(word: &str) -> Option<TaskId>
 #[derive(Drop)]
 pub(crate) struct BodyWords {
     pub project: Option<NonEmptyText>,
-    pub tags: Ordered<Text>,
+    /// In the order of their words.
+    pub tags: Items<Text>,
     pub due: Option<Day>,
     pub id: Option<TaskId>,
     /// The other words.
@@ -103,7 +104,7 @@ impl BodyWords {
     {
         BodyWords {
             project: None,
-            tags: Ordered::new(alloc),
+            tags: Items::new(alloc),
             due: None,
             id: None,
             description: Text::new(alloc),
@@ -127,7 +128,7 @@ impl BodyWords {
         ensures { OnOk result (self.new ≡ with_word self.old word.now) }
     {
         match kind_of(word) {
-            Kind::Tag => self.tags.insert(Text::from_str(alloc, after_sign(word))?),
+            Kind::Tag => self.tags.push(Text::from_str(alloc, after_sign(word))?),
             Kind::Project if self.project.is_none() => self.take_project(alloc, word),
             Kind::Due(day) if self.due.is_none() => {
                 self.due = Some(day);
