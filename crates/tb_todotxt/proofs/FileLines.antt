@@ -1,6 +1,6 @@
 -- The lines of a file that aren't skipped.
-use Rattle.std.proofs.Common.{◌≡◌, ◌∙◌, ℕ, zero, suc, ◌+◌, ◌-◌, ◌<◌, ◌==◌, ◌&&◌, Bool, true, false, not, List, [], ◌∷◌, ◌++◌, length, take, drop, get_or, map, cond, Bor, refl, sym, ap, inl, inr, arith, append_assoc}
-use Rattle.std.proofs.lemmas.Bool.{and_parts, and_from, not-true, cases_Bool}
+use Rattle.std.proofs.Common.{◌≡◌, ℕ, zero, suc, ◌-◌, ◌<◌, ◌==◌, Bool, true, false, not, List, [], ◌∷◌, ◌++◌, length, take, drop, get_or, map, cond, Bor, refl, sym, inl, inr, arith, append_assoc}
+use Rattle.std.proofs.lemmas.Bool.{and_parts, and_from, cases_Bool}
 use Rattle.std.specs.List.{AllByRecursion, filter, slice_split, onto_first}
 use Rattle.std.specs.Str.Lines.{lines, lines_of_parts, strip_carriage_return}
 use Rattle.tb_task.specs.declared.task.Task.{Task}

@@ -1,5 +1,5 @@
 -- The letter of a priority's word.
-use Rattle.std.proofs.Common.{◌≡◌, ◌∙◌, ℕ, ◌≤◌, inl, inr, Bool, true, false, ◌&&◌, ◌==◌, nat_le, List, [], ◌∷◌, length, get_or, Option, Some, None, refl, sym, ap, arith}
+use Rattle.std.proofs.Common.{◌≡◌, ◌∙◌, ℕ, inl, inr, true, ◌&&◌, ◌==◌, nat_le, List, length, get_or, Some, None, refl, sym}
 use Rattle.std.proofs.lemmas.Bool.{cases_Bool, and_parts, and_from, eqb-true, leb-true, le-leb}
 use Rattle.tb_task.proofs.Forms.{listed, listed-drop}
 use Rattle.tb_todotxt.specs.Letters.{IsLetter, is_letter, priority_word, letter_of}

@@ -1,9 +1,9 @@
 -- The sign of a word that is a project or a tag.
-use Rattle.std.proofs.Common.{◌≡◌, ◌∙◌, ℕ, ◌<◌, Bool, true, false, ◌&&◌, ◌==◌, nat_lt, List, length, get_or, Option, Some, None, cond, inl, inr, refl, sym, arith}
-use Rattle.std.proofs.lemmas.Bool.{and_parts, eqb-true, ltb-true, cases_Bool}
+use Rattle.std.proofs.Common.{◌≡◌, ℕ, ◌<◌, Bool, true, false, ◌==◌, nat_lt, List, length, get_or, Option, Some, None, cond, refl}
+use Rattle.std.proofs.lemmas.Bool.{and_parts, eqb-true, ltb-true}
 use Rattle.tb_todotxt.specs.Words.{has_sign, kind_of, due_in, id_in, due_or, id_or_plain}
 use Rattle.tb_todotxt.specs.declared.words.Kind.{Kind}
-use Rattle.tb_todotxt.specs.declared.words.Kind.TheVariants.{Project, Tag, Due, Id, Plain}
+use Rattle.tb_todotxt.specs.declared.words.Kind.TheVariants.{Project, Tag}
 
 pub record IsSigned (sign : ℕ) (word : List ℕ) : Type 0 where
   pub long : 1 < length word

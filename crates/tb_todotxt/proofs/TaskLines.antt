@@ -1,24 +1,22 @@
 -- What shows a task is a line.
-use Rattle.std.proofs.Common.{◌≡◌, ◌∙◌, ℕ, zero, suc, ◌+◌, ◌-◌, ◌/◌, ◌%◌, ◌<◌, ◌≤◌, ◌||◌, ◌&&◌, ◌==◌, Bool, true, false, not, nat_lt, nat_le, List, [], ◌∷◌, ◌++◌, length, get_or, map, Option, Some, None, IfSome, Ok, Err, cond, codes, encode_utf8, refl, sym, ap, subst, inl, inr, arith, true≢false}
-use Rattle.std.proofs.lemmas.Bool.{and_parts, and_right, or_parts, cases_Bool, ne_eqb, eqb-true, le-leb, not-true}
+use Rattle.std.proofs.Common.{◌≡◌, ◌∙◌, ℕ, zero, suc, ◌+◌, ◌-◌, ◌/◌, ◌||◌, ◌==◌, Bool, true, false, nat_lt, nat_le, List, [], ◌∷◌, ◌++◌, map, Option, Some, None, IfSome, Ok, cond, codes, encode_utf8, refl, sym, inl, inr, arith, true≢false}
+use Rattle.std.proofs.lemmas.Bool.{or_parts, cases_Bool, ne_eqb, le-leb}
 use Rattle.std.proofs.lemmas.List.{append-nil}
 use Rattle.std.proofs.lemmas.Str.{inside_one}
 use Rattle.std.specs.List.{list_any}
 use Rattle.std.specs.Str.{chars, encode_utf8_all}
 use Rattle.std.specs.Int.{to_be_bytes, w128}
-use Rattle.uuid.specs.Text.{by_index, hex_digit, lower, hyphenated_text, is_hyphen_place, nibble, digit_place}
-use Rattle.tb_task.specs.Check.{checked, fault_of, refused, is_empty, is_bad_tag, has_bad_text, has_bad_pair}
+use Rattle.uuid.specs.Text.{by_index, hex_digit, is_hyphen_place, nibble, digit_place}
+use Rattle.tb_task.specs.Check.{checked, fault_of, refused, is_empty, is_bad_tag}
 use Rattle.tb_task.specs.declared.checks.Field.{Field}
 use Rattle.tb_task.specs.declared.checks.Field.TheVariants.{EmptyDescription, BadTag}
 use Rattle.tb_task.specs.Check.{is_blank as is_tag_blank}
 use Rattle.tb_task.specs.TaskId.{id_text}
 use Rattle.tb_task.specs.declared.task.Task.{Task}
-use Rattle.tb_todotxt.specs.declared.line.LineParts.{LineParts}
 use Rattle.tb_todotxt.specs.Days.{day_text, IsDay}
 use Rattle.tb_todotxt.specs.Letters.{priority_word, IsLetter}
-use Rattle.tb_todotxt.specs.Lines.{IsLine, HasDates, Begins, IsDoneMark, IsPriorityMark, spell, dated, marked, with_priority, with_date, done_word, is_blank, is_free_of}
-use Rattle.tb_todotxt.specs.Reading.{first_word}
-use Rattle.tb_todotxt.specs.Bodies.{shown_char, shown_text, project_text, tags_text, due_text, body_of, completion_of, parts_of}
+use Rattle.tb_todotxt.specs.Lines.{IsLine, Begins, IsDoneMark, IsPriorityMark, marked, with_priority, done_word, is_blank, is_free_of}
+use Rattle.tb_todotxt.specs.Bodies.{shown_char, shown_text, project_text, tags_text, due_text, body_of, parts_of}
 use Rattle.tb_todotxt.proofs.FirstWords.{fills, free_from, first_marked}
 use Rattle.tb_todotxt.proofs.Spelling.{day_free, done_words, priority_words, date_words}
 use Rattle.tb_todotxt.proofs.Readings.{begun, free_append}

@@ -1,5 +1,5 @@
 -- The line that shows a task.
-use Rattle.std.specs.Prelude.{◌≡◌, ℕ, ◌/◌, ◌==◌, ◌||◌, Bool, true, false, nat_le, if◌then◌else◌, List, [], ◌∷◌, ◌++◌, map, Option, Some, None, unwrap_or, option_map, codes}
+use Rattle.std.specs.Prelude.{ℕ, ◌/◌, ◌==◌, ◌||◌, Bool, true, false, nat_le, if◌then◌else◌, List, [], ◌∷◌, ◌++◌, map, Option, Some, None, unwrap_or, option_map, codes}
 use Rattle.std.specs.Str.{chars, encode_utf8_all}
 use Rattle.tb_task.specs.TaskId.{id_text}
 use Rattle.tb_task.specs.declared.status.Status.{Status}

@@ -1,5 +1,5 @@
 -- Dates in a line: ten bytes, four digits of the year, two of the month and two of the day, with hyphens between them.
-use Rattle.std.specs.Prelude.{◌≡◌, ◌≤◌, ℕ, ◌*◌, ◌/◌, Bool, ◌&&◌, ◌==◌, if◌then◌else◌, List, [], ◌∷◌, ◌++◌, length, slice_index, Option, None, option_map, codes}
+use Rattle.std.specs.Prelude.{◌≤◌, ℕ, ◌*◌, ◌/◌, Bool, ◌&&◌, ◌==◌, if◌then◌else◌, List, ◌∷◌, ◌++◌, length, slice_index, Option, None, option_map, codes}
 use Rattle.tb_task.specs.Date.{date_of}
 use Rattle.tb_task.specs.MomentText.{two, four, moment_of}
 

@@ -1,5 +1,5 @@
 -- What a text says as a line: its marks from the left, each up to the first space, and what is left as the body.
-use Rattle.std.specs.Prelude.{◌≡◌, ℕ, Bool, true, false, not, ◌&&◌, ◌==◌, if◌then◌else◌, List, [], ◌∷◌, Option, Some, None, is_some, bytes_eq, Result, Ok, Err}
+use Rattle.std.specs.Prelude.{◌≡◌, ℕ, Bool, true, false, not, ◌&&◌, ◌==◌, if◌then◌else◌, List, [], ◌∷◌, Option, None, is_some, bytes_eq, Result, Ok, Err}
 use Rattle.tb_values.specs.Outcome.{Gives}
 use Rattle.tb_todotxt.specs.Days.{day_of}
 use Rattle.tb_todotxt.specs.Letters.{letter_of}

@@ -1,5 +1,5 @@
 -- The task that a line makes.
-use Rattle.std.specs.Prelude.{◌≡◌, ℕ, ◌==◌, Bool, true, false, if◌then◌else◌, List, [], ◌∷◌, ◌++◌, Option, Some, None, option_map, unwrap_or, decimal}
+use Rattle.std.specs.Prelude.{ℕ, ◌==◌, Bool, true, false, if◌then◌else◌, List, [], ◌∷◌, ◌++◌, Option, Some, None, option_map, decimal}
 use Rattle.tb_task.specs.TaskId.{made, named_id}
 use Rattle.tb_task.specs.declared.priority.Priority.{Priority}
 use Rattle.tb_task.specs.declared.priority.Priority.TheVariants.{High, Medium, Low}

@@ -1,4 +1,4 @@
-use Rattle.std.proofs.Common.{◌≡◌, ◌∙◌, sym, ap, subst, true≢false}
+use Rattle.std.proofs.Common.{◌∙◌, sym, ap, true≢false}
 use Rattle.tb_todotxt.specs.Lines.{is_blank, spell}
 use Rattle.tb_todotxt.specs.Reading.{line_of}
 use Rattle.tb_todotxt.proofs.Spelling.{full_line}
