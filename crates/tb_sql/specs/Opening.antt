@@ -1,14 +1,20 @@
 -- Which databases are taken as a store.
-use Rattle.std.specs.Prelude.{◌≡◌, ◌≢◌, ◌&&◌, ℕ, pos, Bool, true, false, List, [], ◌∷◌, codes, IsTrue}
+use Rattle.std.specs.Prelude.{◌≡◌, ◌⊎◌, ◌&&◌, ◌==◌, if◌then◌else◌, ℕ, pos, Bool, true, false, List, [], ◌∷◌, codes, bytes_eq, IsTrue, map, IsPermutation, Result, Ok, Err}
+use Rattle.sqlite_value.specs.declared.value.Value.TheVariants.{Null, Int, Text as Words}
+use Rattle.sqlite_value.specs.Order.{Row}
 use Rattle.sqlite_trees.specs.Tree.{Trees}
 use Rattle.sqlite_schema.specs.declared.schema.Column.{Column}
 use Rattle.sqlite_schema.specs.declared.schema.Kind.{Kind}
 use Rattle.sqlite_schema.specs.declared.schema.Kind.TheVariants.{Integer, Text, Blob}
 use Rattle.sqlite_schema.specs.declared.schema.Table.{Table}
-use Rattle.sqlite_schema.specs.declared.schema.Schema.{Schema}
 use Rattle.sqlite_schema.specs.Names.{same_name}
+use Rattle.sqlite.specs.Effect.{Database}
 use Rattle.sqlite.specs.State.{State, HasCleanDisk}
 use Rattle.tb_sql_tables.specs.declared.rows.MetaRow.{MetaRow}
+use Rattle.tb_sql_tables.specs.Tables.{meta_tree, store_schema}
+use Rattle.tb_sql_tables.specs.Content.{HasKeyed}
+use Rattle.tb_sql.specs.declared.opening.OpenFault.{OpenFault}
+use Rattle.tb_sql.specs.declared.opening.OpenFault.TheVariants.{NotOurs, WrongVersion, Store, Memory}
 
 -- ---- the tables, by their names and the names and types of their columns
 
@@ -78,6 +84,24 @@ are_ours = are_tables (is_meta ∷ is_person ∷ is_board ∷ is_role ∷ is_tas
 
 abbrev pub our_meta : MetaRow
 our_meta = record { kind = codes "taskboard"; version = 1 }
+
+-- a row of the first table, with its rowid
+abbrev pub row_of_meta : MetaRow → Row
+row_of_meta meta = Int (pos 1) ∷ Null ∷ Words meta.kind ∷ Int (pos meta.version) ∷ []
+
+-- where the tables are those of a store, these are the rows of the first
+abbrev pub AreMetas : Database → List MetaRow → Type 0
+AreMetas db metas = db.schema ≡ store_schema → (rows : List MetaRow) → HasKeyed (map row_of_meta rows) (db.trees meta_tree) → IsPermutation rows metas
+
+-- what the rows of the first table say: one row names a store and its version
+abbrev pub judged : List MetaRow → Result (Unit {0}) OpenFault
+judged [] = Err NotOurs
+judged (meta ∷ []) = if bytes_eq meta.kind (codes "taskboard") then (if meta.version == 1 then Ok tt else Err WrongVersion) else Err NotOurs
+judged (a ∷ b ∷ metas) = Err NotOurs
+
+-- the answer is this one, unless the database fails or memory is wanting
+abbrev pub Answers : Result (Unit {0}) OpenFault → Result (Unit {0}) OpenFault → Type 0
+Answers wanted answer = (answer ≡ wanted) ⊎ ((answer ≡ Err Store) ⊎ (answer ≡ Err Memory))
 
 -- ---- what a look leaves
 

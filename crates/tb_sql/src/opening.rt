@@ -1,11 +1,12 @@
 //! Takes a connection that was opened over a database as a store.
 
-ghost use Rattle.std.specs.Prelude.{◌≡◌, ◌⊎◌, [], ◌∷◌, true, false, IsTrue, IfOk, OnOk, OnErr, Err};
+ghost use Rattle.std.specs.Prelude.{◌≡◌, ◌⊎◌, List, [], ◌∷◌, map, true, false, IsTrue, IfOk, OnOk, OnErr, Err};
 ghost use Rattle.sqlite.specs.Held.{state};
 ghost use Rattle.sqlite.specs.State.{HasCleanDisk, Opens};
-ghost use Rattle.tb_sql_tables.specs.Tables.{no_schema};
-ghost use Rattle.tb_sql_tables.specs.Content.{Content, AreRows, IsContent, Stands, StandsEmpty};
-ghost use Rattle.tb_sql.specs.Opening.{are_ours, has_meta, our_meta, IsAsBefore};
+ghost use Rattle.tb_sql_tables.specs.Tables.{meta_tree, no_schema, store_schema};
+ghost use Rattle.tb_sql_tables.specs.declared.rows.MetaRow.{MetaRow as Meta};
+ghost use Rattle.tb_sql_tables.specs.Content.{Content, AreRows, HasKeyed, IsContent, Stands, StandsEmpty};
+ghost use Rattle.tb_sql.specs.Opening.{are_ours, has_meta, judged, our_meta, row_of_meta, Answers, AreMetas, IsAsBefore};
 
 use crate::layout::{are_ours, has_meta};
 use crate::meta::select_meta;
@@ -57,6 +58,7 @@ fn read_meta<S: Alter>(conn: &mut Connection<S>) -> Result<Items<MetaRow>, Store
     requires { conn.old.in_transaction ≡ false }
     ensures idle { conn.new.in_transaction ≡ false }
     ensures found { IfOk result (λ metas. HasCleanDisk (state S.Store conn.new) → (content : Content) → IsContent content (state S.Store conn.old).now → metas ≡ our_meta ∷ []) }
+    ensures told { IfOk result (λ metas. HasCleanDisk (state S.Store conn.new) → AreMetas (state S.Store conn.old).now metas) }
     ensures same { IsAsBefore (state S.Store conn.old) (state S.Store conn.new) }
 {
     let mut tx = conn.transaction();
@@ -70,8 +72,7 @@ fn read_meta<S: Alter>(conn: &mut Connection<S>) -> Result<Items<MetaRow>, Store
 
 /// Judges what the file is.
 fn judge(metas: &[MetaRow]) -> Result<(), OpenFault>
-    ensures ours { OnOk result (metas.now ≡ our_meta ∷ []) }
-    ensures refused { OnErr result (metas.now ≡ our_meta ∷ [] → ⊥) }
+    ensures { result ≡ judged metas.now }
 {
     let [meta] = metas else {
         return Err(OpenFault::NotOurs);
@@ -93,6 +94,9 @@ pub fn accept<S: Alter>(conn: &mut Connection<S>) -> Result<(), OpenFault>
     ensures refuses { (result ≡ Err OpenFault.NotOurs) ⊎ (result ≡ Err OpenFault.WrongVersion)
         → HasCleanDisk (state S.Store conn.new) → Opens (state S.Store conn.old) → (content : Content) → AreRows content (state S.Store conn.old).now.trees → ⊥ }
     ensures tables { OnOk result (are_ours (state S.Store conn.old).now.schema.tables ≡ true) }
+    ensures foreign { has_meta (state S.Store conn.old).now.schema.tables ≡ false → result ≡ Err OpenFault.NotOurs }
+    ensures told { HasCleanDisk (state S.Store conn.new) → (state S.Store conn.old).now.schema ≡ store_schema
+        → (metas : List Meta) → HasKeyed (map row_of_meta metas) ((state S.Store conn.old).now.trees meta_tree) → Answers (judged metas) result }
     ensures same { IsAsBefore (state S.Store conn.old) (state S.Store conn.new) }
 {
     let ours = are_ours(conn.schema());
@@ -103,7 +107,9 @@ pub fn accept<S: Alter>(conn: &mut Connection<S>) -> Result<(), OpenFault>
         Ok(metas) => metas,
         Err(fault) => return Err(OpenFault::of(fault)),
     };
-    judge(metas.as_slice())?;
+    if let Err(fault) = judge(metas.as_slice()) {
+        return Err(fault);
+    }
     if ours {
         Ok(())
     } else {
