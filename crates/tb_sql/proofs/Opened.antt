@@ -13,7 +13,7 @@ use Rattle.tb_sql_tables.specs.Content.{Content, AreRows, IsContent, Stands, Sta
 use Rattle.tb_sql_tables.proofs.Once.{schema_once}
 use Rattle.tb_sql_tables.specs.declared.rows.MetaRow.{MetaRow}
 use Rattle.tb_sql.specs.declared.opening.OpenFault.{OpenFault}
-use Rattle.tb_sql.specs.Opening.{are_ours, are_tables, has_meta, judged, our_meta, IsAsBefore, is_meta, is_person, is_board, is_role, is_task, is_link, is_instance, is_gone, is_kept}
+use Rattle.tb_sql.specs.Opening.{are_tables, has_meta, is_ours, judged, our_meta, IsAsBefore, is_meta, is_person, is_board, is_role, is_task, is_link, is_instance, is_gone, is_kept}
 
 -- rows of a content make the schema that of a store
 pub opened_content : (s : State) (content : Content) → Opens s → IsLive s → AreRows content s.now.trees → IsContent content s.now
@@ -45,7 +45,7 @@ other_length (p ∷ tests) (t ∷ tables) other = last (p t) (other_length tests
     last true e = e
     last false e = refl
 
-our_tables : are_ours store_schema.tables ≡ true
+our_tables : is_ours store_schema ≡ true
 unfolding Rattle.sqlite_schema.specs.Names.same_name is_meta is_person is_board is_role is_task is_link is_instance is_gone is_kept
 our_tables = refl
 
@@ -58,13 +58,13 @@ store_has_meta schema is other =
     let ours : has_meta schema.tables ≡ true = subst (λ x. has_meta x.tables ≡ true) (sym is) our_first in
     cc
 
-pub store_is_ours : (schema : Schema) → schema ≡ store_schema → are_ours schema.tables ≡ false → ⊥
+pub store_is_ours : (schema : Schema) → schema ≡ store_schema → is_ours schema ≡ false → ⊥
 store_is_ours schema is other =
-    let ours : are_ours schema.tables ≡ true = subst (λ x. are_ours x.tables ≡ true) (sym is) our_tables in
+    let ours : is_ours schema ≡ true = subst (λ x. is_ours x ≡ true) (sym is) our_tables in
     cc
 
 -- a database with other tables has the rows of no content
-pub others_refused : (s : State) (content : Content) → Opens s → IsLive s → are_ours s.now.schema.tables ≡ false → AreRows content s.now.trees → ⊥
+pub others_refused : (s : State) (content : Content) → Opens s → IsLive s → is_ours s.now.schema ≡ false → AreRows content s.now.trees → ⊥
 others_refused s content opened live other rows =
     store_is_ours s.now.schema (opened_content s content opened live rows).schema other
 

@@ -1,5 +1,5 @@
 -- Which databases are taken as a store.
-use Rattle.std.specs.Prelude.{◌≡◌, ◌⊎◌, ◌&&◌, ◌==◌, if◌then◌else◌, ℕ, pos, Bool, true, false, List, [], ◌∷◌, codes, bytes_eq, IsTrue, map, IsPermutation, Result, Ok, Err}
+use Rattle.std.specs.Prelude.{◌≡◌, ◌⊎◌, ◌&&◌, ◌==◌, if◌then◌else◌, ℕ, pos, Bool, true, false, List, [], ◌∷◌, length, codes, bytes_eq, IsTrue, map, IsPermutation, Result, Ok, Err}
 use Rattle.sqlite_value.specs.declared.value.Value.TheVariants.{Null, Int, Text as Words}
 use Rattle.sqlite_value.specs.Order.{Row}
 use Rattle.sqlite_trees.specs.Tree.{Trees}
@@ -7,6 +7,7 @@ use Rattle.sqlite_schema.specs.declared.schema.Column.{Column}
 use Rattle.sqlite_schema.specs.declared.schema.Kind.{Kind}
 use Rattle.sqlite_schema.specs.declared.schema.Kind.TheVariants.{Integer, Text, Blob}
 use Rattle.sqlite_schema.specs.declared.schema.Table.{Table}
+use Rattle.sqlite_schema.specs.declared.schema.Schema.{Schema}
 use Rattle.sqlite_schema.specs.Names.{same_name}
 use Rattle.sqlite.specs.Effect.{Database}
 use Rattle.sqlite.specs.State.{State, HasCleanDisk}
@@ -79,6 +80,10 @@ are_tables (p ∷ ps) (t ∷ ts) = p t && are_tables ps ts
 -- the tables are those of a store, in the order in which they are made
 abbrev pub are_ours : List Table → Bool
 are_ours = are_tables (is_meta ∷ is_person ∷ is_board ∷ is_role ∷ is_task ∷ is_link ∷ is_instance ∷ is_gone ∷ is_kept ∷ [])
+
+-- the tables are those of a store, and beside them are the nine indexes of their keys alone
+abbrev pub is_ours : Schema → Bool
+is_ours schema = are_ours schema.tables && ((length schema.indexes == 9) && (length schema.views == 0))
 
 -- ---- what the file is
 

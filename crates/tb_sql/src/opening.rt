@@ -1,14 +1,14 @@
 //! Takes a connection that was opened over a database as a store.
 
-ghost use Rattle.std.specs.Prelude.{◌≡◌, ◌⊎◌, List, [], ◌∷◌, map, true, false, IsTrue, IfOk, OnOk, OnErr, Err};
+ghost use Rattle.std.specs.Prelude.{◌≡◌, ◌⊎◌, List, [], ◌∷◌, map, true, false, IsTrue, IfOk, OnOk, Err};
 ghost use Rattle.sqlite.specs.Held.{state};
 ghost use Rattle.sqlite.specs.State.{HasCleanDisk, Opens};
 ghost use Rattle.tb_sql_tables.specs.Tables.{meta_tree, no_schema, store_schema};
 ghost use Rattle.tb_sql_tables.specs.declared.rows.MetaRow.{MetaRow as Meta};
 ghost use Rattle.tb_sql_tables.specs.Content.{Content, AreRows, HasKeyed, IsContent, Stands, StandsEmpty};
-ghost use Rattle.tb_sql.specs.Opening.{are_ours, has_meta, judged, our_meta, row_of_meta, Answers, AreMetas, IsAsBefore};
+ghost use Rattle.tb_sql.specs.Opening.{has_meta, is_ours, judged, our_meta, row_of_meta, Answers, AreMetas, IsAsBefore};
 
-use crate::layout::{are_ours, has_meta};
+use crate::layout::{has_meta, is_ours};
 use crate::meta::select_meta;
 use crate::store::StoreFault;
 use sqlite::{Alter, Connection};
@@ -34,7 +34,8 @@ pub enum OpenFault {
 
 impl OpenFault {
     fn of(fault: StoreFault) -> OpenFault
-        ensures { (result ≡ OpenFault.Memory) ⊎ (result ≡ OpenFault.Store) }
+        ensures memory { fault ≡ StoreFault.Memory → result ≡ OpenFault.Memory }
+        ensures store { fault ≡ StoreFault.Store → result ≡ OpenFault.Store }
     {
         match fault {
             StoreFault::Memory => OpenFault::Memory,
@@ -93,13 +94,13 @@ pub fn accept<S: Alter>(conn: &mut Connection<S>) -> Result<(), OpenFault>
     ensures shows { OnOk result (Opens (state S.Store conn.old) → (content : Content) → AreRows content (state S.Store conn.old).now.trees → Stands content (state S.Store conn.new)) }
     ensures refuses { (result ≡ Err OpenFault.NotOurs) ⊎ (result ≡ Err OpenFault.WrongVersion)
         → HasCleanDisk (state S.Store conn.new) → Opens (state S.Store conn.old) → (content : Content) → AreRows content (state S.Store conn.old).now.trees → ⊥ }
-    ensures tables { OnOk result (are_ours (state S.Store conn.old).now.schema.tables ≡ true) }
+    ensures tables { OnOk result (is_ours (state S.Store conn.old).now.schema ≡ true) }
     ensures foreign { has_meta (state S.Store conn.old).now.schema.tables ≡ false → result ≡ Err OpenFault.NotOurs }
     ensures told { HasCleanDisk (state S.Store conn.new) → (state S.Store conn.old).now.schema ≡ store_schema
         → (metas : List Meta) → HasKeyed (map row_of_meta metas) ((state S.Store conn.old).now.trees meta_tree) → Answers (judged metas) result }
     ensures same { IsAsBefore (state S.Store conn.old) (state S.Store conn.new) }
 {
-    let ours = are_ours(conn.schema());
+    let ours = is_ours(conn.schema());
     if !has_meta(conn.schema()) {
         return Err(OpenFault::NotOurs);
     }
@@ -113,6 +114,6 @@ pub fn accept<S: Alter>(conn: &mut Connection<S>) -> Result<(), OpenFault>
     if ours {
         Ok(())
     } else {
-        Err(OpenFault::NotOurs) // Another table is there, or one is missing.
+        Err(OpenFault::NotOurs) // Something else is there, or a table is missing.
     }
 }

@@ -1,7 +1,7 @@
 use Rattle.std.proofs.Common.{◌≡◌, ◌∙◌, false, sym, ap, inl}
 use Rattle.sqlite.specs.Held.{state}
 use Rattle.tb_sql_tables.specs.Content.{AreRows, IsContent}
-use Rattle.tb_sql.specs.Opening.{are_ours, has_meta, judged}
+use Rattle.tb_sql.specs.Opening.{has_meta, is_ours, judged}
 use Rattle.tb_sql.proofs.Opened.{first_refused, judged_same, others_refused, ours_not_refused, opened_content, opened_stands, stands_again, store_has_meta, store_is_ours}
 use Rattle.tb_sql.proofs.opening.accept.Goals as goal
 
@@ -27,7 +27,7 @@ returns-then-ours-clause-shows g c opened content rows =
 pub returns-clause-refuses : goal.returns-clause-refuses
 returns-clause-refuses g c _ clean opened content rows =
     let s = state g.S.Store c.args.conn.now in
-    let other : are_ours s.now.schema.tables ≡ false = ap (λ x. are_ours x.tables) (sym c.schema.ensures.value) ∙ sym c.are_ours-ours.ensures ∙ c.if-ours.false in
+    let other : is_ours s.now.schema ≡ false = ap (λ x. is_ours x) (sym c.schema.ensures.value) ∙ sym c.is_ours-ours.ensures ∙ c.if-ours.false in
     others_refused s content opened c.schema.ensures.live other rows
 
 pub returns-then-not-has_meta-clause-told : goal.returns-then-not-has_meta-clause-told
@@ -45,5 +45,5 @@ returns-then-ours-clause-told g c clean schema metas stored =
 
 pub returns-clause-told : goal.returns-clause-told
 returns-clause-told g c clean schema metas stored =
-    let other : are_ours c.args.conn.now.schema.tables ≡ false = ap (λ x. are_ours x.tables) (sym c.schema.ensures.value) ∙ sym c.are_ours-ours.ensures ∙ c.if-ours.false in
+    let other : is_ours c.args.conn.now.schema ≡ false = ap (λ x. is_ours x) (sym c.schema.ensures.value) ∙ sym c.is_ours-ours.ensures ∙ c.if-ours.false in
     absurd (store_is_ours c.args.conn.now.schema schema other)
