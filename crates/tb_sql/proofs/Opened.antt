@@ -13,7 +13,8 @@ use Rattle.tb_sql_tables.specs.Content.{Content, AreRows, IsContent, Stands, Sta
 use Rattle.tb_sql_tables.proofs.Once.{schema_once}
 use Rattle.tb_sql_tables.specs.declared.rows.MetaRow.{MetaRow}
 use Rattle.tb_sql.specs.declared.opening.OpenFault.{OpenFault}
-use Rattle.tb_sql.specs.Opening.{are_tables, has_meta, is_ours, judged, our_meta, IsAsBefore, is_meta, is_person, is_board, is_role, is_task, is_link, is_instance, is_gone, is_kept}
+use Rattle.tb_sql.specs.declared.opening.OpenFault.TheVariants.{NotOurs}
+use Rattle.tb_sql.specs.Opening.{are_tables, has_meta, if_ours, is_ours, judged, our_meta, taken, IsAsBefore, is_meta, is_person, is_board, is_role, is_task, is_link, is_instance, is_gone, is_kept}
 
 -- rows of a content make the schema that of a store
 pub opened_content : (s : State) (content : Content) → Opens s → IsLive s → AreRows content s.now.trees → IsContent content s.now
@@ -126,3 +127,18 @@ judged_same (r ∷ s ∷ rows) (m ∷ n ∷ metas) same = refl
 -- the row of a store is not refused
 pub ours_not_refused : (fault : OpenFault) → Err fault ≡ judged (our_meta ∷ []) → ⊥
 ours_not_refused fault is = absurd (let none : Err fault ≡ Ok tt = is in cc)
+
+-- ---- the answer, by the tables and the rows
+
+pub refused_taken : (schema : Schema) (metas : List MetaRow) (fault : OpenFault) → Err fault ≡ judged metas → Err fault ≡ taken schema metas
+refused_taken schema metas fault is = subst (λ said. Err fault ≡ if_ours (is_ours schema) said) is (either (is_ours schema))
+  where
+    either : (b : Bool) → Err fault ≡ if_ours b (Err fault)
+    either true = refl
+    either false = refl
+
+pub ours_taken : (schema : Schema) (metas : List MetaRow) → is_ours schema ≡ true → Ok tt ≡ judged metas → Ok tt ≡ taken schema metas
+ours_taken schema metas ours is = subst (λ b. Ok tt ≡ if_ours b (judged metas)) (sym ours) is
+
+pub others_taken : (schema : Schema) (metas : List MetaRow) → is_ours schema ≡ false → Ok tt ≡ judged metas → Err NotOurs ≡ taken schema metas
+others_taken schema metas other is = subst (λ said. Err NotOurs ≡ if_ours (is_ours schema) said) is (subst (λ b. Err NotOurs ≡ if_ours b (Ok tt)) (sym other) refl)

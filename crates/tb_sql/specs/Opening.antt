@@ -2,6 +2,7 @@
 use Rattle.std.specs.Prelude.{◌≡◌, ◌⊎◌, ◌&&◌, ◌==◌, if◌then◌else◌, ℕ, pos, Bool, true, false, List, [], ◌∷◌, length, codes, bytes_eq, IsTrue, map, IsPermutation, Result, Ok, Err}
 use Rattle.sqlite_value.specs.declared.value.Value.TheVariants.{Null, Int, Text as Words}
 use Rattle.sqlite_value.specs.Order.{Row}
+use Rattle.sqlite_trees.specs.declared.store.Store.{Ghosts}
 use Rattle.sqlite_trees.specs.Tree.{Trees}
 use Rattle.sqlite_schema.specs.declared.schema.Column.{Column}
 use Rattle.sqlite_schema.specs.declared.schema.Kind.{Kind}
@@ -10,10 +11,12 @@ use Rattle.sqlite_schema.specs.declared.schema.Table.{Table}
 use Rattle.sqlite_schema.specs.declared.schema.Schema.{Schema}
 use Rattle.sqlite_schema.specs.Names.{same_name}
 use Rattle.sqlite.specs.Effect.{Database}
-use Rattle.sqlite.specs.State.{State, HasCleanDisk}
+use Rattle.sqlite.specs.Held.{Held, state}
+use Rattle.sqlite.specs.State.{State, HasCleanDisk, Shown}
 use Rattle.tb_sql_tables.specs.declared.rows.MetaRow.{MetaRow}
 use Rattle.tb_sql_tables.specs.Tables.{meta_tree, store_schema}
 use Rattle.tb_sql_tables.specs.Content.{HasKeyed}
+use Rattle.tb_sql_tables.specs.Reading.{meta_of}
 use Rattle.tb_sql.specs.declared.opening.OpenFault.{OpenFault}
 use Rattle.tb_sql.specs.declared.opening.OpenFault.TheVariants.{NotOurs, WrongVersion, Store, Memory}
 
@@ -104,9 +107,39 @@ judged [] = Err NotOurs
 judged (meta ∷ []) = if bytes_eq meta.kind (codes "taskboard") then (if meta.version == 1 then Ok tt else Err WrongVersion) else Err NotOurs
 judged (a ∷ b ∷ metas) = Err NotOurs
 
+-- a store is taken only where its tables are there, and nothing else
+abbrev pub if_ours : Bool → Result (Unit {0}) OpenFault → Result (Unit {0}) OpenFault
+if_ours true said = said
+if_ours false (Ok done) = Err NotOurs
+if_ours false (Err fault) = Err fault
+
+-- what the tables and those rows say
+abbrev pub taken : Schema → List MetaRow → Result (Unit {0}) OpenFault
+taken schema metas = if_ours (is_ours schema) (judged metas)
+
 -- the answer is this one, unless the database fails or memory is wanting
 abbrev pub Answers : Result (Unit {0}) OpenFault → Result (Unit {0}) OpenFault → Type 0
 Answers wanted answer = (answer ≡ wanted) ⊎ ((answer ≡ Err Store) ⊎ (answer ≡ Err Memory))
+
+-- ---- what a look finds in any database that has the first table
+
+abbrev pub meta_text : List ℕ
+meta_text = codes "SELECT kind, version FROM meta"
+
+-- the query of the first table shows these rows
+pub record AreShown (old new : State) (metas : List MetaRow) : Type 0 where
+  pub rows : List Row
+  pub shown : Shown meta_text [] old new rows
+  pub read : metas ≡ map meta_of rows
+
+module _ {S : Type 0} (g : Ghosts S) where
+  -- the query shows these rows in a transaction that begins here
+  abbrev pub AreShownFrom : Held S → List MetaRow → Type 0
+  AreShownFrom conn metas = (later : Held S) × AreShown (state g (record conn { in_transaction = true })) (state g later) metas
+
+  -- the answer is what the tables and the rows say, unless the database fails or memory is wanting
+  abbrev pub IsAnswered : Held S → Result (Unit {0}) OpenFault → Type 0
+  IsAnswered conn answer = ((metas : List MetaRow) × AreShownFrom conn metas × (answer ≡ taken conn.schema metas)) ⊎ ((answer ≡ Err Store) ⊎ (answer ≡ Err Memory))
 
 -- ---- what a look leaves
 

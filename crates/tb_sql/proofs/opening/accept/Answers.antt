@@ -1,8 +1,8 @@
-use Rattle.std.proofs.Common.{◌≡◌, ◌∙◌, false, sym, ap, inl}
+use Rattle.std.proofs.Common.{◌≡◌, ◌∙◌, true, false, sym, ap, inl}
 use Rattle.sqlite.specs.Held.{state}
 use Rattle.tb_sql_tables.specs.Content.{AreRows, IsContent}
 use Rattle.tb_sql.specs.Opening.{has_meta, is_ours, judged}
-use Rattle.tb_sql.proofs.Opened.{first_refused, judged_same, others_refused, ours_not_refused, opened_content, opened_stands, stands_again, store_has_meta, store_is_ours}
+use Rattle.tb_sql.proofs.Opened.{first_refused, judged_same, others_refused, ours_not_refused, ours_taken, others_taken, refused_taken, opened_content, opened_stands, stands_again, store_has_meta, store_is_ours}
 use Rattle.tb_sql.proofs.opening.accept.Goals as goal
 
 pub returns-then-not-has_meta-clause-refuses : goal.returns-then-not-has_meta-clause-refuses
@@ -47,3 +47,20 @@ pub returns-clause-told : goal.returns-clause-told
 returns-clause-told g c clean schema metas stored =
     let other : is_ours c.args.conn.now.schema ≡ false = ap (λ x. is_ours x) (sym c.schema.ensures.value) ∙ sym c.is_ours-ours.ensures ∙ c.if-ours.false in
     absurd (store_is_ours c.args.conn.now.schema schema other)
+
+pub returns-in-Err-judge-clause-answered : goal.returns-in-Err-judge-clause-answered
+returns-in-Err-judge-clause-answered g c clean first =
+    let metas = c.in-Ok.metas in
+    inl (metas, c.in-Ok.ensures.shown clean, refused_taken c.args.conn.now.schema metas c.in-Err-judge.fault (c.in-Err-judge.ensures ∙ ap judged c.as_slice.ensures))
+
+pub returns-then-ours-clause-answered : goal.returns-then-ours-clause-answered
+returns-then-ours-clause-answered g c clean first =
+    let metas = c.in-Ok.metas in
+    let ours : is_ours c.args.conn.now.schema ≡ true = ap (λ x. is_ours x) (sym c.schema.ensures.value) ∙ sym c.is_ours-ours.ensures ∙ c.if-ours.true in
+    inl (metas, c.in-Ok.ensures.shown clean, ours_taken c.args.conn.now.schema metas ours (c.in_default.ensures ∙ ap judged c.as_slice.ensures))
+
+pub returns-clause-answered : goal.returns-clause-answered
+returns-clause-answered g c clean first =
+    let metas = c.in-Ok.metas in
+    let other : is_ours c.args.conn.now.schema ≡ false = ap (λ x. is_ours x) (sym c.schema.ensures.value) ∙ sym c.is_ours-ours.ensures ∙ c.if-ours.false in
+    inl (metas, c.in-Ok.ensures.shown clean, others_taken c.args.conn.now.schema metas other (c.in_default.ensures ∙ ap judged c.as_slice.ensures))
