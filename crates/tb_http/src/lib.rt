@@ -26,6 +26,3 @@ pub use numerals::read_board;
 pub use reader::Reader;
 pub use resource::{Resource, RouteFault, TaskAction};
 pub use route::{Route, Routes, Verb};
-
-#[cfg(test)]
-mod tests;

@@ -1,0 +1,22 @@
+//! Tests of `tb_http` through its public functions: messages in whatever pieces, malicious ones among them, what
+//! they ask for, and the texts of their answers. It stands on `tb_http` and owns nothing that others use.
+#![tactic(auto)]
+
+#[cfg(test)]
+mod answers;
+#[cfg(test)]
+mod closings;
+#[cfg(test)]
+mod connection;
+#[cfg(test)]
+mod faults;
+#[cfg(test)]
+mod hostile;
+#[cfg(test)]
+mod messages;
+#[cfg(test)]
+mod paths;
+#[cfg(test)]
+mod pieces;
+#[cfg(test)]
+mod speed;
