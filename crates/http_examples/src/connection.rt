@@ -2,7 +2,7 @@
 use crate::pieces::Pieces;
 use std::alloc::Global;
 use std::test::Fail;
-use tb_http::{HeadRoom, Message, Reader, RouteFault, Routes, Verb, WireFault};
+use tb_http::{HeadRoom, Message, Reader, Routes, Verb, WireFault};
 
 /// What a connection writes into, and the routes that it knows.
 #[derive(Drop)]
@@ -48,8 +48,7 @@ impl Connection {
         let target = message.target.as_str();
         let (fault, allow) = match self.routes.resource(&message.method, target) {
             Ok(_) => (WireFault::NoId, None),
-            Err(RouteFault::NoRoute) => (WireFault::NoRoute, None),
-            Err(RouteFault::NoMethod(verb)) => (WireFault::NoMethod, Some(verb)),
+            Err(fault) => (fault.fault(), fault.allow()),
         };
         self.send_fault(fault, allow, is_closing, message.takes_body())
     }
