@@ -1,8 +1,8 @@
-//! A connection that answers what its messages ask for by their routes alone.
+//! A connection that knows routes and identifiers, and has no boards.
 use crate::pieces::Pieces;
 use std::alloc::Global;
 use std::test::Fail;
-use tb_http::{HeadRoom, Message, Reader, Routes, Verb, WireFault};
+use tb_http::{Answer, ContentType, HeadRoom, Message, Reader, Routes, Verb, WireFault};
 
 /// What a connection writes into, and the routes that it knows.
 #[derive(Drop)]
@@ -24,6 +24,13 @@ impl Connection {
         })
     }
 
+    fn send(&mut self, answer: Answer, body: &str) -> Result<(), Fail> {
+        match self.room.send(&mut self.written, answer, body.as_bytes()) {
+            Ok(()) => Ok(()),
+            Err(_) => Err("no memory for the answer".into()),
+        }
+    }
+
     fn send_fault(
         &mut self,
         fault: WireFault,
@@ -31,26 +38,36 @@ impl Connection {
         is_closing: bool,
         sends_body: bool,
     ) -> Result<(), Fail> {
-        let Some(answer) = fault.answer(allow, is_closing, sends_body) else {
-            return Ok(());
-        };
-        match self
-            .room
-            .send(&mut self.written, answer, fault.body().as_bytes())
-        {
-            Ok(()) => Ok(()),
-            Err(_) => Err("no memory for the answer".into()),
+        match fault.answer(allow, is_closing, sends_body) {
+            Some(answer) => self.send(answer, fault.body()),
+            None => Ok(()),
         }
     }
 
-    // Every message of a resource lacks its identifier.
-    fn answer_message(&mut self, message: &Message, is_closing: bool) -> Result<(), Fail> {
-        let target = message.target.as_str();
-        let (fault, allow) = match self.routes.resource(&message.method, target) {
-            Ok(_) => (WireFault::NoId, None),
-            Err(fault) => (fault.fault(), fault.allow()),
+    // Every call that has an identifier, and every view, is answered as a sweep that adds nothing.
+    fn send_swept(&mut self, is_last: bool) -> Result<(), Fail> {
+        let answer = Answer {
+            status: 200,
+            content_type: ContentType::Json,
+            allow: None,
+            is_last,
+            sends_body: true,
         };
-        self.send_fault(fault, allow, is_closing, message.takes_body())
+        self.send(answer, "{\"added\":0,\"board\":1,\"more\":false}")
+    }
+
+    fn answer_message(&mut self, message: &Message, is_closing: bool) -> Result<(), Fail> {
+        let sends_body = message.takes_body();
+        match self
+            .routes
+            .resource(&message.method, message.target.as_str())
+        {
+            Err(fault) => self.send_fault(fault.fault(), fault.allow(), is_closing, sends_body),
+            Ok(_) if message.request_id().is_none() => {
+                self.send_fault(WireFault::NoId, None, is_closing, sends_body)
+            }
+            Ok(_) => self.send_swept(is_closing),
+        }
     }
 
     /// Answers the messages of the reader up to its end, and gives the bytes that were written.

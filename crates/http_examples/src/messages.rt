@@ -1,4 +1,5 @@
 //! Whole messages, in whatever pieces they come.
+use crate::connection::answers_to;
 use crate::pieces::{Pieces, cut_at, in_pieces, name_of, read_name};
 use std::alloc::Global;
 use std::process::Abort;
@@ -13,6 +14,14 @@ x-key: root-key-1\r\n\
 x-request-id: 00000000-0000-4000-8000-000000000001\r\n\
 Content-Length: 0\r\n\
 \r\n";
+
+/// The answer to it on a board that has nothing to add.
+pub const SWEEP_ANSWER: &[u8] = b"HTTP/1.1 200 OK\r\n\
+content-type: application/json\r\n\
+content-length: 34\r\n\
+connection: keep-alive\r\n\
+\r\n\
+{\"added\":0,\"board\":1,\"more\":false}";
 
 /// A message with white space around the number of its body's bytes.
 const BODY_MESSAGE: &[u8] = b"POST /boards/1/tasks HTTP/1.1\r\n\
@@ -43,6 +52,9 @@ fn check_sweep(rt: &impl Abort, message: &Message) {
     assert!(rt; has_field(message, "X-Key", b"root-key-1"));
     assert!(rt; has_field(message, "x-member", b"root"));
     assert_eq!(rt; message.body.len(), 0);
+    assert_eq!(rt; message.member(), Some("root"));
+    assert_eq!(rt; message.key(), Some("root-key-1"));
+    assert!(rt; message.request_id().is_some());
     assert!(rt; message.takes_body());
 }
 
@@ -55,6 +67,8 @@ fn sweep_message(rt: HostRuntime) -> Result<(), Fail> {
         let end = reader.read_message(rt.alloc());
         assert_eq!(rt; name_of(&end), "Ended");
         assert!(rt; reader.closing());
+        let answers = answers_to(rt.alloc(), cut_at(rt.alloc(), SWEEP_MESSAGE, cut)?)?;
+        assert_eq!(rt; answers.as_slice(), SWEEP_ANSWER);
     }
     Ok(())
 }
@@ -81,6 +95,27 @@ fn two_messages_in_pieces(rt: HostRuntime) -> Result<(), Fail> {
         assert_eq!(rt; first.body.as_slice(), b"{   }".as_slice());
         check_sweep(&rt, &read_whole(rt.alloc(), &mut reader)?);
         assert_eq!(rt; read_name(rt.alloc(), reader), "Ended");
+    }
+    Ok(())
+}
+
+// A sweep whose body lacks two of its bytes.
+const TORN_MESSAGE: &[u8] = b"POST /boards/1/sweep HTTP/1.1\r\n\
+Host: a\r\n\
+x-member: root\r\n\
+x-key: root-key-1\r\n\
+x-request-id: 00000000-0000-4000-8000-000000000001\r\n\
+Content-Length: 5\r\n\
+\r\n\
+abc";
+
+#[test]
+fn sweep_message_torn(rt: HostRuntime) -> Result<(), Fail> {
+    for cut in 0..TORN_MESSAGE.len() {
+        let read = read_name(rt.alloc(), cut_at(rt.alloc(), TORN_MESSAGE, cut)?);
+        assert_eq!(rt; read, "Torn");
+        let answers = answers_to(rt.alloc(), cut_at(rt.alloc(), TORN_MESSAGE, cut)?)?;
+        assert!(rt; answers.is_empty());
     }
     Ok(())
 }

@@ -15,12 +15,7 @@ fn long_head(alloc: Global, fields: usize, line: &[u8]) -> Result<Vec<u8>, Fail>
 }
 
 // The least number of microseconds that reading took, of five times: other programs may run beside the test.
-fn least_time(
-    clock: &impl Clock,
-    alloc: Global,
-    bytes: &[u8],
-    want: &str,
-) -> Result<u128, Fail> {
+fn least_time(clock: &impl Clock, alloc: Global, bytes: &[u8], want: &str) -> Result<u128, Fail> {
     let mut least = u128::MAX;
     for _ in 0..5 {
         let start = Instant::now(clock)?;

@@ -1,7 +1,9 @@
+pub mod BodyLemmas
 pub mod ClosingLemmas
 pub mod HeadLemmas
 pub mod MessageLemmas
 pub mod NumeralLemmas
 pub mod ReadingLemmas
 pub mod RouteLemmas
+pub mod SenderLemmas
 pub mod WireLemmas
