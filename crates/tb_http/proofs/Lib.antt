@@ -5,5 +5,6 @@ pub mod MessageLemmas
 pub mod NumeralLemmas
 pub mod ReadingLemmas
 pub mod RouteLemmas
+pub mod RouteTable
 pub mod SenderLemmas
 pub mod WireLemmas
