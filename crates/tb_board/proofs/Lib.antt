@@ -12,4 +12,5 @@ pub mod Places
 pub mod Relinked
 pub mod Relinking
 pub mod Runs
+pub mod Walking
 pub mod Worlds

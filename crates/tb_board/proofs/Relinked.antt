@@ -20,11 +20,11 @@ use Rattle.tb_board.proofs.Runs.{KeepsLinks}
 use Rattle.tb_board.proofs.Relinking.{acyclic-less, acyclic-more, fewer_places, more_places, or_false, place_holds}
 
 -- the first task of an identifier, with its place
-record IsAt (b : Board) (id : ℕ) (x : Task) : Type 0 where
-  place : ℕ
-  first : IsFirst (has_id id) b.tasks place
-  is : x ≡ get_or b.tasks place x
-  number : place_in (ids b.tasks) id ≡ Some place
+pub record IsAt (b : Board) (id : ℕ) (x : Task) : Type 0 where
+  pub place : ℕ
+  pub first : IsFirst (has_id id) b.tasks place
+  pub is : x ≡ get_or b.tasks place x
+  pub number : place_in (ids b.tasks) id ≡ Some place
 
 at_place : (b : Board) (id : ℕ) (x : Task) (o : Option ℕ) → position (has_id id) b.tasks ≡ o → MatchOption o (IsNone (has_id id) b.tasks) (IsFirst (has_id id) b.tasks)
     → find (has_id id) b.tasks ≡ Some x → IsAt b id x
@@ -33,7 +33,7 @@ at_place b id x (Some k) at first found =
     let same : Some x ≡ Some (get_or b.tasks k x) = sym found ∙ first.found x in
     record { place = k; first = first; is = cc; number = sym (place_by_id b.tasks id) ∙ at }
 
-found_at : (b : Board) (id : ℕ) (x : Task) → find (has_id id) b.tasks ≡ Some x → IsAt b id x
+pub found_at : (b : Board) (id : ℕ) (x : Task) → find (has_id id) b.tasks ≡ Some x → IsAt b id x
 found_at b id x found = at_place b id x (position (has_id id) b.tasks) refl (place (has_id id) b.tasks) found
 
 both_false : (p q : Bool) → p ≡ false → q ≡ false → (p || q) ≡ false

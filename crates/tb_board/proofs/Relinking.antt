@@ -28,12 +28,12 @@ links-same b c same depends = ap (λ all. map (places_in all) (depends_of c.task
 pub acyclic-same : (b c : Board) → ids c.tasks ≡ ids b.tasks → depends_of c.tasks ≡ depends_of b.tasks → IsAcyclic b → IsAcyclic c
 acyclic-same b c same depends acyclic = subst walk.IsAcyclic (sym (links-same b c same depends)) acyclic
 
-in_with : (v : ℕ) (o : Option ℕ) (ps : List ℕ) → IsIn v (with_place o ps) → (o ≡ Some v) ⊎ IsIn v ps
+pub in_with : (v : ℕ) (o : Option ℕ) (ps : List ℕ) → IsIn v (with_place o ps) → (o ≡ Some v) ⊎ IsIn v ps
 in_with v None ps h = inr h
 in_with v (Some p) ps (inl e) = inl (ap Some e)
 in_with v (Some p) ps (inr h) = inr h
 
-in_rest : (v : ℕ) (o : Option ℕ) (ps : List ℕ) → IsIn v ps → IsIn v (with_place o ps)
+pub in_rest : (v : ℕ) (o : Option ℕ) (ps : List ℕ) → IsIn v ps → IsIn v (with_place o ps)
 in_rest v None ps h = h
 in_rest v (Some p) ps h = inr h
 
@@ -99,9 +99,13 @@ links-set b c k t same is =
     ap (λ all. map (places_in all) (depends_of c.tasks)) same ∙ ap (λ ts. map (places_in (ids b.tasks)) (depends_of ts)) is
     ∙ ap (map (places_in (ids b.tasks))) (depends-set b.tasks k t) ∙ places-set (ids b.tasks) (depends_of b.tasks) k t.depends
 
-link_at : (b : Board) (k : ℕ) (t : Task) (v : ℕ) → k < length b.tasks → t ≡ get_or b.tasks k t → IsIn v (places_in (ids b.tasks) t.depends) → IsLink (links b) k v
+pub link_at : (b : Board) (k : ℕ) (t : Task) (v : ℕ) → k < length b.tasks → t ≡ get_or b.tasks k t → IsIn v (places_in (ids b.tasks) t.depends) → IsLink (links b) k v
 unfolding links
 link_at b k t v within is h = subst (IsIn v) (sym (places_at (ids b.tasks) b.tasks k t within is)) h
+
+pub places_of_link : (b : Board) (k : ℕ) (t : Task) (v : ℕ) → k < length b.tasks → t ≡ get_or b.tasks k t → IsLink (links b) k v → IsIn v (places_in (ids b.tasks) t.depends)
+unfolding links
+places_of_link b k t v within is h = subst (IsIn v) (places_at (ids b.tasks) b.tasks k t within is) h
 
 -- a task that keeps some of its links
 pub acyclic-less : (b c : Board) (k : ℕ) (t u : Task) → IsAcyclic b → ids c.tasks ≡ ids b.tasks → c.tasks ≡ set b.tasks k u

@@ -11,4 +11,5 @@ pub mod Numbers
 pub mod Roles
 pub mod Statuses
 pub mod Templates
+pub mod Walks
 pub mod World

@@ -27,7 +27,9 @@ pub use draft::Draft;
 pub use first::{place_of_board, place_of_task};
 pub use gone::Gone;
 pub use key::Key;
-pub use links::{blocked_tasks, blocking_tasks, is_led};
+pub use links::{
+    acyclic_boards_have_no_walks_back, blocked_tasks, blocking_tasks, is_led, walks_are_found,
+};
 pub use name::Name;
 pub use numbers::{next_number, taken_numbers};
 pub use statuses::{

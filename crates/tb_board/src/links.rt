@@ -2,6 +2,7 @@ ghost use Rattle.std.specs.Prelude.{◌≡◌, ◌<◌, [], ◌∷◌, ◌++◌,
 ghost use Rattle.tb_board.specs.Blocked.{are_open, blocked, blocking};
 ghost use Rattle.tb_board.specs.Board.{ids};
 ghost use Rattle.tb_board.specs.Links.{ArePlaces, depends_of, leads_on, links, place_in, places_in};
+ghost use Rattle.tb_board.specs.Walks.{IsAcyclicByWalks, LeadsByWalks};
 
 use crate::board::Board;
 use crate::first::first_task;
@@ -121,3 +122,13 @@ fn place_by_id(tasks: &[Shared<Task>], id: TaskId) -> Option<usize>
 {
     first_task(tasks, id)
 }
+
+/// A task leads to another one exactly where there is a walk of tasks, each of which depends on the next.
+pub fn walks_are_found()
+    ensures { LeadsByWalks }
+{}
+
+/// A board is acyclic exactly where no walk of tasks leads from one back to it.
+pub fn acyclic_boards_have_no_walks_back()
+    ensures { IsAcyclicByWalks }
+{}

@@ -1,3 +1,4 @@
+pub mod Cycles
 pub mod Decided
 pub mod Depending
 pub mod Early

@@ -1,6 +1,7 @@
 pub mod Actions
 pub mod Add
 pub mod Apply
+pub mod Cycles
 pub mod Decisions
 pub mod Depends
 pub mod Edits

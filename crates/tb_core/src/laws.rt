@@ -1,5 +1,6 @@
 //! Laws over the definitions of commands.
 
+ghost use Rattle.tb_core.specs.Cycles.{AreCyclesRefused};
 ghost use Rattle.tb_core.specs.GoodWorld.{KeepsGood, KeepsPeople, OpensGood};
 
 /// Each command leaves a good world good.
@@ -15,4 +16,9 @@ pub fn keeps_people()
 /// The opening world is good.
 pub fn opens_good()
     ensures { OpensGood }
+{}
+
+/// A link is refused as a cycle exactly where it would close a walk over the tasks.
+pub fn cycles_are_refused()
+    ensures { AreCyclesRefused }
 {}

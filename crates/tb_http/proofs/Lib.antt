@@ -1,7 +1,10 @@
+pub mod BodyLemmas
 pub mod ClosingLemmas
 pub mod HeadLemmas
 pub mod MessageLemmas
 pub mod NumeralLemmas
 pub mod ReadingLemmas
 pub mod RouteLemmas
+pub mod RouteTable
+pub mod SenderLemmas
 pub mod WireLemmas

@@ -10,3 +10,5 @@ pub mod Reading
 pub mod Routes
 pub mod Resources
 pub mod Answer
+pub mod Sender
+pub mod Bodies

@@ -1,6 +1,6 @@
 -- Heads, messages and their fields.
-use Rattle.std.specs.Prelude.{ℕ, List, ◌∷◌, ◌++◌, map, Bool, count_by}
-use Rattle.std.specs.Str.{str_eq_ignore_ascii_case}
+use Rattle.std.specs.Prelude.{ℕ, List, ◌∷◌, ◌++◌, map, Bool, not, count_by, codes}
+use Rattle.std.specs.Str.{bytes_eq, str_eq_ignore_ascii_case}
 use Rattle.httparse.specs.Grammar.{RequestHead}
 use Rattle.httparse.specs.Spans.{name_and_value}
 use Rattle.tb_http.specs.declared.message.Field.{Field}
@@ -27,6 +27,10 @@ message_from head body = record { method = head.method; target = head.target; fi
 -- what a call is known by, beside its identifier: its method, a space, its target, a line feed and its body
 abbrev pub content_of : Message → List ℕ
 content_of message = message.method ++ 32 ∷ message.target ++ 10 ∷ message.body
+
+-- the answer to the message is sent with its body
+abbrev pub takes_body : Message → Bool
+takes_body message = not (bytes_eq message.method (codes "HEAD"))
 
 -- the field has this name, in any case of letters
 abbrev pub is_named : List ℕ → Field → Bool

@@ -7,6 +7,8 @@ use Rattle.tb_task.specs.TaskId.{read_id}
 use Rattle.tb_http.specs.declared.route.Route.{Route}
 use Rattle.tb_http.specs.declared.route.Route.TheVariants.{People, Boards, Roles, Tasks, Task, TaskAction as ActionRoute, Sweep, Import, ImportTodo, List as ListRoute, Export, Todo}
 use Rattle.tb_http.specs.declared.route.Verb.{Verb}
+use Rattle.tb_http.specs.declared.fault.WireFault.{WireFault}
+use Rattle.tb_http.specs.declared.fault.WireFault.TheVariants as wire
 use Rattle.tb_http.specs.declared.resource.TaskAction.{TaskAction}
 use Rattle.tb_http.specs.declared.resource.TaskAction.TheVariants as action
 use Rattle.tb_http.specs.declared.resource.Resource.{Resource}
@@ -82,6 +84,15 @@ with_method method verb (Some resource) = if has_verb method verb then Ok resour
 abbrev pub on_route : List ℕ → List ℕ → Option Route → Result Resource RouteFault
 on_route method path None = Err NoRoute
 on_route method path (Some route) = with_method method (verb_of route) (resource_of route path)
+
+-- the fault of the wire that it is, and the method that the answer allows
+abbrev pub fault_of : RouteFault → WireFault
+fault_of NoRoute = wire.NoRoute
+fault_of (NoMethod verb) = wire.NoMethod
+
+abbrev pub allowed_by : RouteFault → Option Verb
+allowed_by NoRoute = None
+allowed_by (NoMethod verb) = Some verb
 
 -- the resource that a method and a target ask for, or why they ask for none
 abbrev pub resource_asked : List ℕ → List ℕ → Result Resource RouteFault

@@ -1,9 +1,9 @@
 -- The routes of the server, as `matchit` reads and keeps them.
-use Rattle.std.specs.Prelude.{ℕ, List, [], ◌∷◌, codes, Result, Ok, Err, Option}
+use Rattle.std.specs.Prelude.{ℕ, Bool, false, not, List, [], ◌∷◌, codes, Result, Ok, Err, Option, is_some}
 use Rattle.std.specs.Option.{option_map}
 use Rattle.matchit.specs.Rows.{RowsOf}
 use Rattle.matchit.specs.Route.{Scan, parse_route}
-use Rattle.matchit.specs.Router.{RouteOf, route_from}
+use Rattle.matchit.specs.Router.{RouteOf, route_from, nearest}
 use Rattle.matchit.specs.Order.{placed}
 use Rattle.matchit.specs.Seek.{first}
 use Rattle.matchit.specs.declared.error.InsertError.{InsertError}
@@ -58,6 +58,14 @@ with_row (Err e) route rows = rows
 
 unfoldable pub with_route : List ℕ → Route → RouteRows → RouteRows
 with_route text route rows = with_row (parse_route text) route rows
+
+-- the router takes a route: its text reads well, and no row conflicts with it
+abbrev pub row_fits : Result Scan InsertError → RouteRows → Bool
+row_fits (Ok scan) rows = not (is_some (nearest scan.pattern rows))
+row_fits (Err e) rows = false
+
+unfoldable pub fits : List ℕ → RouteRows → Bool
+fits text rows = row_fits (parse_route text) rows
 
 -- with a table of routes
 abbrev pub with_routes : List (List ℕ × Route) → RouteRows → RouteRows

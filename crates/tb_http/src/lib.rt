@@ -1,9 +1,10 @@
 //! The messages of HTTP/1.1: heads and bodies taken from the bytes of any reader, the resources that they ask for,
 //! and the heads of their answers. It stands on `httparse` for the grammar of heads, on `matchit` for routes, on
-//! `tb_task` for identifiers and on `tb_values` for texts, lists and writing.
+//! `serde_json` for bodies, on `tb_task` for identifiers and on `tb_values` for texts, lists and writing.
 #![tactic(auto)]
 
 mod answer;
+mod body;
 mod closing;
 mod fault;
 mod framing;
@@ -14,9 +15,14 @@ mod numerals;
 mod reader;
 mod resource;
 mod route;
+mod sender;
 mod source;
 
 pub use answer::{Answer, ContentType, HeadRoom};
+pub use body::{
+    PersonBody, RoleBody, is_empty_object, read_description, read_link, read_person, read_role,
+    read_title,
+};
 pub use closing::MESSAGE_LIMIT;
 pub use fault::WireFault;
 pub use framing::{BODY_LIMIT, FIELD_LIMIT};
@@ -26,6 +32,3 @@ pub use numerals::read_board;
 pub use reader::Reader;
 pub use resource::{Resource, RouteFault, TaskAction};
 pub use route::{Route, Routes, Verb};
-
-#[cfg(test)]
-mod tests;

@@ -3,7 +3,7 @@ ghost use Rattle.std.specs.Prelude.{◌≡◌, ◌<◌, ◌≤◌, ◌-◌, ◌+
 ghost use Rattle.std.specs.Option.{option_copied};
 ghost use Rattle.httparse.specs.Grammar.{RequestHead, IsToken};
 ghost use Rattle.httparse.specs.Spans.{IsHeaderWithin, header_bytes, IsRequestOf, IsRequestWithin, IsRequestAt};
-ghost use Rattle.tb_http.specs.Message.{field_from, head_from, content_of, is_named as is_named_so};
+ghost use Rattle.tb_http.specs.Message.{field_from, head_from, content_of, takes_body as takes_body_so, is_named as is_named_so};
 
 use http::Method;
 use http::method::MethodError;
@@ -127,5 +127,12 @@ impl Message {
         content.extend_from_slice(b"\n")?;
         content.extend_from_slice(self.body.as_slice())?;
         Ok(Items::from_vec(content))
+    }
+
+    /// Whether the answer to it is sent with its body: a message of the method HEAD is answered by the head alone.
+    pub fn takes_body(&self) -> bool
+        ensures { result ≡ takes_body_so self.now }
+    {
+        self.method.as_str() != "HEAD"
     }
 }

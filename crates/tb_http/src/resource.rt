@@ -3,6 +3,7 @@ ghost use Rattle.std.specs.Prelude.{◌≡◌, ◌==◌, codes, option_map};
 ghost use Rattle.std.specs.Str.{bytes_eq};
 ghost use Rattle.tb_http.specs.Resources as resources;
 
+use crate::fault::WireFault;
 use crate::numerals::read_board;
 use crate::route::{Route, Routes, Verb};
 use http::Method;
@@ -69,6 +70,28 @@ pub enum RouteFault {
     NoRoute,
     /// The path has this method alone.
     NoMethod(Verb),
+}
+
+impl RouteFault {
+    /// The fault that is answered.
+    pub fn fault(self) -> WireFault
+        ensures { result ≡ resources.fault_of self }
+    {
+        match self {
+            RouteFault::NoRoute => WireFault::NoRoute,
+            RouteFault::NoMethod(_) => WireFault::NoMethod,
+        }
+    }
+
+    /// The method that the answer allows.
+    pub fn allow(self) -> Option<Verb>
+        ensures { result ≡ resources.allowed_by self }
+    {
+        match self {
+            RouteFault::NoRoute => None,
+            RouteFault::NoMethod(verb) => Some(verb),
+        }
+    }
 }
 
 // The part of a path behind so many slashes, up to the next one; the empty text where there is none.

@@ -1,10 +1,10 @@
 //! The routes of the server: which resource a request's method and target ask for.
-ghost use Rattle.std.specs.Prelude.{◌≡◌, ◌≤◌, length, IfOk, Some, None, option_map, codes};
+ghost use Rattle.std.specs.Prelude.{◌≡◌, ◌≤◌, length, IfOk, IfErr, OnOk, IsTrue, Some, None, option_map, codes};
 ghost use Rattle.matchit.specs.Seek.{first};
 ghost use Rattle.tb_http.specs.Routes as routes;
 
 use matchit::{InsertError, Router};
-use std::alloc::Global;
+use std::alloc::{AllocError, Global};
 
 /// The kinds of path that there are.
 #[derive(Clone, Copy, Debug, PartialEq, Eq)]
@@ -62,23 +62,37 @@ impl Route {
     }
 }
 
+// Adds a route that the router takes, so that only memory can be wanting.
+fn add(router: &mut Router<Route>, text: &str, route: Route) -> Result<(), InsertError>
+    requires { IsTrue (routes.fits text.now router.old) }
+    ensures row { OnOk result (router.new ≡ routes.with_route text.now route router.old) }
+    ensures memory { IfErr result (λ fault. fault ≡ InsertError.OutOfMemory) }
+{
+    router.insert(text, route)
+}
+
 // The rows of the table.
 fn table(alloc: Global) -> Result<Router<Route>, InsertError>
-    ensures { IfOk result (λ router. router ≡ routes.route_rows) }
+    ensures rows { IfOk result (λ router. router ≡ routes.route_rows) }
+    ensures memory { IfErr result (λ fault. fault ≡ InsertError.OutOfMemory) }
 {
     let mut router = Router::new(alloc);
-    router.insert("/people", Route::People)?;
-    router.insert("/boards", Route::Boards)?;
-    router.insert("/boards/{b}/roles", Route::Roles)?;
-    router.insert("/boards/{b}/tasks", Route::Tasks)?;
-    router.insert("/boards/{b}/tasks/{uuid}", Route::Task)?;
-    router.insert("/boards/{b}/tasks/{uuid}/{action}", Route::TaskAction)?;
-    router.insert("/boards/{b}/sweep", Route::Sweep)?;
-    router.insert("/boards/{b}/import", Route::Import)?;
-    router.insert("/boards/{b}/import-todo", Route::ImportTodo)?;
-    router.insert("/boards/{b}/list", Route::List)?;
-    router.insert("/boards/{b}/export", Route::Export)?;
-    router.insert("/boards/{b}/todo", Route::Todo)?;
+    add(&mut router, "/people", Route::People)?;
+    add(&mut router, "/boards", Route::Boards)?;
+    add(&mut router, "/boards/{b}/roles", Route::Roles)?;
+    add(&mut router, "/boards/{b}/tasks", Route::Tasks)?;
+    add(&mut router, "/boards/{b}/tasks/{uuid}", Route::Task)?;
+    add(
+        &mut router,
+        "/boards/{b}/tasks/{uuid}/{action}",
+        Route::TaskAction,
+    )?;
+    add(&mut router, "/boards/{b}/sweep", Route::Sweep)?;
+    add(&mut router, "/boards/{b}/import", Route::Import)?;
+    add(&mut router, "/boards/{b}/import-todo", Route::ImportTodo)?;
+    add(&mut router, "/boards/{b}/list", Route::List)?;
+    add(&mut router, "/boards/{b}/export", Route::Export)?;
+    add(&mut router, "/boards/{b}/todo", Route::Todo)?;
     Ok(router)
 }
 
@@ -90,12 +104,13 @@ pub struct Routes {
 }
 
 impl Routes {
-    pub fn new(alloc: Global) -> Result<Routes, InsertError>
+    pub fn new(alloc: Global) -> Result<Routes, AllocError>
         ensures { IfOk result (λ table. table.router ≡ routes.route_rows) }
     {
-        Ok(Routes {
-            router: table(alloc)?,
-        })
+        match table(alloc) {
+            Ok(router) => Ok(Routes { router }),
+            Err(_) => Err(AllocError),
+        }
     }
 
     /// The route that a path has: the whole target of a request, with any query.

@@ -27,6 +27,3 @@ pub use modify::read_modify;
 pub use reading::read_task;
 pub use stored::{read_stored, write_stored};
 pub use writing::{write_task, write_tasks};
-
-#[cfg(test)]
-mod tests;

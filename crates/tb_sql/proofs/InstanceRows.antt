@@ -1,45 +1,35 @@
 -- What the statements on instances do.
-use Rattle.std.proofs.Common.{◌≡◌, ◌∙◌, ◌<◌, ◌^◌, ◌&&◌, ℕ, pos, List, [], ◌∷◌, map, drop, codes, Bool, true, false, cond, Option, Some, None, option_map, slice_get, bytes_eq, inl, inr, refl, ap₂, subst, arith}
+use Rattle.std.proofs.Common.{◌≡◌, ℕ, pos, List, [], ◌∷◌, map, drop, codes, inl, inr, refl, arith}
 use Rattle.std.specs.Prelude.{filter, ◌==◌}
-use Rattle.std.specs.Int.{to_be_bytes, from_be_bytes, w128}
-use Rattle.std.specs.List.{AllByRecursion}
 use Rattle.std.specs.declared.cmp.Ordering.TheVariants.{Less}
 use Rattle.std.proofs.lemmas.Int.{ints}
 use Rattle.std.proofs.lemmas.Bool.Decides.{nat_tests}
 use Rattle.sqlite_value.specs.declared.keys.Collation.TheVariants.{Binary}
 use Rattle.sqlite_value.specs.declared.keys.Key.{Key}
-use Rattle.sqlite_value.specs.declared.value.Value.{Value}
-use Rattle.sqlite_value.specs.declared.value.Value.TheVariants.{Null, Int, Text, Blob}
+use Rattle.sqlite_value.specs.declared.value.Value.TheVariants.{Null, Int}
 use Rattle.sqlite_value.specs.Keys.{ascending}
 use Rattle.sqlite_value.specs.Order.{Row, column}
 use Rattle.sqlite_value.proofs.OrderLemmas.{value_cmp-Int}
-use Rattle.sqlite_sql.specs.Query.{Query, Output, output_cmp}
+use Rattle.sqlite_sql.specs.Query.{Output, output_cmp}
 use Rattle.sqlite_sql.specs.Term.{Term, lit, col}
-use Rattle.sqlite_schema.specs.declared.schema.Kind.TheVariants.{Integer, Text as TextKind}
-use Rattle.sqlite_schema.specs.declared.command.Command.TheVariants.{Insert, Update, Delete}
+use Rattle.sqlite_schema.specs.declared.command.Command.TheVariants.{Insert}
 use Rattle.sqlite_schema.specs.declared.command.Source.TheVariants.{Values}
-use Rattle.sqlite_rules.specs.Cast.{cast}
 use Rattle.sqlite_tied.specs.Compute.{everything}
 use Rattle.sqlite.specs.Listing.{understood}
 use Rattle.sqlite.specs.State.{State, Shown}
-use Rattle.sqlite.specs.Values.{or_null}
 use Rattle.tb_sql_tables.specs.declared.rows.InstanceRow.{InstanceRow}
 use Rattle.tb_sql_tables.specs.Tables.{instance_plain, instance_table, instance_tree, store_schema}
 use Rattle.tb_sql_tables.specs.Rows.{instance_row}
 use Rattle.tb_sql_tables.specs.Reading.{instance_of}
-use Rattle.tb_sql_tables.specs.Content.{Changes, Finds, Ran, HaveIdentifiers, AreIdentified}
-use Rattle.tb_sql_tables.specs.Found.{AreFound, IsOneOf}
+use Rattle.tb_sql_tables.specs.Content.{Changes, Finds, Ran}
+use Rattle.tb_sql_tables.specs.Found.{AreFound}
 use Rattle.tb_sql_tables.proofs.Contents.{instances_changed}
-use Rattle.tb_sql_tables.proofs.Effects.{each, each_of, each_left, cells_deleted, cells_updated, keyed_updated, cells_shown, keyed_shown, found, found_one}
+use Rattle.tb_sql_tables.proofs.Effects.{each, cells_shown, found}
 use Rattle.tb_sql_tables.proofs.Inserts.{row_put, cast_integer, cast_null}
 use Rattle.tb_sql_tables.proofs.Inside.{shown_open}
-use Rattle.tb_sql_tables.proofs.Keyed.{keyed_put}
-use Rattle.tb_sql_tables.proofs.KeyTests.{equal, by_one, by_two, by_three, has_one, has_two, has_three, one_tested, two_tested, three_tested, equal_numbers, equal_texts, equal_identifiers}
-use Rattle.tb_sql_tables.proofs.Masks.{cast_mask, mask_read}
-use Rattle.tb_sql_tables.proofs.Queries.{query_of, program_of, output_at}
-use Rattle.tb_sql_tables.proofs.SqlTests.{and_true}
+use Rattle.tb_sql_tables.proofs.KeyTests.{by_one, has_one, one_tested, equal_numbers}
+use Rattle.tb_sql_tables.proofs.Queries.{query_of, output_at}
 use Rattle.tb_sql_tables.proofs.Statements.{Means, Asks, row_inserted}
-use Rattle.uuid.proofs.OrderLemmas.{from_be_bytes-to_be_bytes_16}
 use Rattle.tb_sql.specs.Changes.{with_instance, IsInstanceBefore}
 
 -- ---- a row goes in

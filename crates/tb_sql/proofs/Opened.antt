@@ -1,7 +1,10 @@
 -- What a connection that has just been opened shows.
-use Rattle.std.proofs.Common.{◌≡◌, ◌∙◌, ◌&&◌, Bool, not, List, [], ◌∷◌, length, get_or, codes, bytes_eq, IsTrue, true, false, arith, inl, inr, refl, sym, ap, subst}
+use Rattle.std.proofs.Common.{◌≡◌, ◌∙◌, ◌&&◌, Bool, List, [], ◌∷◌, length, IsPermutation, IsTrue, true, false, Ok, Err, arith, inl, inr, refl, sym, ap, subst}
+use Rattle.std.proofs.lemmas.List.Sorted.{length_permutation, All-permutation}
+use Rattle.std.proofs.lemmas.List.Elements.{All-from_recursion, recursion_from_All}
 use Rattle.sqlite_trees.specs.Tree.{Trees}
 use Rattle.sqlite_schema.specs.declared.schema.Table.{Table}
+use Rattle.sqlite_schema.specs.declared.schema.Schema.{Schema}
 use Rattle.sqlite_catalog.specs.Listing.{IsSound}
 use Rattle.sqlite.specs.Effect.{Database}
 use Rattle.sqlite.specs.State.{State, HasCleanDisk, Opens, IsLive, KeepsCommit, IsRolledBack, Survives}
@@ -9,7 +12,9 @@ use Rattle.tb_sql_tables.specs.Tables.{no_schema, store_schema}
 use Rattle.tb_sql_tables.specs.Content.{Content, AreRows, IsContent, Stands, StandsBy, StandsEmpty}
 use Rattle.tb_sql_tables.proofs.Once.{schema_once}
 use Rattle.tb_sql_tables.specs.declared.rows.MetaRow.{MetaRow}
-use Rattle.tb_sql.specs.Opening.{are_ours, are_tables, has_meta, our_meta, IsAsBefore, is_meta, is_person, is_board, is_role, is_task, is_link, is_instance, is_gone, is_kept}
+use Rattle.tb_sql.specs.declared.opening.OpenFault.{OpenFault}
+use Rattle.tb_sql.specs.declared.opening.OpenFault.TheVariants.{NotOurs}
+use Rattle.tb_sql.specs.Opening.{are_tables, has_meta, if_ours, is_ours, judged, our_meta, taken, IsAsBefore, is_meta, is_person, is_board, is_role, is_task, is_link, is_instance, is_gone, is_kept}
 
 -- rows of a content make the schema that of a store
 pub opened_content : (s : State) (content : Content) → Opens s → IsLive s → AreRows content s.now.trees → IsContent content s.now
@@ -41,7 +46,7 @@ other_length (p ∷ tests) (t ∷ tables) other = last (p t) (other_length tests
     last true e = e
     last false e = refl
 
-our_tables : are_ours store_schema.tables ≡ true
+our_tables : is_ours store_schema ≡ true
 unfolding Rattle.sqlite_schema.specs.Names.same_name is_meta is_person is_board is_role is_task is_link is_instance is_gone is_kept
 our_tables = refl
 
@@ -49,16 +54,24 @@ our_first : has_meta store_schema.tables ≡ true
 unfolding Rattle.sqlite_schema.specs.Names.same_name is_meta
 our_first = refl
 
--- a database with other tables has the rows of no content
-pub others_refused : (s : State) (content : Content) → Opens s → IsLive s → are_ours s.now.schema.tables ≡ false → AreRows content s.now.trees → ⊥
-others_refused s content opened live other rows =
-    let ours : are_ours s.now.schema.tables ≡ true = subst (λ x. are_ours x.tables ≡ true) (sym (opened_content s content opened live rows).schema) our_tables in
+pub store_has_meta : (schema : Schema) → schema ≡ store_schema → has_meta schema.tables ≡ false → ⊥
+store_has_meta schema is other =
+    let ours : has_meta schema.tables ≡ true = subst (λ x. has_meta x.tables ≡ true) (sym is) our_first in
     cc
+
+pub store_is_ours : (schema : Schema) → schema ≡ store_schema → is_ours schema ≡ false → ⊥
+store_is_ours schema is other =
+    let ours : is_ours schema ≡ true = subst (λ x. is_ours x ≡ true) (sym is) our_tables in
+    cc
+
+-- a database with other tables has the rows of no content
+pub others_refused : (s : State) (content : Content) → Opens s → IsLive s → is_ours s.now.schema ≡ false → AreRows content s.now.trees → ⊥
+others_refused s content opened live other rows =
+    store_is_ours s.now.schema (opened_content s content opened live rows).schema other
 
 pub first_refused : (s : State) (content : Content) → Opens s → IsLive s → has_meta s.now.schema.tables ≡ false → AreRows content s.now.trees → ⊥
 first_refused s content opened live other rows =
-    let ours : has_meta s.now.schema.tables ≡ true = subst (λ x. has_meta x.tables ≡ true) (sym (opened_content s content opened live rows).schema) our_first in
-    cc
+    store_has_meta s.now.schema (opened_content s content opened live rows).schema other
 
 -- ---- a look at the database
 
@@ -98,14 +111,34 @@ stands_again Seen Left old new stands before = record {
 
 -- ---- the row of the first table
 
-pub ours_is : (metas : List MetaRow) (meta : MetaRow) → metas ≡ meta ∷ [] → meta.kind ≡ codes "taskboard" → meta.version ≡ 1 → metas ≡ our_meta ∷ []
-ours_is metas meta one kind version = one ∙ (λ i. let row : MetaRow = record { kind = kind i; version = version i } in row ∷ [])
+-- the order of the rows says nothing
+pub judged_same : (rows metas : List MetaRow) → IsPermutation rows metas → judged metas ≡ judged rows
+judged_same [] [] same = refl
+judged_same [] (m ∷ metas) same = absurd (omega (arith, length_permutation [] (m ∷ metas) same))
+judged_same (r ∷ []) [] same = absurd (omega (arith, length_permutation (r ∷ []) [] same))
+judged_same (r ∷ []) (m ∷ []) same =
+    let is : m ≡ r = (recursion_from_All (λ x. x ≡ r) (m ∷ []) (All-permutation (λ x. x ≡ r) (r ∷ []) (m ∷ []) same (All-from_recursion (λ x. x ≡ r) (r ∷ []) (refl, tt)))).0 in
+    ap (λ x. judged (x ∷ [])) is
+judged_same (r ∷ []) (m ∷ n ∷ metas) same = absurd (omega (arith, length_permutation (r ∷ []) (m ∷ n ∷ metas) same))
+judged_same (r ∷ s ∷ rows) [] same = absurd (omega (arith, length_permutation (r ∷ s ∷ rows) [] same))
+judged_same (r ∷ s ∷ rows) (m ∷ []) same = absurd (omega (arith, length_permutation (r ∷ s ∷ rows) (m ∷ []) same))
+judged_same (r ∷ s ∷ rows) (m ∷ n ∷ metas) same = refl
 
-pub one_row : (metas : List MetaRow) (meta : MetaRow) → length metas ≡ 1 → meta ≡ get_or metas 0 meta → metas ≡ meta ∷ []
-one_row [] meta one is = absurd (omega (arith, one))
-one_row (m ∷ []) meta one is = ap (λ x. x ∷ []) (sym is)
-one_row (m ∷ n ∷ metas) meta one is = absurd (omega (arith, one))
+-- the row of a store is not refused
+pub ours_not_refused : (fault : OpenFault) → Err fault ≡ judged (our_meta ∷ []) → ⊥
+ours_not_refused fault is = absurd (let none : Err fault ≡ Ok tt = is in cc)
 
-pub not_other : (b : Bool) → not b ≡ false → b ≡ true
-not_other true h = refl
-not_other false h = sym h
+-- ---- the answer, by the tables and the rows
+
+pub refused_taken : (schema : Schema) (metas : List MetaRow) (fault : OpenFault) → Err fault ≡ judged metas → Err fault ≡ taken schema metas
+refused_taken schema metas fault is = subst (λ said. Err fault ≡ if_ours (is_ours schema) said) is (either (is_ours schema))
+  where
+    either : (b : Bool) → Err fault ≡ if_ours b (Err fault)
+    either true = refl
+    either false = refl
+
+pub ours_taken : (schema : Schema) (metas : List MetaRow) → is_ours schema ≡ true → Ok tt ≡ judged metas → Ok tt ≡ taken schema metas
+ours_taken schema metas ours is = subst (λ b. Ok tt ≡ if_ours b (judged metas)) (sym ours) is
+
+pub others_taken : (schema : Schema) (metas : List MetaRow) → is_ours schema ≡ false → Ok tt ≡ judged metas → Err NotOurs ≡ taken schema metas
+others_taken schema metas other is = subst (λ said. Err NotOurs ≡ if_ours (is_ours schema) said) is (subst (λ b. Err NotOurs ≡ if_ours b (Ok tt)) (sym other) refl)

@@ -1,5 +1,5 @@
 -- What the statements on roles do.
-use Rattle.std.proofs.Common.{◌≡◌, ◌<◌, ◌&&◌, ℕ, pos, List, [], ◌∷◌, map, drop, codes, refl, ap₂, arith, option_map, slice_get}
+use Rattle.std.proofs.Common.{◌≡◌, ◌&&◌, ℕ, pos, List, [], ◌∷◌, map, drop, codes, refl, ap₂, arith, option_map, slice_get}
 use Rattle.std.specs.Prelude.{filter, ◌==◌}
 use Rattle.std.specs.declared.cmp.Ordering.TheVariants.{Less}
 use Rattle.std.proofs.lemmas.Int.{ints}
@@ -10,7 +10,7 @@ use Rattle.sqlite_value.specs.declared.value.Value.TheVariants.{Null, Int}
 use Rattle.sqlite_value.specs.Keys.{ascending}
 use Rattle.sqlite_value.specs.Order.{Row, column}
 use Rattle.sqlite_value.proofs.OrderLemmas.{value_cmp-Int}
-use Rattle.sqlite_sql.specs.Query.{Query, Output, output_cmp}
+use Rattle.sqlite_sql.specs.Query.{Output, output_cmp}
 use Rattle.sqlite_sql.specs.Term.{Term, lit, col}
 use Rattle.sqlite_schema.specs.declared.command.Command.TheVariants.{Insert, Delete}
 use Rattle.sqlite_schema.specs.declared.command.Source.TheVariants.{Values}

@@ -1,5 +1,8 @@
 -- Which databases are taken as a store.
-use Rattle.std.specs.Prelude.{◌≡◌, ◌≢◌, ◌&&◌, ℕ, pos, Bool, true, false, List, [], ◌∷◌, codes, IsTrue}
+use Rattle.std.specs.Prelude.{◌≡◌, ◌⊎◌, ◌&&◌, ◌==◌, if◌then◌else◌, ℕ, pos, Bool, true, false, List, [], ◌∷◌, length, codes, bytes_eq, IsTrue, map, IsPermutation, Result, Ok, Err}
+use Rattle.sqlite_value.specs.declared.value.Value.TheVariants.{Null, Int, Text as Words}
+use Rattle.sqlite_value.specs.Order.{Row}
+use Rattle.sqlite_trees.specs.declared.store.Store.{Ghosts}
 use Rattle.sqlite_trees.specs.Tree.{Trees}
 use Rattle.sqlite_schema.specs.declared.schema.Column.{Column}
 use Rattle.sqlite_schema.specs.declared.schema.Kind.{Kind}
@@ -7,8 +10,15 @@ use Rattle.sqlite_schema.specs.declared.schema.Kind.TheVariants.{Integer, Text, 
 use Rattle.sqlite_schema.specs.declared.schema.Table.{Table}
 use Rattle.sqlite_schema.specs.declared.schema.Schema.{Schema}
 use Rattle.sqlite_schema.specs.Names.{same_name}
-use Rattle.sqlite.specs.State.{State, HasCleanDisk}
+use Rattle.sqlite.specs.Effect.{Database}
+use Rattle.sqlite.specs.Held.{Held, state}
+use Rattle.sqlite.specs.State.{State, HasCleanDisk, Shown}
 use Rattle.tb_sql_tables.specs.declared.rows.MetaRow.{MetaRow}
+use Rattle.tb_sql_tables.specs.Tables.{meta_tree, store_schema}
+use Rattle.tb_sql_tables.specs.Content.{HasKeyed}
+use Rattle.tb_sql_tables.specs.Reading.{meta_of}
+use Rattle.tb_sql.specs.declared.opening.OpenFault.{OpenFault}
+use Rattle.tb_sql.specs.declared.opening.OpenFault.TheVariants.{NotOurs, WrongVersion, Store, Memory}
 
 -- ---- the tables, by their names and the names and types of their columns
 
@@ -74,10 +84,62 @@ are_tables (p ∷ ps) (t ∷ ts) = p t && are_tables ps ts
 abbrev pub are_ours : List Table → Bool
 are_ours = are_tables (is_meta ∷ is_person ∷ is_board ∷ is_role ∷ is_task ∷ is_link ∷ is_instance ∷ is_gone ∷ is_kept ∷ [])
 
+-- the tables are those of a store, and beside them are the nine indexes of their keys alone
+abbrev pub is_ours : Schema → Bool
+is_ours schema = are_ours schema.tables && ((length schema.indexes == 9) && (length schema.views == 0))
+
 -- ---- what the file is
 
 abbrev pub our_meta : MetaRow
 our_meta = record { kind = codes "taskboard"; version = 1 }
+
+-- a row of the first table, with its rowid
+abbrev pub row_of_meta : MetaRow → Row
+row_of_meta meta = Int (pos 1) ∷ Null ∷ Words meta.kind ∷ Int (pos meta.version) ∷ []
+
+-- where the tables are those of a store, these are the rows of the first
+abbrev pub AreMetas : Database → List MetaRow → Type 0
+AreMetas db metas = db.schema ≡ store_schema → (rows : List MetaRow) → HasKeyed (map row_of_meta rows) (db.trees meta_tree) → IsPermutation rows metas
+
+-- what the rows of the first table say: one row names a store and its version
+abbrev pub judged : List MetaRow → Result (Unit {0}) OpenFault
+judged [] = Err NotOurs
+judged (meta ∷ []) = if bytes_eq meta.kind (codes "taskboard") then (if meta.version == 1 then Ok tt else Err WrongVersion) else Err NotOurs
+judged (a ∷ b ∷ metas) = Err NotOurs
+
+-- a store is taken only where its tables are there, and nothing else
+abbrev pub if_ours : Bool → Result (Unit {0}) OpenFault → Result (Unit {0}) OpenFault
+if_ours true said = said
+if_ours false (Ok done) = Err NotOurs
+if_ours false (Err fault) = Err fault
+
+-- what the tables and those rows say
+abbrev pub taken : Schema → List MetaRow → Result (Unit {0}) OpenFault
+taken schema metas = if_ours (is_ours schema) (judged metas)
+
+-- the answer is this one, unless the database fails or memory is wanting
+abbrev pub Answers : Result (Unit {0}) OpenFault → Result (Unit {0}) OpenFault → Type 0
+Answers wanted answer = (answer ≡ wanted) ⊎ ((answer ≡ Err Store) ⊎ (answer ≡ Err Memory))
+
+-- ---- what a look finds in any database that has the first table
+
+abbrev pub meta_text : List ℕ
+meta_text = codes "SELECT kind, version FROM meta"
+
+-- the query of the first table shows these rows
+pub record AreShown (old new : State) (metas : List MetaRow) : Type 0 where
+  pub rows : List Row
+  pub shown : Shown meta_text [] old new rows
+  pub read : metas ≡ map meta_of rows
+
+module _ {S : Type 0} (g : Ghosts S) where
+  -- the query shows these rows in a transaction that begins here
+  abbrev pub AreShownFrom : Held S → List MetaRow → Type 0
+  AreShownFrom conn metas = (later : Held S) × AreShown (state g (record conn { in_transaction = true })) (state g later) metas
+
+  -- the answer is what the tables and the rows say, unless the database fails or memory is wanting
+  abbrev pub IsAnswered : Held S → Result (Unit {0}) OpenFault → Type 0
+  IsAnswered conn answer = ((metas : List MetaRow) × AreShownFrom conn metas × (answer ≡ taken conn.schema metas)) ⊎ ((answer ≡ Err Store) ⊎ (answer ≡ Err Memory))
 
 -- ---- what a look leaves
 

@@ -1,6 +1,5 @@
 -- What a list of changes does to the content.
-use Rattle.std.specs.Prelude.{List, [], ◌∷◌, fold}
-use Rattle.tb_sql_tables.specs.declared.rows.PersonRow.{PersonRow}
+use Rattle.std.specs.Prelude.{List, fold}
 use Rattle.tb_sql_tables.specs.declared.rows.KeptRow.{KeptRow}
 use Rattle.tb_sql_tables.specs.Content.{Content, nothing}
 use Rattle.tb_sql.specs.declared.changes.RowChange.{RowChange}
@@ -30,6 +29,6 @@ changed_by_all changes content = fold (λ c change. changed_by change c) content
 abbrev pub written : List RowChange → KeptRow → Content → Content
 written changes kept content = changed_by_all changes (with_kept kept content)
 
--- a store that has this person alone
-abbrev pub opening : PersonRow → Content
-opening person = with_person person nothing
+-- a store that has what these changes put into it alone
+abbrev pub opening : List RowChange → Content
+opening changes = changed_by_all changes nothing

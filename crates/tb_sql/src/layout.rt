@@ -7,6 +7,9 @@ ghost use Rattle.tb_sql.specs.Opening as opening;
 use sqlite_schema::names::same_name;
 use sqlite_schema::schema::{Column, Kind, Schema, Table};
 
+/// The indexes that the keys of the tables make.
+const KEY_INDEXES: usize = 9;
+
 fn is_named(name: &[u8], wanted: &str) -> bool
     ensures { result ≡ same_name name.now wanted.now }
 {
@@ -203,13 +206,21 @@ fn are_later(tables: &[Table]) -> bool
     is_role(role) && is_task(task) && is_link(link) && are_last(last)
 }
 
-/// Whether the tables are those of a store, in the order in which they are made.
 #[tactic(auto, using(crate::proofs::Opened::other_length))]
-pub(crate) fn are_ours(schema: &Schema) -> bool
-    ensures { result ≡ opening.are_ours schema.now.tables }
+fn are_first(tables: &[Table]) -> bool
+    ensures { result ≡ opening.are_ours tables.now }
 {
-    let [meta, person, board, later @ ..] = schema.tables.as_slice() else {
+    let [meta, person, board, later @ ..] = tables else {
         return false;
     };
     is_meta(meta) && is_person(person) && is_board(board) && are_later(later)
+}
+
+/// Whether the tables are those of a store, in the order in which they are made, and nothing else is there.
+pub(crate) fn is_ours(schema: &Schema) -> bool
+    ensures { result ≡ opening.is_ours schema.now }
+{
+    are_first(schema.tables.as_slice())
+        && schema.indexes.len() == KEY_INDEXES
+        && schema.views.is_empty()
 }

@@ -1,13 +1,14 @@
 //! Takes a connection that was opened over a database as a store.
 
-ghost use Rattle.std.specs.Prelude.{◌≡◌, ◌⊎◌, [], ◌∷◌, true, false, IsTrue, IfOk, OnOk, OnErr, Err};
+ghost use Rattle.std.specs.Prelude.{◌≡◌, ◌⊎◌, List, [], ◌∷◌, map, true, false, IsTrue, IfOk, OnOk, Err};
 ghost use Rattle.sqlite.specs.Held.{state};
 ghost use Rattle.sqlite.specs.State.{HasCleanDisk, Opens};
-ghost use Rattle.tb_sql_tables.specs.Tables.{no_schema};
-ghost use Rattle.tb_sql_tables.specs.Content.{Content, AreRows, IsContent, Stands, StandsEmpty};
-ghost use Rattle.tb_sql.specs.Opening.{are_ours, has_meta, our_meta, IsAsBefore};
+ghost use Rattle.tb_sql_tables.specs.Tables.{meta_tree, no_schema, store_schema};
+ghost use Rattle.tb_sql_tables.specs.declared.rows.MetaRow.{MetaRow as Meta};
+ghost use Rattle.tb_sql_tables.specs.Content.{Content, AreRows, HasKeyed, IsContent, Stands, StandsEmpty};
+ghost use Rattle.tb_sql.specs.Opening.{has_meta, is_ours, judged, our_meta, row_of_meta, Answers, AreMetas, AreShownFrom, IsAnswered, IsAsBefore};
 
-use crate::layout::{are_ours, has_meta};
+use crate::layout::{has_meta, is_ours};
 use crate::meta::select_meta;
 use crate::store::StoreFault;
 use sqlite::{Alter, Connection};
@@ -33,7 +34,8 @@ pub enum OpenFault {
 
 impl OpenFault {
     fn of(fault: StoreFault) -> OpenFault
-        ensures { (result ≡ OpenFault.Memory) ⊎ (result ≡ OpenFault.Store) }
+        ensures memory { fault ≡ StoreFault.Memory → result ≡ OpenFault.Memory }
+        ensures store { fault ≡ StoreFault.Store → result ≡ OpenFault.Store }
     {
         match fault {
             StoreFault::Memory => OpenFault::Memory,
@@ -57,6 +59,8 @@ fn read_meta<S: Alter>(conn: &mut Connection<S>) -> Result<Items<MetaRow>, Store
     requires { conn.old.in_transaction ≡ false }
     ensures idle { conn.new.in_transaction ≡ false }
     ensures found { IfOk result (λ metas. HasCleanDisk (state S.Store conn.new) → (content : Content) → IsContent content (state S.Store conn.old).now → metas ≡ our_meta ∷ []) }
+    ensures told { IfOk result (λ metas. HasCleanDisk (state S.Store conn.new) → AreMetas (state S.Store conn.old).now metas) }
+    ensures shown { IfOk result (λ metas. HasCleanDisk (state S.Store conn.new) → AreShownFrom S.Store conn.old metas) }
     ensures same { IsAsBefore (state S.Store conn.old) (state S.Store conn.new) }
 {
     let mut tx = conn.transaction();
@@ -70,8 +74,7 @@ fn read_meta<S: Alter>(conn: &mut Connection<S>) -> Result<Items<MetaRow>, Store
 
 /// Judges what the file is.
 fn judge(metas: &[MetaRow]) -> Result<(), OpenFault>
-    ensures ours { OnOk result (metas.now ≡ our_meta ∷ []) }
-    ensures refused { OnErr result (metas.now ≡ our_meta ∷ [] → ⊥) }
+    ensures { result ≡ judged metas.now }
 {
     let [meta] = metas else {
         return Err(OpenFault::NotOurs);
@@ -92,10 +95,14 @@ pub fn accept<S: Alter>(conn: &mut Connection<S>) -> Result<(), OpenFault>
     ensures shows { OnOk result (Opens (state S.Store conn.old) → (content : Content) → AreRows content (state S.Store conn.old).now.trees → Stands content (state S.Store conn.new)) }
     ensures refuses { (result ≡ Err OpenFault.NotOurs) ⊎ (result ≡ Err OpenFault.WrongVersion)
         → HasCleanDisk (state S.Store conn.new) → Opens (state S.Store conn.old) → (content : Content) → AreRows content (state S.Store conn.old).now.trees → ⊥ }
-    ensures tables { OnOk result (are_ours (state S.Store conn.old).now.schema.tables ≡ true) }
+    ensures tables { OnOk result (is_ours (state S.Store conn.old).now.schema ≡ true) }
+    ensures foreign { has_meta (state S.Store conn.old).now.schema.tables ≡ false → result ≡ Err OpenFault.NotOurs }
+    ensures answered { HasCleanDisk (state S.Store conn.new) → has_meta (state S.Store conn.old).now.schema.tables ≡ true → IsAnswered S.Store conn.old result }
+    ensures told { HasCleanDisk (state S.Store conn.new) → (state S.Store conn.old).now.schema ≡ store_schema
+        → (metas : List Meta) → HasKeyed (map row_of_meta metas) ((state S.Store conn.old).now.trees meta_tree) → Answers (judged metas) result }
     ensures same { IsAsBefore (state S.Store conn.old) (state S.Store conn.new) }
 {
-    let ours = are_ours(conn.schema());
+    let ours = is_ours(conn.schema());
     if !has_meta(conn.schema()) {
         return Err(OpenFault::NotOurs);
     }
@@ -103,10 +110,12 @@ pub fn accept<S: Alter>(conn: &mut Connection<S>) -> Result<(), OpenFault>
         Ok(metas) => metas,
         Err(fault) => return Err(OpenFault::of(fault)),
     };
-    judge(metas.as_slice())?;
+    if let Err(fault) = judge(metas.as_slice()) {
+        return Err(fault);
+    }
     if ours {
         Ok(())
     } else {
-        Err(OpenFault::NotOurs) // Another table is there, or one is missing.
+        Err(OpenFault::NotOurs) // Something else is there, or a table is missing.
     }
 }

@@ -8,10 +8,9 @@ ghost use Rattle.tb_sql.specs.Writing.{written, opening};
 
 use crate::changes::{RowChange, apply_changes};
 use crate::kept::insert_kept;
-use crate::people::insert_person;
 use sqlite::{Alter, Connection, Error, ErrorCode, Transaction};
 use tb_sql_tables::create::create_all;
-use tb_sql_tables::rows::{KeptRow, PersonRow};
+use tb_sql_tables::rows::KeptRow;
 
 /// Why a transaction fails.
 #[derive(Clone, Copy, Debug, PartialEq, Eq)]
@@ -73,29 +72,29 @@ pub fn write_rows<S: Alter>(
     }
 }
 
-/// Makes the tables, with one person.
-fn put_tables<S: Alter>(tx: &mut Transaction<'_, S>, person: &PersonRow) -> Result<(), Error>
+/// Makes the tables, and puts the first rows in.
+fn put_tables<S: Alter>(tx: &mut Transaction<'_, S>, rows: &[RowChange]) -> Result<(), Error>
     ensures same_reference { tx.new.conn.ghost_name ≡ tx.old.conn.ghost_name }
     ensures made { HasCleanDisk (state S.Store tx.new.conn.now) → IsTrue (state S.Store tx.old.conn.now).in_transaction
-        → OnOk result (Turns HasNoTables (IsContent (opening person.now)) (state S.Store tx.old.conn.now) (state S.Store tx.new.conn.now)) }
+        → OnOk result (Turns HasNoTables (IsContent (opening rows.now)) (state S.Store tx.old.conn.now) (state S.Store tx.new.conn.now)) }
     ensures kept { HasCleanDisk (state S.Store tx.new.conn.now) → IsTrue (state S.Store tx.old.conn.now).in_transaction
         → OnErr result (KeepsCommit (state S.Store tx.old.conn.now) (state S.Store tx.new.conn.now)) }
     ensures survives { Survives (state S.Store tx.old.conn.now) (state S.Store tx.new.conn.now) (λ _. ⊥) }
 {
     create_all(tx)?;
-    insert_person(tx, person)
+    apply_changes(tx, rows)
 }
 
-/// Makes the tables of a store in an empty database, with one person.
-pub fn create<S: Alter>(conn: &mut Connection<S>, person: &PersonRow) -> Result<(), StoreFault>
+/// Makes the tables of a store in an empty database, and puts the first rows in, at once.
+pub fn create<S: Alter>(conn: &mut Connection<S>, rows: &[RowChange]) -> Result<(), StoreFault>
     requires { conn.old.in_transaction ≡ false }
     ensures idle { conn.new.in_transaction ≡ false }
-    ensures done { OnOk result (StandsEmpty (state S.Store conn.old) → Stands (opening person.now) (state S.Store conn.new)) }
+    ensures done { OnOk result (StandsEmpty (state S.Store conn.old) → Stands (opening rows.now) (state S.Store conn.new)) }
     ensures memory { result ≡ Err StoreFault.Memory → StandsEmpty (state S.Store conn.old) → StandsEmpty (state S.Store conn.new) }
-    ensures store { result ≡ Err StoreFault.Store → StandsEmpty (state S.Store conn.old) → StandsEmptyOr (opening person.now) (state S.Store conn.new) }
+    ensures store { result ≡ Err StoreFault.Store → StandsEmpty (state S.Store conn.old) → StandsEmptyOr (opening rows.now) (state S.Store conn.new) }
 {
     let mut making = conn.transaction();
-    if let Err(error) = put_tables(&mut making, person) {
+    if let Err(error) = put_tables(&mut making, rows) {
         return Err(StoreFault::before_commit(&error));
     }
     match making.commit() {

@@ -1,22 +1,43 @@
-use Rattle.std.proofs.Common.{codes, ap, ◌∙◌}
-use Rattle.tb_http.specs.declared.route.Route.TheVariants.{People, Boards, Roles, Tasks, Task, TaskAction, Sweep, Import, ImportTodo, List as ListRoute, Export, Todo}
-use Rattle.tb_http.specs.Routes.{with_route, route_rows}
-use Rattle.tb_http.proofs.RouteLemmas.{route_inserted}
+use Rattle.tb_http.specs.Routes.{route_rows}
+use Rattle.tb_http.proofs.RouteTable.{table_fits}
 use Rattle.tb_http.proofs.route.table.Goals as goal
 
-pub returns : goal.returns
+pub add-requires : goal.add-requires
+add-requires c = rw c.new-router.ensures table_fits.0
+
+pub add-requires-2 : goal.add-requires-2
+add-requires-2 c = rw (c.in_ok-add.ensures.row, c.new-router.ensures) table_fits.1.0
+
+pub add-requires-3 : goal.add-requires-3
+add-requires-3 c = rw (c.in_ok-add-2.ensures.row, c.in_ok-add.ensures.row, c.new-router.ensures) table_fits.1.1.0
+
+pub add-requires-4 : goal.add-requires-4
+add-requires-4 c = rw (c.in_ok-add-3.ensures.row, c.in_ok-add-2.ensures.row, c.in_ok-add.ensures.row, c.new-router.ensures) table_fits.1.1.1.0
+
+pub add-requires-5 : goal.add-requires-5
+add-requires-5 c = rw (c.in_ok-add-4.ensures.row, c.in_ok-add-3.ensures.row, c.in_ok-add-2.ensures.row, c.in_ok-add.ensures.row, c.new-router.ensures) table_fits.1.1.1.1.0
+
+pub add-requires-6 : goal.add-requires-6
+add-requires-6 c = rw (c.in_ok-add-5.ensures.row, c.in_ok-add-4.ensures.row, c.in_ok-add-3.ensures.row, c.in_ok-add-2.ensures.row, c.in_ok-add.ensures.row, c.new-router.ensures) table_fits.1.1.1.1.1.0
+
+pub add-requires-7 : goal.add-requires-7
+add-requires-7 c = rw (c.in_ok-add-6.ensures.row, c.in_ok-add-5.ensures.row, c.in_ok-add-4.ensures.row, c.in_ok-add-3.ensures.row, c.in_ok-add-2.ensures.row, c.in_ok-add.ensures.row, c.new-router.ensures) table_fits.1.1.1.1.1.1.0
+
+pub add-requires-8 : goal.add-requires-8
+add-requires-8 c = rw (c.in_ok-add-7.ensures.row, c.in_ok-add-6.ensures.row, c.in_ok-add-5.ensures.row, c.in_ok-add-4.ensures.row, c.in_ok-add-3.ensures.row, c.in_ok-add-2.ensures.row, c.in_ok-add.ensures.row, c.new-router.ensures) table_fits.1.1.1.1.1.1.1.0
+
+pub add-requires-9 : goal.add-requires-9
+add-requires-9 c = rw (c.in_ok-add-8.ensures.row, c.in_ok-add-7.ensures.row, c.in_ok-add-6.ensures.row, c.in_ok-add-5.ensures.row, c.in_ok-add-4.ensures.row, c.in_ok-add-3.ensures.row, c.in_ok-add-2.ensures.row, c.in_ok-add.ensures.row, c.new-router.ensures) table_fits.1.1.1.1.1.1.1.1.0
+
+pub add-requires-10 : goal.add-requires-10
+add-requires-10 c = rw (c.in_ok-add-9.ensures.row, c.in_ok-add-8.ensures.row, c.in_ok-add-7.ensures.row, c.in_ok-add-6.ensures.row, c.in_ok-add-5.ensures.row, c.in_ok-add-4.ensures.row, c.in_ok-add-3.ensures.row, c.in_ok-add-2.ensures.row, c.in_ok-add.ensures.row, c.new-router.ensures) table_fits.1.1.1.1.1.1.1.1.1.0
+
+pub add-requires-11 : goal.add-requires-11
+add-requires-11 c = rw (c.in_ok-add-10.ensures.row, c.in_ok-add-9.ensures.row, c.in_ok-add-8.ensures.row, c.in_ok-add-7.ensures.row, c.in_ok-add-6.ensures.row, c.in_ok-add-5.ensures.row, c.in_ok-add-4.ensures.row, c.in_ok-add-3.ensures.row, c.in_ok-add-2.ensures.row, c.in_ok-add.ensures.row, c.new-router.ensures) table_fits.1.1.1.1.1.1.1.1.1.1.0
+
+pub add-requires-12 : goal.add-requires-12
+add-requires-12 c = rw (c.in_ok-add-11.ensures.row, c.in_ok-add-10.ensures.row, c.in_ok-add-9.ensures.row, c.in_ok-add-8.ensures.row, c.in_ok-add-7.ensures.row, c.in_ok-add-6.ensures.row, c.in_ok-add-5.ensures.row, c.in_ok-add-4.ensures.row, c.in_ok-add-3.ensures.row, c.in_ok-add-2.ensures.row, c.in_ok-add.ensures.row, c.new-router.ensures) table_fits.1.1.1.1.1.1.1.1.1.1.1.0
+
+pub returns-clause-rows : goal.returns-clause-rows
 unfolding route_rows
-returns c =
-    let e0 = route_inserted (codes "/people") People _ _ _ c.in_ok-insert.ensures ∙ ap (with_route (codes "/people") People) c.new-router.ensures in
-    let e1 = route_inserted (codes "/boards") Boards _ _ _ c.in_ok-insert-2.ensures ∙ ap (with_route (codes "/boards") Boards) e0 in
-    let e2 = route_inserted (codes "/boards/{b}/roles") Roles _ _ _ c.in_ok-insert-3.ensures ∙ ap (with_route (codes "/boards/{b}/roles") Roles) e1 in
-    let e3 = route_inserted (codes "/boards/{b}/tasks") Tasks _ _ _ c.in_ok-insert-4.ensures ∙ ap (with_route (codes "/boards/{b}/tasks") Tasks) e2 in
-    let e4 = route_inserted (codes "/boards/{b}/tasks/{uuid}") Task _ _ _ c.in_ok-insert-5.ensures ∙ ap (with_route (codes "/boards/{b}/tasks/{uuid}") Task) e3 in
-    let e5 = route_inserted (codes "/boards/{b}/tasks/{uuid}/{action}") TaskAction _ _ _ c.in_ok-insert-6.ensures ∙ ap (with_route (codes "/boards/{b}/tasks/{uuid}/{action}") TaskAction) e4 in
-    let e6 = route_inserted (codes "/boards/{b}/sweep") Sweep _ _ _ c.in_ok-insert-7.ensures ∙ ap (with_route (codes "/boards/{b}/sweep") Sweep) e5 in
-    let e7 = route_inserted (codes "/boards/{b}/import") Import _ _ _ c.in_ok-insert-8.ensures ∙ ap (with_route (codes "/boards/{b}/import") Import) e6 in
-    let e8 = route_inserted (codes "/boards/{b}/import-todo") ImportTodo _ _ _ c.in_ok-insert-9.ensures ∙ ap (with_route (codes "/boards/{b}/import-todo") ImportTodo) e7 in
-    let e9 = route_inserted (codes "/boards/{b}/list") ListRoute _ _ _ c.in_ok-insert-10.ensures ∙ ap (with_route (codes "/boards/{b}/list") ListRoute) e8 in
-    let e10 = route_inserted (codes "/boards/{b}/export") Export _ _ _ c.in_ok-insert-11.ensures ∙ ap (with_route (codes "/boards/{b}/export") Export) e9 in
-    let e11 = route_inserted (codes "/boards/{b}/todo") Todo _ _ _ c.in_ok-insert-12.ensures ∙ ap (with_route (codes "/boards/{b}/todo") Todo) e10 in
-    e11
+returns-clause-rows c = rw (c.in_ok-add-12.ensures.row, c.in_ok-add-11.ensures.row, c.in_ok-add-10.ensures.row, c.in_ok-add-9.ensures.row, c.in_ok-add-8.ensures.row, c.in_ok-add-7.ensures.row, c.in_ok-add-6.ensures.row, c.in_ok-add-5.ensures.row, c.in_ok-add-4.ensures.row, c.in_ok-add-3.ensures.row, c.in_ok-add-2.ensures.row, c.in_ok-add.ensures.row, c.new-router.ensures)

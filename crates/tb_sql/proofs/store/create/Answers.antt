@@ -14,7 +14,7 @@ pub returns-in-Ok-clause-done : goal.returns-in-Ok-clause-done
 returns-in-Ok-clause-done g c stands =
     let old = state g.S.Store c.args.conn.now in
     let mid = state g.S.Store c.put_tables.new.tx.conn.now in
-    let after = opening c.args.person.now in
+    let after = opening c.args.rows.now in
     let begun = c.transaction-making.ensures.begun in
     let inside : Survives old mid (λ _. ⊥) = survives_begin g.S.Store c.args.conn.now mid _ (rw begun at c.put_tables.ensures.survives) in
     let turned : HasCleanDisk mid → Turns HasNoTables (IsContent after) old mid =
@@ -30,7 +30,7 @@ pub returns-in-Err-commit-clause-store : goal.returns-in-Err-commit-clause-store
 returns-in-Err-commit-clause-store g c _ stands =
     let old = state g.S.Store c.args.conn.now in
     let mid = state g.S.Store c.put_tables.new.tx.conn.now in
-    let after = opening c.args.person.now in
+    let after = opening c.args.rows.now in
     let begun = c.transaction-making.ensures.begun in
     let inside : Survives old mid (λ _. ⊥) = survives_begin g.S.Store c.args.conn.now mid _ (rw begun at c.put_tables.ensures.survives) in
     let turned : HasCleanDisk mid → Turns HasNoTables (IsContent after) old mid =

@@ -1,0 +1,52 @@
+-- A link is refused as a cycle exactly where it would close a walk.
+use Rattle.std.proofs.Common.{◌≡◌, ◌↔◌, ◌⊎◌, inl, inr, ℕ, ◌==◌, ◌||◌, Bool, true, false, true≢false, not, ◌∷◌, [], None, Err, find, refl, sym}
+use Rattle.std.proofs.lemmas.Bool.{eqb-true, eq-eqb}
+use Rattle.tb_board.specs.declared.board.Board.{Board}
+use Rattle.tb_board.specs.Board.{has_id}
+use Rattle.tb_board.specs.Links.{leads_on}
+use Rattle.tb_board.specs.Walks.{DependsOn}
+use Rattle.tb_board.proofs.Walking.{leads_by_walks}
+use Rattle.tb_core.specs.declared.command.Told.{Told}
+use Rattle.tb_core.specs.declared.refusal.Refusal.TheVariants.{Cycle, NoTask, WrongStatus}
+use Rattle.tb_core.specs.Actions.{of_task}
+use Rattle.tb_core.specs.Cycles.{AreCyclesRefused}
+use Rattle.tb_core.specs.Depends.{closes_walk, is_open_task, lacks_either}
+use Rattle.tb_core.specs.Refusals.{least, unless_refused, where_holds}
+
+-- the last of three refusals is answered exactly where it alone holds
+last_alone : (lacks wrong closes : Bool) (b : Board) (told : Told)
+    → (unless_refused (least (where_holds NoTask lacks ∷ where_holds WrongStatus wrong ∷ where_holds Cycle closes ∷ [])) b told ≡ Err Cycle)
+    ↔ ((least (where_holds NoTask lacks ∷ where_holds WrongStatus wrong ∷ None ∷ []) ≡ None) × (closes ≡ true))
+last_alone true wrong closes b told = (λ h. absurd (cc), λ h. absurd (cc))
+last_alone false true closes b told = (λ h. absurd (cc), λ h. absurd (cc))
+last_alone false false true b told = (λ h. (refl, refl), λ h. refl)
+last_alone false false false b told = (λ h. absurd (cc), λ h. absurd (true≢false (sym h.1)))
+
+closes_if : (b : Board) (id on : ℕ) → closes_walk b id on ≡ true → (id ≡ on) ⊎ DependsOn b on id
+closes_if b id on h = elim (either (id == on) (leads_on b on id) h) [
+  | inl same ↦ inl (eqb-true id on same)
+  | inr walk ↦ inr ((leads_by_walks b on id).0 walk)
+]
+  where
+    either : (p q : Bool) → (p || q) ≡ true → (p ≡ true) ⊎ (q ≡ true)
+    either true q h = inl refl
+    either false q h = inr h
+
+if_closes : (b : Board) (id on : ℕ) → (id ≡ on) ⊎ DependsOn b on id → closes_walk b id on ≡ true
+if_closes b id on (inl same) = left (id == on) (leads_on b on id) (eq-eqb id on same)
+  where
+    left : (p q : Bool) → p ≡ true → (p || q) ≡ true
+    left true q h = refl
+    left false q h = absurd (true≢false (sym h))
+if_closes b id on (inr walk) = right (id == on) (leads_on b on id) ((leads_by_walks b on id).1 walk)
+  where
+    right : (p q : Bool) → q ≡ true → (p || q) ≡ true
+    right true q h = refl
+    right false q h = h
+
+pub cycles_refused : AreCyclesRefused
+cycles_refused b id on m =
+    let alone = last_alone (lacks_either b id on) (not (of_task is_open_task (find (has_id id) b.tasks))) (closes_walk b id on) _ _ in (
+      λ h. let parts = alone.0 h in (parts.0, closes_if b id on parts.1),
+      λ h. alone.1 (h.0, if_closes b id on h.1),
+    )
