@@ -3,14 +3,15 @@
 #![tactic(auto)]
 
 mod rows;
+mod steps;
 
 use crate::rows::{changes, first_rows, kept};
+use crate::steps::{begin, put};
 use sqlite::Connection;
 use std::alloc::{AllocError, Global};
 use std::io;
 use tb_sql::changes::RowChange;
-use tb_sql::opening::is_empty;
-use tb_sql::store::{StoreFault, create, write_rows};
+use tb_sql::store::StoreFault;
 use tb_sql_tables::rows::KeptRow;
 
 const PATH: &str = "sample.db";
@@ -39,11 +40,8 @@ fn make(rt: &HostRuntime) -> Result<(), StoreFault> {
         Ok(conn) => conn,
         Err(_) => return Err(StoreFault::Store),
     };
-    if !conn.is_autocommit() || !is_empty(&conn) {
-        return Err(StoreFault::Store);
-    }
-    create(&mut conn, &sample.opening)?;
-    write_rows(&mut conn, &sample.changes, &sample.reply)?;
+    begin(&mut conn, &sample.opening)?;
+    put(&mut conn, &sample.changes, &sample.reply)?;
     match conn.close() {
         Ok(()) => Ok(()),
         Err(_) => Err(StoreFault::Store),

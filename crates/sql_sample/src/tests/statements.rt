@@ -1,49 +1,20 @@
 //! Every statement, on a store in memory.
 
 use crate::rows::{changes, first_rows, kept, later_changes, task_id};
+use crate::steps::{begin, put, take};
 use sqlite::{Alter, Connection, Error, Transaction};
 use std::test::Fail;
 use tb_sql::boards::{find_board, select_boards};
-use tb_sql::changes::RowChange;
 use tb_sql::gone::select_gone;
 use tb_sql::instances::select_instances;
 use tb_sql::kept::find_kept;
 use tb_sql::lend::{next_task, task_rows};
 use tb_sql::links::select_links;
-use tb_sql::opening::{OpenFault, accept, is_empty};
+use tb_sql::opening::{OpenFault, is_empty};
 use tb_sql::people::{find_person, select_people};
 use tb_sql::roles::{find_role, select_roles};
-use tb_sql::store::{StoreFault, create, write_rows};
+use tb_sql::store::StoreFault;
 use tb_sql::tasks::{find_task, select_tasks};
-use tb_sql_tables::rows::KeptRow;
-
-pub(crate) fn begin<S: Alter>(
-    conn: &mut Connection<S>,
-    rows: &[RowChange],
-) -> Result<(), StoreFault> {
-    if !conn.is_autocommit() || !is_empty(conn) {
-        return Err(StoreFault::Store);
-    }
-    create(conn, rows)
-}
-
-pub(crate) fn put<S: Alter>(
-    conn: &mut Connection<S>,
-    changes: &[RowChange],
-    kept: &KeptRow,
-) -> Result<(), StoreFault> {
-    if !conn.is_autocommit() {
-        return Err(StoreFault::Store);
-    }
-    write_rows(conn, changes, kept)
-}
-
-pub(crate) fn take<S: Alter>(conn: &mut Connection<S>) -> Result<(), OpenFault> {
-    if !conn.is_autocommit() {
-        return Err(OpenFault::Store);
-    }
-    accept(conn)
-}
 
 fn people_are_there<S: Alter>(tx: &mut Transaction<'_, S>) -> Result<bool, Error> {
     let all = select_people(tx)?;

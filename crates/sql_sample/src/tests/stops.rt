@@ -2,8 +2,8 @@
 
 ghost use Rattle.std.specs.Prelude.{IsTrue};
 
-use super::statements::{begin, put, take};
 use crate::rows::{changes, first_rows, kept, later_changes, task_id};
+use crate::steps::{begin, put, take};
 use sqlite::{Alter, Connection, Error, Files, Options};
 use sqlite_disk::{Crash, Disk, Fuse, Memory};
 use std::alloc::{AllocError, Global};
