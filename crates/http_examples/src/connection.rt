@@ -1,4 +1,5 @@
 //! A connection that knows routes and identifiers, and has no boards.
+use crate::messages::SWEEP_BODY;
 use crate::pieces::Pieces;
 use std::alloc::Global;
 use std::test::Fail;
@@ -53,7 +54,7 @@ impl Connection {
             is_last,
             sends_body: true,
         };
-        self.send(answer, "{\"added\":0,\"board\":1,\"more\":false}")
+        self.send(answer, SWEEP_BODY)
     }
 
     fn answer_message(&mut self, message: &Message, is_closing: bool) -> Result<(), Fail> {
@@ -63,7 +64,7 @@ impl Connection {
             .resource(&message.method, message.target.as_str())
         {
             Err(fault) => self.send_fault(fault.fault(), fault.allow(), is_closing, sends_body),
-            Ok(_) if message.request_id().is_none() => {
+            Ok(_) if message.method.as_str() == "POST" && message.request_id().is_none() => {
                 self.send_fault(WireFault::NoId, None, is_closing, sends_body)
             }
             Ok(_) => self.send_swept(is_closing),

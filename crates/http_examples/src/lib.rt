@@ -12,6 +12,8 @@ mod closings;
 #[cfg(test)]
 mod connection;
 #[cfg(test)]
+mod failures;
+#[cfg(test)]
 mod faults;
 #[cfg(test)]
 mod hostile;

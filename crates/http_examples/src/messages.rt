@@ -15,7 +15,10 @@ x-request-id: 00000000-0000-4000-8000-000000000001\r\n\
 Content-Length: 0\r\n\
 \r\n";
 
-/// The answer to it on a board that has nothing to add.
+/// What a sweep that adds nothing is answered.
+pub const SWEEP_BODY: &str = "{\"added\":0,\"board\":1,\"more\":false}";
+
+/// The answer to the sweep where it adds nothing.
 pub const SWEEP_ANSWER: &[u8] = b"HTTP/1.1 200 OK\r\n\
 content-type: application/json\r\n\
 content-length: 34\r\n\
