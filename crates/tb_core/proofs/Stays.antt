@@ -232,7 +232,6 @@ kept_outcome w x (Depend n id on) m good found is_good =
 kept_outcome w x (Undepend n id on) m good found is_good =
     kept m w x (least (undepend_refusals (wake x m) id on)) (record (wake x m) { tasks = change_first (has_id id) (unlinked m on) (wake x m).tasks }) (Changed id) good found
     (λ none. record { number = refl; good = good-undepend (wake x m) id on m (good-wake x m is_good) none })
-
 kept_outcome w x (Sweep n) m good found is_good = kept m w x None (wake x m) Swept good found (λ none. record { number = refl; good = good-wake x m is_good })
 kept_outcome w x (SetRole n name role) m good found is_good = kept m w x None (wake x m) Swept good found (λ none. record { number = refl; good = good-wake x m is_good })
 kept_outcome w x (NewPerson name key) m good found is_good = kept m w x None (wake x m) Swept good found (λ none. record { number = refl; good = good-wake x m is_good })

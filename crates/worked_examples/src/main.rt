@@ -3,8 +3,7 @@
 #![tactic(auto)]
 
 use std::alloc::{AllocError, Global};
-use std::fs;
-use std::io;
+use std::{fs, io};
 use tb_script::run_lines;
 
 fn main(rt: HostRuntime) -> io::Result<()> {
