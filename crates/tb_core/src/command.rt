@@ -1,6 +1,6 @@
 use crate::action::Action;
 use tb_board::{Key, Name, Role, Title};
-use tb_task::{Edit, Incoming, TaskId};
+use tb_task::{Edit, Incoming, Task, TaskId};
 use tb_values::Items;
 
 /// What a person asks for.
@@ -35,6 +35,11 @@ pub enum Command {
         board: u32,
         id: TaskId,
         on: TaskId,
+    },
+    /// Adds tasks that lines of todo.txt made, but those that are known.
+    ImportTodo {
+        board: u32,
+        tasks: Items<Task>,
     },
     /// Lets a board come up to the moment.
     Sweep {
@@ -82,6 +87,8 @@ pub enum Told {
     Added { id: TaskId, dropped: u32 },
     /// The identifier of the one task that the command is about.
     Changed { id: TaskId },
+    /// How many tasks of an import were there before, and how many are new.
+    TodoImported { known: usize, new: usize },
     /// Nothing.
     Swept,
 }
