@@ -1,9 +1,14 @@
--- The JSON argument of a line.
-use Rattle.std.specs.Prelude.{ℕ, List, Option, Some, None, Result, Ok, Err}
+-- The arguments of a line that hold more than a word: JSON, and lines.
+use Rattle.std.specs.Prelude.{ℕ, List, [], ◌∷◌, Option, Some, None, Result, Ok, Err}
+use Rattle.std.specs.List.{join_by}
 use Rattle.serde_json.specs.Data.{Data}
 use Rattle.serde_json.specs.Read.{read}
 use Rattle.tb_task.specs.declared.edit.Edit.{Edit}
 use Rattle.tb_task.specs.declared.incoming.Incoming.{Incoming}
+use Rattle.tb_task.specs.declared.task.Task.{Task}
+use Rattle.tb_todotxt.specs.Files.{file_of}
+use Rattle.tb_todotxt.specs.declared.fault.FileFault.{FileFault}
+use Rattle.tb_todotxt.specs.declared.fault.FileFault.TheVariants as file
 use Rattle.tb_json.specs.declared.fault.JsonFault.{JsonFault}
 use Rattle.tb_json.specs.declared.fault.JsonFault.TheVariants.{NotObject, BadField, Memory}
 use Rattle.tb_json.specs.Modify.{modify_of}
@@ -33,3 +38,17 @@ edits_of (Some json) = or_bad_body (modify_of json)
 -- the edits that a text asks for
 abbrev pub edits_in : List ℕ → Result (List Edit) Unreadable
 edits_in text = edits_of (read text)
+
+-- a file of too many lines
+abbrev pub or_too_many : Result (List Task) FileFault → Result (List Task) Unreadable
+or_too_many (Ok tasks) = Ok tasks
+or_too_many (Err file.TooMany) = Err (BadBody None)
+or_too_many (Err file.Memory) = Err (BadBody None)
+
+-- the lines with a line feed between each two
+abbrev pub joined : List (List ℕ) → List ℕ
+joined lines = join_by (λ line. line) (10 ∷ []) lines
+
+-- the tasks that lines make on a board at a moment
+abbrev pub tasks_in : List (List ℕ) → ℕ → ℕ → Result (List Task) Unreadable
+tasks_in lines at board = or_too_many (file_of at board (joined lines))

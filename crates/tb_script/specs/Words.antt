@@ -5,14 +5,14 @@ use Rattle.tb_values.specs.Outcome.{◌>>=◌}
 use Rattle.tb_task.specs.TaskId.{read_id}
 use Rattle.tb_core.specs.declared.action.Action.{Action}
 use Rattle.tb_core.specs.declared.action.Action.TheVariants.{Done, Delete, Reopen, Start, Stop, Annotate, Denotate}
-use Rattle.tb_core.specs.declared.command.Command.TheVariants.{Add, Depend, Modify, OnTask, Sweep, Undepend}
+use Rattle.tb_core.specs.declared.command.Command.TheVariants.{Add, Depend, ImportTodo, Modify, OnTask, Sweep, Undepend}
 use Rattle.tb_script.specs.declared.asked.Request.{Request}
 use Rattle.tb_script.specs.declared.asked.Request.TheVariants.{Call, View as ViewOf}
-use Rattle.tb_script.specs.declared.asked.View.TheVariants.{Listing, Export, One}
+use Rattle.tb_script.specs.declared.asked.View.TheVariants.{Listing, Export, Todo, One}
 use Rattle.tb_script.specs.declared.line_fault.Unreadable.{Unreadable}
 use Rattle.tb_script.specs.declared.line_fault.Unreadable.TheVariants.{BadLine}
 use Rattle.tb_script.specs.Arguments.{board_number}
-use Rattle.tb_script.specs.Bodies.{edits_in, incoming_in}
+use Rattle.tb_script.specs.Bodies.{edits_in, incoming_in, tasks_in}
 use Rattle.tb_script.specs.Outcome.{or_bad_line}
 
 -- ---- a word has its number of arguments
@@ -61,6 +61,11 @@ export board = do
   n ← or_bad_line (board_number board)
   Ok (ViewOf (Export n))
 
+abbrev pub todo : List ℕ → Result Request Unreadable
+todo board = do
+  n ← or_bad_line (board_number board)
+  Ok (ViewOf (Todo n))
+
 abbrev pub showing : List (List ℕ) → Result Request Unreadable
 showing arguments = do
   t ← two task arguments
@@ -105,14 +110,24 @@ sweeping board = do
   n ← or_bad_line (board_number board)
   Ok (Call (Sweep n))
 
+-- each further argument is a line
+abbrev pub importing_todo : ℕ → List (List ℕ) → Result Request Unreadable
+importing_todo at [] = Err BadLine
+importing_todo at (board ∷ lines) = do
+  n ← or_bad_line (board_number board)
+  tasks ← tasks_in lines at n
+  Ok (Call (ImportTodo n tasks))
+
 -- ---- the words
 
 unfoldable pub request_in : List ℕ → List (List ℕ) → ℕ → Result Request Unreadable
 request_in word arguments at =
     if bytes_eq word (codes "list") then one listing arguments
     else if bytes_eq word (codes "export") then one export arguments
+    else if bytes_eq word (codes "todo") then one todo arguments
     else if bytes_eq word (codes "task") then showing arguments
     else if bytes_eq word (codes "add") then two (adding at) arguments
+    else if bytes_eq word (codes "import-todo") then importing_todo at arguments
     else if bytes_eq word (codes "done") then acting Done arguments
     else if bytes_eq word (codes "delete") then acting Delete arguments
     else if bytes_eq word (codes "reopen") then acting Reopen arguments

@@ -2,11 +2,11 @@
 ghost use Rattle.std.specs.Prelude.{◌≡◌, map};
 ghost use Rattle.tb_core.specs.declared.action.Action.TheVariants.{Annotate, Denotate};
 ghost use Rattle.tb_script.specs.Outcome.{Reads};
-ghost use Rattle.tb_script.specs.Words.{acting, acting_with, adding, export, link, linking, listing, modifying, one, request_in, showing, sweeping, task, three, two, unlinking};
+ghost use Rattle.tb_script.specs.Words.{acting, acting_with, adding, export, importing_todo, link, linking, listing, modifying, one, request_in, showing, sweeping, task, three, todo, two, unlinking};
 
 use crate::arguments::{read_board, read_uuid};
 use crate::asked::{Request, View};
-use crate::body::{read_edits, read_incoming};
+use crate::body::{read_edits, read_incoming, read_tasks};
 use crate::line_fault::LineFault;
 use std::alloc::Global;
 use tb_core::{Action, Command};
@@ -25,8 +25,10 @@ pub(crate) fn read_request(
     match word {
         "list" => read_listing(arguments),
         "export" => read_export(arguments),
+        "todo" => read_todo(arguments),
         "task" => read_shown(arguments),
         "add" => read_add(alloc, arguments, at),
+        "import-todo" => read_import_todo(alloc, arguments, at),
         "done" => read_action(arguments, Action::Done),
         "delete" => read_action(arguments, Action::Delete),
         "reopen" => read_action(arguments, Action::Reopen),
@@ -99,6 +101,15 @@ fn read_export(arguments: &[&str]) -> Result<Request, LineFault>
     Ok(Request::View(View::Export(read_board(board)?)))
 }
 
+fn read_todo(arguments: &[&str]) -> Result<Request, LineFault>
+    ensures { Reads result (one todo (map (λ argument. argument.now) arguments.entry.now)) }
+{
+    let [board] = arguments else {
+        return Err(LineFault::bad_line());
+    };
+    Ok(Request::View(View::Todo(read_board(board)?)))
+}
+
 fn read_shown(arguments: &[&str]) -> Result<Request, LineFault>
     ensures { Reads result (showing (map (λ argument. argument.now) arguments.entry.now)) }
 {
@@ -118,6 +129,17 @@ fn read_add(alloc: Global, arguments: &[&str], at: Moment) -> Result<Request, Li
         board: number,
         incoming,
     }))
+}
+
+fn read_import_todo(alloc: Global, arguments: &[&str], at: Moment) -> Result<Request, LineFault>
+    ensures { Reads result (importing_todo at (map (λ argument. argument.now) arguments.entry.now)) }
+{
+    let [board, lines @ ..] = arguments else {
+        return Err(LineFault::bad_line());
+    };
+    let board = read_board(board)?;
+    let tasks = read_tasks(alloc, lines, at, board)?;
+    Ok(Request::Call(Command::ImportTodo { board, tasks }))
 }
 
 fn read_action(arguments: &[&str], action: Action) -> Result<Request, LineFault>
