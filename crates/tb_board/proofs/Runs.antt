@@ -1,5 +1,5 @@
 -- The places of templates, where tasks come, wake or change.
-use Rattle.std.proofs.Common.{◌≡◌, ℕ, ◌+◌, ◌<◌, ◌≤◌, nat_eq, Bool, true, false, ◌&&◌, ◌||◌, List, [], ◌∷◌, ◌++◌, Option, Some, None, length, map, refl, sym, ◌∙◌, ap, arith, subst, inl, inr, length-append, append_assoc}
+use Rattle.std.proofs.Common.{◌≡◌, ℕ, ◌+◌, ◌<◌, ◌≤◌, nat_eq, Bool, true, false, ◌||◌, List, [], ◌∷◌, ◌++◌, Option, Some, None, length, map, refl, sym, ◌∙◌, ap, arith, subst, inl, inr, length-append, append_assoc}
 use Rattle.std.specs.Cmp.{nat_eq_equiv}
 use Rattle.std.specs.List.{AllByRecursion, list_any}
 use Rattle.std.proofs.lemmas.Bool.{cases_Bool, ne_eqb}
@@ -9,11 +9,11 @@ use Rattle.std.proofs.lemmas.Map.Keys.{IsDistinct-push}
 use Rattle.std.proofs.lemmas.Map.Made.{IsDistinct-from_count}
 use Rattle.tb_task.specs.declared.task.Task.{Task}
 use Rattle.tb_board.specs.declared.board.Board.{Board}
-use Rattle.tb_board.specs.Board.{has_id, wake, with_task, woken}
+use Rattle.tb_board.specs.Board.{wake, with_task, woken}
 use Rattle.tb_board.specs.First.{change_first}
 use Rattle.tb_board.specs.Instances.{has_template, is_template_with, HasRuns, HasTemplateOn}
 use Rattle.tb_board.specs.Statuses.{is_template}
-use Rattle.tb_board.specs.Templates.{gone_places, instance_places, is_id, IsRun, place_in, places, with_place}
+use Rattle.tb_board.specs.Templates.{gone_places, instance_places, IsRun, place_in, places, with_place}
 
 -- a number above all isn't among them
 above_all : (n : ℕ) (xs : List ℕ) → AllByRecursion (λ x. x < n) xs → list_any (nat_eq n) xs ≡ false

@@ -1,0 +1,5 @@
+pub mod Counting
+pub mod Marking
+pub mod Setting
+pub mod Steps
+pub mod Taking

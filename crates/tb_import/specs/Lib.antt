@@ -1,0 +1,7 @@
+pub mod Entering
+pub mod Good
+pub mod Import
+pub mod Known
+pub mod New
+pub mod Refusals
+pub mod Sets
