@@ -15,9 +15,9 @@ use Rattle.tb_core.specs.declared.look.Seen.{Seen}
 use Rattle.tb_core.specs.declared.look.SeenBoard.{SeenBoard}
 use Rattle.tb_board.specs.declared.world.Person.{Person}
 use Rattle.tb_core.specs.declared.command.Command.{Command}
-use Rattle.tb_core.specs.declared.command.Command.TheVariants.{Add, OnTask, Modify, ImportTodo, Sweep, SetRole, NewPerson, NewBoard, Depend, Undepend}
+use Rattle.tb_core.specs.declared.command.Command.TheVariants.{Add, OnTask, Modify, ImportJson, ImportTodo, Sweep, SetRole, NewPerson, NewBoard, Depend, Undepend}
 use Rattle.tb_core.specs.declared.command.Told.{Told}
-use Rattle.tb_core.specs.declared.command.Told.TheVariants.{Added, Changed, TodoImported, Swept}
+use Rattle.tb_core.specs.declared.command.Told.TheVariants.{Added, Changed, Imported, TodoImported, Swept}
 use Rattle.tb_core.specs.declared.refusal.Refusal.{Refusal}
 use Rattle.tb_core.specs.declared.refusal.Refusal.TheVariants.{NoTask, UuidTaken, Full, WrongStatus, TemplateFixed, NotAllowed, NoPerson, LastOwner, NameTaken, Cycle}
 use Rattle.tb_board.specs.declared.world.Role.{Role}
@@ -240,6 +240,8 @@ kept_outcome w x (Depend n id on) m good found is_good =
 kept_outcome w x (Undepend n id on) m good found is_good =
     kept m w x (least (undepend_refusals (wake x m) id on)) (record (wake x m) { tasks = change_first (has_id id) (unlinked m on) (wake x m).tasks }) (Changed id) good found
     (λ none. record { number = refl; good = good-undepend (wake x m) id on m (good-wake x m is_good) none })
+kept_outcome w x (ImportJson n is) m good found is_good =
+    kept_import m w x (wake x m) (judged_import (wake x m) is) good found (import_kept (wake x m) is (good-wake x m is_good))
 kept_outcome w x (ImportTodo n ts) m good found is_good =
     kept m w x (least (import_todo_refusals (wake x m) ts)) (imported (wake x m) ts)
     (TodoImported (length ts - length (new_tasks (wake x m) ts)) (length (new_tasks (wake x m) ts))) good found
@@ -345,6 +347,7 @@ stays_good w name (OnTask n id a) m good = kept_decided w (number_of w name) (So
 stays_good w name (Modify n id es) m good = kept_decided w (number_of w name) (Some n) (Modify n id es) m good
 stays_good w name (Depend n id on) m good = kept_decided w (number_of w name) (Some n) (Depend n id on) m good
 stays_good w name (Undepend n id on) m good = kept_decided w (number_of w name) (Some n) (Undepend n id on) m good
+stays_good w name (ImportJson n is) m good = kept_decided w (number_of w name) (Some n) (ImportJson n is) m good
 stays_good w name (ImportTodo n ts) m good = kept_decided w (number_of w name) (Some n) (ImportTodo n ts) m good
 stays_good w name (Sweep n) m good = kept_decided w (number_of w name) (Some n) (Sweep n) m good
 stays_good w name (SetRole n other role) m good =
@@ -395,6 +398,7 @@ stay_known w name (OnTask n id a) m person key known = rw (same_people w (decide
 stay_known w name (Modify n id es) m person key known = rw (same_people w (decided (number_of w name) (board_for w (number_of w name) (Some n)) (Modify n id es) m)) known
 stay_known w name (Depend n id on) m person key known = rw (same_people w (decided (number_of w name) (board_for w (number_of w name) (Some n)) (Depend n id on) m)) known
 stay_known w name (Undepend n id on) m person key known = rw (same_people w (decided (number_of w name) (board_for w (number_of w name) (Some n)) (Undepend n id on) m)) known
+stay_known w name (ImportJson n is) m person key known = rw (same_people w (decided (number_of w name) (board_for w (number_of w name) (Some n)) (ImportJson n is) m)) known
 stay_known w name (ImportTodo n ts) m person key known = rw (same_people w (decided (number_of w name) (board_for w (number_of w name) (Some n)) (ImportTodo n ts) m)) known
 stay_known w name (Sweep n) m person key known = rw (same_people w (decided (number_of w name) (board_for w (number_of w name) (Some n)) (Sweep n) m)) known
 stay_known w name (SetRole n other role) m person key known =

@@ -1,5 +1,6 @@
 use crate::action::Action;
 use tb_board::{Key, Name, Role, Title};
+use tb_import::ImportCounts;
 use tb_task::{Edit, Incoming, Task, TaskId};
 use tb_values::Items;
 
@@ -35,6 +36,11 @@ pub enum Command {
         board: u32,
         id: TaskId,
         on: TaskId,
+    },
+    /// Adds the tasks of a Taskwarrior export, but those that are known.
+    ImportJson {
+        board: u32,
+        tasks: Items<Incoming>,
     },
     /// Adds tasks that lines of todo.txt made, but those that are known.
     ImportTodo {
@@ -87,7 +93,9 @@ pub enum Told {
     Added { id: TaskId, dropped: u32 },
     /// The identifier of the one task that the command is about.
     Changed { id: TaskId },
-    /// How many tasks of an import were there before, and how many are new.
+    /// How many tasks of an import were known, how many are new, and what the new ones lost.
+    Imported(ImportCounts),
+    /// How many tasks of lines were there before, and how many are new.
     TodoImported { known: usize, new: usize },
     /// Nothing.
     Swept,

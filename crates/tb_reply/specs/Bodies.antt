@@ -8,8 +8,9 @@ use Rattle.tb_core.specs.Refusal.{number_of}
 use Rattle.tb_core.specs.declared.command.Answer.{Answer}
 use Rattle.tb_core.specs.declared.command.Answer.TheVariants.{OnBoard, NewPerson, NewBoard}
 use Rattle.tb_core.specs.declared.command.BoardAnswer.{BoardAnswer}
+use Rattle.tb_import.specs.declared.imported.ImportCounts.{ImportCounts}
 use Rattle.tb_core.specs.declared.command.Told.{Told}
-use Rattle.tb_core.specs.declared.command.Told.TheVariants.{Added, Changed, TodoImported, Swept}
+use Rattle.tb_core.specs.declared.command.Told.TheVariants.{Added, Changed, Imported, TodoImported, Swept}
 use Rattle.tb_core.specs.declared.refusal.Refusal.{Refusal}
 use Rattle.tb_core.specs.declared.refusal.Refusal.TheVariants.{UnknownCaller, IdReused, NoBoard, NotAllowed, NoTask, WrongStatus, UuidTaken, BadTask, BadTaskAt, TemplateFixed, NoLink, Cycle, Full, NoPerson, LastOwner, NameTaken}
 
@@ -105,6 +106,17 @@ changed_body a uuid = object
     (member (codes "more") (boolean a.more)
     (member (codes "uuid") (string uuid) no_members))))
 
+unfoldable pub imported_body : BoardAnswer → ImportCounts → Data
+imported_body a c = object
+    (member (codes "added") (number (unsigned a.added))
+    (member (codes "board") (number (unsigned a.board))
+    (member (codes "dropped") (number (unsigned c.dropped))
+    (member (codes "known") (number (unsigned c.known))
+    (member (codes "more") (boolean a.more)
+    (member (codes "new") (number (unsigned c.new))
+    (member (codes "orphans") (number (unsigned c.orphans))
+    (member (codes "unlinked") (number (unsigned c.unlinked)) no_members))))))))
+
 unfoldable pub todo_imported_body : BoardAnswer → ℕ → ℕ → Data
 todo_imported_body a known new = object
     (member (codes "added") (number (unsigned a.added))
@@ -122,6 +134,7 @@ swept_body a = object
 abbrev pub told_body : BoardAnswer → Told → Data
 told_body a (Added id dropped) = added_body a (id_text id) dropped
 told_body a (Changed id) = changed_body a (id_text id)
+told_body a (Imported counts) = imported_body a counts
 told_body a (TodoImported known new) = todo_imported_body a known new
 told_body a Swept = swept_body a
 

@@ -3,12 +3,13 @@ ghost use Rattle.std.specs.Prelude.{◌≡◌, IfOk};
 ghost use Rattle.std.specs.Option.{option_map};
 ghost use Rattle.serde_json.specs.View.{view};
 ghost use Rattle.tb_task.specs.TaskId.{id_text};
-ghost use Rattle.tb_reply.specs.Bodies.{added_body, answer_body, board_body, changed_body, field_name, person_body, refusal_body, refusal_name, refused_field, refused_place, swept_body, todo_imported_body, told_body};
+ghost use Rattle.tb_reply.specs.Bodies.{added_body, answer_body, board_body, changed_body, field_name, person_body, refusal_body, refusal_name, refused_field, refused_place, swept_body, imported_body, todo_imported_body, told_body};
 
 use serde_json::{Value, json};
 use std::alloc::{AllocError, Global};
 use tb_board::Name;
 use tb_core::{Answer, BoardAnswer, Refusal, Told};
+use tb_import::ImportCounts;
 use tb_task::{Field, TaskId};
 
 pub(crate) fn body_of_refusal(alloc: Global, refusal: Refusal) -> Result<Value, AllocError>
@@ -54,7 +55,8 @@ fn body_on_board(alloc: Global, answer: &BoardAnswer, told: &Told) -> Result<Val
     match told {
         Told::Added { id, dropped } => body_of_added(alloc, answer, *id, *dropped),
         Told::Changed { id } => body_of_changed(alloc, answer, *id),
-        Told::TodoImported { known, new } => body_of_import(alloc, answer, *known, *new),
+        Told::Imported(counts) => body_of_import(alloc, answer, *counts),
+        Told::TodoImported { known, new } => body_of_todo_import(alloc, answer, *known, *new),
         Told::Swept => body_of_sweep(alloc, answer),
     }
 }
@@ -103,8 +105,27 @@ fn body_of_one(alloc: Global, answer: &BoardAnswer, uuid: &str) -> Result<Value,
     json!(in alloc; {"added": added, "board": board, "more": more, "uuid": uuid})
 }
 
-#[tactic(auto, unfolding(crate::specs::Bodies::todo_imported_body))]
+#[tactic(auto, unfolding(crate::specs::Bodies::imported_body))]
 fn body_of_import(
+    alloc: Global,
+    answer: &BoardAnswer,
+    counts: ImportCounts,
+) -> Result<Value, AllocError>
+    ensures { IfOk result (λ body. view body ≡ imported_body answer.now counts) }
+{
+    let added = answer.added;
+    let board = answer.board;
+    let dropped = counts.dropped;
+    let known = counts.known;
+    let more = answer.more;
+    let new = counts.new;
+    let orphans = counts.orphans;
+    let unlinked = counts.unlinked;
+    json!(in alloc; {"added": added, "board": board, "dropped": dropped, "known": known, "more": more, "new": new, "orphans": orphans, "unlinked": unlinked})
+}
+
+#[tactic(auto, unfolding(crate::specs::Bodies::todo_imported_body))]
+fn body_of_todo_import(
     alloc: Global,
     answer: &BoardAnswer,
     known: usize,

@@ -5,14 +5,14 @@ use Rattle.tb_values.specs.Outcome.{◌>>=◌}
 use Rattle.tb_task.specs.TaskId.{read_id}
 use Rattle.tb_core.specs.declared.action.Action.{Action}
 use Rattle.tb_core.specs.declared.action.Action.TheVariants.{Done, Delete, Reopen, Start, Stop, Annotate, Denotate}
-use Rattle.tb_core.specs.declared.command.Command.TheVariants.{Add, Depend, ImportTodo, Modify, OnTask, Sweep, Undepend}
+use Rattle.tb_core.specs.declared.command.Command.TheVariants.{Add, Depend, ImportJson, ImportTodo, Modify, OnTask, Sweep, Undepend}
 use Rattle.tb_script.specs.declared.asked.Request.{Request}
 use Rattle.tb_script.specs.declared.asked.Request.TheVariants.{Call, View as ViewOf}
 use Rattle.tb_script.specs.declared.asked.View.TheVariants.{Listing, Export, Todo, One}
 use Rattle.tb_script.specs.declared.line_fault.Unreadable.{Unreadable}
 use Rattle.tb_script.specs.declared.line_fault.Unreadable.TheVariants.{BadLine}
 use Rattle.tb_script.specs.Arguments.{board_number}
-use Rattle.tb_script.specs.Bodies.{edits_in, incoming_in, tasks_in}
+use Rattle.tb_script.specs.Bodies.{edits_in, import_in, incoming_in, tasks_in}
 use Rattle.tb_script.specs.Outcome.{or_bad_line}
 
 -- ---- a word has its number of arguments
@@ -110,6 +110,12 @@ sweeping board = do
   n ← or_bad_line (board_number board)
   Ok (Call (Sweep n))
 
+abbrev pub importing : ℕ → List ℕ → List ℕ → Result Request Unreadable
+importing at board text = do
+  n ← or_bad_line (board_number board)
+  tasks ← import_in text at
+  Ok (Call (ImportJson n tasks))
+
 -- each further argument is a line
 abbrev pub importing_todo : ℕ → List (List ℕ) → Result Request Unreadable
 importing_todo at [] = Err BadLine
@@ -127,6 +133,7 @@ request_in word arguments at =
     else if bytes_eq word (codes "todo") then one todo arguments
     else if bytes_eq word (codes "task") then showing arguments
     else if bytes_eq word (codes "add") then two (adding at) arguments
+    else if bytes_eq word (codes "import") then two (importing at) arguments
     else if bytes_eq word (codes "import-todo") then importing_todo at arguments
     else if bytes_eq word (codes "done") then acting Done arguments
     else if bytes_eq word (codes "delete") then acting Delete arguments

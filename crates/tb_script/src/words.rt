@@ -2,11 +2,11 @@
 ghost use Rattle.std.specs.Prelude.{◌≡◌, map};
 ghost use Rattle.tb_core.specs.declared.action.Action.TheVariants.{Annotate, Denotate};
 ghost use Rattle.tb_script.specs.Outcome.{Reads};
-ghost use Rattle.tb_script.specs.Words.{acting, acting_with, adding, export, importing_todo, link, linking, listing, modifying, one, request_in, showing, sweeping, task, three, todo, two, unlinking};
+ghost use Rattle.tb_script.specs.Words.{acting, acting_with, adding, export, importing, importing_todo, link, linking, listing, modifying, one, request_in, showing, sweeping, task, three, todo, two, unlinking};
 
 use crate::arguments::{read_board, read_uuid};
 use crate::asked::{Request, View};
-use crate::body::{read_edits, read_incoming, read_tasks};
+use crate::body::{read_edits, read_imported, read_incoming, read_tasks};
 use crate::line_fault::LineFault;
 use std::alloc::Global;
 use tb_core::{Action, Command};
@@ -28,6 +28,7 @@ pub(crate) fn read_request(
         "todo" => read_todo(arguments),
         "task" => read_shown(arguments),
         "add" => read_add(alloc, arguments, at),
+        "import" => read_import(alloc, arguments, at),
         "import-todo" => read_import_todo(alloc, arguments, at),
         "done" => read_action(arguments, Action::Done),
         "delete" => read_action(arguments, Action::Delete),
@@ -129,6 +130,17 @@ fn read_add(alloc: Global, arguments: &[&str], at: Moment) -> Result<Request, Li
         board: number,
         incoming,
     }))
+}
+
+fn read_import(alloc: Global, arguments: &[&str], at: Moment) -> Result<Request, LineFault>
+    ensures { Reads result (two (importing at) (map (λ argument. argument.now) arguments.entry.now)) }
+{
+    let [board, text] = arguments else {
+        return Err(LineFault::bad_line());
+    };
+    let board = read_board(board)?;
+    let tasks = read_imported(alloc, text, at)?;
+    Ok(Request::Call(Command::ImportJson { board, tasks }))
 }
 
 fn read_import_todo(alloc: Global, arguments: &[&str], at: Moment) -> Result<Request, LineFault>
