@@ -1,9 +1,9 @@
 use std::alloc::{AllocError, Global};
 use std::test::Fail;
 use tb_board::{Board, Role, Title};
-use tb_core::{Answer, Command, Refusal, Seen, SeenBoard, decide};
-use tb_task::{Incoming, Moment, Task, TaskId};
-use tb_values::{Shared, Text};
+use tb_core::{Answer, BoardAnswer, Command, Refusal, Seen, SeenBoard, decide};
+use tb_task::{Incoming, Moment, Status, Task, TaskId};
+use tb_values::{NonEmptyText, Shared, Text};
 
 /// A task of board 1 with this number.
 fn task(alloc: Global, number: u64) -> Result<Task, Fail> {
@@ -75,5 +75,39 @@ fn full_board(rt: HostRuntime) -> Result<(), Fail> {
 fn room_for_one_more(rt: HostRuntime) -> Result<(), Fail> {
     let last = answer(rt.alloc(), 9999, false)?;
     assert!(rt; matches!(last, Ok(Answer::OnBoard(_))));
+    Ok(())
+}
+
+/// A task that recurs each day from its due date on.
+fn template(alloc: Global) -> Result<Task, Fail> {
+    let mut template = task(alloc, 10000)?;
+    template.status = Status::Recurring;
+    template.due = Moment::from_seconds(8);
+    template.recur = NonEmptyText::from_str(alloc, "daily")?;
+    Ok(template)
+}
+
+/// What a full board with that template behind answers to a sweep.
+fn sweep(alloc: Global) -> Result<Result<Answer, Refusal>, Fail> {
+    let mut board = board(alloc, 9999)?;
+    board.tasks.push(Shared::new(alloc, template(alloc)?)?)?;
+    let seen = seen(alloc, board)?;
+    let at = Moment::from_seconds(9).ok_or("a moment")?;
+    Ok(decide(alloc, &seen, &Command::Sweep { board: 1 }, at)?.answer)
+}
+
+#[test]
+fn full_board_has_no_room_for_instances(rt: HostRuntime) -> Result<(), Fail> {
+    let swept = sweep(rt.alloc())?;
+    assert!(rt;
+        matches!(
+            swept,
+            Ok(Answer::OnBoard(BoardAnswer {
+                added: 0,
+                more: true,
+                ..
+            }))
+        )
+    );
     Ok(())
 }
