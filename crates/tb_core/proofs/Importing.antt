@@ -8,7 +8,7 @@ use Rattle.std.proofs.lemmas.List.{drop_more, map-append, take_more}
 use Rattle.std.proofs.lemmas.List.Folds.{list_any-append}
 use Rattle.tb_task.specs.declared.task.Task.{Task}
 use Rattle.tb_board.specs.declared.board.Board.{Board}
-use Rattle.tb_board.specs.Board.{has_id}
+use Rattle.tb_board.specs.Board.{has_id, with_task}
 use Rattle.tb_core.specs.ImportTodo.{new_beside, HasIdsOf}
 
 abbrev pub nows : List (Bor Task) → List Task
@@ -19,13 +19,11 @@ nows_more us i u within is =
     ap nows (take_more us i u within) ∙ map-append (λ v. v.now) (take i us) (get_or us i u ∷ []) ∙ ap (λ (v : Bor Task). nows (take i us) ++ v.now ∷ []) (sym is)
 
 -- one task more goes last
-pub pushed : (first b c : Board) (us : List (Bor Task)) (i : ℕ) (u : Bor Task) (t : Task) → i < length us → u ≡ get_or us i u → t ≡ u.now
-    → b ≡ record first { tasks = first.tasks ++ nows (take i us) } → c ≡ record b { tasks = b.tasks ++ t ∷ [] }
-    → c ≡ record first { tasks = first.tasks ++ nows (take (i + 1) us) }
-pushed first b c us i u t within is same so_far next =
-    let more : nows (take (i + 1) us) ≡ nows (take i us) ++ t ∷ [] = nows_more us i u within is ∙ ap (λ x. nows (take i us) ++ x ∷ []) (sym same) in
-    next ∙ ap (λ (d : Board). record d { tasks = d.tasks ++ t ∷ [] }) so_far
-    ∙ ap (λ ts. record first { tasks = ts }) (append_assoc first.tasks (nows (take i us)) (t ∷ []) ∙ ap (λ ts. first.tasks ++ ts) (sym more))
+pub pushed : (first b c : Board) (us : List (Bor Task)) (i : ℕ) (u : Bor Task) → i < length us → u ≡ get_or us i u
+    → b ≡ record first { tasks = first.tasks ++ nows (take i us) } → c ≡ with_task b u.now → c ≡ record first { tasks = first.tasks ++ nows (take (i + 1) us) }
+pushed first b c us i u within is so_far next =
+    next ∙ ap (λ (d : Board). with_task d u.now) so_far
+    ∙ ap (λ ts. record first { tasks = ts }) (append_assoc first.tasks (nows (take i us)) (u.now ∷ []) ∙ ap (λ ts. first.tasks ++ ts) (sym (nows_more us i u within is)))
 
 -- the set and the new tasks before the i-th task of a list
 pub record IsFoundTo (before ts new : List Task) (s : BTreeSet ℕ) (i : ℕ) : Type 0 where

@@ -1,3 +1,4 @@
+pub mod Again
 pub mod Cycles
 pub mod Decided
 pub mod Depending

@@ -1,6 +1,6 @@
-ghost use Rattle.std.specs.Prelude.{◌≡◌, ◌∷◌, [], ◌++◌, List, map, not, IfOk};
+ghost use Rattle.std.specs.Prelude.{◌≡◌, ◌∷◌, [], ◌++◌, List, map, not, IfOk, OnOk};
 ghost use Rattle.std.specs.List.{list_any};
-ghost use Rattle.tb_board.specs.Board.{has_id};
+ghost use Rattle.tb_board.specs.Board.{has_id, with_task};
 ghost use Rattle.tb_board.specs.Changes.{Follows};
 ghost use Rattle.tb_core.specs.ImportTodo.{first_bad, judged_import_todo, line_fault, new_beside, HasIdsOf, is_of_no_line, is_pending_or_completed, is_tied};
 ghost use Rattle.tb_core.specs.Refusals.{Gives};
@@ -103,9 +103,16 @@ fn ids_of(alloc: Global, tasks: &[Shared<Task>]) -> Result<BTreeSet<TaskId>, All
 {
     let mut ids = BTreeSet::new(alloc);
     for task in tasks {
-        add_id(&mut ids, task.get().id)?;
+        keep_id(&mut ids, task.get().id)?;
     }
     Ok(ids)
+}
+
+fn keep_id(ids: &mut BTreeSet<TaskId>, id: TaskId) -> Result<(), AllocError>
+    ensures { OnOk result ((tasks : List Task) (task : Task) → task.id ≡ id → HasIdsOf tasks ids.old → HasIdsOf (tasks ++ task ∷ []) ids.new) }
+{
+    ids.insert(id)?;
+    Ok(())
 }
 
 /// Puts the identifier into the set, and tells whether it is new.
@@ -123,7 +130,15 @@ fn push_all(alloc: Global, draft: Draft, tasks: &[&Task]) -> Result<Draft, Alloc
 {
     let mut draft = draft;
     for task in tasks {
-        draft = draft.push(alloc, task.duplicate()?)?;
+        draft = push_copy(alloc, draft, task)?;
     }
     Ok(draft)
+}
+
+fn push_copy(alloc: Global, draft: Draft, task: &Task) -> Result<Draft, AllocError>
+    ensures board { IfOk result (λ later. later.board ≡ with_task draft.board task.now) }
+    ensures follows { IfOk result (Follows draft) }
+{
+    let task = task.duplicate()?;
+    draft.push(alloc, task)
 }

@@ -1,5 +1,5 @@
 -- A board that is swept is awake, and where no template lacks an instance another sweep leaves it.
-use Rattle.std.proofs.Common.{◌≡◌, ℕ, zero, suc, ◌+◌, true, false, ◌&&◌, List, [], ◌∷◌, ◌++◌, Option, Some, None, length, map, nat_lt, refl, sym, ◌∙◌, ap, arith, inl, inr, length-append, append_assoc, true≢false}
+use Rattle.std.proofs.Common.{◌≡◌, ℕ, zero, suc, ◌+◌, ◌≤◌, true, false, ◌&&◌, List, [], ◌∷◌, ◌++◌, Option, Some, None, length, map, nat_lt, refl, sym, ◌∙◌, ap, arith, inl, inr, length-append, append_assoc, true≢false}
 use Rattle.std.specs.List.{AllByRecursion, list_any}
 use Rattle.std.proofs.lemmas.Bool.{cases_Bool, ltb-true, ltb-false, lt-leb}
 use Rattle.std.proofs.lemmas.List.{append-nil, length-map}
@@ -102,9 +102,34 @@ none_lack m b (t ∷ ts) none =
           ap (λ (c : Board). grown_all m c ts) (none_lacking m b t other) ∙ none_lack m b ts rest
     ]
 
+-- a board that is swept is awake
+pub wake_swept : (b : Board) (m : ℕ) → wake (sweep b m) m ≡ sweep b m
+wake_swept b m =
+    let awake = awake_all m (wake b m) (wake b m).tasks (awake_wake m b.tasks) in
+    ap (λ ts. record (sweep b m) { tasks = ts }) (stays_awake m (sweep b m).tasks awake)
+
 pub sweep_ends : SweepEnds
 sweep_ends b m none =
     let later = sweep b m in
-    let awake = awake_all m (wake b m) (wake b m).tasks (awake_wake m b.tasks) in
-    let same : wake later m ≡ later = ap (λ ts. record later { tasks = ts }) (stays_awake m later.tasks awake) in
-    ap (λ (c : Board). grown_all m c c.tasks) same ∙ none_lack m later later.tasks none
+    ap (λ (c : Board). grown_all m c c.tasks) (wake_swept b m) ∙ none_lack m later later.tasks none
+
+length-instances : (m : ℕ) (t : Task) (k n : ℕ) (b : Board) → length (with_instances m t k n b).tasks ≡ length b.tasks + n
+length-instances m t k zero b = omega arith
+length-instances m t k (suc n) b =
+    let made = instance t k (free_id b) m in
+    omega (arith, length-instances m t (k + 1) n (with_task b made), length-append b.tasks (made ∷ []))
+
+fits_grown : (m : ℕ) (b : Board) (t : Task) → length b.tasks ≤ 10000 → length (grown m b t).tasks ≤ 10000
+fits_grown m b t fits =
+    elim (cases_Bool (is_recurring t.status)) [
+      | inl recurring ↦ rw recurring (omega (arith, fits, length-instances m t (count b t.id) (batch m b t) b))
+      | inr other ↦ rw other fits
+    ]
+
+fits_all : (m : ℕ) (b : Board) (ts : List Task) → length b.tasks ≤ 10000 → length (grown_all m b ts).tasks ≤ 10000
+fits_all m b [] fits = fits
+fits_all m b (t ∷ ts) fits = fits_all m (grown m b t) ts (fits_grown m b t fits)
+
+-- the sweep stops where the board is full
+pub sweep_fits : (b : Board) (m : ℕ) → length b.tasks ≤ 10000 → length (sweep b m).tasks ≤ 10000
+sweep_fits b m fits = fits_all m (wake b m) (wake b m).tasks (omega (arith, fits, length-map b.tasks (woken m)))
