@@ -9,6 +9,7 @@ mod faults;
 mod ids;
 mod import;
 mod imported;
+pub mod laws;
 mod masks;
 mod news;
 mod parents;
