@@ -1,3 +1,4 @@
+pub mod Again
 pub mod Entering
 pub mod Good
 pub mod Import

@@ -9,11 +9,14 @@ mod faults;
 mod ids;
 mod import;
 mod imported;
+pub mod laws;
 mod masks;
 mod news;
 mod parents;
 mod places;
 mod refusal;
+#[cfg(test)]
+mod tests;
 
 pub use import::import_tasks;
 pub use imported::{ImportCounts, Imported};
