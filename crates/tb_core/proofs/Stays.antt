@@ -46,6 +46,16 @@ use Rattle.tb_core.specs.People.{board_refusals, new_board, new_person, person_r
 use Rattle.tb_core.specs.Owners.{leaves_none, person_number}
 use Rattle.tb_board.specs.World.{find_board, has_name, has_number, is_owner, key_of, number_of, owners, role_of}
 use Rattle.std.specs.Option.{option_map}
+use Rattle.std.specs.Prelude.{IfOk}
+use Rattle.tb_import.specs.declared.imported.ImportCounts.{ImportCounts}
+use Rattle.tb_import.specs.declared.refusal.ImportRefusal.{ImportRefusal}
+use Rattle.tb_import.specs.Entering.{with_all, with_new}
+use Rattle.tb_import.specs.Import.{board_after, counts_after, with_masks}
+use Rattle.tb_import.specs.New as import_new
+use Rattle.tb_import.specs.Refusals as import
+use Rattle.tb_import.specs.Refusals.{import_refusals, judged_import}
+use Rattle.tb_import.proofs.Keeping.{import_keeps_good}
+use Rattle.tb_core.specs.ImportJson.{told_of}
 use Rattle.tb_sweep.specs.Sweep.{sweep}
 use Rattle.tb_sweep.proofs.Adding.{number-sweep}
 use Rattle.tb_sweep.proofs.Keeping.{sweep_kept}
@@ -223,6 +233,27 @@ kept m w x (Some r) b told good found later = good
 kept m w x None b told good found later =
     good-with_board w x (sweep b m) good found (number-sweep b m ∙ (later refl).number) (sweep_kept b m (later refl).good)
 
+number_all : (first : Board) (new : List Incoming) (b : Board) (is : List Incoming) → (with_all first new b is).number ≡ b.number
+number_all first new b [] = refl
+number_all first new b (i ∷ is) = number_all first new (with_new first new b i) is
+
+import_number : (b : Board) (is : List Incoming) (o : Option ImportRefusal) → IfOk (import.unless_refused o (board_after b is) (counts_after b is)) (λ after. after.0.number ≡ b.number)
+import_number b is None = number_all b (import_new.new_tasks b is) (with_masks b (import_new.new_tasks b is)) (import_new.new_tasks b is)
+import_number b is (Some refusal) = tt
+
+both_kept : (b : Board) (r : Result (Board × ImportCounts) ImportRefusal) → IfOk r (λ after. after.0.number ≡ b.number) → IfOk r (λ after. IsGood after.0) → IfOk r (λ after. Follows b after.0)
+both_kept b (Ok after) number good = record { number = number; good = good }
+both_kept b (Err refusal) number good = tt
+
+import_kept : (b : Board) (is : List Incoming) → IsGood b → IfOk (judged_import b is) (λ after. Follows b after.0)
+import_kept b is good = both_kept b (judged_import b is) (import_number b is (import.least (import_refusals b is))) (import_keeps_good b is good)
+
+kept_import : (m : ℕ) (w : World) (x b : Board) (r : Result (Board × ImportCounts) ImportRefusal) → IsGoodWorld w → find (has_number x.number) w.boards ≡ Some x
+    → b.number ≡ x.number → IfOk r (λ after. Follows b after.0) → IsGoodWorld (applied w (answered m (told_of r))).world
+kept_import m w x b (Err refusal) good found number later = good
+kept_import m w x b (Ok after) good found number later =
+    good-with_board w x (sweep after.0 m) good found (number-sweep after.0 m ∙ later.number ∙ number) (sweep_kept after.0 m later.good)
+
 kept_outcome : (w : World) (x : Board) (c : Command) (m : ℕ) → IsGoodWorld w → find (has_number x.number) w.boards ≡ Some x → IsGood x
     → IsGoodWorld (applied w (outcome x c m)).world
 kept_outcome w x (Add n i) m good found is_good =
@@ -241,7 +272,7 @@ kept_outcome w x (Undepend n id on) m good found is_good =
     kept m w x (least (undepend_refusals (wake x m) id on)) (record (wake x m) { tasks = change_first (has_id id) (unlinked m on) (wake x m).tasks }) (Changed id) good found
     (λ none. record { number = refl; good = good-undepend (wake x m) id on m (good-wake x m is_good) none })
 kept_outcome w x (ImportJson n is) m good found is_good =
-    kept_import m w x (wake x m) (judged_import (wake x m) is) good found (import_kept (wake x m) is (good-wake x m is_good))
+    kept_import m w x (wake x m) (judged_import (wake x m) is) good found refl (import_kept (wake x m) is (good-wake x m is_good))
 kept_outcome w x (ImportTodo n ts) m good found is_good =
     kept m w x (least (import_todo_refusals (wake x m) ts)) (imported (wake x m) ts)
     (TodoImported (length ts - length (new_tasks (wake x m) ts)) (length (new_tasks (wake x m) ts))) good found

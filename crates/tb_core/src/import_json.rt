@@ -2,7 +2,6 @@ ghost use Rattle.std.specs.Prelude.{◌≡◌, IfOk};
 ghost use Rattle.tb_board.specs.Changes.{Follows};
 ghost use Rattle.tb_core.specs.ImportJson.{judged_import_json, refusal_of};
 ghost use Rattle.tb_core.specs.Refusals.{Gives};
-ghost use Rattle.tb_core.specs.declared.command.Told.TheVariants.{Imported};
 
 use crate::command::Told;
 use crate::judged::{Judged, Stop};
@@ -18,19 +17,12 @@ pub fn import_json(alloc: Global, draft: Draft, tasks: &[Incoming]) -> Result<Ju
     ensures follows { IfOk result (λ judged. Follows draft judged.draft) }
 {
     match import_tasks(alloc, draft, tasks) {
-        Ok(imported) => Ok(judged_of(imported)),
+        Ok(Imported { draft, counts }) => Ok(Judged {
+            draft,
+            told: Told::Imported(counts),
+        }),
         Err(ImportStop::Refused(refusal)) => Err(Stop::Refused(refusal_from(refusal))),
         Err(ImportStop::Memory) => Err(Stop::Memory),
-    }
-}
-
-fn judged_of(imported: Imported) -> Judged
-    ensures { result ≡ record { draft = imported.draft; told = Imported imported.counts } }
-{
-    let Imported { draft, counts } = imported;
-    Judged {
-        draft,
-        told: Told::Imported(counts),
     }
 }
 
