@@ -36,7 +36,7 @@ three asks (a ∷ b ∷ []) = Err BadLine
 three asks (a ∷ b ∷ c ∷ d ∷ more) = Err BadLine
 
 -- the number of a board, and the identifier of a task
-abbrev pub task : List ℕ → List ℕ → Result (ℕ × ℕ) Unreadable
+unfoldable pub task : List ℕ → List ℕ → Result (ℕ × ℕ) Unreadable
 task board uuid = do
   n ← or_bad_line (board_number board)
   id ← or_bad_line (read_id uuid)

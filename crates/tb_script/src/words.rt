@@ -54,6 +54,7 @@ fn read_task_alone(arguments: &[&str]) -> Result<(u32, TaskId), LineFault>
     read_task(board, uuid)
 }
 
+#[tactic(auto, unfolding(crate::specs::Words::task))]
 fn read_task(board: &str, uuid: &str) -> Result<(u32, TaskId), LineFault>
     ensures { Reads result (task board.now uuid.now) }
 {
