@@ -67,8 +67,9 @@ pub(crate) fn read_imported(
         Ok(tasks) => Ok(tasks),
         Err(ImportFault::NotJson) => Err(LineFault::Refused(Unreadable::BadBody(None))),
         Err(ImportFault::TooMany) => Err(LineFault::Refused(Unreadable::BadBody(None))),
-        Err(ImportFault::BadTask(at, name)) =>
-            Err(LineFault::Refused(Unreadable::BadItem(at, name))),
+        Err(ImportFault::BadTask(at, name)) => Err(LineFault::Refused(Unreadable::BadItem(
+            at, name,
+        ))),
         Err(ImportFault::Memory) => Err(LineFault::Memory),
     }
 }

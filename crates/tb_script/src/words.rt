@@ -168,7 +168,10 @@ fn read_annotate(alloc: Global, arguments: &[&str]) -> Result<Request, LineFault
     let [board, uuid, text] = arguments else {
         return Err(LineFault::bad_line());
     };
-    let (board, id) = read_task(board, uuid)?;
+    let (board, id) = match read_task(board, uuid) {
+        Ok(task) => task,
+        Err(fault) => return Err(fault),
+    };
     let action = Action::Annotate(Text::from_str(alloc, text)?);
     Ok(Request::Call(Command::OnTask { board, id, action }))
 }
@@ -179,7 +182,10 @@ fn read_denotate(alloc: Global, arguments: &[&str]) -> Result<Request, LineFault
     let [board, uuid, text] = arguments else {
         return Err(LineFault::bad_line());
     };
-    let (board, id) = read_task(board, uuid)?;
+    let (board, id) = match read_task(board, uuid) {
+        Ok(task) => task,
+        Err(fault) => return Err(fault),
+    };
     let action = Action::Denotate(Text::from_str(alloc, text)?);
     Ok(Request::Call(Command::OnTask { board, id, action }))
 }
@@ -190,7 +196,10 @@ fn read_modify(alloc: Global, arguments: &[&str]) -> Result<Request, LineFault>
     let [board, uuid, body] = arguments else {
         return Err(LineFault::bad_line());
     };
-    let (board, id) = read_task(board, uuid)?;
+    let (board, id) = match read_task(board, uuid) {
+        Ok(task) => task,
+        Err(fault) => return Err(fault),
+    };
     let edits = read_edits(alloc, body)?;
     Ok(Request::Call(Command::Modify { board, id, edits }))
 }
