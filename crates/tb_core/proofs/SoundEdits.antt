@@ -5,6 +5,7 @@ use Rattle.tb_board.specs.Good.{has_template_form, IsSound}
 use Rattle.tb_board.specs.Statuses.{is_pending_or_waiting, is_template, settled}
 use Rattle.tb_board.proofs.Fits.{no_template}
 use Rattle.tb_board.proofs.Goodness.{Keeps}
+use Rattle.tb_board.proofs.Relinking.{or_false}
 use Rattle.tb_core.specs.Edits.{edited, edited_by, extended, modified, names}
 use Rattle.tb_core.specs.Modify.{is_fixed, is_misplaced}
 use Rattle.tb_core.proofs.Sound.{settled_plain}
@@ -54,10 +55,6 @@ is_edited e t =
     (either P (bytes_eq e.name (codes "wait")) _ _ (λ _. leaves e t _ refl refl refl refl refl refl refl)
     (either P (is_attribute e.name) _ _ (λ _. leaves e t _ refl refl refl refl refl refl refl)
     (leaves e t _ refl refl refl refl refl refl refl))))))))))
-
-or_false : (p q : Bool) → (p || q) ≡ false → (p ≡ false) × (q ≡ false)
-or_false true q h = absurd (true≢false h)
-or_false false q h = (refl, h)
 
 is_edited_by : (es : List Edit) (t : Task) → IsEdited (names (codes "due") es) (names (codes "recur") es) t (edited_by es t)
 is_edited_by [] t = record { id = refl; depends = refl; parent = refl; imask = refl; status = refl; due = λ _. refl; recur = λ _. refl }
