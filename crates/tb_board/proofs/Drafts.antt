@@ -5,9 +5,10 @@ use Rattle.std.proofs.lemmas.Bool.{lt-ltb, le-ltb}
 use Rattle.tb_task.specs.declared.task.Task.{Task}
 use Rattle.tb_board.specs.declared.board.Board.{Board}
 use Rattle.tb_board.specs.declared.change.Change.{Change}
-use Rattle.tb_board.specs.declared.change.Change.TheVariants.{PutTask}
+use Rattle.tb_board.specs.declared.change.Change.TheVariants.{PutTask, SetGone, TakeGone}
 use Rattle.tb_board.specs.declared.draft.Draft.{Draft}
-use Rattle.tb_board.specs.Changes.{put, with_task_at, changed_on, replayed, IsOn, Follows}
+use Rattle.tb_board.specs.declared.gone.Gone.{Gone}
+use Rattle.tb_board.specs.Changes.{put, with_task_at, changed_on, replayed, with_gone, without_gone, IsOn, Follows}
 
 all_push : (n : ℕ) (cs : List Change) (c : Change) → AllByRecursion (IsOn n) cs → IsOn n c → AllByRecursion (IsOn n) (cs ++ c ∷ [])
 all_push n [] c all on = (on, tt)
@@ -38,3 +39,17 @@ pub follows-push : (d : Draft) (place : ℕ) (t : Task) → place ≡ length d.b
 follows-push d place t end =
     let beyond : nat_lt place (length d.board.tasks) ≡ false = le-ltb place (length d.board.tasks) (omega (arith, end)) in
     goes_on d place t (d.board.tasks ++ t ∷ []) (rw beyond refl)
+
+pub follows-set_gone : (d : Draft) (g : Gone) → Follows d (record { board = with_gone g d.board; changes = d.changes ++ SetGone d.board.number g ∷ [] })
+follows-set_gone d g start h =
+    record {
+      own = all_push d.board.number d.changes (SetGone d.board.number g) h.own refl;
+      made = replayed-push start d.changes (SetGone d.board.number g) ∙ ap (with_gone g) h.made;
+    }
+
+pub follows-take_gone : (d : Draft) (id k : ℕ) → Follows d (record { board = without_gone id k d.board; changes = d.changes ++ TakeGone d.board.number id k ∷ [] })
+follows-take_gone d id k start h =
+    record {
+      own = all_push d.board.number d.changes (TakeGone d.board.number id k) h.own refl;
+      made = replayed-push start d.changes (TakeGone d.board.number id k) ∙ ap (without_gone id k) h.made;
+    }

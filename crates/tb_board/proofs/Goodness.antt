@@ -17,7 +17,7 @@ use Rattle.tb_board.proofs.Fits.{sound_woken}
 use Rattle.tb_board.specs.Links.{depends_of, IsAcyclic}
 use Rattle.tb_board.proofs.Relinking.{acyclic-empty, acyclic-push, acyclic-same}
 use Rattle.tb_board.specs.Instances.{HasRuns, HasTemplateOn}
-use Rattle.tb_board.proofs.Runs.{parent-more, parents-change, parents-more, parents-wake, run_empty, runs-change, runs-wake, KeepsLinks}
+use Rattle.tb_board.proofs.Runs.{gone-change, gone-there, gone-wake, parent-more, parents-change, parents-more, parents-wake, run_empty, runs-change, runs-wake, templates-more, KeepsLinks}
 
 pub ids-wake : (m : ℕ) (ts : List Task) → ids (map (woken m) ts) ≡ ids ts
 ids-wake m [] = refl
@@ -52,6 +52,7 @@ good-wake b m good =
       acyclic = acyclic-same b (wake b m) (ids-wake m b.tasks) (depends-wake m b.tasks) good.acyclic;
       runs = runs-wake b m good.runs;
       parents = parents-wake b m good.parents;
+      gone = gone-wake b m good.gone;
     }
 
 pub all_push : {A : Type 0} (P : A → Type 0) (xs : List A) (x : A) → AllByRecursion P xs → P x → AllByRecursion P (xs ++ x ∷ [])
@@ -90,6 +91,7 @@ good-push b t good room alone sound linked runs parent =
       acyclic = acyclic-push b t good.acyclic good.linked linked;
       runs = runs;
       parents = all_push (HasTemplateOn (with_task b t)) b.tasks t (parents-more b t b.tasks good.parents) (parent-more b t t parent);
+      gone = gone-there b (with_task b t) (templates-more b t) b.gone good.gone;
     }
 
 -- f keeps identifiers, dependencies, and the links between templates and instances
@@ -162,6 +164,7 @@ good-change b test f x keeps found sound good =
       acyclic = acyclic-same b later (ids-change test f keeps.id b.tasks) (depends-change test f keeps b.tasks) good.acyclic;
       runs = runs-change b test f keeps.links good.runs;
       parents = parents-change b test f keeps.id keeps.links good.parents;
+      gone = gone-change b test f keeps.id keeps.links good.gone;
     }
 
 linked-same : (b c : Board) (ts : List Task) → ids c.tasks ≡ ids b.tasks → AllByRecursion (IsLinkedOn b) ts → AllByRecursion (IsLinkedOn c) ts
@@ -183,6 +186,7 @@ good-relink b test f x keeps links found sound linked acyclic good =
       acyclic = acyclic;
       runs = runs-change b test f links good.runs;
       parents = parents-change b test f keeps links good.parents;
+      gone = gone-change b test f keeps links good.gone;
     }
 
 -- a board without tasks
@@ -196,4 +200,5 @@ good-empty number title =
       acyclic = acyclic-empty (record { number = number; title = title; tasks = []; gone = [] }) refl;
       runs = λ id. run_empty;
       parents = tt;
+      gone = tt;
     }

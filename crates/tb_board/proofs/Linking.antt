@@ -12,9 +12,9 @@ use Rattle.tb_task.specs.declared.task.Task.{Task}
 use Rattle.tb_board.specs.Board.{has_id, ids}
 use Rattle.tb_board.specs.declared.board.Board.{Board}
 use Rattle.tb_board.specs.Links.{depends_of, links, place_in, places_in, with_place}
-use Rattle.tb_graph.specs.Leads.{leads}
-use Rattle.tb_graph.specs.Walk.{Graph, Reaches}
-use Rattle.tb_graph.proofs.Leading.{leads_decides}
+use Rattle.tb_graph.specs.Leads.{is_acyclic, leads}
+use Rattle.tb_graph.specs.Walk.{Graph, IsAcyclic, Reaches}
+use Rattle.tb_graph.proofs.Leading.{is_acyclic_decides, leads_decides}
 
 -- the place of an identifier among those from place k on
 abbrev pub place_from : List Task → ℕ → ℕ → Option ℕ
@@ -150,11 +150,15 @@ pub links-length : (b : Board) → length (links b) ≡ length b.tasks
 unfolding links
 links-length b = length-map (depends_of b.tasks) (places_in (ids b.tasks)) ∙ length-map b.tasks (λ (t : Task). t.depends)
 
+same : (p q : Bool) → (p ≡ true → q ≡ true) → (q ≡ true → p ≡ true) → p ≡ q
+same true q to back = sym (to refl)
+same false true to back = back refl
+same false false to back = refl
+
 -- a search answers the test for walks
 pub led : (g : Graph) (from to : ℕ) (answer : Bool) → IsTrue answer ↔ Reaches g from to → answer ≡ leads g from to
 led g from to answer exact = same answer (leads g from to) (λ h. (leads_decides g from to).1 (exact.0 h)) (λ h. exact.1 ((leads_decides g from to).0 h))
-  where
-    same : (p q : Bool) → (p ≡ true → q ≡ true) → (q ≡ true → p ≡ true) → p ≡ q
-    same true q to back = sym (to refl)
-    same false true to back = back refl
-    same false false to back = refl
+
+-- and the test for walks back
+pub acyclic_answer : (g : Graph) (answer : Bool) → IsTrue answer ↔ IsAcyclic g → answer ≡ is_acyclic g
+acyclic_answer g answer exact = same answer (is_acyclic g) (λ h. (is_acyclic_decides g).1 (exact.0 h)) (λ h. exact.1 ((is_acyclic_decides g).0 h))

@@ -1,5 +1,5 @@
 -- The places of templates, where tasks come, wake or change.
-use Rattle.std.proofs.Common.{◌≡◌, ℕ, ◌+◌, ◌<◌, ◌≤◌, nat_eq, Bool, true, false, ◌&&◌, ◌||◌, List, [], ◌∷◌, ◌++◌, Option, Some, None, length, map, refl, sym, ◌∙◌, ap, arith, subst, inl, inr, length-append, append_assoc}
+use Rattle.std.proofs.Common.{◌≡◌, ℕ, ◌+◌, ◌<◌, ◌≤◌, nat_eq, Bool, true, false, ◌||◌, List, [], ◌∷◌, ◌++◌, Option, Some, None, length, map, refl, sym, ◌∙◌, ap, arith, subst, inl, inr, length-append, append_assoc}
 use Rattle.std.specs.Cmp.{nat_eq_equiv}
 use Rattle.std.specs.List.{AllByRecursion, list_any}
 use Rattle.std.proofs.lemmas.Bool.{cases_Bool, ne_eqb}
@@ -9,11 +9,12 @@ use Rattle.std.proofs.lemmas.Map.Keys.{IsDistinct-push}
 use Rattle.std.proofs.lemmas.Map.Made.{IsDistinct-from_count}
 use Rattle.tb_task.specs.declared.task.Task.{Task}
 use Rattle.tb_board.specs.declared.board.Board.{Board}
-use Rattle.tb_board.specs.Board.{has_id, wake, with_task, woken}
+use Rattle.tb_board.specs.declared.gone.Gone.{Gone}
+use Rattle.tb_board.specs.Board.{wake, with_task, woken}
 use Rattle.tb_board.specs.First.{change_first}
-use Rattle.tb_board.specs.Instances.{has_template, is_template_with, HasRuns, HasTemplateOn}
+use Rattle.tb_board.specs.Instances.{has_template, is_template_with, HasRuns, HasTemplateOn, IsGoneOn}
 use Rattle.tb_board.specs.Statuses.{is_template}
-use Rattle.tb_board.specs.Templates.{gone_places, instance_places, is_id, IsRun, place_in, places, with_place}
+use Rattle.tb_board.specs.Templates.{gone_places, instance_places, IsRun, place_in, places, with_place}
 
 -- a number above all isn't among them
 above_all : (n : ℕ) (xs : List ℕ) → AllByRecursion (λ x. x < n) xs → list_any (nat_eq n) xs ≡ false
@@ -45,7 +46,7 @@ with_place-append : (o : Option ℕ) (xs ys : List ℕ) → with_place o (xs ++ 
 with_place-append None xs ys = refl
 with_place-append (Some k) xs ys = refl
 
-instance_places-push : (id : ℕ) (ts : List Task) (t : Task) → instance_places id (ts ++ t ∷ []) ≡ instance_places id ts ++ with_place (place_in id t) []
+pub instance_places-push : (id : ℕ) (ts : List Task) (t : Task) → instance_places id (ts ++ t ∷ []) ≡ instance_places id ts ++ with_place (place_in id t) []
 instance_places-push id [] t = refl
 instance_places-push id (u ∷ us) t =
     ap (with_place (place_in id u)) (instance_places-push id us t) ∙ with_place-append (place_in id u) (instance_places id us) (with_place (place_in id t) [])
@@ -86,16 +87,20 @@ runs-change b test f keeps runs id =
     subst IsRun (sym (ap (λ ps. gone_places id b.gone ++ ps) (instance_places-change id test f keeps b.tasks))) (runs id)
 
 -- c has the templates that b has
-abbrev HasTemplatesOf : Board → Board → Type 0
+abbrev pub HasTemplatesOf : Board → Board → Type 0
 HasTemplatesOf b c = (id : ℕ) → list_any (is_template_with id) b.tasks ≡ true → list_any (is_template_with id) c.tasks ≡ true
 
-parent-there : (b c : Board) (o : Option ℕ) → HasTemplatesOf b c → has_template b o ≡ true → has_template c o ≡ true
+pub parent-there : (b c : Board) (o : Option ℕ) → HasTemplatesOf b c → has_template b o ≡ true → has_template c o ≡ true
 parent-there b c None all h = refl
 parent-there b c (Some id) all h = all id h
 
-parents-there : (b c : Board) → HasTemplatesOf b c → (ts : List Task) → AllByRecursion (HasTemplateOn b) ts → AllByRecursion (HasTemplateOn c) ts
+pub parents-there : (b c : Board) → HasTemplatesOf b c → (ts : List Task) → AllByRecursion (HasTemplateOn b) ts → AllByRecursion (HasTemplateOn c) ts
 parents-there b c all [] h = tt
 parents-there b c all (t ∷ ts) h = (parent-there b c t.parent all h.0, parents-there b c all ts h.1)
+
+pub gone-there : (b c : Board) → HasTemplatesOf b c → (gs : List Gone) → AllByRecursion (IsGoneOn b) gs → AllByRecursion (IsGoneOn c) gs
+gone-there b c all [] h = tt
+gone-there b c all (g ∷ gs) h = (all g.template h.0, gone-there b c all gs h.1)
 
 or_true : (p q : Bool) → p ≡ true → (p || q) ≡ true
 or_true true q h = refl
@@ -121,6 +126,9 @@ parents-woken c m (t ∷ ts) h = (h.0, parents-woken c m ts h.1)
 pub parents-wake : (b : Board) (m : ℕ) → AllByRecursion (HasTemplateOn b) b.tasks → AllByRecursion (HasTemplateOn (wake b m)) (wake b m).tasks
 parents-wake b m h = parents-woken (wake b m) m b.tasks (parents-there b (wake b m) (λ id there. templates-wake id m b.tasks ∙ there) b.tasks h)
 
+pub gone-wake : (b : Board) (m : ℕ) → AllByRecursion (IsGoneOn b) b.gone → AllByRecursion (IsGoneOn (wake b m)) b.gone
+gone-wake b m h = gone-there b (wake b m) (λ id there. templates-wake id m b.tasks ∙ there) b.gone h
+
 templates-change : (id : ℕ) (test : Task → Bool) (f : Task → Task) → ((t : Task) → (f t).id ≡ t.id) → KeepsLinks f → (ts : List Task)
     → list_any (is_template_with id) (change_first test f ts) ≡ list_any (is_template_with id) ts
 templates-change id test f ids keeps [] = refl
@@ -144,3 +152,8 @@ pub parents-change : (b : Board) (test : Task → Bool) (f : Task → Task) → 
 parents-change b test f ids keeps h =
     let later : Board = record b { tasks = change_first test f b.tasks } in
     parents-changed later test f keeps b.tasks (parents-there b later (λ id there. templates-change id test f ids keeps b.tasks ∙ there) b.tasks h)
+
+pub gone-change : (b : Board) (test : Task → Bool) (f : Task → Task) → ((t : Task) → (f t).id ≡ t.id) → KeepsLinks f → AllByRecursion (IsGoneOn b) b.gone
+    → AllByRecursion (IsGoneOn (record b { tasks = change_first test f b.tasks })) b.gone
+gone-change b test f ids keeps h =
+    gone-there b (record b { tasks = change_first test f b.tasks }) (λ id there. templates-change id test f ids keeps b.tasks ∙ there) b.gone h

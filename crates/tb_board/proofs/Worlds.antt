@@ -4,11 +4,11 @@ use Rattle.std.specs.List.{AllByRecursion}
 use Rattle.std.proofs.lemmas.Bool.{cases_Bool, eqb-true}
 use Rattle.tb_board.specs.declared.board.Board.{Board}
 use Rattle.tb_board.specs.declared.change.Change.{Change}
-use Rattle.tb_board.specs.declared.change.Change.TheVariants.{PutTask, AddPerson, AddBoard, SetRole}
+use Rattle.tb_board.specs.declared.change.Change.TheVariants.{PutTask, AddPerson, AddBoard, SetRole, SetGone, TakeGone}
 use Rattle.tb_board.specs.declared.draft.Draft.{Draft}
 use Rattle.tb_board.specs.declared.world.World.{World}
 use Rattle.tb_board.specs.World.{has_number}
-use Rattle.tb_board.specs.Changes.{change_board, changed, changed_by, changed_on, replayed, with_task_at, IsOn, IsDraft}
+use Rattle.tb_board.specs.Changes.{change_board, changed, changed_by, changed_on, replayed, with_task_at, with_gone, without_gone, IsOn, IsDraft}
 
 change_board-none : (n : ℕ) (bs : List Board) → change_board n (λ b. b) bs ≡ bs
 change_board-none n [] = refl
@@ -28,15 +28,23 @@ change_board-twice n f g (b ∷ bs) keeps =
       | inr other ↦ rw (other, other) (ap (λ ys. b ∷ ys) (change_board-twice n f g bs keeps))
     ]
 
+-- a change of a board before the others, which are its own too
+one_more : (w : World) (k n : ℕ) (f : Board → Board) (cs : List Change) → k ≡ n → ((b : Board) → (f b).number ≡ b.number)
+    → record w { boards = change_board n (λ b. replayed b cs) (change_board k f w.boards) } ≡ record w { boards = change_board n (λ b. replayed (f b) cs) w.boards }
+one_more w k n f cs own keeps =
+    ap (λ i. record w { boards = change_board n (λ b. replayed b cs) (change_board i f w.boards) }) own
+    ∙ ap (λ bs. record w { boards = bs }) (change_board-twice n f (λ b. replayed b cs) w.boards keeps)
+
 -- changes that all name one board
 pub changed-one : (w : World) (n : ℕ) (cs : List Change) → AllByRecursion (IsOn n) cs
     → changed w cs ≡ record w { boards = change_board n (λ b. replayed b cs) w.boards }
 changed-one w n [] on = ap (λ bs. record w { boards = bs }) (sym (change_board-none n w.boards))
 changed-one w n (PutTask k place t ∷ cs) on =
-    let first : change_board k (with_task_at place t) w.boards ≡ change_board n (with_task_at place t) w.boards = ap (λ i. change_board i (with_task_at place t) w.boards) on.0 in
-    changed-one (record w { boards = change_board k (with_task_at place t) w.boards }) n cs on.1
-    ∙ ap (λ bs. record w { boards = change_board n (λ b. replayed b cs) bs }) first
-    ∙ ap (λ bs. record w { boards = bs }) (change_board-twice n (with_task_at place t) (λ b. replayed b cs) w.boards (λ b. refl))
+    changed-one (record w { boards = change_board k (with_task_at place t) w.boards }) n cs on.1 ∙ one_more w k n (with_task_at place t) cs on.0 (λ b. refl)
+changed-one w n (SetGone k g ∷ cs) on =
+    changed-one (record w { boards = change_board k (with_gone g) w.boards }) n cs on.1 ∙ one_more w k n (with_gone g) cs on.0 (λ b. refl)
+changed-one w n (TakeGone k id place ∷ cs) on =
+    changed-one (record w { boards = change_board k (without_gone id place) w.boards }) n cs on.1 ∙ one_more w k n (without_gone id place) cs on.0 (λ b. refl)
 changed-one w n (AddPerson name key ∷ cs) on = absurd on.0
 changed-one w n (AddBoard k title ∷ cs) on = absurd on.0
 changed-one w n (SetRole k person role ∷ cs) on = absurd on.0
@@ -71,6 +79,8 @@ changed_on-number b (PutTask n place t) = refl
 changed_on-number b (AddPerson name key) = refl
 changed_on-number b (AddBoard n title) = refl
 changed_on-number b (SetRole n person role) = refl
+changed_on-number b (SetGone n g) = refl
+changed_on-number b (TakeGone n id k) = refl
 
 pub replayed-number : (b : Board) (cs : List Change) → (replayed b cs).number ≡ b.number
 replayed-number b [] = refl

@@ -1,14 +1,16 @@
 -- What changes make of a board and of a world.
-use Rattle.std.specs.Prelude.{◌≡◌, ℕ, List, [], ◌∷◌, ◌++◌, if◌then◌else◌, length, nat_lt, slice_set}
+use Rattle.std.specs.Prelude.{◌≡◌, ℕ, not, List, [], ◌∷◌, ◌++◌, if◌then◌else◌, filter, length, nat_lt, slice_set}
 use Rattle.std.specs.List.{AllByRecursion}
 use Rattle.tb_task.specs.declared.task.Task.{Task}
 use Rattle.tb_board.specs.declared.board.Board.{Board}
 use Rattle.tb_board.specs.declared.change.Change.{Change}
-use Rattle.tb_board.specs.declared.change.Change.TheVariants.{PutTask, AddPerson, AddBoard, SetRole}
+use Rattle.tb_board.specs.declared.change.Change.TheVariants.{PutTask, AddPerson, AddBoard, SetRole, SetGone, TakeGone}
 use Rattle.tb_board.specs.declared.draft.Draft.{Draft}
+use Rattle.tb_board.specs.declared.gone.Gone.{Gone}
 use Rattle.tb_board.specs.declared.world.World.{World}
 use Rattle.tb_board.specs.First.{change_first}
 use Rattle.tb_board.specs.Roles.{set_role}
+use Rattle.tb_board.specs.Templates.{is_gone_at}
 use Rattle.tb_board.specs.World.{has_number}
 
 -- a task at its place, or last where the list has no such place
@@ -17,6 +19,17 @@ put tasks place t = if nat_lt place (length tasks) then slice_set tasks place t 
 
 abbrev pub with_task_at : ℕ → Task → Board → Board
 with_task_at place t b = record b { tasks = put b.tasks place t }
+
+-- a place more is gone, and goes last
+abbrev pub with_gone : Gone → Board → Board
+with_gone g b = record b { gone = b.gone ++ g ∷ [] }
+
+-- without the place k of the template
+abbrev pub without_place : ℕ → ℕ → List Gone → List Gone
+without_place id k gs = filter (λ g. not (is_gone_at id k g)) gs
+
+abbrev pub without_gone : ℕ → ℕ → Board → Board
+without_gone id k b = record b { gone = without_place id k b.gone }
 
 -- the first board with this number is changed by f, and nothing else
 abbrev pub change_board : ℕ → (Board → Board) → List Board → List Board
@@ -27,6 +40,8 @@ changed_by w (PutTask n place t) = record w { boards = change_board n (with_task
 changed_by w (AddPerson name key) = record w { people = w.people ++ record { name = name; key = key } ∷ [] }
 changed_by w (AddBoard n title) = record w { boards = w.boards ++ record { number = n; title = title; tasks = []; gone = [] } ∷ [] }
 changed_by w (SetRole n person role) = record w { roles = set_role w.roles n person role }
+changed_by w (SetGone n g) = record w { boards = change_board n (with_gone g) w.boards }
+changed_by w (TakeGone n id k) = record w { boards = change_board n (without_gone id k) w.boards }
 
 -- the world after the changes, one after the other
 abbrev pub changed : World → List Change → World
@@ -39,6 +54,8 @@ changed_on b (PutTask n place t) = with_task_at place t b
 changed_on b (AddPerson name key) = b
 changed_on b (AddBoard n title) = b
 changed_on b (SetRole n person role) = b
+changed_on b (SetGone n g) = with_gone g b
+changed_on b (TakeGone n id k) = without_gone id k b
 
 -- a board after the changes, all of which are its own
 abbrev pub replayed : Board → List Change → Board
@@ -51,6 +68,8 @@ IsOn n (PutTask m place t) = m ≡ n
 IsOn n (AddPerson name key) = ⊥
 IsOn n (AddBoard m title) = ⊥
 IsOn n (SetRole m person role) = ⊥
+IsOn n (SetGone m g) = m ≡ n
+IsOn n (TakeGone m id k) = m ≡ n
 
 -- the draft's changes are those of its board, and make it of the first one
 pub record IsDraft (start : Board) (d : Draft) : Type 0 where

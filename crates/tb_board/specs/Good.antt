@@ -10,7 +10,7 @@ use Rattle.tb_board.specs.Board.{lacks_depends}
 use Rattle.tb_board.specs.Board.{ids}
 use Rattle.tb_board.specs.Links.{IsAcyclic}
 use Rattle.tb_board.specs.Statuses.{is_template}
-use Rattle.tb_board.specs.Instances.{HasRuns, HasTemplateOn}
+use Rattle.tb_board.specs.Instances.{HasRuns, HasTemplateOn, IsGoneOn}
 
 abbrev pub is_deleted : Status → Bool
 is_deleted Pending = false
@@ -40,3 +40,4 @@ pub record IsGood (b : Board) : Type 0 where
   pub acyclic : IsAcyclic b
   pub runs : HasRuns b
   pub parents : AllByRecursion (HasTemplateOn b) b.tasks
+  pub gone : AllByRecursion (IsGoneOn b) b.gone

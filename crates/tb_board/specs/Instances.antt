@@ -3,6 +3,7 @@ use Rattle.std.specs.Prelude.{◌≡◌, ℕ, Bool, true, ◌&&◌, Option, Some
 use Rattle.std.specs.List.{list_any}
 use Rattle.tb_task.specs.declared.task.Task.{Task}
 use Rattle.tb_board.specs.declared.board.Board.{Board}
+use Rattle.tb_board.specs.declared.gone.Gone.{Gone}
 use Rattle.tb_board.specs.Board.{has_id}
 use Rattle.tb_board.specs.Statuses.{is_template}
 use Rattle.tb_board.specs.Templates.{places, IsRun}
@@ -21,3 +22,7 @@ has_template b (Some id) = list_any (is_template_with id) b.tasks
 
 abbrev pub HasTemplateOn : Board → Task → Type 0
 HasTemplateOn b t = has_template b t.parent ≡ true
+
+-- a place that is gone is of a template of the board
+abbrev pub IsGoneOn : Board → Gone → Type 0
+IsGoneOn b g = list_any (is_template_with g.template) b.tasks ≡ true

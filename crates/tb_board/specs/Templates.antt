@@ -1,5 +1,5 @@
 -- The places of a template's mask, and what stands at them.
-use Rattle.std.specs.Prelude.{◌<◌, ℕ, Bool, true, false, ◌&&◌, ◌==◌, List, [], ◌∷◌, ◌++◌, Option, Some, None, unwrap_or, if◌then◌else◌, length, nat_eq, map, find}
+use Rattle.std.specs.Prelude.{◌<◌, ℕ, Bool, false, ◌&&◌, ◌==◌, List, [], ◌∷◌, ◌++◌, Option, Some, None, unwrap_or, if◌then◌else◌, length, nat_eq, map, find}
 use Rattle.std.specs.List.{IsDistinct, AllByRecursion, range_with_len}
 use Rattle.tb_task.specs.declared.task.Task.{Task}
 use Rattle.tb_task.specs.Status.{mark_of}

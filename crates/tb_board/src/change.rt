@@ -1,8 +1,9 @@
+use crate::gone::Gone;
 use crate::key::Key;
 use crate::name::Name;
 use crate::title::Title;
 use crate::world::Role;
-use tb_task::Task;
+use tb_task::{Task, TaskId};
 use tb_values::Shared;
 
 /// One step by which a world changes.
@@ -29,5 +30,16 @@ pub enum Change {
         board: u32,
         person: usize,
         role: Option<Role>,
+    },
+    /// A place of a template's mask is gone, and goes last among those that are.
+    SetGone {
+        board: u32,
+        gone: Gone,
+    },
+    /// A place of a template's mask isn't gone any more.
+    TakeGone {
+        board: u32,
+        template: TaskId,
+        place: u32,
     },
 }

@@ -1,16 +1,17 @@
 ghost use Rattle.std.specs.Prelude.{◌≡◌, [], ◌∷◌, ◌++◌, Some, None, IfOk};
-ghost use Rattle.tb_board.specs.Changes.{change_board, changed, changed_by, put, with_task_at};
+ghost use Rattle.tb_board.specs.Changes.{change_board, changed, changed_by, put, with_gone, with_task_at, without_gone};
 ghost use Rattle.tb_board.specs.Roles.{set_role};
 
 use crate::board::Board;
 use crate::change::Change;
 use crate::first::{place_of_board, place_of_role};
+use crate::gone::{Gone, gone_without};
 use crate::key::Key;
 use crate::name::Name;
 use crate::title::Title;
 use crate::world::{Person, Role, RoleOn, World};
 use std::alloc::{AllocError, Global};
-use tb_task::Task;
+use tb_task::{Task, TaskId};
 use tb_values::{Duplicate, Items, Shared};
 
 impl World {
@@ -38,6 +39,12 @@ fn changed_world(alloc: Global, world: World, change: &Change) -> Result<World, 
             person,
             role,
         } => set_role(world, *board, *person, *role),
+        Change::SetGone { board, gone } => set_gone(alloc, world, *board, *gone),
+        Change::TakeGone {
+            board,
+            template,
+            place,
+        } => take_gone(alloc, world, *board, *template, *place),
     }
 }
 
@@ -174,4 +181,53 @@ fn tasks_with(
         tasks.push(task)?;
     }
     Ok(tasks)
+}
+
+fn set_gone(alloc: Global, mut world: World, number: u32, gone: Gone) -> Result<World, AllocError>
+    ensures { IfOk result (λ later. later ≡ record world { boards = change_board number (with_gone gone) world.boards }) }
+{
+    let Some(at) = place_of_board(world.boards.as_slice(), number) else {
+        return Ok(world);
+    };
+    let board = board_with_gone(world.boards.as_slice()[at].get(), gone)?;
+    world.boards.set(at, Shared::new(alloc, board)?);
+    Ok(world)
+}
+
+fn board_with_gone(board: &Board, gone: Gone) -> Result<Board, AllocError>
+    ensures { IfOk result (λ b. b ≡ with_gone gone board.now) }
+{
+    let mut board = board.duplicate()?;
+    board.gone.push(gone)?;
+    Ok(board)
+}
+
+fn take_gone(
+    alloc: Global,
+    mut world: World,
+    number: u32,
+    template: TaskId,
+    place: u32,
+) -> Result<World, AllocError>
+    ensures { IfOk result (λ later. later ≡ record world { boards = change_board number (without_gone template place) world.boards }) }
+{
+    let Some(at) = place_of_board(world.boards.as_slice(), number) else {
+        return Ok(world);
+    };
+    let board = board_without(alloc, world.boards.as_slice()[at].get(), template, place)?;
+    world.boards.set(at, Shared::new(alloc, board)?);
+    Ok(world)
+}
+
+fn board_without(
+    alloc: Global,
+    board: &Board,
+    template: TaskId,
+    place: u32,
+) -> Result<Board, AllocError>
+    ensures { IfOk result (λ b. b ≡ without_gone template place board.now) }
+{
+    let mut board = board.duplicate()?;
+    board.gone = gone_without(alloc, board.gone.as_slice(), template, place)?;
+    Ok(board)
 }

@@ -1,11 +1,12 @@
 ghost use Rattle.std.specs.Prelude.{◌≡◌, ◌<◌, [], ◌∷◌, ◌++◌, length, IfOk, slice_set};
-ghost use Rattle.tb_board.specs.Changes.{IsDraft, Follows};
+ghost use Rattle.tb_board.specs.Changes.{IsDraft, Follows, with_gone, without_gone};
 ghost use Rattle.tb_board.specs.declared.change.Change.TheVariants.{PutTask};
 
 use crate::board::Board;
 use crate::change::Change;
+use crate::gone::{Gone, gone_without};
 use std::alloc::{AllocError, Global};
-use tb_task::Task;
+use tb_task::{Task, TaskId};
 use tb_values::{Duplicate, Items, Shared};
 
 /// A board that is worked on, with the changes that made it.
@@ -64,6 +65,41 @@ impl Draft {
         let task = Shared::new(alloc, task)?;
         changes.push(put_task(&board, board.tasks.len(), &task)?)?;
         board.tasks.push(task)?;
+        Ok(Draft { board, changes })
+    }
+
+    /// Puts a gone place last.
+    pub fn set_gone(self, gone: &Gone) -> Result<Draft, AllocError>
+        ensures board { IfOk result (λ draft. draft.board ≡ with_gone gone.now self.board) }
+        ensures follows { IfOk result (Follows self) }
+    {
+        let Draft {
+            mut board,
+            mut changes,
+        } = self;
+        changes.push(Change::SetGone {
+            board: board.number,
+            gone: *gone,
+        })?;
+        board.gone.push(*gone)?;
+        Ok(Draft { board, changes })
+    }
+
+    /// Takes a place of a template's mask, which isn't gone any more.
+    pub fn take_gone(self, alloc: Global, template: TaskId, place: u32) -> Result<Draft, AllocError>
+        ensures board { IfOk result (λ draft. draft.board ≡ without_gone template place self.board) }
+        ensures follows { IfOk result (Follows self) }
+    {
+        let Draft {
+            mut board,
+            mut changes,
+        } = self;
+        changes.push(Change::TakeGone {
+            board: board.number,
+            template,
+            place,
+        })?;
+        board.gone = gone_without(alloc, board.gone.as_slice(), template, place)?;
         Ok(Draft { board, changes })
     }
 }

@@ -25,10 +25,11 @@ pub use change::Change;
 pub use changing::{roles_with, roles_without};
 pub use draft::Draft;
 pub use first::{place_of_board, place_of_task};
-pub use gone::Gone;
+pub use gone::{Gone, gone_without};
 pub use key::Key;
 pub use links::{
-    acyclic_boards_have_no_walks_back, blocked_tasks, blocking_tasks, is_led, walks_are_found,
+    acyclic_boards_have_no_walks_back, blocked_tasks, blocking_tasks, is_acyclic_board, is_led,
+    walks_are_found,
 };
 pub use name::Name;
 pub use numbers::{next_number, taken_numbers};

@@ -2,6 +2,7 @@ ghost use Rattle.std.specs.Prelude.{◌≡◌, ◌<◌, [], ◌∷◌, ◌++◌,
 ghost use Rattle.tb_board.specs.Blocked.{are_open, blocked, blocking};
 ghost use Rattle.tb_board.specs.Board.{ids};
 ghost use Rattle.tb_board.specs.Links.{ArePlaces, depends_of, leads_on, links, place_in, places_in};
+ghost use Rattle.tb_graph.specs.Leads.{is_acyclic};
 ghost use Rattle.tb_board.specs.Walks.{IsAcyclicByWalks, LeadsByWalks};
 
 use crate::board::Board;
@@ -25,6 +26,13 @@ pub fn is_led(alloc: Global, board: &Board, from: TaskId, to: TaskId) -> Result<
         return Ok(false);
     };
     links_of(alloc, board)?.reaches(from, to)
+}
+
+/// Whether no task depends on itself, by whichever other ones.
+pub fn is_acyclic_board(alloc: Global, board: &Board) -> Result<bool, AllocError>
+    ensures { IfOk result (λ answer. answer ≡ is_acyclic (links board.now)) }
+{
+    links_of(alloc, board)?.acyclic()
 }
 
 /// Which tasks are blocked, by their places.

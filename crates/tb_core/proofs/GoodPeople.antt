@@ -1,7 +1,6 @@
 -- New people, new boards and roles leave a good world good.
 use Rattle.std.proofs.Common.{◌≡◌, ℕ, zero, suc, ◌+◌, ◌≤◌, ◌<◌, ◌==◌, ◌&&◌, Bool, true, false, List, [], ◌∷◌, ◌++◌, Option, Some, None, length, map, find, position, refl, sym, ◌∙◌, ap, arith, subst, true≢false, inl, inr, length-append, MatchOption}
 use Rattle.std.specs.List.{AllByRecursion, IsDistinct, count_by, list_any, range_with_len}
-use Rattle.std.specs.Cmp.{nat_eq_equiv}
 use Rattle.std.specs.Option.{option_map}
 use Rattle.std.specs.Str.{bytes_eq}
 use Rattle.std.proofs.lemmas.Bool.{cases_Bool, eqb-true}
@@ -23,9 +22,7 @@ use Rattle.tb_board.specs.Roles.{set_role}
 use Rattle.tb_board.specs.World.{has_name, is_role_of, number_of, owns, role_of, owners}
 use Rattle.tb_core.proofs.GoodRoles.{all-set, distinct-set, new_owner, owner_leaves, owner_stays}
 use Rattle.tb_board.proofs.Goodness.{all_push, good-empty}
-use Rattle.tb_core.proofs.Opening.{none_distinct}
 use Rattle.tb_board.proofs.Places.{place}
-use Rattle.tb_board.proofs.Relinking.{acyclic-empty}
 
 roles-within : (w v : World) → length w.people ≤ length v.people → length w.boards ≤ length v.boards → (rs : List RoleOn) → AllByRecursion (IsRoleIn w) rs → AllByRecursion (IsRoleIn v) rs
 roles-within w v people boards [] all = tt

@@ -1,12 +1,15 @@
+pub mod Again
 pub mod Cycles
 pub mod Decided
 pub mod Depending
 pub mod Early
 pub mod EditSteps
+pub mod GoodImports
 pub mod GoodLinks
 pub mod GoodPeople
 pub mod GoodRoles
 pub mod GoodWorlds
+pub mod Importing
 pub mod Modifying
 pub mod Opening
 pub mod RoleDecisions

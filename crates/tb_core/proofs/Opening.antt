@@ -7,7 +7,6 @@ use Rattle.std.proofs.lemmas.Bool.{cases_Bool, eqb-true}
 use Rattle.std.proofs.lemmas.Map.Keys.{IsDistinct-cons}
 use Rattle.std.proofs.lemmas.Map.Made.{IsDistinct-from_count}
 use Rattle.tb_board.specs.declared.world.RoleOn.{RoleOn}
-use Rattle.tb_board.proofs.Relinking.{acyclic-empty}
 use Rattle.tb_board.proofs.Goodness.{good-empty}
 use Rattle.std.specs.Prelude.{codes}
 use Rattle.tb_core.specs.GoodWorld.{OpensGood, same_place}

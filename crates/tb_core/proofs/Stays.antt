@@ -1,12 +1,12 @@
 -- Each command leaves a good world good.
-use Rattle.std.proofs.Common.{◌≡◌, ℕ, ◌+◌, ◌==◌, ◌++◌, ◌<◌, ◌≤◌, nat_le, Bool, true, false, ◌&&◌, ◌||◌, not, is_some, true≢false, List, [], ◌∷◌, Option, Some, None, Result, Ok, Err, length, find, refl, sym, ◌∙◌, ap, arith, subst, inl, inr, if◌then◌else◌, option_and_then}
-use Rattle.std.proofs.lemmas.Bool.{cases_Bool, leb-false}
+use Rattle.std.proofs.Common.{◌≡◌, ℕ, ◌+◌, ◌==◌, ◌++◌, ◌<◌, ◌≤◌, ◌-◌, nat_le, nat_lt, Bool, true, false, ◌&&◌, ◌||◌, not, is_some, true≢false, List, [], ◌∷◌, Option, Some, None, Result, Ok, Err, length, find, refl, sym, ◌∙◌, ap, arith, subst, inl, inr, if◌then◌else◌, option_and_then}
+use Rattle.std.proofs.lemmas.Bool.{cases_Bool, leb-false, ltb-false}
 use Rattle.tb_task.specs.declared.incoming.Incoming.{Incoming}
 use Rattle.tb_task.specs.declared.task.Task.{Task}
 use Rattle.tb_task.specs.declared.checks.Field.{Field}
 use Rattle.tb_task.specs.declared.checks.Field.TheVariants.{BadPair}
 use Rattle.tb_task.specs.declared.edit.Edit.{Edit}
-use Rattle.tb_task.specs.Check.{fault_of, has_bad_text, has_bad_pair, has_bad_recurrence, is_recurring, is_step}
+use Rattle.tb_task.specs.Check.{fault_of, has_bad_text, has_bad_pair, has_bad_recurrence}
 use Rattle.tb_board.specs.declared.board.Board.{Board}
 use Rattle.tb_core.specs.declared.command.Answer.{Answer}
 use Rattle.tb_core.specs.declared.command.Answer.TheVariants as Answers
@@ -15,9 +15,9 @@ use Rattle.tb_core.specs.declared.look.Seen.{Seen}
 use Rattle.tb_core.specs.declared.look.SeenBoard.{SeenBoard}
 use Rattle.tb_board.specs.declared.world.Person.{Person}
 use Rattle.tb_core.specs.declared.command.Command.{Command}
-use Rattle.tb_core.specs.declared.command.Command.TheVariants.{Add, OnTask, Modify, Sweep, SetRole, NewPerson, NewBoard, Depend, Undepend}
+use Rattle.tb_core.specs.declared.command.Command.TheVariants.{Add, OnTask, Modify, ImportJson, ImportTodo, Sweep, SetRole, NewPerson, NewBoard, Depend, Undepend}
 use Rattle.tb_core.specs.declared.command.Told.{Told}
-use Rattle.tb_core.specs.declared.command.Told.TheVariants.{Added, Changed, Swept}
+use Rattle.tb_core.specs.declared.command.Told.TheVariants.{Added, Changed, Imported, TodoImported, Swept}
 use Rattle.tb_core.specs.declared.refusal.Refusal.{Refusal}
 use Rattle.tb_core.specs.declared.refusal.Refusal.TheVariants.{NoTask, UuidTaken, Full, WrongStatus, TemplateFixed, NotAllowed, NoPerson, LastOwner, NameTaken, Cycle}
 use Rattle.tb_board.specs.declared.world.Role.{Role}
@@ -28,6 +28,8 @@ use Rattle.tb_core.specs.Actions.{acted, action_fault, action_refusals, of_task,
 use Rattle.tb_core.specs.Edits.{modified}
 use Rattle.tb_core.specs.Modify.{is_fixed, is_misplaced, modify_fault, modify_refusals}
 use Rattle.tb_core.specs.Depends.{closes_walk, depend_refusals, is_open_task, lacks_either, linked, undepend_refusals, unlinked}
+use Rattle.tb_core.specs.ImportTodo.{first_bad, import_todo_refusals, imported, new_tasks}
+use Rattle.tb_core.proofs.GoodImports.{good-new, plain_all}
 use Rattle.tb_core.proofs.GoodLinks.{good-linked, good-unlinked}
 use Rattle.tb_core.specs.Add.{add_fault, add_refusals, entered, entered_id, first_fault, is_full, is_linked, is_misread}
 use Rattle.tb_board.specs.Board.{lacks_depends}
@@ -44,6 +46,16 @@ use Rattle.tb_core.specs.People.{board_refusals, new_board, new_person, person_r
 use Rattle.tb_core.specs.Owners.{leaves_none, person_number}
 use Rattle.tb_board.specs.World.{find_board, has_name, has_number, is_owner, key_of, number_of, owners, role_of}
 use Rattle.std.specs.Option.{option_map}
+use Rattle.std.specs.Prelude.{IfOk}
+use Rattle.tb_import.specs.declared.imported.ImportCounts.{ImportCounts}
+use Rattle.tb_import.specs.declared.refusal.ImportRefusal.{ImportRefusal}
+use Rattle.tb_import.specs.Entering.{with_all, with_new}
+use Rattle.tb_import.specs.Import.{board_after, counts_after, with_masks}
+use Rattle.tb_import.specs.New as import_new
+use Rattle.tb_import.specs.Refusals as import
+use Rattle.tb_import.specs.Refusals.{import_refusals, judged_import}
+use Rattle.tb_import.proofs.Keeping.{import_keeps_good}
+use Rattle.tb_core.specs.ImportJson.{told_of}
 use Rattle.tb_sweep.specs.Sweep.{sweep}
 use Rattle.tb_sweep.proofs.Adding.{number-sweep}
 use Rattle.tb_sweep.proofs.Keeping.{sweep_kept}
@@ -203,6 +215,12 @@ good-undepend b id on m good h =
     let standing = none_least (where_holds WrongStatus (not (of_task is_open_task (find (has_id id) b.tasks)))) _ there.1 in
     unlinked_at b id on m (find (has_id id) b.tasks) refl (not_false _ (none_holds WrongStatus _ standing.0)) good
 
+good-import : (b : Board) (ts : List Task) → IsGood b → least (import_todo_refusals b ts) ≡ None → IsGood (imported b ts)
+good-import b ts good h =
+    let plain = none_least (first_bad 0 ts) _ h in
+    let full = none_least (where_holds Full (nat_lt 10000 (length b.tasks + length (new_tasks b ts)))) [] plain.1 in
+    good-new b ts good (plain_all 0 ts plain.0) (ltb-false 10000 (length b.tasks + length (new_tasks b ts)) (none_holds Full _ full.0))
+
 -- a board that may stand in the place of x
 record Follows (x b : Board) : Type 0 where
   number : b.number ≡ x.number
@@ -214,6 +232,27 @@ kept : (m : ℕ) (w : World) (x : Board) (o : Option Refusal) (b : Board) (told 
 kept m w x (Some r) b told good found later = good
 kept m w x None b told good found later =
     good-with_board w x (sweep b m) good found (number-sweep b m ∙ (later refl).number) (sweep_kept b m (later refl).good)
+
+number_all : (first : Board) (new : List Incoming) (b : Board) (is : List Incoming) → (with_all first new b is).number ≡ b.number
+number_all first new b [] = refl
+number_all first new b (i ∷ is) = number_all first new (with_new first new b i) is
+
+import_number : (b : Board) (is : List Incoming) (o : Option ImportRefusal) → IfOk (import.unless_refused o (board_after b is) (counts_after b is)) (λ after. after.0.number ≡ b.number)
+import_number b is None = number_all b (import_new.new_tasks b is) (with_masks b (import_new.new_tasks b is)) (import_new.new_tasks b is)
+import_number b is (Some refusal) = tt
+
+both_kept : (b : Board) (r : Result (Board × ImportCounts) ImportRefusal) → IfOk r (λ after. after.0.number ≡ b.number) → IfOk r (λ after. IsGood after.0) → IfOk r (λ after. Follows b after.0)
+both_kept b (Ok after) number good = record { number = number; good = good }
+both_kept b (Err refusal) number good = tt
+
+import_kept : (b : Board) (is : List Incoming) → IsGood b → IfOk (judged_import b is) (λ after. Follows b after.0)
+import_kept b is good = both_kept b (judged_import b is) (import_number b is (import.least (import_refusals b is))) (import_keeps_good b is good)
+
+kept_import : (m : ℕ) (w : World) (x b : Board) (r : Result (Board × ImportCounts) ImportRefusal) → IsGoodWorld w → find (has_number x.number) w.boards ≡ Some x
+    → b.number ≡ x.number → IfOk r (λ after. Follows b after.0) → IsGoodWorld (applied w (answered m (told_of r))).world
+kept_import m w x b (Err refusal) good found number later = good
+kept_import m w x b (Ok after) good found number later =
+    good-with_board w x (sweep after.0 m) good found (number-sweep after.0 m ∙ later.number ∙ number) (sweep_kept after.0 m later.good)
 
 kept_outcome : (w : World) (x : Board) (c : Command) (m : ℕ) → IsGoodWorld w → find (has_number x.number) w.boards ≡ Some x → IsGood x
     → IsGoodWorld (applied w (outcome x c m)).world
@@ -232,6 +271,12 @@ kept_outcome w x (Depend n id on) m good found is_good =
 kept_outcome w x (Undepend n id on) m good found is_good =
     kept m w x (least (undepend_refusals (wake x m) id on)) (record (wake x m) { tasks = change_first (has_id id) (unlinked m on) (wake x m).tasks }) (Changed id) good found
     (λ none. record { number = refl; good = good-undepend (wake x m) id on m (good-wake x m is_good) none })
+kept_outcome w x (ImportJson n is) m good found is_good =
+    kept_import m w x (wake x m) (judged_import (wake x m) is) good found refl (import_kept (wake x m) is (good-wake x m is_good))
+kept_outcome w x (ImportTodo n ts) m good found is_good =
+    kept m w x (least (import_todo_refusals (wake x m) ts)) (imported (wake x m) ts)
+    (TodoImported (length ts - length (new_tasks (wake x m) ts)) (length (new_tasks (wake x m) ts))) good found
+    (λ none. record { number = refl; good = good-import (wake x m) ts (good-wake x m is_good) none })
 kept_outcome w x (Sweep n) m good found is_good = kept m w x None (wake x m) Swept good found (λ none. record { number = refl; good = good-wake x m is_good })
 kept_outcome w x (SetRole n name role) m good found is_good = kept m w x None (wake x m) Swept good found (λ none. record { number = refl; good = good-wake x m is_good })
 kept_outcome w x (NewPerson name key) m good found is_good = kept m w x None (wake x m) Swept good found (λ none. record { number = refl; good = good-wake x m is_good })
@@ -333,6 +378,8 @@ stays_good w name (OnTask n id a) m good = kept_decided w (number_of w name) (So
 stays_good w name (Modify n id es) m good = kept_decided w (number_of w name) (Some n) (Modify n id es) m good
 stays_good w name (Depend n id on) m good = kept_decided w (number_of w name) (Some n) (Depend n id on) m good
 stays_good w name (Undepend n id on) m good = kept_decided w (number_of w name) (Some n) (Undepend n id on) m good
+stays_good w name (ImportJson n is) m good = kept_decided w (number_of w name) (Some n) (ImportJson n is) m good
+stays_good w name (ImportTodo n ts) m good = kept_decided w (number_of w name) (Some n) (ImportTodo n ts) m good
 stays_good w name (Sweep n) m good = kept_decided w (number_of w name) (Some n) (Sweep n) m good
 stays_good w name (SetRole n other role) m good =
     kept_role_by w (seen_of w name (SetRole n other role)) (number_of w name) n (number_of w other) role m good refl refl (number_in w other)
@@ -382,6 +429,8 @@ stay_known w name (OnTask n id a) m person key known = rw (same_people w (decide
 stay_known w name (Modify n id es) m person key known = rw (same_people w (decided (number_of w name) (board_for w (number_of w name) (Some n)) (Modify n id es) m)) known
 stay_known w name (Depend n id on) m person key known = rw (same_people w (decided (number_of w name) (board_for w (number_of w name) (Some n)) (Depend n id on) m)) known
 stay_known w name (Undepend n id on) m person key known = rw (same_people w (decided (number_of w name) (board_for w (number_of w name) (Some n)) (Undepend n id on) m)) known
+stay_known w name (ImportJson n is) m person key known = rw (same_people w (decided (number_of w name) (board_for w (number_of w name) (Some n)) (ImportJson n is) m)) known
+stay_known w name (ImportTodo n ts) m person key known = rw (same_people w (decided (number_of w name) (board_for w (number_of w name) (Some n)) (ImportTodo n ts) m)) known
 stay_known w name (Sweep n) m person key known = rw (same_people w (decided (number_of w name) (board_for w (number_of w name) (Some n)) (Sweep n) m)) known
 stay_known w name (SetRole n other role) m person key known =
     let seen = seen_of w name (SetRole n other role) in known_role w seen seen.caller seen.board role m person key known

@@ -5,7 +5,7 @@ use Rattle.tb_core.specs.declared.command.Answer.{Answer}
 use Rattle.tb_core.specs.declared.command.Answer.TheVariants.{OnBoard}
 use Rattle.tb_core.specs.declared.command.BoardAnswer.{BoardAnswer}
 use Rattle.tb_core.specs.declared.command.Command.{Command}
-use Rattle.tb_core.specs.declared.command.Command.TheVariants.{Add, OnTask, Modify, Sweep, SetRole, NewPerson, NewBoard, Depend, Undepend}
+use Rattle.tb_core.specs.declared.command.Command.TheVariants.{Add, OnTask, Modify, ImportJson, ImportTodo, Sweep, SetRole, NewPerson, NewBoard, Depend, Undepend}
 use Rattle.tb_core.specs.declared.command.Told.{Told}
 use Rattle.tb_core.specs.declared.command.Told.TheVariants.{Swept}
 use Rattle.tb_core.specs.declared.deciding.Decision.{Decision}
@@ -21,6 +21,8 @@ use Rattle.tb_core.specs.Add.{judged_add}
 use Rattle.tb_core.specs.Depends.{judged_depend, judged_undepend}
 use Rattle.tb_board.specs.Board.{wake}
 use Rattle.tb_board.specs.Changes.{change_board, changed}
+use Rattle.tb_core.specs.ImportJson.{judged_import_json}
+use Rattle.tb_core.specs.ImportTodo.{judged_import_todo}
 use Rattle.tb_core.specs.Modify.{judged_modify}
 use Rattle.tb_core.specs.Outcomes.{Outcome, given}
 use Rattle.tb_core.specs.People.{new_board, new_person}
@@ -37,6 +39,8 @@ board_of (OnTask n id a) = Some n
 board_of (Modify n id edits) = Some n
 board_of (Depend n id on) = Some n
 board_of (Undepend n id on) = Some n
+board_of (ImportJson n is) = Some n
+board_of (ImportTodo n ts) = Some n
 board_of (Sweep n) = Some n
 board_of (SetRole n name role) = Some n
 board_of (NewPerson name key) = None
@@ -49,6 +53,8 @@ other_of (OnTask n id a) = None
 other_of (Modify n id edits) = None
 other_of (Depend n id on) = None
 other_of (Undepend n id on) = None
+other_of (ImportJson n is) = None
+other_of (ImportTodo n ts) = None
 other_of (Sweep n) = None
 other_of (SetRole n name role) = Some name
 other_of (NewPerson name key) = Some name
@@ -101,6 +107,8 @@ judged b (OnTask n id a) m = judged_action b id a m
 judged b (Modify n id edits) m = judged_modify b id edits m
 judged b (Depend n id on) m = judged_depend b id on m
 judged b (Undepend n id on) m = judged_undepend b id on m
+judged b (ImportJson n is) m = judged_import_json b is
+judged b (ImportTodo n ts) m = judged_import_todo b ts
 judged b (Sweep n) m = Ok (b, Swept)
 judged b (SetRole n name role) m = Ok (b, Swept)
 judged b (NewPerson name key) m = Ok (b, Swept)
@@ -161,6 +169,8 @@ apply_seen w seen (OnTask n id a) m = on_board w seen (OnTask n id a) m
 apply_seen w seen (Modify n id edits) m = on_board w seen (Modify n id edits) m
 apply_seen w seen (Depend n id on) m = on_board w seen (Depend n id on) m
 apply_seen w seen (Undepend n id on) m = on_board w seen (Undepend n id on) m
+apply_seen w seen (ImportJson n is) m = on_board w seen (ImportJson n is) m
+apply_seen w seen (ImportTodo n ts) m = on_board w seen (ImportTodo n ts) m
 apply_seen w seen (Sweep n) m = on_board w seen (Sweep n) m
 apply_seen w seen (SetRole n name role) m = role_given w seen seen.caller seen.board role m
 apply_seen w seen (NewPerson name key) m = new_person w seen seen.caller name key

@@ -7,6 +7,9 @@ pub mod Depends
 pub mod Edits
 pub mod Giving
 pub mod GoodWorld
+pub mod ImportAgain
+pub mod ImportJson
+pub mod ImportTodo
 pub mod Modify
 pub mod Notes
 pub mod Outcomes

@@ -1,7 +1,7 @@
 -- The numbers of refusals, and their status codes.
 use Rattle.std.specs.Prelude.{ℕ}
 use Rattle.tb_core.specs.declared.refusal.Refusal.{Refusal}
-use Rattle.tb_core.specs.declared.refusal.Refusal.TheVariants.{UnknownCaller, IdReused, NoBoard, NotAllowed, NoTask, WrongStatus, UuidTaken, BadTask, TemplateFixed, NoLink, Cycle, Full, NoPerson, LastOwner, NameTaken}
+use Rattle.tb_core.specs.declared.refusal.Refusal.TheVariants.{UnknownCaller, IdReused, NoBoard, NotAllowed, NoTask, WrongStatus, UuidTaken, BadTask, BadTaskAt, TemplateFixed, NoLink, Cycle, Full, NoPerson, LastOwner, NameTaken}
 
 abbrev pub number_of : Refusal → ℕ
 number_of UnknownCaller = 1
@@ -12,6 +12,7 @@ number_of NoTask = 5
 number_of WrongStatus = 6
 number_of UuidTaken = 7
 number_of (BadTask field) = 8
+number_of (BadTaskAt at field) = 8
 number_of TemplateFixed = 9
 number_of NoLink = 10
 number_of Cycle = 11
@@ -30,6 +31,7 @@ status_of NoTask = 404
 status_of WrongStatus = 409
 status_of UuidTaken = 409
 status_of (BadTask field) = 422
+status_of (BadTaskAt at field) = 422
 status_of TemplateFixed = 409
 status_of NoLink = 409
 status_of Cycle = 409

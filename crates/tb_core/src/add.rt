@@ -15,7 +15,8 @@ use tb_board::{Board, Draft, is_template_task, next_number, taken_numbers};
 use tb_task::{Field, Incoming, Moment, Status, Step, Task, TaskId, check};
 use tb_values::{Duplicate, NonEmptyText};
 
-const MOST_TASKS: usize = 10000;
+/// How many tasks a board can have.
+pub const MOST_TASKS: usize = 10000;
 
 /// Why the board doesn't take the task, if it doesn't. It is the same for a board that is awake.
 pub fn add_refusal(board: &Board, incoming: &Incoming) -> Option<Refusal>

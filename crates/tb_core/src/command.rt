@@ -1,6 +1,7 @@
 use crate::action::Action;
 use tb_board::{Key, Name, Role, Title};
-use tb_task::{Edit, Incoming, TaskId};
+use tb_import::ImportCounts;
+use tb_task::{Edit, Incoming, Task, TaskId};
 use tb_values::Items;
 
 /// What a person asks for.
@@ -35,6 +36,16 @@ pub enum Command {
         board: u32,
         id: TaskId,
         on: TaskId,
+    },
+    /// Adds the tasks of a Taskwarrior export, but those that are known.
+    ImportJson {
+        board: u32,
+        tasks: Items<Incoming>,
+    },
+    /// Adds tasks that lines of todo.txt made, but those that are known.
+    ImportTodo {
+        board: u32,
+        tasks: Items<Task>,
     },
     /// Lets a board come up to the moment.
     Sweep {
@@ -82,6 +93,10 @@ pub enum Told {
     Added { id: TaskId, dropped: u32 },
     /// The identifier of the one task that the command is about.
     Changed { id: TaskId },
+    /// How many tasks of an import were known, how many are new, and what the new ones lost.
+    Imported(ImportCounts),
+    /// How many tasks of lines were there before, and how many are new.
+    TodoImported { known: usize, new: usize },
     /// Nothing.
     Swept,
 }

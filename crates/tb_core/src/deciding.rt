@@ -11,6 +11,8 @@ use crate::action::act;
 use crate::add::{add, add_refusal};
 use crate::command::{Answer, BoardAnswer, Command, Told};
 use crate::giving::{is_last_owner, is_owner_role, role_decision};
+use crate::import_json::import_json;
+use crate::import_todo::import_todo;
 use crate::judged::{Judged, Stop};
 use crate::linking::{depend, undepend};
 use crate::look::Seen;
@@ -67,6 +69,8 @@ pub fn decide(
         | Command::Modify { .. }
         | Command::Depend { .. }
         | Command::Undepend { .. }
+        | Command::ImportJson { .. }
+        | Command::ImportTodo { .. }
         | Command::Sweep { .. } => decide_on_board(alloc, seen, command, at),
     }
 }
@@ -177,6 +181,8 @@ fn judge(alloc: Global, draft: Draft, command: &Command, at: Moment) -> Result<J
         Command::Modify { id, edits, .. } => modify(alloc, draft, *id, edits.as_slice(), at),
         Command::Depend { id, on, .. } => depend(alloc, draft, *id, *on, at),
         Command::Undepend { id, on, .. } => undepend(alloc, draft, *id, *on, at),
+        Command::ImportJson { tasks, .. } => import_json(alloc, draft, tasks.as_slice()),
+        Command::ImportTodo { tasks, .. } => import_todo(alloc, draft, tasks.as_slice()),
         Command::Sweep { .. }
         | Command::SetRole { .. }
         | Command::NewPerson { .. }

@@ -1,6 +1,7 @@
 //! Laws over the definitions of commands.
 
 ghost use Rattle.tb_core.specs.Cycles.{AreCyclesRefused};
+ghost use Rattle.tb_core.specs.ImportAgain.{ImportTodoAgain};
 ghost use Rattle.tb_core.specs.GoodWorld.{KeepsGood, KeepsPeople, OpensGood};
 
 /// Each command leaves a good world good.
@@ -21,4 +22,9 @@ pub fn opens_good()
 /// A link is refused as a cycle exactly where it would close a walk over the tasks.
 pub fn cycles_are_refused()
     ensures { AreCyclesRefused }
+{}
+
+/// An import that comes again right after itself changes nothing.
+pub fn import_again()
+    ensures { ImportTodoAgain }
 {}

@@ -10,6 +10,8 @@ mod command;
 mod deciding;
 mod edits;
 mod giving;
+mod import_json;
+mod import_todo;
 mod judged;
 pub mod laws;
 mod linking;

@@ -17,6 +17,8 @@ pub enum Refusal {
     WrongStatus,
     UuidTaken,
     BadTask(Field),
+    /// The same of a task of a list, at its place counted from 0.
+    BadTaskAt { at: usize, field: Field },
     TemplateFixed,
     NoLink,
     Cycle,
@@ -40,7 +42,7 @@ impl Refusal {
             Refusal::NoTask => 5,
             Refusal::WrongStatus => 6,
             Refusal::UuidTaken => 7,
-            Refusal::BadTask(_) => 8,
+            Refusal::BadTask(_) | Refusal::BadTaskAt { .. } => 8,
             Refusal::TemplateFixed => 9,
             Refusal::NoLink => 10,
             Refusal::Cycle => 11,
@@ -59,7 +61,7 @@ impl Refusal {
             Refusal::UnknownCaller => 401,
             Refusal::NotAllowed => 403,
             Refusal::NoBoard | Refusal::NoTask | Refusal::NoPerson => 404,
-            Refusal::BadTask(_) => 422,
+            Refusal::BadTask(_) | Refusal::BadTaskAt { .. } => 422,
             Refusal::IdReused
             | Refusal::WrongStatus
             | Refusal::UuidTaken

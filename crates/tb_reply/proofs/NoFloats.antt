@@ -5,9 +5,10 @@ use Rattle.tb_task.specs.TaskId.{id_text}
 use Rattle.tb_core.specs.declared.command.Answer.{Answer}
 use Rattle.tb_core.specs.declared.command.Answer.TheVariants.{OnBoard, NewPerson, NewBoard}
 use Rattle.tb_core.specs.declared.command.BoardAnswer.{BoardAnswer}
+use Rattle.tb_import.specs.declared.imported.ImportCounts.{ImportCounts}
 use Rattle.tb_core.specs.declared.command.Told.{Told}
-use Rattle.tb_core.specs.declared.command.Told.TheVariants.{Added, Changed, Swept}
-use Rattle.tb_reply.specs.Bodies.{added_body, answer_body, changed_body, swept_body, told_body}
+use Rattle.tb_core.specs.declared.command.Told.TheVariants.{Added, Changed, Imported, TodoImported, Swept}
+use Rattle.tb_reply.specs.Bodies.{added_body, answer_body, changed_body, swept_body, imported_body, todo_imported_body, told_body}
 
 added_without_float : (a : BoardAnswer) (uuid : List ℕ) (dropped : ℕ) → has_float (added_body a uuid dropped) ≡ false
 unfolding added_body
@@ -17,6 +18,14 @@ changed_without_float : (a : BoardAnswer) (uuid : List ℕ) → has_float (chang
 unfolding changed_body
 changed_without_float a uuid = refl
 
+imported_without_float : (a : BoardAnswer) (c : ImportCounts) → has_float (imported_body a c) ≡ false
+unfolding imported_body
+imported_without_float a c = refl
+
+todo_imported_without_float : (a : BoardAnswer) (known new : ℕ) → has_float (todo_imported_body a known new) ≡ false
+unfolding todo_imported_body
+todo_imported_without_float a known new = refl
+
 swept_without_float : (a : BoardAnswer) → has_float (swept_body a) ≡ false
 unfolding swept_body
 swept_without_float a = refl
@@ -24,6 +33,8 @@ swept_without_float a = refl
 told_without_float : (a : BoardAnswer) (told : Told) → has_float (told_body a told) ≡ false
 told_without_float a (Added id dropped) = added_without_float a (id_text id) dropped
 told_without_float a (Changed id) = changed_without_float a (id_text id)
+told_without_float a (Imported counts) = imported_without_float a counts
+told_without_float a (TodoImported known new) = todo_imported_without_float a known new
 told_without_float a Swept = swept_without_float a
 
 pub answer_without_float : (a : Answer) → has_float (answer_body a) ≡ false

@@ -8,10 +8,11 @@ use Rattle.tb_core.specs.Refusal.{number_of}
 use Rattle.tb_core.specs.declared.command.Answer.{Answer}
 use Rattle.tb_core.specs.declared.command.Answer.TheVariants.{OnBoard, NewPerson, NewBoard}
 use Rattle.tb_core.specs.declared.command.BoardAnswer.{BoardAnswer}
+use Rattle.tb_import.specs.declared.imported.ImportCounts.{ImportCounts}
 use Rattle.tb_core.specs.declared.command.Told.{Told}
-use Rattle.tb_core.specs.declared.command.Told.TheVariants.{Added, Changed, Swept}
+use Rattle.tb_core.specs.declared.command.Told.TheVariants.{Added, Changed, Imported, TodoImported, Swept}
 use Rattle.tb_core.specs.declared.refusal.Refusal.{Refusal}
-use Rattle.tb_core.specs.declared.refusal.Refusal.TheVariants.{UnknownCaller, IdReused, NoBoard, NotAllowed, NoTask, WrongStatus, UuidTaken, BadTask, TemplateFixed, NoLink, Cycle, Full, NoPerson, LastOwner, NameTaken}
+use Rattle.tb_core.specs.declared.refusal.Refusal.TheVariants.{UnknownCaller, IdReused, NoBoard, NotAllowed, NoTask, WrongStatus, UuidTaken, BadTask, BadTaskAt, TemplateFixed, NoLink, Cycle, Full, NoPerson, LastOwner, NameTaken}
 
 abbrev pub refusal_name : Refusal → List ℕ
 refusal_name UnknownCaller = codes "UnknownCaller"
@@ -22,6 +23,7 @@ refusal_name NoTask = codes "NoTask"
 refusal_name WrongStatus = codes "WrongStatus"
 refusal_name UuidTaken = codes "UuidTaken"
 refusal_name (BadTask field) = codes "BadTask"
+refusal_name (BadTaskAt at field) = codes "BadTask"
 refusal_name TemplateFixed = codes "TemplateFixed"
 refusal_name NoLink = codes "NoLink"
 refusal_name Cycle = codes "Cycle"
@@ -46,6 +48,7 @@ refused_field NoTask = None
 refused_field WrongStatus = None
 refused_field UuidTaken = None
 refused_field (BadTask field) = Some (field_name field)
+refused_field (BadTaskAt at field) = Some (field_name field)
 refused_field TemplateFixed = None
 refused_field NoLink = None
 refused_field Cycle = None
@@ -54,13 +57,38 @@ refused_field NoPerson = None
 refused_field LastOwner = None
 refused_field NameTaken = None
 
+-- which task of a list it is, counted from 0, where that is why
+abbrev pub refused_place : Refusal → Option ℕ
+refused_place UnknownCaller = None
+refused_place IdReused = None
+refused_place NoBoard = None
+refused_place NotAllowed = None
+refused_place NoTask = None
+refused_place WrongStatus = None
+refused_place UuidTaken = None
+refused_place (BadTask field) = None
+refused_place (BadTaskAt at field) = Some at
+refused_place TemplateFixed = None
+refused_place NoLink = None
+refused_place Cycle = None
+refused_place Full = None
+refused_place NoPerson = None
+refused_place LastOwner = None
+refused_place NameTaken = None
+
 -- the members in front of which a field stands, if there is one
 abbrev pub with_field : Option (List ℕ) → Members → Data
 with_field None members = object members
 with_field (Some field) members = object (member (codes "field") (string field) members)
 
+-- and in front of the field the place of the task
+abbrev pub with_place : Option ℕ → Option (List ℕ) → Members → Data
+with_place None field members = with_field field members
+with_place (Some at) None members = object members
+with_place (Some at) (Some field) members = object (member (codes "at") (number (unsigned at)) (member (codes "field") (string field) members))
+
 abbrev pub refusal_body : Refusal → Data
-refusal_body r = with_field (refused_field r)
+refusal_body r = with_place (refused_place r) (refused_field r)
     (member (codes "name") (string (refusal_name r)) (member (codes "refused") (number (unsigned (number_of r))) no_members))
 
 unfoldable pub added_body : BoardAnswer → List ℕ → ℕ → Data
@@ -78,6 +106,25 @@ changed_body a uuid = object
     (member (codes "more") (boolean a.more)
     (member (codes "uuid") (string uuid) no_members))))
 
+unfoldable pub imported_body : BoardAnswer → ImportCounts → Data
+imported_body a c = object
+    (member (codes "added") (number (unsigned a.added))
+    (member (codes "board") (number (unsigned a.board))
+    (member (codes "dropped") (number (unsigned c.dropped))
+    (member (codes "known") (number (unsigned c.known))
+    (member (codes "more") (boolean a.more)
+    (member (codes "new") (number (unsigned c.new))
+    (member (codes "orphans") (number (unsigned c.orphans))
+    (member (codes "unlinked") (number (unsigned c.unlinked)) no_members))))))))
+
+unfoldable pub todo_imported_body : BoardAnswer → ℕ → ℕ → Data
+todo_imported_body a known new = object
+    (member (codes "added") (number (unsigned a.added))
+    (member (codes "board") (number (unsigned a.board))
+    (member (codes "known") (number (unsigned known))
+    (member (codes "more") (boolean a.more)
+    (member (codes "new") (number (unsigned new)) no_members)))))
+
 unfoldable pub swept_body : BoardAnswer → Data
 swept_body a = object
     (member (codes "added") (number (unsigned a.added))
@@ -87,6 +134,8 @@ swept_body a = object
 abbrev pub told_body : BoardAnswer → Told → Data
 told_body a (Added id dropped) = added_body a (id_text id) dropped
 told_body a (Changed id) = changed_body a (id_text id)
+told_body a (Imported counts) = imported_body a counts
+told_body a (TodoImported known new) = todo_imported_body a known new
 told_body a Swept = swept_body a
 
 abbrev pub person_body : List ℕ → Data

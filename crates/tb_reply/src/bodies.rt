@@ -3,12 +3,13 @@ ghost use Rattle.std.specs.Prelude.{◌≡◌, IfOk};
 ghost use Rattle.std.specs.Option.{option_map};
 ghost use Rattle.serde_json.specs.View.{view};
 ghost use Rattle.tb_task.specs.TaskId.{id_text};
-ghost use Rattle.tb_reply.specs.Bodies.{added_body, answer_body, board_body, changed_body, field_name, person_body, refusal_body, refusal_name, refused_field, swept_body, told_body};
+ghost use Rattle.tb_reply.specs.Bodies.{added_body, answer_body, board_body, changed_body, field_name, person_body, refusal_body, refusal_name, refused_field, refused_place, swept_body, imported_body, todo_imported_body, told_body};
 
 use serde_json::{Value, json};
 use std::alloc::{AllocError, Global};
 use tb_board::Name;
 use tb_core::{Answer, BoardAnswer, Refusal, Told};
+use tb_import::ImportCounts;
 use tb_task::{Field, TaskId};
 
 pub(crate) fn body_of_refusal(alloc: Global, refusal: Refusal) -> Result<Value, AllocError>
@@ -16,9 +17,12 @@ pub(crate) fn body_of_refusal(alloc: Global, refusal: Refusal) -> Result<Value, 
 {
     let name = name_of_refusal(refusal);
     let number = refusal.number();
-    match field_of_refusal(refusal) {
-        Some(field) => json!(in alloc; {"field": field, "name": name, "refused": number}),
-        None => json!(in alloc; {"name": name, "refused": number}),
+    let place = place_of_refusal(refusal);
+    match (place, field_of_refusal(refusal)) {
+        (Some(at), Some(field)) =>
+            json!(in alloc; {"at": at, "field": field, "name": name, "refused": number}),
+        (None, Some(field)) => json!(in alloc; {"field": field, "name": name, "refused": number}),
+        (_, None) => json!(in alloc; {"name": name, "refused": number}),
     }
 }
 
@@ -51,6 +55,8 @@ fn body_on_board(alloc: Global, answer: &BoardAnswer, told: &Told) -> Result<Val
     match told {
         Told::Added { id, dropped } => body_of_added(alloc, answer, *id, *dropped),
         Told::Changed { id } => body_of_changed(alloc, answer, *id),
+        Told::Imported(counts) => body_of_import(alloc, answer, *counts),
+        Told::TodoImported { known, new } => body_of_todo_import(alloc, answer, *known, *new),
         Told::Swept => body_of_sweep(alloc, answer),
     }
 }
@@ -99,6 +105,40 @@ fn body_of_one(alloc: Global, answer: &BoardAnswer, uuid: &str) -> Result<Value,
     json!(in alloc; {"added": added, "board": board, "more": more, "uuid": uuid})
 }
 
+#[tactic(auto, unfolding(crate::specs::Bodies::imported_body))]
+fn body_of_import(
+    alloc: Global,
+    answer: &BoardAnswer,
+    counts: ImportCounts,
+) -> Result<Value, AllocError>
+    ensures { IfOk result (λ body. view body ≡ imported_body answer.now counts) }
+{
+    let added = answer.added;
+    let board = answer.board;
+    let dropped = counts.dropped;
+    let known = counts.known;
+    let more = answer.more;
+    let new = counts.new;
+    let orphans = counts.orphans;
+    let unlinked = counts.unlinked;
+    json!(in alloc; {"added": added, "board": board, "dropped": dropped, "known": known, "more": more, "new": new, "orphans": orphans, "unlinked": unlinked})
+}
+
+#[tactic(auto, unfolding(crate::specs::Bodies::todo_imported_body))]
+fn body_of_todo_import(
+    alloc: Global,
+    answer: &BoardAnswer,
+    known: usize,
+    new: usize,
+) -> Result<Value, AllocError>
+    ensures { IfOk result (λ body. view body ≡ todo_imported_body answer.now known new) }
+{
+    let added = answer.added;
+    let board = answer.board;
+    let more = answer.more;
+    json!(in alloc; {"added": added, "board": board, "known": known, "more": more, "new": new})
+}
+
 #[tactic(auto, unfolding(crate::specs::Bodies::swept_body))]
 fn body_of_sweep(alloc: Global, answer: &BoardAnswer) -> Result<Value, AllocError>
     ensures { IfOk result (λ body. view body ≡ swept_body answer.now) }
@@ -120,7 +160,7 @@ fn name_of_refusal(refusal: Refusal) -> &'static str
         Refusal::NoTask => "NoTask",
         Refusal::WrongStatus => "WrongStatus",
         Refusal::UuidTaken => "UuidTaken",
-        Refusal::BadTask(_) => "BadTask",
+        Refusal::BadTask(_) | Refusal::BadTaskAt { .. } => "BadTask",
         Refusal::TemplateFixed => "TemplateFixed",
         Refusal::NoLink => "NoLink",
         Refusal::Cycle => "Cycle",
@@ -135,7 +175,17 @@ fn field_of_refusal(refusal: Refusal) -> Option<&'static str>
     ensures { option_map (λ field. field.now) result ≡ refused_field refusal }
 {
     match refusal {
-        Refusal::BadTask(field) => Some(name_of_field(field)),
+        Refusal::BadTask(field) | Refusal::BadTaskAt { field, .. } => Some(name_of_field(field)),
+        _ => None,
+    }
+}
+
+/// Which task of a list is wrong.
+fn place_of_refusal(refusal: Refusal) -> Option<usize>
+    ensures { result ≡ refused_place refusal }
+{
+    match refusal {
+        Refusal::BadTaskAt { at, .. } => Some(at),
         _ => None,
     }
 }

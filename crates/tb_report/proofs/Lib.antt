@@ -1,4 +1,4 @@
 pub mod Sorting
 pub mod RankOrder
 pub mod Columns
-pub mod Waking
+pub mod Listed

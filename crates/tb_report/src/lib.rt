@@ -1,17 +1,20 @@
 //! What a board shows at a moment: its tasks, and their listing.
 //!
-//! It owns the order of the listing and the form of its lines. It stands on `tb_board` for boards, on `tb_task` and on `tb_values`.
+//! It owns how much a task presses, the order of the listing and the form of its lines. It stands on `tb_board` for boards and what
+//! blocks what, on `tb_sweep` for masks, and on `tb_task`.
 #![tactic(auto)]
 
+mod board_list;
+mod cells;
 mod lists;
 mod rank;
 mod row;
 mod showing;
+mod urgency;
 
-pub use lists::listing;
+pub use board_list::listing;
+pub use lists::{Marked, list_tasks};
 pub use rank::{Rank, in_order};
 pub use row::{Row, URGENCY_UNIT, decimals, push_row, without_controls};
 pub use showing::{shown, shown_task};
-
-#[cfg(test)]
-mod tests;
+pub use urgency::urgency_of_task;

@@ -1,32 +1,39 @@
-ghost use Rattle.std.specs.Prelude.{◌≡◌, ◌++◌, IfOk, OnOk, Some, length, map, slice_get, option_map, string_bytes};
-ghost use Rattle.tb_board.specs.Board.{woken};
-ghost use Rattle.tb_report.specs.Listing.{is_listed as is_listed_status, listing as listing_of, header, lines, line, last_line, rank, rank_if_listed, ranks_from, urgency};
-ghost use Rattle.tb_report.specs.Ranking.{Rank as RankValue};
+ghost use Rattle.std.specs.Prelude.{◌≡◌, ◌<◌, ◌+◌, ◌^◌, ◌++◌, IfOk, OnOk, Some, length, slice_get, string_bytes};
+ghost use Rattle.tb_report.specs.Listing.{is_listed as is_listed_status, header, lines, line, last_line, rank, rank_if_listed, ranks_from, tasks_listed};
+ghost use Rattle.tb_graph.specs.Marks.{is_marked};
+ghost use Rattle.tb_report.specs.Marked.{waits_in};
 
+use crate::cells::{due_of, flags_of, project_of};
 use crate::rank::{Rank, in_order};
-use crate::row::{Row, URGENCY_UNIT, push_row, without_controls};
+use crate::row::{Row, push_row, without_controls};
+use crate::urgency::urgency_of_task;
 use std::alloc::{AllocError, Global};
 use std::cmp::Reverse;
 use std::fmt::Write;
-use tb_board::Board;
 use tb_task::{Moment, Status, Task};
 use tb_values::{Shared, Text};
 
 const HEADER: &str = "place  urgency flg due              project      description\n";
 
-/// The longest age that adds to urgency is that of 2 units, at 7 parts a second.
-const AGE_PARTS_PER_SECOND: u64 = 7;
+/// Which tasks wait for others, and for which others wait, by their places from 0.
+#[derive(Drop)]
+pub struct Marked {
+    pub blocked: Vec<bool>,
+    pub blocking: Vec<bool>,
+}
 
-const MOST_AGE_PARTS: u64 = 2 * URGENCY_UNIT;
-
-/// The board's listing at a moment: a header, a line for each pending or waiting task, the most urgent first, and a count.
-pub fn listing(alloc: Global, board: &Board, at: Moment) -> Result<Text, AllocError>
-    ensures { IfOk result (λ text. text ≡ listing_of board.now at) }
+/// A header, a line for each pending or waiting task, the most urgent first, and a count.
+pub fn list_tasks(
+    alloc: Global,
+    tasks: &[Shared<Task>],
+    marked: &Marked,
+    at: Moment,
+) -> Result<Text, AllocError>
+    ensures { IfOk result (λ text. text ≡ tasks_listed (waits_in marked.now.blocked.items marked.now.blocking.items) tasks.now at) }
 {
-    let tasks = board.tasks.as_slice();
-    let ranks = in_order(ranks_of(alloc, tasks, at)?)?;
+    let ranks = in_order(ranks_of(alloc, tasks, marked, at)?)?;
     let mut text = with_header(alloc)?;
-    push_lines(alloc, &mut text, tasks, ranks.as_slice())?;
+    push_lines(alloc, &mut text, tasks, marked, ranks.as_slice())?;
     push_last_line(&mut text, ranks.len(), tasks.len())?;
     Ok(Text::from_string(text))
 }
@@ -37,21 +44,32 @@ fn with_header(alloc: Global) -> Result<String, AllocError>
     String::from_str(alloc, HEADER)
 }
 
-fn ranks_of(alloc: Global, tasks: &[Shared<Task>], at: Moment) -> Result<Vec<Rank>, AllocError>
-    ensures { IfOk result (λ ranks. ranks.items ≡ ranks_from at 0 tasks.now) }
+fn ranks_of(
+    alloc: Global,
+    tasks: &[Shared<Task>],
+    marked: &Marked,
+    at: Moment,
+) -> Result<Vec<Rank>, AllocError>
+    ensures { IfOk result (λ ranks. ranks.items ≡ ranks_from (waits_in marked.now.blocked.items marked.now.blocking.items) at 0 tasks.now) }
 {
     let mut ranks = Vec::new(alloc);
     for (place, task) in tasks.iter().enumerate() {
-        add_rank(&mut ranks, task.get(), place, at)?;
+        add_rank(&mut ranks, task.get(), marked, place, at)?;
     }
     Ok(ranks)
 }
 
-fn add_rank(ranks: &mut Vec<Rank>, task: &Task, place: usize, at: Moment) -> Result<(), AllocError>
-    ensures { OnOk result (ranks.new.items ≡ ranks.old.items ++ rank_if_listed at place task.now) }
+fn add_rank(
+    ranks: &mut Vec<Rank>,
+    task: &Task,
+    marked: &Marked,
+    place: usize,
+    at: Moment,
+) -> Result<(), AllocError>
+    ensures { OnOk result (ranks.new.items ≡ ranks.old.items ++ rank_if_listed (waits_in marked.now.blocked.items marked.now.blocking.items) at place task.now) }
 {
     if is_listed(task.status) {
-        ranks.push(rank_of(task, place, at))?;
+        ranks.push(rank_of(task, marked, place, at))?;
     }
     Ok(())
 }
@@ -62,29 +80,28 @@ fn is_listed(status: Status) -> bool
     matches!(status, Status::Pending | Status::Waiting)
 }
 
-fn rank_of(task: &Task, place: usize, at: Moment) -> Rank
-    ensures { result ≡ rank at place task.now }
+fn rank_of(task: &Task, marked: &Marked, place: usize, at: Moment) -> Rank
+    ensures { result ≡ rank (waits_in marked.now.blocked.items marked.now.blocking.items) at place task.now }
 {
-    (Reverse(urgency_of(task, at)), place)
-}
-
-fn urgency_of(task: &Task, at: Moment) -> i64
-    ensures { result ≡ urgency at task.now }
-{
-    let age = at.seconds().saturating_sub(task.entry.seconds());
-    MOST_AGE_PARTS.min(AGE_PARTS_PER_SECOND * age) as i64
+    let is_blocked = mark_at(marked.blocked.as_slice(), place);
+    let is_blocking = mark_at(marked.blocking.as_slice(), place);
+    (
+        Reverse(urgency_of_task(task, is_blocked, is_blocking, at)),
+        place,
+    )
 }
 
 fn push_lines(
     alloc: Global,
     text: &mut String,
     tasks: &[Shared<Task>],
+    marked: &Marked,
     ranks: &[Rank],
 ) -> Result<(), AllocError>
-    ensures { OnOk result (string_bytes text.new ≡ string_bytes text.old ++ lines tasks.now ranks.now) }
+    ensures { OnOk result (string_bytes text.new ≡ string_bytes text.old ++ lines (waits_in marked.now.blocked.items marked.now.blocking.items) tasks.now ranks.now) }
 {
     for rank in ranks {
-        push_line(alloc, text, tasks, *rank)?;
+        push_line(alloc, text, tasks, marked, *rank)?;
     }
     Ok(())
 }
@@ -93,23 +110,51 @@ fn push_line(
     alloc: Global,
     text: &mut String,
     tasks: &[Shared<Task>],
+    marked: &Marked,
     rank: Rank,
 ) -> Result<(), AllocError>
-    ensures { OnOk result (string_bytes text.new ≡ string_bytes text.old ++ line rank (slice_get tasks.now rank.1)) }
+    ensures { OnOk result (string_bytes text.new ≡ string_bytes text.old ++ line (waits_in marked.now.blocked.items marked.now.blocking.items) rank (slice_get tasks.now rank.1)) }
 {
     let Some(task) = tasks.get(rank.1) else {
         return Ok(());
     };
-    let description = without_controls(alloc, task.get().description.as_str())?;
+    push_task(alloc, text, task.get(), marked, rank)
+}
+
+fn push_task(
+    alloc: Global,
+    text: &mut String,
+    task: &Task,
+    marked: &Marked,
+    rank: Rank,
+) -> Result<(), AllocError>
+    requires { rank.1 + 1 < 2 ^ 64 }
+    ensures { OnOk result (string_bytes text.new ≡ string_bytes text.old ++ line (waits_in marked.now.blocked.items marked.now.blocking.items) rank (Some task.now)) }
+{
+    let is_blocked = mark_at(marked.blocked.as_slice(), rank.1);
+    let is_blocking = mark_at(marked.blocking.as_slice(), rank.1);
+    let flags = flags_of(alloc, task, is_blocked, is_blocking)?;
+    let due = due_of(alloc, task.due)?;
+    let project = project_of(alloc, &task.project)?;
+    let description = without_controls(alloc, task.description.as_str())?;
     let row = Row {
         place: rank.1 + 1,
         urgency: rank.0.0,
-        flags: "---",
-        due: "-",
-        project: "-",
+        flags: flags.as_str(),
+        due: due.as_str(),
+        project: project.as_str(),
         description: description.as_str(),
     };
     push_row(alloc, text, &row)
+}
+
+fn mark_at(marks: &[bool], place: usize) -> bool
+    ensures { result ≡ is_marked marks.now place }
+{
+    match marks.get(place) {
+        Some(mark) => *mark,
+        None => false,
+    }
 }
 
 fn push_last_line(text: &mut String, listed: usize, all: usize) -> Result<(), AllocError>

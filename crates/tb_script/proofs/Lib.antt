@@ -1,3 +1,4 @@
+pub mod Joining
 pub mod LineLaws
 pub mod Numerals
 pub mod Readable

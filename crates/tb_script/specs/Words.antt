@@ -5,14 +5,14 @@ use Rattle.tb_values.specs.Outcome.{◌>>=◌}
 use Rattle.tb_task.specs.TaskId.{read_id}
 use Rattle.tb_core.specs.declared.action.Action.{Action}
 use Rattle.tb_core.specs.declared.action.Action.TheVariants.{Done, Delete, Reopen, Start, Stop, Annotate, Denotate}
-use Rattle.tb_core.specs.declared.command.Command.TheVariants.{Add, Depend, Modify, OnTask, Sweep, Undepend}
+use Rattle.tb_core.specs.declared.command.Command.TheVariants.{Add, Depend, ImportJson, ImportTodo, Modify, OnTask, Sweep, Undepend}
 use Rattle.tb_script.specs.declared.asked.Request.{Request}
 use Rattle.tb_script.specs.declared.asked.Request.TheVariants.{Call, View as ViewOf}
-use Rattle.tb_script.specs.declared.asked.View.TheVariants.{Listing, Export, One}
+use Rattle.tb_script.specs.declared.asked.View.TheVariants.{Listing, Export, Todo, One}
 use Rattle.tb_script.specs.declared.line_fault.Unreadable.{Unreadable}
 use Rattle.tb_script.specs.declared.line_fault.Unreadable.TheVariants.{BadLine}
 use Rattle.tb_script.specs.Arguments.{board_number}
-use Rattle.tb_script.specs.Bodies.{edits_in, incoming_in}
+use Rattle.tb_script.specs.Bodies.{edits_in, import_in, incoming_in, tasks_in}
 use Rattle.tb_script.specs.Outcome.{or_bad_line}
 
 -- ---- a word has its number of arguments
@@ -36,7 +36,7 @@ three asks (a ∷ b ∷ []) = Err BadLine
 three asks (a ∷ b ∷ c ∷ d ∷ more) = Err BadLine
 
 -- the number of a board, and the identifier of a task
-abbrev pub task : List ℕ → List ℕ → Result (ℕ × ℕ) Unreadable
+unfoldable pub task : List ℕ → List ℕ → Result (ℕ × ℕ) Unreadable
 task board uuid = do
   n ← or_bad_line (board_number board)
   id ← or_bad_line (read_id uuid)
@@ -60,6 +60,11 @@ abbrev pub export : List ℕ → Result Request Unreadable
 export board = do
   n ← or_bad_line (board_number board)
   Ok (ViewOf (Export n))
+
+abbrev pub todo : List ℕ → Result Request Unreadable
+todo board = do
+  n ← or_bad_line (board_number board)
+  Ok (ViewOf (Todo n))
 
 abbrev pub showing : List (List ℕ) → Result Request Unreadable
 showing arguments = do
@@ -105,14 +110,31 @@ sweeping board = do
   n ← or_bad_line (board_number board)
   Ok (Call (Sweep n))
 
+abbrev pub importing : ℕ → List ℕ → List ℕ → Result Request Unreadable
+importing at board text = do
+  n ← or_bad_line (board_number board)
+  tasks ← import_in text at
+  Ok (Call (ImportJson n tasks))
+
+-- each further argument is a line
+abbrev pub importing_todo : ℕ → List (List ℕ) → Result Request Unreadable
+importing_todo at [] = Err BadLine
+importing_todo at (board ∷ lines) = do
+  n ← or_bad_line (board_number board)
+  tasks ← tasks_in lines at n
+  Ok (Call (ImportTodo n tasks))
+
 -- ---- the words
 
 unfoldable pub request_in : List ℕ → List (List ℕ) → ℕ → Result Request Unreadable
 request_in word arguments at =
     if bytes_eq word (codes "list") then one listing arguments
     else if bytes_eq word (codes "export") then one export arguments
+    else if bytes_eq word (codes "todo") then one todo arguments
     else if bytes_eq word (codes "task") then showing arguments
     else if bytes_eq word (codes "add") then two (adding at) arguments
+    else if bytes_eq word (codes "import") then two (importing at) arguments
+    else if bytes_eq word (codes "import-todo") then importing_todo at arguments
     else if bytes_eq word (codes "done") then acting Done arguments
     else if bytes_eq word (codes "delete") then acting Delete arguments
     else if bytes_eq word (codes "reopen") then acting Reopen arguments

@@ -1,15 +1,16 @@
-//! The JSON argument of a line.
-ghost use Rattle.std.specs.Prelude.{◌≡◌, Some, IfOk, option_map};
+//! The arguments of a line that hold more than a word: JSON, and lines.
+ghost use Rattle.std.specs.Prelude.{◌≡◌, Some, IfOk, map, option_map, string_bytes};
 ghost use Rattle.serde_json.specs.Read.{read};
 ghost use Rattle.serde_json.specs.View.{view};
-ghost use Rattle.tb_script.specs.Bodies.{edits_in, edits_of, incoming_in, incoming_of};
+ghost use Rattle.tb_script.specs.Bodies.{edits_in, edits_of, import_in, incoming_in, incoming_of, joined, tasks_in};
 ghost use Rattle.tb_script.specs.Outcome.{Reads};
 
 use crate::line_fault::{LineFault, Unreadable};
 use serde_json::Value;
 use std::alloc::{AllocError, Global};
-use tb_json::{JsonFault, read_modify, read_task};
-use tb_task::{Edit, Incoming, Moment};
+use tb_json::{ImportFault, JsonFault, read_import, read_modify, read_task};
+use tb_task::{Edit, Incoming, Moment, Task};
+use tb_todotxt::{FileFault, read_file};
 use tb_values::Items;
 
 /// The task that a text is when it comes in at a moment.
@@ -52,6 +53,49 @@ fn edits_from(alloc: Global, value: &Value) -> Result<Items<Edit>, LineFault>
         Err(JsonFault::BadField(name)) => Err(LineFault::Refused(Unreadable::BadBody(Some(name)))),
         Err(JsonFault::Memory) => Err(LineFault::Memory),
     }
+}
+
+/// The tasks of an import's text at a moment.
+pub(crate) fn read_imported(
+    alloc: Global,
+    text: &str,
+    at: Moment,
+) -> Result<Items<Incoming>, LineFault>
+    ensures { Reads result (import_in text.now at) }
+{
+    match read_import(alloc, text.as_bytes(), at) {
+        Ok(tasks) => Ok(tasks),
+        Err(ImportFault::NotJson) => Err(LineFault::Refused(Unreadable::BadBody(None))),
+        Err(ImportFault::TooMany) => Err(LineFault::Refused(Unreadable::BadBody(None))),
+        Err(ImportFault::BadTask(at, name)) => Err(LineFault::Refused(Unreadable::BadItem(
+            at, name,
+        ))),
+        Err(ImportFault::Memory) => Err(LineFault::Memory),
+    }
+}
+
+/// The tasks that lines make on a board at a moment.
+pub(crate) fn read_tasks(
+    alloc: Global,
+    lines: &[&str],
+    at: Moment,
+    board: u32,
+) -> Result<Items<Task>, LineFault>
+    ensures { Reads result (tasks_in (map (λ line. line.now) lines.now) at board) }
+{
+    let text = join_lines(alloc, lines)?;
+    match read_file(alloc, text.as_str(), at, board) {
+        Ok(tasks) => Ok(tasks),
+        Err(FileFault::TooMany) => Err(LineFault::Refused(Unreadable::BadBody(None))),
+        Err(FileFault::Memory) => Err(LineFault::Memory),
+    }
+}
+
+/// The lines with a line feed between each two.
+fn join_lines(alloc: Global, lines: &[&str]) -> Result<String, AllocError>
+    ensures { IfOk result (λ text. string_bytes text ≡ joined (map (λ line. line.now) lines.now)) }
+{
+    lines.join(alloc, "\n")
 }
 
 /// The value that a text is, if it is JSON.

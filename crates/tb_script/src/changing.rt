@@ -1,14 +1,15 @@
 //! The changes of a world, made in place.
 ghost use Rattle.std.specs.Prelude.{◌≡◌, IfOk, OnOk};
-ghost use Rattle.tb_board.specs.Changes.{change_board, changed, changed_by, put, with_task_at};
+ghost use Rattle.tb_board.specs.Changes.{change_board, changed, changed_by, put, with_gone, with_task_at, without_gone};
 ghost use Rattle.tb_board.specs.Roles.{set_role};
 
 use std::alloc::{AllocError, Global};
 use std::mem;
 use tb_board::{
-    Board, Change, Person, Role, RoleOn, World, place_of_board, roles_with, roles_without,
+    Board, Change, Gone, Person, Role, RoleOn, World, gone_without, place_of_board, roles_with,
+    roles_without,
 };
-use tb_task::Task;
+use tb_task::{Task, TaskId};
 use tb_values::{Items, Shared};
 
 /// Makes the changes, one after the other.
@@ -46,6 +47,20 @@ fn apply_change(alloc: Global, world: &mut World, change: Change) -> Result<(), 
         } => {
             let roles = mem::replace(&mut world.roles, Items::new(alloc));
             world.roles = set_role(roles, board, person, role)?;
+            Ok(())
+        }
+        Change::SetGone { board, gone } => {
+            let boards = mem::replace(&mut world.boards, Items::new(alloc));
+            world.boards = set_gone(alloc, boards, board, &gone)?;
+            Ok(())
+        }
+        Change::TakeGone {
+            board,
+            template,
+            place,
+        } => {
+            let boards = mem::replace(&mut world.boards, Items::new(alloc));
+            world.boards = take_gone(alloc, boards, board, template, place)?;
             Ok(())
         }
     }
@@ -109,4 +124,68 @@ fn put_at(
     } else {
         tasks.push(task)
     }
+}
+
+/// A place more is gone on the first board with this number.
+fn set_gone(
+    alloc: Global,
+    boards: Items<Shared<Board>>,
+    number: u32,
+    gone: &Gone,
+) -> Result<Items<Shared<Board>>, AllocError>
+    ensures { IfOk result (λ changed. changed ≡ change_board number (with_gone gone.now) boards) }
+{
+    let Some(index) = place_of_board(boards.as_slice(), number) else {
+        return Ok(boards);
+    };
+    let mut boards = boards.into_vec();
+    let board = boards.remove(index);
+    let board = board_with_gone(board, gone)?;
+    boards.insert(index, Shared::new(alloc, board)?)?;
+    Ok(Items::from_vec(boards))
+}
+
+fn board_with_gone(board: Shared<Board>, gone: &Gone) -> Result<Board, AllocError>
+    ensures { IfOk result (λ changed. changed ≡ with_gone gone.now board) }
+{
+    let Ok(mut board) = board.into_value() else {
+        return Err(AllocError);
+    };
+    board.gone.push(*gone)?;
+    Ok(board)
+}
+
+/// A place isn't gone any more on the first board with this number.
+fn take_gone(
+    alloc: Global,
+    boards: Items<Shared<Board>>,
+    number: u32,
+    template: TaskId,
+    place: u32,
+) -> Result<Items<Shared<Board>>, AllocError>
+    ensures { IfOk result (λ changed. changed ≡ change_board number (without_gone template place) boards) }
+{
+    let Some(index) = place_of_board(boards.as_slice(), number) else {
+        return Ok(boards);
+    };
+    let mut boards = boards.into_vec();
+    let board = boards.remove(index);
+    let board = board_without(alloc, board, template, place)?;
+    boards.insert(index, Shared::new(alloc, board)?)?;
+    Ok(Items::from_vec(boards))
+}
+
+fn board_without(
+    alloc: Global,
+    board: Shared<Board>,
+    template: TaskId,
+    place: u32,
+) -> Result<Board, AllocError>
+    ensures { IfOk result (λ changed. changed ≡ without_gone template place board) }
+{
+    let Ok(mut board) = board.into_value() else {
+        return Err(AllocError);
+    };
+    board.gone = gone_without(alloc, board.gone.as_slice(), template, place)?;
+    Ok(board)
 }

@@ -1,7 +1,7 @@
 //! Runs a script of lines: each is answered, in order, whatever pieces the reader gives them in.
 //!
 //! It owns what a line asks, the texts of the answers, and the reading loop. It stands on `tb_core` for commands, on `tb_reply` for
-//! their replies, and on `tb_json` and `tb_report` for what is read and shown.
+//! their replies, and on `tb_json`, `tb_todotxt` and `tb_report` for what is read and shown.
 #![tactic(auto)]
 
 mod answering;

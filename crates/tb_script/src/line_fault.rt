@@ -12,6 +12,9 @@ pub enum Unreadable {
     BadLine,
     /// The body isn't JSON, or no task; the name is that of a member in a wrong form.
     BadBody(Option<Text>),
+    /// The task at this index of an import, counted from 0, is in a wrong form; the name is that of the member at fault, and empty
+    /// where the item is no object.
+    BadItem(usize, Text),
 }
 
 /// Why the reading of a line ended.

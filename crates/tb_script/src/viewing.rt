@@ -2,7 +2,8 @@
 ghost use Rattle.std.specs.Prelude.{◌≡◌, ◌∷◌, ◌++◌, [], IfOk, find, option_map};
 ghost use Rattle.tb_board.specs.Board.{has_id};
 ghost use Rattle.tb_json.specs.Writing.{shown_text};
-ghost use Rattle.tb_report.specs.Shown.{shown_task as shown_task_of};
+ghost use Rattle.tb_report.specs.Shown.{shown as shown_tasks, shown_task as shown_task_of};
+ghost use Rattle.tb_todotxt.specs.FileTexts.{file_text};
 ghost use Rattle.tb_script.specs.Views.{board_of as board_of_view, board_view, export_text, one_text, shown_view, viewed_board};
 
 use crate::asked::View;
@@ -12,6 +13,7 @@ use tb_core::Refusal;
 use tb_json::{write_task, write_tasks};
 use tb_report::{listing, shown, shown_task};
 use tb_task::{Moment, Task, TaskId};
+use tb_todotxt::write_file;
 use tb_values::{Shared, Text};
 
 /// The board that a person may look at, if there is one and the person has a role on it.
@@ -48,7 +50,8 @@ fn board_of(view: &View) -> u32
     ensures { result ≡ board_of_view view.now }
 {
     match view {
-        View::Listing(board) | View::Export(board) | View::One(board, _) => *board,
+        View::Listing(board) | View::Export(board) | View::Todo(board) | View::One(board, _) =>
+            *board,
     }
 }
 
@@ -63,6 +66,7 @@ fn show_board(
     match view {
         View::Listing(_) => Ok(Ok(listing(alloc, board, at)?)),
         View::Export(_) => Ok(Ok(export(alloc, board, at)?)),
+        View::Todo(_) => Ok(Ok(todo(alloc, board, at)?)),
         View::One(_, id) => show_one(alloc, board, task_on(board, *id), at),
     }
 }
@@ -73,6 +77,14 @@ fn export(alloc: Global, board: &Board, at: Moment) -> Result<Text, AllocError>
 {
     let tasks = shown(alloc, board, at)?;
     write_tasks(alloc, tasks.as_slice())
+}
+
+/// A line for each task of a board that has one.
+fn todo(alloc: Global, board: &Board, at: Moment) -> Result<Text, AllocError>
+    ensures { IfOk result (λ text. text ≡ file_text (shown_tasks board.now at)) }
+{
+    let tasks = shown(alloc, board, at)?;
+    write_file(alloc, tasks.as_slice())
 }
 
 fn task_on(board: &Board, id: TaskId) -> Option<&Shared<Task>>

@@ -2,11 +2,11 @@
 ghost use Rattle.std.specs.Prelude.{◌≡◌, map};
 ghost use Rattle.tb_core.specs.declared.action.Action.TheVariants.{Annotate, Denotate};
 ghost use Rattle.tb_script.specs.Outcome.{Reads};
-ghost use Rattle.tb_script.specs.Words.{acting, acting_with, adding, export, link, linking, listing, modifying, one, request_in, showing, sweeping, task, three, two, unlinking};
+ghost use Rattle.tb_script.specs.Words.{acting, acting_with, adding, export, importing, importing_todo, link, linking, listing, modifying, one, request_in, showing, sweeping, task, three, todo, two, unlinking};
 
 use crate::arguments::{read_board, read_uuid};
 use crate::asked::{Request, View};
-use crate::body::{read_edits, read_incoming};
+use crate::body::{read_edits, read_imported, read_incoming, read_tasks};
 use crate::line_fault::LineFault;
 use std::alloc::Global;
 use tb_core::{Action, Command};
@@ -25,8 +25,11 @@ pub(crate) fn read_request(
     match word {
         "list" => read_listing(arguments),
         "export" => read_export(arguments),
+        "todo" => read_todo(arguments),
         "task" => read_shown(arguments),
         "add" => read_add(alloc, arguments, at),
+        "import" => read_import(alloc, arguments, at),
+        "import-todo" => read_import_todo(alloc, arguments, at),
         "done" => read_action(arguments, Action::Done),
         "delete" => read_action(arguments, Action::Delete),
         "reopen" => read_action(arguments, Action::Reopen),
@@ -51,6 +54,7 @@ fn read_task_alone(arguments: &[&str]) -> Result<(u32, TaskId), LineFault>
     read_task(board, uuid)
 }
 
+#[tactic(auto, unfolding(crate::specs::Words::task))]
 fn read_task(board: &str, uuid: &str) -> Result<(u32, TaskId), LineFault>
     ensures { Reads result (task board.now uuid.now) }
 {
@@ -99,6 +103,15 @@ fn read_export(arguments: &[&str]) -> Result<Request, LineFault>
     Ok(Request::View(View::Export(read_board(board)?)))
 }
 
+fn read_todo(arguments: &[&str]) -> Result<Request, LineFault>
+    ensures { Reads result (one todo (map (λ argument. argument.now) arguments.entry.now)) }
+{
+    let [board] = arguments else {
+        return Err(LineFault::bad_line());
+    };
+    Ok(Request::View(View::Todo(read_board(board)?)))
+}
+
 fn read_shown(arguments: &[&str]) -> Result<Request, LineFault>
     ensures { Reads result (showing (map (λ argument. argument.now) arguments.entry.now)) }
 {
@@ -120,6 +133,28 @@ fn read_add(alloc: Global, arguments: &[&str], at: Moment) -> Result<Request, Li
     }))
 }
 
+fn read_import(alloc: Global, arguments: &[&str], at: Moment) -> Result<Request, LineFault>
+    ensures { Reads result (two (importing at) (map (λ argument. argument.now) arguments.entry.now)) }
+{
+    let [board, text] = arguments else {
+        return Err(LineFault::bad_line());
+    };
+    let board = read_board(board)?;
+    let tasks = read_imported(alloc, text, at)?;
+    Ok(Request::Call(Command::ImportJson { board, tasks }))
+}
+
+fn read_import_todo(alloc: Global, arguments: &[&str], at: Moment) -> Result<Request, LineFault>
+    ensures { Reads result (importing_todo at (map (λ argument. argument.now) arguments.entry.now)) }
+{
+    let [board, lines @ ..] = arguments else {
+        return Err(LineFault::bad_line());
+    };
+    let board = read_board(board)?;
+    let tasks = read_tasks(alloc, lines, at, board)?;
+    Ok(Request::Call(Command::ImportTodo { board, tasks }))
+}
+
 fn read_action(arguments: &[&str], action: Action) -> Result<Request, LineFault>
     ensures { Reads result (acting action (map (λ argument. argument.now) arguments.entry.now)) }
 {
@@ -133,7 +168,10 @@ fn read_annotate(alloc: Global, arguments: &[&str]) -> Result<Request, LineFault
     let [board, uuid, text] = arguments else {
         return Err(LineFault::bad_line());
     };
-    let (board, id) = read_task(board, uuid)?;
+    let (board, id) = match read_task(board, uuid) {
+        Ok(task) => task,
+        Err(fault) => return Err(fault),
+    };
     let action = Action::Annotate(Text::from_str(alloc, text)?);
     Ok(Request::Call(Command::OnTask { board, id, action }))
 }
@@ -144,7 +182,10 @@ fn read_denotate(alloc: Global, arguments: &[&str]) -> Result<Request, LineFault
     let [board, uuid, text] = arguments else {
         return Err(LineFault::bad_line());
     };
-    let (board, id) = read_task(board, uuid)?;
+    let (board, id) = match read_task(board, uuid) {
+        Ok(task) => task,
+        Err(fault) => return Err(fault),
+    };
     let action = Action::Denotate(Text::from_str(alloc, text)?);
     Ok(Request::Call(Command::OnTask { board, id, action }))
 }
@@ -155,7 +196,10 @@ fn read_modify(alloc: Global, arguments: &[&str]) -> Result<Request, LineFault>
     let [board, uuid, body] = arguments else {
         return Err(LineFault::bad_line());
     };
-    let (board, id) = read_task(board, uuid)?;
+    let (board, id) = match read_task(board, uuid) {
+        Ok(task) => task,
+        Err(fault) => return Err(fault),
+    };
     let edits = read_edits(alloc, body)?;
     Ok(Request::Call(Command::Modify { board, id, edits }))
 }

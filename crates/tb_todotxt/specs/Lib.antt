@@ -6,4 +6,5 @@ pub mod Words
 pub mod Tasks
 pub mod Bodies
 pub mod Files
+pub mod FileTexts
 pub mod Tags

@@ -14,6 +14,7 @@ mod reading;
 mod showing;
 mod tags;
 mod words;
+mod writing;
 
 pub use day::Day;
 pub use fault::{FileFault, LineFault};
@@ -23,6 +24,7 @@ pub use line::{Line, LineParts};
 pub use making::to_task;
 pub use reading::{lines_are_read, lines_are_spelled, one_spelling, read_line, write_line};
 pub use showing::from_task;
+pub use writing::write_file;
 
 #[cfg(test)]
 mod tests;

@@ -1,0 +1,11 @@
+pub mod Again
+pub mod Counting
+pub mod Keeping
+pub mod Marking
+pub mod Moving
+pub mod Numbering
+pub mod Setting
+pub mod Sound
+pub mod Steps
+pub mod Taking
+pub mod Templates

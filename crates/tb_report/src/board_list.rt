@@ -1,0 +1,26 @@
+ghost use Rattle.std.specs.Prelude.{◌≡◌, IfOk};
+ghost use Rattle.tb_report.specs.Listing.{listing as listing_of, listing_awake};
+
+use crate::lists::{Marked, list_tasks};
+use std::alloc::{AllocError, Global};
+use tb_board::{Board, Draft, blocked_tasks, blocking_tasks, wake_draft};
+use tb_task::Moment;
+use tb_values::Text;
+
+/// The board's listing at a moment: a header, a line for each pending or waiting task, the most urgent first, and a count.
+pub fn listing(alloc: Global, board: &Board, at: Moment) -> Result<Text, AllocError>
+    ensures { IfOk result (λ text. text ≡ listing_of board.now at) }
+{
+    let awake = wake_draft(alloc, Draft::of(alloc, board)?, at)?;
+    list_awake(alloc, &awake.board, at)
+}
+
+/// The listing of a board that is awake.
+fn list_awake(alloc: Global, board: &Board, at: Moment) -> Result<Text, AllocError>
+    ensures { IfOk result (λ text. text ≡ listing_awake board.now at) }
+{
+    let blocked = blocked_tasks(alloc, board)?;
+    let blocking = blocking_tasks(alloc, board)?;
+    let marked = Marked { blocked, blocking };
+    list_tasks(alloc, board.tasks.as_slice(), &marked, at)
+}
