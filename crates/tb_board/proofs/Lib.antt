@@ -9,9 +9,11 @@ pub mod Goodness
 pub mod KnownNumbers
 pub mod Linking
 pub mod Marking
+pub mod Pairs
 pub mod Places
 pub mod Relinked
 pub mod Relinking
+pub mod RoleOrder
 pub mod Runs
 pub mod Walking
 pub mod Worlds
