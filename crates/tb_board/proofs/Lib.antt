@@ -5,6 +5,7 @@ pub mod Drafts
 pub mod Extending
 pub mod Fits
 pub mod Fresh
+pub mod GoneOrder
 pub mod Goodness
 pub mod KnownNumbers
 pub mod Linking
