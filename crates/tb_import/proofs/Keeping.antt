@@ -11,11 +11,10 @@ use Rattle.tb_task.specs.declared.incoming.Incoming.{Incoming}
 use Rattle.tb_task.specs.declared.task.Task.{Task}
 use Rattle.tb_board.specs.declared.board.Board.{Board}
 use Rattle.tb_board.specs.declared.gone.Gone.{Gone}
-use Rattle.tb_board.specs.Board.{has_id, ids, is_on}
+use Rattle.tb_board.specs.Board.{ids, is_on}
 use Rattle.tb_board.specs.Good.{IsGood, IsLinkedOn, IsSound}
 use Rattle.tb_board.specs.Instances.{by_template, has_template, is_template_with, HasRuns, HasTemplateOn, IsGoneOn}
 use Rattle.tb_board.specs.Links.{links}
-use Rattle.tb_board.specs.Statuses.{is_template}
 use Rattle.tb_board.specs.Templates.{gone_places, instance_places, is_id}
 use Rattle.tb_board.proofs.Fresh.{on_ids}
 use Rattle.tb_board.proofs.GoneOrder.{template_is_on}

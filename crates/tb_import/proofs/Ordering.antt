@@ -1,7 +1,7 @@
 -- Gone places stay in order while new tasks go to a board.
-use Rattle.std.proofs.Common.{◌≡◌, ℕ, ◌+◌, ◌<◌, ◌==◌, ◌||◌, nat_eq, Bool, true, false, true≢false, List, [], ◌∷◌, ◌++◌, Option, Some, None, if◌then◌else◌, Ordering, Less, not, refl, sym, ◌∙◌, ap, subst, arith, append_assoc, inl, inr}
+use Rattle.std.proofs.Common.{◌≡◌, ℕ, ◌+◌, ◌<◌, ◌==◌, nat_eq, Bool, true, false, true≢false, List, [], ◌∷◌, ◌++◌, Option, Some, None, if◌then◌else◌, Ordering, Less, not, sym, ◌∙◌, subst, arith, append_assoc, inl, inr}
 use Rattle.std.specs.Cmp.{nat_eq_equiv}
-use Rattle.std.specs.List.{AllByRecursion, IsDistinct, list_any}
+use Rattle.std.specs.List.{AllByRecursion, IsDistinct}
 use Rattle.std.specs.List.Sorted.{IsStrictlySortedBy}
 use Rattle.std.proofs.lemmas.Bool.{cases_Bool}
 use Rattle.std.proofs.lemmas.List.Folds.{list_any-append}
