@@ -7,6 +7,7 @@ pub mod Fresh
 pub mod Goodness
 pub mod KnownNumbers
 pub mod Linking
+pub mod LookingAround
 pub mod Marking
 pub mod Places
 pub mod Relinked
