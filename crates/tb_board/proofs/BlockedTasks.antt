@@ -39,7 +39,7 @@ hit test a (suc n) h =
           record { number = rest.number; within = omega (arith, rest.within); passes = rest.passes }
     ]
 
-any_hit : (test : ℕ → Bool) (a n v : ℕ) → a ≤ v → v < a + n → test v ≡ true → list_any test (range_with_len a n) ≡ true
+pub any_hit : (test : ℕ → Bool) (a n v : ℕ) → a ≤ v → v < a + n → test v ≡ true → list_any test (range_with_len a n) ≡ true
 any_hit test a zero v from to h = absurd (omega arith)
 any_hit test a (suc n) v from to h =
     elim (cases_Bool (test a)) [

@@ -25,7 +25,7 @@ pub ids-wake : (m : ℕ) (ts : List Task) → ids (map (woken m) ts) ≡ ids ts
 ids-wake m [] = refl
 ids-wake m (t ∷ ts) = ap (λ is. t.id ∷ is) (ids-wake m ts)
 
-depends-wake : (m : ℕ) (ts : List Task) → depends_of (map (woken m) ts) ≡ depends_of ts
+pub depends-wake : (m : ℕ) (ts : List Task) → depends_of (map (woken m) ts) ≡ depends_of ts
 depends-wake m [] = refl
 depends-wake m (t ∷ ts) = ap (λ ds. t.depends ∷ ds) (depends-wake m ts)
 

@@ -9,6 +9,7 @@ pub mod GoneOrder
 pub mod Goodness
 pub mod KnownNumbers
 pub mod Linking
+pub mod LookingAround
 pub mod Marking
 pub mod Pairs
 pub mod Places

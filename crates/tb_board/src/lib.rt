@@ -4,6 +4,7 @@
 //! gives to new tasks. It stands on `tb_task` for tasks and identifiers and on `tb_values` for lists.
 #![tactic(auto)]
 
+mod blocked;
 mod board;
 mod change;
 mod changing;
@@ -20,6 +21,7 @@ mod viewing;
 mod waking;
 mod world;
 
+pub use blocked::{is_blocked_task, is_blocking_task};
 pub use board::Board;
 pub use change::Change;
 pub use changing::{roles_with, roles_without};
@@ -39,5 +41,5 @@ pub use statuses::{
 };
 pub use title::Title;
 pub use viewing::woken_task;
-pub use waking::wake_draft;
+pub use waking::{has_waited, wake_draft};
 pub use world::{Person, Role, RoleOn, World};

@@ -125,7 +125,7 @@ fn add_link(
 }
 
 /// The place of the first task of that identifier.
-fn place_by_id(tasks: &[Shared<Task>], id: TaskId) -> Option<usize>
+pub(crate) fn place_by_id(tasks: &[Shared<Task>], id: TaskId) -> Option<usize>
     ensures { result ≡ place_in (ids tasks.now) id }
 {
     first_task(tasks, id)

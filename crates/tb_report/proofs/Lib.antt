@@ -2,3 +2,4 @@ pub mod Sorting
 pub mod RankOrder
 pub mod Columns
 pub mod Listed
+pub mod Woken

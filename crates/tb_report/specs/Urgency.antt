@@ -1,12 +1,17 @@
 -- How much a task presses at a moment, in parts of which 110376000 make one unit.
-use Rattle.std.specs.Prelude.{ℕ, ℤ, pos, ◌-ℤ◌, Bool, true, false, List, ◌+◌, ◌-◌, ◌*◌, min, Option, Some, None, codes, length, nat_lt, if◌then◌else◌}
+use Rattle.std.specs.Prelude.{ℕ, ℤ, pos, ◌-ℤ◌, Bool, true, false, List, ◌+◌, ◌-◌, ◌*◌, min, Option, Some, None, codes, length, nat_lt, slice_get, if◌then◌else◌}
 use Rattle.std.specs.List.{list_any}
+use Rattle.std.specs.Option.{option_map}
 use Rattle.std.specs.Str.{bytes_eq}
 use Rattle.tb_task.specs.declared.priority.Priority.{Priority}
 use Rattle.tb_task.specs.declared.priority.Priority.TheVariants.{High, Medium, Low}
 use Rattle.tb_task.specs.declared.status.Status.{Status}
 use Rattle.tb_task.specs.declared.status.Status.TheVariants.{Pending, Waiting, Recurring, Completed, Deleted}
 use Rattle.tb_task.specs.declared.task.Task.{Task}
+use Rattle.tb_graph.specs.Marks.{is_marked}
+use Rattle.tb_board.specs.declared.board.Board.{Board}
+use Rattle.tb_board.specs.Blocked.{blocked, blocking}
+use Rattle.tb_board.specs.Board.{wake}
 use Rattle.tb_report.specs.Row.{unit}
 
 -- so many parts, if something is so
@@ -72,3 +77,11 @@ own_parts m t =
 unfoldable pub urgency_of : Bool → Bool → ℕ → Task → ℤ
 urgency_of blocked blocking m t =
     pos (own_parts m t + parts_if blocking (8 * unit)) -ℤ pos (parts_if (is_waiting_now t.status) (3 * unit) + parts_if blocked (5 * unit))
+
+-- that of a task of a board that is awake, by its place from 0
+abbrev pub urgency_awake : Board → ℕ → ℕ → Task → ℤ
+urgency_awake b m place t = urgency_of (is_marked (blocked b) place) (is_marked (blocking b) place) m t
+
+-- that of the task of the woken board at a place, counted from 1
+abbrev pub urgency_at : Board → ℕ → ℕ → Option ℤ
+urgency_at b m place = option_map (urgency_awake (wake b m) m (place - 1)) (slice_get (wake b m).tasks (place - 1))

@@ -10,11 +10,14 @@ mod lists;
 mod rank;
 mod row;
 mod showing;
-mod urgency;
+mod urgencies;
 
 pub use board_list::listing;
 pub use lists::{Marked, list_tasks};
 pub use rank::{Rank, in_order};
 pub use row::{Row, URGENCY_UNIT, decimals, push_row, without_controls};
 pub use showing::{shown, shown_task};
-pub use urgency::urgency_of_task;
+pub use urgencies::{urgency, urgency_of_task};
+
+#[cfg(test)]
+mod tests;

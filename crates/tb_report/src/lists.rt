@@ -6,7 +6,7 @@ ghost use Rattle.tb_report.specs.Marked.{waits_in};
 use crate::cells::{due_of, flags_of, project_of};
 use crate::rank::{Rank, in_order};
 use crate::row::{Row, push_row, without_controls};
-use crate::urgency::urgency_of_task;
+use crate::urgencies::urgency_of_task;
 use std::alloc::{AllocError, Global};
 use std::cmp::Reverse;
 use std::fmt::Write;

@@ -1,9 +1,11 @@
-ghost use Rattle.std.specs.Prelude.{◌≡◌, ◌≤◌, ◌*◌, ◌+◌, ◌<◌, ◌^◌, length};
+ghost use Rattle.std.specs.Prelude.{◌≡◌, ◌≤◌, ◌*◌, ◌+◌, ◌-◌, ◌-ℤ◌, ◌<◌, ◌^◌, ◌&&◌, Some, length, not, pos};
 ghost use Rattle.std.specs.List.{list_any};
+ghost use Rattle.tb_board.specs.Board.{wakes, woken};
 ghost use Rattle.tb_report.specs.Row.{unit};
-ghost use Rattle.tb_report.specs.Urgency.{age_parts, count_parts, due_parts, is_next, next_parts, own_parts, parts_if, priority_parts, scheduled_parts, urgency_of, is_waiting_now};
+ghost use Rattle.tb_report.specs.Urgency.{age_parts, count_parts, due_parts, is_next, next_parts, own_parts, parts_if, priority_parts, scheduled_parts, urgency_at, urgency_of, is_waiting_now};
 
 use crate::row::URGENCY_UNIT;
+use tb_board::{Board, has_waited, is_blocked_task, is_blocking_task};
 use tb_task::{Moment, Priority, Status, Task};
 use tb_values::Text;
 
@@ -13,13 +15,48 @@ const SECONDS_BEFORE_DUE: u64 = 1_209_600;
 /// It counts most from a week after it on.
 const MOST_SECONDS: u64 = 1_814_400;
 
+/// How much the task at a place of the board presses at a moment, in parts. Places of a board count from 1. It takes no memory.
+pub fn urgency(board: &Board, place: usize, at: Moment) -> i64
+    requires from_one { 1 ≤ place }
+    requires on_board { place ≤ length board.now.tasks }
+    ensures { urgency_at board.now at place ≡ Some result }
+{
+    let index = place - 1;
+    let is_blocked = is_blocked_task(board, index);
+    let is_blocking = is_blocking_task(board, index);
+    urgency_of_woken(board.task_at(index), is_blocked, is_blocking, at)
+}
+
 /// How much a task presses at a moment, in parts: the sum of all terms. It is the task of the board that is awake.
 #[tactic(auto, unfolding(crate::specs::Urgency::urgency_of))]
 pub fn urgency_of_task(task: &Task, is_blocked: bool, is_blocking: bool, at: Moment) -> i64
     ensures { result ≡ urgency_of is_blocked is_blocking at task.now }
 {
-    let gained = own_parts_of(task, at) + parts_where(is_blocking, 8);
-    let lost = parts_where(is_waiting(task.status), 3) + parts_where(is_blocked, 5);
+    let is_waiting = is_waiting(task.status);
+    sum_of(own_parts_of(task, at), is_waiting, is_blocked, is_blocking)
+}
+
+/// How much a task presses at a moment, in parts: it waits no more where its wait is over.
+pub(crate) fn urgency_of_woken(task: &Task, is_blocked: bool, is_blocking: bool, at: Moment) -> i64
+    ensures { result ≡ urgency_of is_blocked is_blocking at (woken at task.now) }
+{
+    let is_waiting = is_still_waiting(task, at);
+    sum_of(own_parts_of(task, at), is_waiting, is_blocked, is_blocking)
+}
+
+fn is_still_waiting(task: &Task, at: Moment) -> bool
+    ensures { result ≡ (is_waiting_now task.now.status && not (wakes at task.now)) }
+{
+    is_waiting(task.status) && !has_waited(task, at)
+}
+
+/// What a task gains by its own attributes, and what it gains and loses by where it stands.
+fn sum_of(own: u64, is_waiting: bool, is_blocked: bool, is_blocking: bool) -> i64
+    requires { own ≤ 200 * unit }
+    ensures { result ≡ pos (own + parts_if is_blocking (8 * unit)) -ℤ pos (parts_if is_waiting (3 * unit) + parts_if is_blocked (5 * unit)) }
+{
+    let gained = own + parts_where(is_blocking, 8);
+    let lost = parts_where(is_waiting, 3) + parts_where(is_blocked, 5);
     gained as i64 - lost as i64
 }
 
