@@ -1,5 +1,5 @@
 -- Whether one task is blocked or blocking, by looks at the other tasks.
-use Rattle.std.proofs.Common.{◌≡◌, inl, inr, ℕ, zero, suc, ◌+◌, ◌<◌, ◌≤◌, ◌==◌, Bool, true, false, true≢false, not, ◌&&◌, ◌||◌, List, [], ◌∷◌, Option, Some, None, length, get_or, map, position, refl, sym, ◌∙◌, ap, arith, MatchOption, subst}
+use Rattle.std.proofs.Common.{◌≡◌, inl, inr, ℕ, zero, suc, ◌+◌, ◌<◌, ◌≤◌, ◌==◌, Bool, true, false, true≢false, not, ◌&&◌, ◌||◌, List, [], ◌∷◌, Option, Some, None, length, get_or, map, refl, sym, ◌∙◌, ap, arith, MatchOption}
 use Rattle.std.specs.List.{list_any, range_with_len}
 use Rattle.std.proofs.lemmas.Bool.{cases_Bool, cases_eq, eqb-true, eq-eqb}
 use Rattle.std.proofs.lemmas.List.{get_or-map}
@@ -7,14 +7,12 @@ use Rattle.std.proofs.lemmas.List.FromFn.{get_or-map-range_with_len}
 use Rattle.tb_task.specs.declared.task.Task.{Task}
 use Rattle.tb_graph.specs.Blocked.{is_blocked}
 use Rattle.tb_graph.specs.Marks.{is_marked}
-use Rattle.tb_graph.specs.Walk.{Graph}
 use Rattle.tb_board.specs.declared.board.Board.{Board}
 use Rattle.tb_board.specs.Board.{ids}
-use Rattle.tb_board.specs.Blocked.{are_open, blocked, blocking, has_link, is_blocked_by, is_blocked_among, is_blocking, is_blocking_among, is_first, is_held, is_open_by_id, is_open_on, passes}
+use Rattle.tb_board.specs.Blocked.{are_open, blocked, blocking, is_blocked_by, is_blocked_among, is_blocking, is_blocking_among, is_first, is_held, is_open_by_id, is_open_on, passes}
 use Rattle.tb_board.specs.First.{IsFirst, IsNone}
 use Rattle.tb_board.specs.Links.{depends_of, links, place_in, places_in, with_place}
 use Rattle.tb_board.specs.Statuses.{is_open}
-use Rattle.tb_board.proofs.BlockedTasks.{any_hit}
 use Rattle.tb_board.proofs.Linking.{links-length}
 use Rattle.tb_board.proofs.Places.{place}
 

@@ -1,4 +1,4 @@
-use Rattle.std.proofs.Common.{◌≡◌, ℕ, ◌+◌, ◌<◌, ◌==◌, false, sym, ◌∙◌, arith, length, get_or, subst}
+use Rattle.std.proofs.Common.{◌≡◌, ◌+◌, ◌==◌, false, sym, ◌∙◌, arith, length, get_or, subst}
 use Rattle.std.proofs.lemmas.Bool.{ne_eqb}
 use Rattle.tb_task.specs.declared.task.Task.{Task}
 use Rattle.tb_board.specs.Blocked.{is_held}
