@@ -1,5 +1,5 @@
 -- Two worlds that are read in one content are one.
-use Rattle.std.proofs.Common.{◌≡◌, ℕ, ◌==◌, ◌<◌, List, [], ◌∷◌, ◌++◌, ◌⊎◌, Result, Ok, filter, map, refl, sym, ap, ap₂, ◌∙◌, subst, arith, inl, inr, IsPermutation}
+use Rattle.std.proofs.Common.{◌≡◌, ℕ, ◌==◌, List, [], ◌∷◌, ◌++◌, Result, Ok, filter, map, refl, sym, ap, ap₂, ◌∙◌, subst, arith, inl, inr}
 use Rattle.std.specs.List.{AllByRecursion, flat_map}
 use Rattle.std.proofs.lemmas.List.Sorted.{IsPermutation-refl}
 use Rattle.sqlite_trees.specs.Tree.{IsAscending}
@@ -9,7 +9,6 @@ use Rattle.tb_board.specs.declared.world.World.{World}
 use Rattle.tb_core.specs.GoodWorld.{IsGoodWorld}
 use Rattle.tb_sql_tables.specs.Content.{Content}
 use Rattle.tb_sql_tables.specs.Found.{AreFound}
-use Rattle.tb_sql_tables.specs.declared.rows.PersonRow.{PersonRow}
 use Rattle.tb_sql_tables.specs.declared.rows.BoardRow.{BoardRow}
 use Rattle.tb_sql_tables.specs.declared.rows.RoleRow.{RoleRow}
 use Rattle.tb_sql_tables.specs.declared.rows.TaskRow.{TaskRow}
@@ -17,11 +16,11 @@ use Rattle.tb_sql_tables.specs.declared.rows.GoneRow.{GoneRow}
 use Rattle.tb_sql.specs.Changes.{IsPersonBefore, IsBoardBefore, IsRoleBefore, IsTaskBefore, IsGoneBefore}
 use Rattle.tb_rows.specs.Rows.{world_rows, board_row, role_row, board_tasks, board_gone, HaveSameRows}
 use Rattle.tb_reopen.specs.Forms.{HasForm}
-use Rattle.tb_reopen.specs.Laws.{roles_on, IsBoardRead, IsWorldRead}
+use Rattle.tb_reopen.specs.Laws.{roles_on, IsBoardRead}
 use Rattle.tb_reopen.specs.Reading.{board_of}
 use Rattle.tb_reopen.specs.declared.fault.ReopenFault.{ReopenFault}
 use Rattle.tb_reopen.proofs.Found.{world_found}
-use Rattle.tb_reopen.proofs.Joined.{AreNumberedFrom, numbered_from}
+use Rattle.tb_reopen.proofs.Joined.{numbered_from}
 use Rattle.tb_reopen.proofs.Lists.{one_order}
 use Rattle.tb_reopen.proofs.Orders.{GoneRise, IsOrdered}
 use Rattle.tb_reopen.proofs.ReadBoards.{FindsOwn, finds_own}

@@ -1,12 +1,11 @@
 -- A world is read in each content that has its rows.
-use Rattle.std.proofs.Common.{◌≡◌, ℕ, ◌+◌, ◌==◌, ◌<◌, ◌≤◌, Bool, List, [], ◌∷◌, ◌++◌, Ok, filter, map, length, refl, sym, ap, ap₂, ◌∙◌, subst, arith, IsPermutation}
-use Rattle.std.specs.List.{AllByRecursion, flat_map}
+use Rattle.std.proofs.Common.{◌≡◌, ◌+◌, ◌==◌, ◌<◌, ◌≤◌, Bool, List, [], ◌∷◌, Ok, filter, length, refl, ap, ap₂, ◌∙◌, subst, arith, IsPermutation}
+use Rattle.std.specs.List.{AllByRecursion}
 use Rattle.sqlite_trees.specs.Tree.{IsAscending}
 use Rattle.sqlite_keyed.proofs.ListLemmas.{all_weaker, IsPermutation-filter}
 use Rattle.tb_task.specs.TaskId.{IsRead}
 use Rattle.tb_board.specs.Good.{IsGood}
 use Rattle.tb_board.specs.declared.board.Board.{Board}
-use Rattle.tb_board.specs.declared.world.RoleOn.{RoleOn}
 use Rattle.tb_board.specs.declared.world.World.{World}
 use Rattle.tb_core.specs.GoodWorld.{IsGoodWorld, IsRoleIn}
 use Rattle.tb_sql_tables.specs.Content.{Content}
@@ -15,11 +14,11 @@ use Rattle.tb_sql_tables.specs.declared.rows.RoleRow.{RoleRow}
 use Rattle.tb_sql_tables.specs.declared.rows.TaskRow.{TaskRow}
 use Rattle.tb_sql_tables.specs.declared.rows.GoneRow.{GoneRow}
 use Rattle.tb_sql.specs.Changes.{IsTaskBefore, IsGoneBefore}
-use Rattle.tb_rows.specs.Rows.{world_rows, board_row, role_row, board_tasks, board_gone, HaveSameRows}
+use Rattle.tb_rows.specs.Rows.{world_rows, board_row, board_tasks, board_gone, HaveSameRows}
 use Rattle.tb_reopen.specs.Forms.{HasForm, HasBoardForm}
 use Rattle.tb_reopen.specs.Laws.{IsBoardRead, IsWorldRead}
 use Rattle.tb_reopen.specs.Reading.{people_in, board_of, roles_in}
-use Rattle.tb_reopen.proofs.Joined.{AreNumberedFrom, numbered_from}
+use Rattle.tb_reopen.proofs.Joined.{numbered_from}
 use Rattle.tb_reopen.proofs.Orders.{GoneRise, IsOrdered}
 use Rattle.tb_reopen.proofs.ReadBoards.{FindsOwn, board_read, finds_own}
 use Rattle.tb_reopen.proofs.ReadPeople.{people_read, roles_read}

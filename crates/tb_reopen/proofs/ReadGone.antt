@@ -1,5 +1,5 @@
 -- The gone places of a board are read back from their rows.
-use Rattle.std.proofs.Common.{◌≡◌, ℕ, ◌+◌, ◌-◌, ◌==◌, Bool, true, false, List, [], ◌∷◌, ◌++◌, Option, Some, None, MatchOption, Ok, map, slice_get, refl, sym, ap, ◌∙◌, arith, append_assoc, true≢false, inl, inr}
+use Rattle.std.proofs.Common.{◌≡◌, ℕ, ◌+◌, ◌-◌, ◌==◌, true, List, [], ◌∷◌, ◌++◌, Option, Some, None, MatchOption, Ok, map, slice_get, refl, sym, ap, ◌∙◌, arith, append_assoc, true≢false, inl, inr}
 use Rattle.std.specs.List.{AllByRecursion, list_any}
 use Rattle.std.proofs.lemmas.Bool.{cases_Bool, eqb-true}
 use Rattle.std.proofs.lemmas.Bool.Decides.{eqb_tells}
@@ -29,11 +29,11 @@ any_id id (t ∷ ts) h =
     ]
 
 -- the identifier stands at the place that is found
-record IsPlaced (ts : List Task) (id k : ℕ) : Type 0 where
-  found : place_in (ids ts) id ≡ Some k
-  there : slice_get (ids ts) k ≡ Some id
+pub record IsPlaced (ts : List Task) (id k : ℕ) : Type 0 where
+  pub found : place_in (ids ts) id ≡ Some k
+  pub there : slice_get (ids ts) k ≡ Some id
 
-placed : (ts : List Task) (id : ℕ) → list_any (is_template_with id) ts ≡ true → (k : ℕ) × IsPlaced ts id k
+pub placed : (ts : List Task) (id : ℕ) → list_any (is_template_with id) ts ≡ true → (k : ℕ) × IsPlaced ts id k
 placed ts id h = go (place_in (ids ts) id) refl (place (λ i. i == id) (ids ts))
   where
     go : (o : Option ℕ) → place_in (ids ts) id ≡ o → MatchOption o (IsNone (λ i. i == id) (ids ts)) (IsFirst (λ i. i == id) (ids ts)) → (k : ℕ) × IsPlaced ts id k
