@@ -99,15 +99,15 @@ shown_taken b id k p [] at = refl
 shown_taken b id k p (g ∷ gs) at =
     elim (cases_Bool (is_shown b g)) [
       | inl on ↦ elim (cases_Bool (is_gone_at id k g)) [
-          | inl taken ↦ let row : is_gone b.number (p + 1) k (gone_row b g) ≡ true = is_row b id k p g on at ∙ taken in rw (on, taken, row) (shown_taken b id k p gs at)
-          | inr stays ↦
-              let row : is_gone b.number (p + 1) k (gone_row b g) ≡ false = is_row b id k p g on at ∙ stays in
-              rw (on, stays, row, on) (ap (λ l. gone_row b g ∷ l) (shown_taken b id k p gs at))
-        ]
+        | inl taken ↦ let row : is_gone b.number (p + 1) k (gone_row b g) ≡ true = is_row b id k p g on at ∙ taken in rw (on, taken, row) (shown_taken b id k p gs at)
+        | inr stays ↦
+            let row : is_gone b.number (p + 1) k (gone_row b g) ≡ false = is_row b id k p g on at ∙ stays in
+            rw (on, stays, row, on) (ap (λ l. gone_row b g ∷ l) (shown_taken b id k p gs at))
+      ]
       | inr off ↦ elim (cases_Bool (is_gone_at id k g)) [
-          | inl taken ↦ rw (off, taken) (shown_taken b id k p gs at)
-          | inr stays ↦ rw (off, stays, off) (shown_taken b id k p gs at)
-        ]
+        | inl taken ↦ rw (off, taken) (shown_taken b id k p gs at)
+        | inr stays ↦ rw (off, stays, off) (shown_taken b id k p gs at)
+      ]
     ]
 
 others_stay : (n p k : ℕ) (rest : List GoneRow) → AllByRecursion (IsGoneElsewhere n) rest → filter (λ r. not (is_gone n p k r)) rest ≡ rest

@@ -73,13 +73,15 @@ module _ (a b : Board) (cs : List Change) (later : IsLater a b cs) where
       let here : p ≡ j = omega (arith, e) in
       let ext = front_at ExtendsTask a.tasks b.tasks j s t later.extends.tasks within at_s at_t in
       let linked = all_at _ a.tasks j s later.good_before.linked within at_s in
-      let parent = all_at _ a.tasks j s later.good_before.parents within at_s in
-      (omega (arith, within, here), record {
-        id = ext.id;
-        same = λ out. same_task j s t within at_s at_t (ap (is_among (flat_map (put_place b.number) cs)) (sym here) ∙ out);
-        mask = λ not_put out. same_mask j s t within at_s at_t (ap (is_among (flat_map (put_place b.number) cs)) (sym here) ∙ not_put)
-            (ap (is_among (changed_templates b (length a.tasks) (flat_map (put_place b.number) cs) cs)) (sym here) ∙ out);
-        links = λ q. links_stay a b q s.depends later.extends.number later.extends.tasks linked;
-        instance = λ q. ap (λ o. instance_rows_of b q o t.imask) ext.parent ∙ ap (instance_rows_of b q s.parent) ext.imask ∙ instance_stays a b q s.parent s.imask later.extends.number later.extends.tasks parent;
-      }))
+      let parent = all_at _ a.tasks j s later.good_before.parents within at_s in (
+        omega (arith, within, here),
+        record {
+          id = ext.id;
+          same = λ out. same_task j s t within at_s at_t (ap (is_among (flat_map (put_place b.number) cs)) (sym here) ∙ out);
+          mask = λ not_put out. same_mask j s t within at_s at_t (ap (is_among (flat_map (put_place b.number) cs)) (sym here) ∙ not_put)
+              (ap (is_among (changed_templates b (length a.tasks) (flat_map (put_place b.number) cs) cs)) (sym here) ∙ out);
+          links = λ q. links_stay a b q s.depends later.extends.number later.extends.tasks linked;
+          instance = λ q. ap (λ o. instance_rows_of b q o t.imask) ext.parent ∙ ap (instance_rows_of b q s.parent) ext.imask ∙ instance_stays a b q s.parent s.imask later.extends.number later.extends.tasks parent;
+        },
+      ))
       (λ j p t e past within at_t. omega (arith, e, past))

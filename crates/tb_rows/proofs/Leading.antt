@@ -122,15 +122,23 @@ module _ (w v : World) (cs : List Change) (good_before : IsGoodWorld w) (good_af
       let roles = role_changes cs v.roles in
       record {
         tables = λ c same. record {
-          people = rw (people_by (world_changes w v cs) c, all_by-append person_by people (boards ++ roles) c.people,
-              (inert-append person_by boards roles
-              (inert-boards person_by (λ n low rows. refl) (λ r rows. refl) person_leaves_tasks (record { added = λ r rows. refl; removed = λ n t k rows. refl }) cs w.boards v.boards)
-              (inert-roles person_by (λ n p rows. refl) (λ r rows. refl) cs v.roles)).same (all_by person_by people c.people), extends.people)
+          people = rw (
+            people_by (world_changes w v cs) c,
+            all_by-append person_by people (boards ++ roles) c.people,
+            (inert-append person_by boards roles
+                (inert-boards person_by (λ n low rows. refl) (λ r rows. refl) person_leaves_tasks (record { added = λ r rows. refl; removed = λ n t k rows. refl }) cs w.boards v.boards)
+                (inert-roles person_by (λ n p rows. refl) (λ r rows. refl) cs v.roles)).same (all_by person_by people c.people),
+            extends.people,
+          )
               (people_turn w.people extends.more c.people same.people);
           boards = rw (boards_by (world_changes w v cs) c) (boards_table c.boards same.boards);
-          roles = rw (roles_by (world_changes w v cs) c, all_by-append role_by people (boards ++ roles) c.roles, (inert-people role_by (λ r rows. refl) (length w.people) v.people).same c.roles,
-              all_by-append role_by boards roles c.roles,
-              (inert-boards role_by (λ n low rows. refl) (λ r rows. refl) role_leaves_tasks (record { added = λ r rows. refl; removed = λ n t k rows. refl }) cs w.boards v.boards).same c.roles)
+          roles = rw (
+            roles_by (world_changes w v cs) c,
+            all_by-append role_by people (boards ++ roles) c.roles,
+            (inert-people role_by (λ r rows. refl) (length w.people) v.people).same c.roles,
+            all_by-append role_by boards roles c.roles,
+            (inert-boards role_by (λ n low rows. refl) (λ r rows. refl) role_leaves_tasks (record { added = λ r rows. refl; removed = λ n t k rows. refl }) cs w.boards v.boards).same c.roles,
+          )
               (roles_turn w v cs c.roles (ap (λ (x : World). x.roles) made) (fits w good_before) (fits v good_after) same.roles);
           tasks = rw (tasks_by (world_changes w v cs) c) (tasks_table c.tasks same.tasks);
           links = rw (links_by (world_changes w v cs) c) (links_table c.links same.links);

@@ -128,9 +128,10 @@ roles_left all (c ∷ cs) w among = roles_left all cs (changed_by w c) among.1 �
 
 all_among : (done cs : List Change) → AllByRecursion (λ c. (board person : ℕ) → sets_role board person c ≡ true → list_any (sets_role board person) (done ++ cs) ≡ true) cs
 all_among done [] = tt
-all_among done (c ∷ cs) =
-    (λ board person here. at done c cs (sets_role board person) here,
-    subst (λ l. AllByRecursion (λ c. (board person : ℕ) → sets_role board person c ≡ true → list_any (sets_role board person) l ≡ true) cs) (append_assoc done (c ∷ []) cs) (all_among (done ++ c ∷ []) cs))
+all_among done (c ∷ cs) = (
+  λ board person here. at done c cs (sets_role board person) here,
+  subst (λ l. AllByRecursion (λ c. (board person : ℕ) → sets_role board person c ≡ true → list_any (sets_role board person) l ≡ true) cs) (append_assoc done (c ∷ []) cs) (all_among (done ++ c ∷ []) cs),
+)
   where
     at : (done : List Change) (c : Change) (cs : List Change) (test : Change → Bool) → test c ≡ true → list_any test (done ++ c ∷ cs) ≡ true
     at [] c cs test here = rw here refl

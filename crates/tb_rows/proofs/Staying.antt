@@ -42,14 +42,16 @@ pub matches_from : {A B : Type 0} (P : ℕ → A → B → Type 0) (Q : ℕ → 
     → ((j p : ℕ) (b : B) → p ≡ i + j → length ws ≤ j → j < length bs → b ≡ get_or bs j b → Q p b)
     → Matches P Q i ws bs
 matches_from P Q i [] [] le both further = tt
-matches_from P Q i [] (b ∷ bs) le both further =
-    (further 0 i b (omega arith) (omega arith) (omega arith) refl,
-    matches_from P Q (i + 1) [] bs (omega arith) (λ j p a c e within at_a at_c. absurd (omega (arith, within))) (λ j p c e past within at. further (suc j) p c (omega (arith, e)) (omega arith) (omega (arith, within)) at))
+matches_from P Q i [] (b ∷ bs) le both further = (
+  further 0 i b (omega arith) (omega arith) (omega arith) refl,
+  matches_from P Q (i + 1) [] bs (omega arith) (λ j p a c e within at_a at_c. absurd (omega (arith, within))) (λ j p c e past within at. further (suc j) p c (omega (arith, e)) (omega arith) (omega (arith, within)) at),
+)
 matches_from P Q i (a ∷ ws) [] le both further = absurd (omega (arith, le))
-matches_from P Q i (a ∷ ws) (b ∷ bs) le both further =
-    (both 0 i a b (omega arith) (omega arith) refl refl,
-    matches_from P Q (i + 1) ws bs (omega (arith, le)) (λ j p c d e within at_c at_d. both (suc j) p c d (omega (arith, e)) (omega (arith, within)) at_c at_d)
-    (λ j p d e past within at. further (suc j) p d (omega (arith, e)) (omega (arith, past)) (omega (arith, within)) at))
+matches_from P Q i (a ∷ ws) (b ∷ bs) le both further = (
+  both 0 i a b (omega arith) (omega arith) refl refl,
+  matches_from P Q (i + 1) ws bs (omega (arith, le)) (λ j p c d e within at_c at_d. both (suc j) p c d (omega (arith, e)) (omega (arith, within)) at_c at_d)
+      (λ j p d e past within at. further (suc j) p d (omega (arith, e)) (omega (arith, past)) (omega (arith, within)) at),
+)
 
 pub all_at : {A : Type 0} (P : A → Type 0) (xs : List A) (j : ℕ) (x : A) → AllByRecursion P xs → j < length xs → x ≡ get_or xs j x → P x
 all_at P xs j x all within at = subst P (sym at) (all-get_or P xs j x all within)

@@ -69,9 +69,9 @@ task_kept a b old put templates i s t number within kept =
     (elim (cases_Bool (is_among put i)) [
       | inl here ↦ rw here (record { turned = λ rest off. IsPermutation-same _ _ ((links_no_tasks (link_rows b (i + 1) t)).same _ ∙ set_text a b (i + 1) s t rest number kept.id off) })
       | inr not_put ↦ rw not_put (elim (cases_Bool (is_among templates i)) [
-          | inl concerned ↦ rw concerned (record { turned = λ rest off. IsPermutation-same _ _ (set_mask a b (i + 1) s t rest number (kept.same not_put) off) })
-          | inr alone ↦ rw (alone, same_row a b (i + 1) s t number (kept.same not_put) (kept.mask not_put alone)) (turns_none task_by _ [] _ (inert_none task_by))
-        ])
+        | inl concerned ↦ rw concerned (record { turned = λ rest off. IsPermutation-same _ _ (set_mask a b (i + 1) s t rest number (kept.same not_put) off) })
+        | inr alone ↦ rw (alone, same_row a b (i + 1) s t number (kept.same not_put) (kept.mask not_put alone)) (turns_none task_by _ [] _ (inert_none task_by))
+      ])
     ])
 
 pub task_new : (IsApart : TaskRow → Type 0) (b : Board) (p : ℕ) (t : Task) → Turns task_by IsApart (new_task b p t) [] (task_row b p t ∷ [])
@@ -103,9 +103,9 @@ link_kept a b old put templates i s t number within kept =
     rw (lt-ltb i old within)
     (elim (cases_Bool (is_among put i)) [
       | inl here ↦ rw here (record {
-          turned = λ rest off. subst (λ l. IsPermutation (all_by link_by (map AddLink (link_rows b (i + 1) t)) l) (link_rows b (i + 1) t ++ rest)) (sym (links_removed a b (i + 1) s rest number off))
-              (added link_by AddLink (λ r rows. refl) (link_rows b (i + 1) t) rest);
-        })
+        turned = λ rest off. subst (λ l. IsPermutation (all_by link_by (map AddLink (link_rows b (i + 1) t)) l) (link_rows b (i + 1) t ++ rest)) (sym (links_removed a b (i + 1) s rest number off))
+            (added link_by AddLink (λ r rows. refl) (link_rows b (i + 1) t) rest);
+      })
       | inr not_put ↦
           let same : link_rows a (i + 1) s ≡ link_rows b (i + 1) t = sym (kept.links (i + 1)) ∙ ap (link_rows b (i + 1)) (sym (kept.same not_put)) in
           rw (not_put, same) (turns_none link_by _ _ (link_rows b (i + 1) t)
