@@ -1,9 +1,8 @@
 -- The rows of a board before and after changes, table by table.
-use Rattle.std.proofs.Common.{◌≡◌, ℕ, zero, suc, ◌+◌, ◌<◌, ◌≤◌, ◌==◌, Bool, true, false, cond, List, [], ◌∷◌, ◌++◌, Option, Some, None, map, flat_map, get_or, length, nat_lt, refl, sym, ◌∙◌, ap, subst, arith, inl, inr, IsPermutation}
+use Rattle.std.proofs.Common.{◌≡◌, ℕ, zero, suc, ◌+◌, ◌<◌, ◌≤◌, ◌==◌, false, List, [], ◌∷◌, ◌++◌, Option, Some, None, map, flat_map, length, nat_lt, refl, sym, ◌∙◌, ap, arith, inl, inr}
 use Rattle.std.specs.List.{AllByRecursion, list_any}
 use Rattle.std.proofs.lemmas.Bool.{cases_Bool, eq-eqb, ne_eqb, ltb-false}
 use Rattle.std.proofs.lemmas.List.{append-nil, length-append, nil_from_length}
-use Rattle.std.proofs.lemmas.List.Sorted.{IsPermutation-refl}
 use Rattle.sqlite_trees.proofs.ListLemmas.{all_weaker, all_of, all-map, IsPermutation-same}
 use Rattle.tb_task.specs.declared.task.Task.{Task}
 use Rattle.tb_task.specs.TaskId.{made}
@@ -11,31 +10,29 @@ use Rattle.tb_board.specs.declared.board.Board.{Board}
 use Rattle.tb_board.specs.declared.change.Change.{Change}
 use Rattle.tb_board.specs.declared.change.Change.TheVariants.{PutTask, AddPerson as NewPerson, AddBoard as NewBoard, SetRole, SetGone, TakeGone}
 use Rattle.tb_board.specs.declared.gone.Gone.{Gone}
-use Rattle.tb_board.specs.Board.{ids, is_on}
-use Rattle.tb_board.specs.Changes.{with_gone, with_task_at, without_gone}
+use Rattle.tb_board.specs.Board.{ids}
 use Rattle.tb_board.specs.Links.{place_in}
 use Rattle.tb_board.specs.Numbers.{first_free, free}
 use Rattle.tb_board.proofs.Goodness.{on-same}
 use Rattle.tb_board.proofs.Relinking.{or_false}
-use Rattle.tb_sql_tables.specs.declared.rows.PersonRow.{PersonRow}
 use Rattle.tb_sql_tables.specs.declared.rows.BoardRow.{BoardRow}
 use Rattle.tb_sql_tables.specs.declared.rows.TaskRow.{TaskRow}
 use Rattle.tb_sql_tables.specs.declared.rows.LinkRow.{LinkRow}
 use Rattle.tb_sql_tables.specs.declared.rows.InstanceRow.{InstanceRow}
 use Rattle.tb_sql_tables.specs.declared.rows.GoneRow.{GoneRow}
 use Rattle.tb_sql.specs.declared.changes.RowChange.{RowChange}
-use Rattle.tb_sql.specs.declared.changes.RowChange.TheVariants.{AddPerson, AddBoard, SetLow, AddRole, RemoveRole, AddTask, SetText, SetMask, AddLink, RemoveLinks, AddInstance, AddGone, RemoveGone}
+use Rattle.tb_sql.specs.declared.changes.RowChange.TheVariants.{AddBoard, SetLow, AddTask, SetText, SetMask, AddLink, RemoveLinks, AddInstance, AddGone, RemoveGone}
 use Rattle.tb_sql.specs.Changes.{is_board}
 use Rattle.tb_board.specs.Extends.{ExtendsBoard, ExtendsTask, IsFrontOf}
-use Rattle.tb_rows.specs.Rows.{board_row, board_gone, board_instances, board_links, board_tasks, gone_row, instance_row, instance_rows, instance_rows_of, link_row, link_rows, rows_from, task_row}
+use Rattle.tb_rows.specs.Rows.{board_row, board_gone, board_instances, board_links, board_tasks, gone_row, instance_rows, instance_rows_of, link_row, link_rows, rows_from, task_row}
 use Rattle.tb_rows.specs.Steps.{board_changes, gone_added, gone_changes, gone_removed, is_among, is_of_board, kept_board, later_board, low_changes, new_board, new_mask, new_task, put_task, task_changes, put_place, changed_templates}
 use Rattle.tb_rows.proofs.Evolving.{change_on, replay}
-use Rattle.tb_rows.proofs.GoneRows.{gone_turns, IsGoneElsewhere}
-use Rattle.tb_rows.proofs.Places.{AreAt, IsBefore, IsElsewhere, IsOff, Matches, turns_places}
+use Rattle.tb_rows.proofs.GoneRows.{IsGoneElsewhere}
+use Rattle.tb_rows.proofs.Places.{AreAt, IsBefore, IsElsewhere, Matches, turns_places}
 use Rattle.tb_rows.proofs.Staying.{ids-length, ids_front}
 use Rattle.tb_rows.proofs.TaskRows.{instance_kept, instance_new, IsKept, link_kept, link_new, new_there, task_kept, task_new}
 use Rattle.tb_rows.proofs.Tables.{board_by, gone_by, instance_by, instances_unordered, link_by, links_unordered, task_by, tasks_unordered, turns_added}
-use Rattle.tb_rows.proofs.Turning.{all_by, first_changed, inert-append, inert-flat_map, inert-if, inert-map, inert-rows_from, inert_next, inert_none, inert_then_turns, IsInert, IsUnordered, Turns, turns_narrow, turns_none, turns_then_inert}
+use Rattle.tb_rows.proofs.Turning.{first_changed, inert-append, inert-flat_map, inert-if, inert-map, inert-rows_from, inert_next, inert_none, inert_then_turns, IsInert, Turns, turns_narrow, turns_none, turns_then_inert}
 
 -- ---- tables that changes of tasks leave
 

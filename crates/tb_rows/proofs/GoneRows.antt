@@ -1,11 +1,11 @@
 -- The rows of gone places before and after changes.
-use Rattle.std.proofs.Common.{◌≡◌, ℕ, zero, suc, ◌+◌, ◌<◌, ◌≤◌, ◌==◌, Bool, true, false, not, ◌&&◌, ◌||◌, cond, List, [], ◌∷◌, ◌++◌, Option, Some, None, is_some, map, filter, flat_map, get_or, length, refl, sym, ◌∙◌, ap, subst, arith, inl, inr, IsPermutation}
+use Rattle.std.proofs.Common.{◌≡◌, ℕ, ◌+◌, ◌==◌, Bool, true, false, not, ◌&&◌, cond, List, [], ◌∷◌, ◌++◌, Option, Some, None, is_some, map, filter, flat_map, get_or, refl, sym, ◌∙◌, ap, subst, arith, inl, inr, IsPermutation}
 use Rattle.std.specs.List.{AllByRecursion, list_any, position_from}
 use Rattle.std.proofs.lemmas.Bool.{cases_Bool, eq-eqb, eqb-true, ne_eqb, and_parts, cases_eq}
 use Rattle.std.proofs.lemmas.Iterator.Adapters.{position_from-zero}
 use Rattle.std.proofs.lemmas.List.{append-nil, append_assoc, map-append}
 use Rattle.std.proofs.lemmas.List.Elements.{filter-append}
-use Rattle.std.proofs.lemmas.List.Sorted.{IsPermutation-refl, IsPermutation-sym, IsPermutation-middle}
+use Rattle.std.proofs.lemmas.List.Sorted.{IsPermutation-sym, IsPermutation-middle}
 use Rattle.sqlite_trees.proofs.ListLemmas.{all_weaker, filter_all, IsPermutation-same}
 use Rattle.tb_board.specs.declared.board.Board.{Board}
 use Rattle.tb_board.specs.declared.change.Change.{Change}
@@ -13,24 +13,22 @@ use Rattle.tb_board.specs.declared.change.Change.TheVariants.{PutTask, AddPerson
 use Rattle.tb_board.specs.declared.gone.Gone.{Gone}
 use Rattle.tb_task.specs.declared.task.Task.{Task}
 use Rattle.tb_board.specs.Board.{has_id, ids}
-use Rattle.tb_board.specs.Changes.{with_gone, with_task_at, without_gone, without_place}
-use Rattle.tb_board.specs.Instances.{IsGoneOn, is_template_with}
+use Rattle.tb_board.specs.Changes.{with_task_at, without_place}
+use Rattle.tb_board.specs.Instances.{IsGoneOn}
 use Rattle.tb_board.specs.Links.{place_in}
 use Rattle.tb_board.specs.Templates.{is_gone_at}
 use Rattle.tb_board.proofs.Fresh.{on_ids}
 use Rattle.tb_board.proofs.Relinking.{place_holds}
 use Rattle.tb_sql_tables.specs.declared.rows.GoneRow.{GoneRow}
-use Rattle.tb_sql.specs.declared.changes.RowChange.{RowChange}
-use Rattle.tb_sql.specs.declared.changes.RowChange.TheVariants.{AddGone, RemoveGone}
 use Rattle.tb_sql.specs.Changes.{is_gone}
 use Rattle.tb_board.specs.Extends.{ExtendsTask, IsFrontOf}
-use Rattle.tb_rows.specs.Rows.{board_gone, from_one, gone_row, place_of}
+use Rattle.tb_rows.specs.Rows.{board_gone, gone_row}
 use Rattle.tb_rows.specs.Steps.{gone_added, gone_changes, gone_removed}
 use Rattle.tb_rows.proofs.Evolving.{change_on, replay}
 use Rattle.tb_rows.proofs.Places.{IsElsewhere}
 use Rattle.tb_rows.proofs.Staying.{place_of-stays, place_stays, template_on}
 use Rattle.tb_rows.proofs.Tables.{gone_by, gone_unordered}
-use Rattle.tb_rows.proofs.Turning.{all_by, inert_none, not_met, Turns, turns_none, turns_twice}
+use Rattle.tb_rows.proofs.Turning.{inert_none, Turns, turns_none, turns_twice}
 
 -- whether the template of a gone place is on the board
 abbrev pub is_shown : Board → Gone → Bool

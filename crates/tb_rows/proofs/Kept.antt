@@ -1,7 +1,6 @@
 -- What earlier and later boards have in common, where one comes out of the other.
-use Rattle.std.proofs.Common.{◌≡◌, ℕ, zero, suc, ◌+◌, ◌<◌, ◌≤◌, ◌==◌, nat_lt, Bool, true, false, not, ◌||◌, cond, List, [], ◌∷◌, ◌++◌, Option, Some, None, flat_map, get_or, length, refl, sym, ◌∙◌, ap, subst, arith, inl, inr}
-use Rattle.std.specs.List.{AllByRecursion}
-use Rattle.std.proofs.lemmas.Bool.{cases_Bool, ltb-true, ltb-false, lt-ltb, le-ltb}
+use Rattle.std.proofs.Common.{◌≡◌, ℕ, ◌<◌, ◌≤◌, nat_lt, Bool, true, false, not, ◌||◌, cond, List, Some, None, flat_map, get_or, length, refl, sym, ◌∙◌, ap, arith, inl, inr}
+use Rattle.std.proofs.lemmas.Bool.{cases_Bool, le-ltb}
 use Rattle.std.proofs.lemmas.List.{get_or_default}
 use Rattle.tb_task.specs.declared.task.Task.{Task}
 use Rattle.tb_board.specs.declared.board.Board.{Board}
@@ -10,13 +9,12 @@ use Rattle.tb_board.specs.Good.{IsGood}
 use Rattle.tb_board.specs.Statuses.{is_template}
 use Rattle.tb_board.specs.Templates.{is_id, mask}
 use Rattle.tb_board.specs.Extends.{ExtendsBoard, ExtendsTask}
-use Rattle.tb_rows.specs.Rows.{instance_rows, instance_rows_of, mask_cell}
+use Rattle.tb_rows.specs.Rows.{instance_rows_of, mask_cell}
 use Rattle.tb_rows.specs.Steps.{changed_templates, is_among, is_changed, put_place}
 use Rattle.tb_rows.proofs.BoardRows.{AreKept}
 use Rattle.tb_rows.proofs.Evolving.{replay}
 use Rattle.tb_rows.proofs.Masking.{changed_other, HasSameInstances, IsSameOrOther, mask_stays, no_place}
 use Rattle.tb_rows.proofs.Staying.{all_at, front_at, front_length, instance_stays, links_stay, matches_from, place_at, tasks_stay}
-use Rattle.tb_rows.proofs.TaskRows.{IsKept}
 
 -- the later board comes out of the earlier one, and both are good
 pub record IsLater (a b : Board) (cs : List Change) : Type 0 where

@@ -1,9 +1,8 @@
 -- The changes of rows lead from the rows of a world to those of the later one.
 use Rattle.std.proofs.Common.{◌≡◌, ℕ, ◌+◌, ◌<◌, ◌≤◌, ◌^◌, List, [], ◌∷◌, ◌++◌, map, flat_map, length, refl, sym, ◌∙◌, ap, subst, arith, IsPermutation}
-use Rattle.std.specs.List.{AllByRecursion, range_with_len}
+use Rattle.std.specs.List.{AllByRecursion}
 use Rattle.std.proofs.lemmas.List.{append-nil}
 use Rattle.sqlite_trees.proofs.ListLemmas.{all-append, all-map, all_of, all_weaker}
-use Rattle.tb_task.specs.declared.task.Task.{Task}
 use Rattle.tb_board.specs.declared.board.Board.{Board}
 use Rattle.tb_board.specs.declared.change.Change.{Change}
 use Rattle.tb_board.specs.declared.world.RoleOn.{RoleOn}
@@ -12,21 +11,20 @@ use Rattle.tb_board.specs.Changes.{changed}
 use Rattle.tb_board.specs.Extends.{Extends, ExtendsBoard, IsFrontOf}
 use Rattle.tb_board.specs.Good.{IsGood}
 use Rattle.tb_core.specs.GoodWorld.{IsGoodWorld, IsRoleIn}
-use Rattle.tb_sql_tables.specs.Content.{Content}
 use Rattle.tb_sql_tables.specs.declared.rows.BoardRow.{BoardRow}
 use Rattle.tb_sql_tables.specs.declared.rows.TaskRow.{TaskRow}
 use Rattle.tb_sql_tables.specs.declared.rows.LinkRow.{LinkRow}
 use Rattle.tb_sql_tables.specs.declared.rows.InstanceRow.{InstanceRow}
 use Rattle.tb_sql_tables.specs.declared.rows.GoneRow.{GoneRow}
 use Rattle.tb_sql.specs.declared.changes.RowChange.{RowChange}
-use Rattle.tb_rows.specs.Rows.{board_row, board_gone, board_instances, board_links, board_tasks, gone_row, instance_rows, link_rows, rows_from, task_row, world_rows, HaveSameRows}
+use Rattle.tb_rows.specs.Rows.{board_row, board_gone, board_instances, board_links, board_tasks, gone_row, instance_rows, link_rows, rows_from, task_row}
 use Rattle.tb_rows.specs.Steps.{board_changes, kept_board, new_board, person_changes, role_changes, world_changes, Leads}
-use Rattle.tb_rows.proofs.BoardRows.{board_later, board_new, gone_later, gone_new, inert-boards, instance_at, instances_later, instances_new, kept_turns, LeavesGone, LeavesTasks, link_at, links_later, links_new, task_at, tasks_later, tasks_new, weaker}
+use Rattle.tb_rows.proofs.BoardRows.{board_later, board_new, gone_later, gone_new, inert-boards, instance_at, instances_later, instances_new, kept_turns, LeavesTasks, link_at, links_later, links_new, tasks_later, tasks_new, weaker}
 use Rattle.tb_rows.proofs.Evolving.{evolved, replay}
 use Rattle.tb_rows.proofs.GoneRows.{gone_turns}
 use Rattle.tb_rows.proofs.Kept.{are_kept, IsLater}
 use Rattle.tb_rows.proofs.PeopleAndRoles.{inert-people, inert-roles, people_turn, roles_turn}
-use Rattle.tb_rows.proofs.Places.{AreAt, IsElsewhere, Matches, turns_boards}
+use Rattle.tb_rows.proofs.Places.{IsElsewhere, Matches, turns_boards}
 use Rattle.tb_rows.proofs.Staying.{all_at, front_at, front_length, matches_from}
 use Rattle.tb_rows.proofs.Tables.{board_by, boards_by, boards_unordered, gone_all_by, gone_by, gone_unordered, instance_by, instances_by, instances_unordered, kept_same, link_by, links_by, links_unordered, people_by, person_by, role_by, roles_by, task_by, tasks_by, tasks_unordered}
 use Rattle.tb_rows.proofs.Turning.{all_by, all_by-append, inert-append, inert_then_turns, IsInert, IsUnordered, Turns, turns_all, turns_then_inert}

@@ -1,16 +1,16 @@
 -- A mask stays where no instance and no gone place of its template is changed.
-use Rattle.std.proofs.Common.{◌≡◌, ◌⊎◌, ℕ, zero, suc, ◌+◌, ◌<◌, ◌≤◌, ◌==◌, nat_eq, nat_lt, Bool, true, false, not, ◌&&◌, ◌||◌, cond, List, [], ◌∷◌, ◌++◌, Option, Some, None, map, filter, find, flat_map, get_or, length, refl, sym, ◌∙◌, ap, subst, arith, inl, inr}
-use Rattle.std.specs.List.{AllByRecursion, list_any, range_with_len}
-use Rattle.std.proofs.lemmas.Bool.{cases_Bool, eq-eqb, eqb-true, and_parts, le-ltb}
+use Rattle.std.proofs.Common.{◌≡◌, ◌⊎◌, ℕ, zero, suc, ◌+◌, ◌<◌, ◌==◌, true, false, cond, List, [], ◌∷◌, ◌++◌, Option, Some, None, map, find, flat_map, get_or, length, refl, sym, ◌∙◌, ap, subst, arith, inl, inr}
+use Rattle.std.specs.List.{AllByRecursion, range_with_len}
+use Rattle.std.proofs.lemmas.Bool.{cases_Bool, eq-eqb, eqb-true, and_parts}
 use Rattle.tb_task.specs.declared.task.Task.{Task}
 use Rattle.tb_board.specs.declared.board.Board.{Board}
 use Rattle.tb_board.specs.declared.change.Change.{Change}
 use Rattle.tb_board.specs.declared.change.Change.TheVariants.{PutTask, AddPerson as NewPerson, AddBoard as NewBoard, SetRole, SetGone, TakeGone}
 use Rattle.tb_board.specs.declared.gone.Gone.{Gone}
 use Rattle.tb_board.specs.Board.{ids}
-use Rattle.tb_board.specs.Changes.{with_gone, with_task_at, without_gone, without_place}
-use Rattle.tb_board.specs.Links.{place_in as place_among, with_place as with_place_among}
-use Rattle.tb_board.specs.Templates.{count, gone_places, instance_places, is_gone_at, is_id, is_instance_at, mark_at, mark_here, mask, place_in, with_place}
+use Rattle.tb_board.specs.Changes.{with_task_at, without_place}
+use Rattle.tb_board.specs.Links.{place_in as place_among}
+use Rattle.tb_board.specs.Templates.{count, gone_places, instance_places, is_gone_at, is_id, is_instance_at, mark_at, mark_here, mask, place_in}
 use Rattle.tb_rows.specs.Rows.{rows_from}
 use Rattle.tb_rows.specs.Steps.{changed_templates, gone_template, instance_template, is_among, is_changed, template_place}
 use Rattle.tb_rows.proofs.Evolving.{change_on, replay}

@@ -1,11 +1,11 @@
 -- The rows of people and roles before and after changes.
-use Rattle.std.proofs.Common.{◌≡◌, ℕ, zero, suc, ◌+◌, ◌<◌, ◌≤◌, ◌^◌, ◌==◌, nat_lt, Bool, true, false, not, ◌&&◌, ◌||◌, cond, List, [], ◌∷◌, ◌++◌, Option, Some, None, map, filter, flat_map, length, refl, sym, ◌∙◌, ap, subst, arith, inl, inr, IsPermutation}
+use Rattle.std.proofs.Common.{◌≡◌, ℕ, suc, ◌+◌, ◌<◌, ◌≤◌, ◌^◌, ◌==◌, nat_lt, Bool, true, false, not, ◌&&◌, ◌||◌, cond, List, [], ◌∷◌, ◌++◌, Option, Some, None, map, filter, flat_map, length, refl, sym, ◌∙◌, ap, subst, arith, inl, inr, IsPermutation}
 use Rattle.std.specs.List.{AllByRecursion, list_any}
 use Rattle.std.specs.Set.{remove_key}
-use Rattle.std.proofs.lemmas.Bool.{cases_Bool, eq-eqb, eqb-true, ne_eqb, lt-ltb, le-ltb, ltb-true, ltb-false, and_parts}
-use Rattle.std.proofs.lemmas.List.{append-nil, append_assoc, map-append}
-use Rattle.std.proofs.lemmas.List.Sorted.{IsPermutation-refl, IsPermutation-sym, IsPermutation-trans, IsPermutation-append_left, IsPermutation-append_right, IsPermutation-append_comm, IsPermutation-cons, IsPermutation-filter_both, IsPermutation-map, IsPermutation-middle}
-use Rattle.sqlite_trees.proofs.ListLemmas.{all-filter, all_weaker, filter-map, filter_all, filter_same, map-map, IsPermutation-filter, IsPermutation-same}
+use Rattle.std.proofs.lemmas.Bool.{cases_Bool, eq-eqb, eqb-true, ne_eqb, lt-ltb, le-ltb, ltb-false, and_parts}
+use Rattle.std.proofs.lemmas.List.{append_assoc, map-append}
+use Rattle.std.proofs.lemmas.List.Sorted.{IsPermutation-refl, IsPermutation-sym, IsPermutation-trans, IsPermutation-append_left, IsPermutation-append_comm, IsPermutation-filter_both, IsPermutation-map, IsPermutation-middle}
+use Rattle.sqlite_trees.proofs.ListLemmas.{all-filter, all_weaker, filter-map, filter_all, filter_same}
 use Rattle.tb_board.specs.declared.change.Change.{Change}
 use Rattle.tb_board.specs.declared.change.Change.TheVariants.{PutTask, AddPerson as NewPerson, AddBoard as NewBoard, SetRole, SetGone, TakeGone}
 use Rattle.tb_board.specs.declared.world.Person.{Person}

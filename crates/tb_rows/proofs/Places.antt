@@ -1,5 +1,5 @@
 -- The rows of a board's tasks, place by place, and those of a world's boards.
-use Rattle.std.proofs.Common.{◌≡◌, ℕ, suc, ◌+◌, ◌<◌, ◌≤◌, List, [], ◌∷◌, ◌++◌, map, flat_map, length, refl, sym, ◌∙◌, ap, subst, arith}
+use Rattle.std.proofs.Common.{◌≡◌, ℕ, ◌+◌, ◌≤◌, List, [], ◌∷◌, map, flat_map, length, refl, arith}
 use Rattle.std.specs.List.{AllByRecursion, range_with_len}
 use Rattle.sqlite_trees.proofs.ListLemmas.{all-append, all_weaker}
 use Rattle.tb_board.specs.declared.board.Board.{Board}

@@ -1,9 +1,9 @@
 -- What of a board's tasks stays under its changes.
-use Rattle.std.proofs.Common.{◌≡◌, ℕ, zero, suc, ◌+◌, ◌<◌, ◌≤◌, ◌==◌, nat_eq, nat_lt, Bool, true, false, not, ◌&&◌, ◌||◌, cond, List, [], ◌∷◌, ◌++◌, Option, Some, None, map, flat_map, get_or, length, position, refl, sym, ◌∙◌, ap, subst, arith, inl, inr}
+use Rattle.std.proofs.Common.{◌≡◌, ℕ, zero, suc, ◌+◌, ◌<◌, ◌≤◌, ◌==◌, nat_eq, nat_lt, Bool, true, false, not, ◌||◌, cond, List, [], ◌∷◌, ◌++◌, Option, Some, None, map, flat_map, get_or, length, refl, sym, ◌∙◌, ap, subst, arith, inl, inr}
 use Rattle.std.specs.List.{AllByRecursion, IsDistinct, list_any, position_from}
-use Rattle.std.proofs.lemmas.Bool.{cases_Bool, ltb-true, ltb-false, ne_eqb, eq-eqb, eqb-true, and_parts}
+use Rattle.std.proofs.lemmas.Bool.{cases_Bool, eq-eqb}
 use Rattle.std.proofs.lemmas.Iterator.Adapters.{position_from-zero}
-use Rattle.std.proofs.lemmas.List.{get_or-set_other, get_or_append_left, get_or_default, length-set, length_push}
+use Rattle.std.proofs.lemmas.List.{get_or-set_other, get_or_append_left, length-set, length_push}
 use Rattle.std.proofs.lemmas.List.Folds.{list_any-append}
 use Rattle.sqlite_trees.proofs.ListLemmas.{all-get_or}
 use Rattle.tb_task.specs.declared.task.Task.{Task}
@@ -11,10 +11,9 @@ use Rattle.tb_board.specs.declared.board.Board.{Board}
 use Rattle.tb_board.specs.declared.change.Change.{Change}
 use Rattle.tb_board.specs.declared.change.Change.TheVariants.{PutTask, AddPerson as NewPerson, AddBoard as NewBoard, SetRole, SetGone, TakeGone}
 use Rattle.tb_board.specs.Board.{has_id, ids, lacks_depends}
-use Rattle.tb_board.specs.Changes.{put, with_gone, with_task_at, without_gone}
+use Rattle.tb_board.specs.Changes.{put, with_gone, without_gone}
 use Rattle.tb_board.specs.Instances.{has_template, is_template_with}
 use Rattle.tb_board.specs.Links.{place_in}
-use Rattle.tb_board.specs.Statuses.{is_template}
 use Rattle.tb_board.proofs.Fresh.{on_ids}
 use Rattle.tb_board.proofs.Relinking.{or_false}
 use Rattle.tb_board.specs.Extends.{ExtendsTask, IsFrontOf}

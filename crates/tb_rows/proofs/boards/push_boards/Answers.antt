@@ -1,4 +1,4 @@
-use Rattle.std.proofs.Common.{◌≡◌, ◌<◌, ◌≤◌, get_or, length, inl, inr, sym, ◌∙◌}
+use Rattle.std.proofs.Common.{get_or, length, inl, inr}
 use Rattle.std.proofs.lemmas.Bool.{cases_lt, leb-true}
 use Rattle.std.proofs.lemmas.List.{get_or_default}
 use Rattle.tb_rows.specs.Small.{has_few_tasks}

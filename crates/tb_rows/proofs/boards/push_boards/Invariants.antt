@@ -1,4 +1,4 @@
-use Rattle.std.proofs.Common.{◌≡◌, ◌++◌, ◌+◌, map, flat_map, take, drop}
+use Rattle.std.proofs.Common.{◌≡◌, ◌++◌, drop}
 use Rattle.tb_rows.specs.Steps.{board_changes}
 use Rattle.tb_rows.proofs.boards.push_boards.Given as goal
 

@@ -1,4 +1,4 @@
-use Rattle.std.proofs.Common.{◌≡◌, ◌++◌, flat_map, take}
+use Rattle.std.proofs.Common.{◌≡◌, flat_map, take}
 use Rattle.tb_rows.specs.Steps.{put_place}
 use Rattle.tb_rows.proofs.concerned.put_places.Given as goal
 

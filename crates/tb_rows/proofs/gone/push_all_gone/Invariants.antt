@@ -1,4 +1,4 @@
-use Rattle.std.proofs.Common.{◌≡◌, ◌++◌, ◌+◌, map, flat_map, take, drop}
+use Rattle.std.proofs.Common.{◌≡◌, ◌++◌, map, take}
 use Rattle.tb_sql.specs.declared.changes.RowChange.TheVariants.{AddGone}
 use Rattle.tb_rows.specs.Rows.{gone_row}
 use Rattle.tb_rows.proofs.gone.push_all_gone.Given as goal

@@ -1,4 +1,4 @@
-use Rattle.std.proofs.Common.{◌≡◌, ◌++◌, ◌+◌, map, flat_map, take, drop}
+use Rattle.std.proofs.Common.{◌≡◌, ◌++◌, flat_map, take}
 use Rattle.tb_rows.specs.Steps.{gone_changes}
 use Rattle.tb_rows.proofs.gone.push_gone_changes.Given as goal
 

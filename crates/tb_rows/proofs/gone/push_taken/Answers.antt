@@ -1,4 +1,4 @@
-use Rattle.std.proofs.Common.{◌<◌, length, arith, sym, ◌∙◌}
+use Rattle.std.proofs.Common.{arith, sym, ◌∙◌}
 use Rattle.tb_board.proofs.Linking.{place_within}
 use Rattle.tb_rows.proofs.gone.push_taken.Goals as goal
 

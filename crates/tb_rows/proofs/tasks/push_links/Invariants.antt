@@ -1,4 +1,4 @@
-use Rattle.std.proofs.Common.{◌≡◌, ◌++◌, ◌+◌, map, flat_map, take, drop}
+use Rattle.std.proofs.Common.{◌≡◌, ◌++◌, map, take}
 use Rattle.tb_sql.specs.declared.changes.RowChange.TheVariants.{AddLink}
 use Rattle.tb_rows.specs.Rows.{link_row}
 use Rattle.tb_rows.proofs.tasks.push_links.Given as goal

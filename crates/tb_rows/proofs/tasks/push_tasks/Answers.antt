@@ -1,4 +1,4 @@
-use Rattle.std.proofs.Common.{◌≡◌, ◌<◌, ◌+◌, get_or, length}
+use Rattle.std.proofs.Common.{◌≡◌, ◌<◌, get_or, length}
 use Rattle.tb_rows.specs.Steps.{task_changes}
 use Rattle.tb_rows.proofs.Pushing.{rows_next}
 use Rattle.tb_rows.proofs.tasks.push_tasks.Goals as goal

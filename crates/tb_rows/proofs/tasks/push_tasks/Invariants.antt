@@ -1,4 +1,4 @@
-use Rattle.std.proofs.Common.{◌≡◌, ◌++◌, ◌+◌, map, flat_map, take, drop}
+use Rattle.std.proofs.Common.{◌≡◌, ◌++◌, take}
 use Rattle.tb_rows.specs.Rows.{rows_from}
 use Rattle.tb_rows.specs.Steps.{task_changes}
 use Rattle.tb_rows.proofs.tasks.push_tasks.Given as goal

@@ -1,5 +1,4 @@
-use Rattle.std.proofs.Common.{◌≡◌, ◌++◌, List, [], ap, ◌∙◌, length}
-use Rattle.tb_sql.specs.declared.changes.RowChange.{RowChange}
+use Rattle.std.proofs.Common.{◌≡◌, ◌++◌, [], ap, ◌∙◌, length}
 use Rattle.tb_rows.specs.Rows.{rows_from}
 use Rattle.tb_rows.specs.Steps.{board_changes, person_changes, role_changes}
 use Rattle.tb_rows.proofs.Pushing.{three_parts}
