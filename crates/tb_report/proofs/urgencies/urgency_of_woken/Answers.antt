@@ -8,5 +8,5 @@ use Rattle.tb_report.proofs.urgencies.urgency_of_woken.Goals as goal
 pub returns : goal.returns
 returns c =
     let sum : c.sum_of.result ≡ urgency_of c.args.is_blocked c.args.is_blocking c.args.at (woken c.args.at c.args.task.now) =
-        c.sum_of.ensures ∙ rw (c.own_parts_of.ensures.parts, c.is_still_waiting-is_waiting.ensures) (sym (sum-woken c.args.is_blocked c.args.is_blocking c.args.at c.args.task.now)) in
+    c.sum_of.ensures ∙ rw (c.own_parts_of.ensures.parts, c.is_still_waiting-is_waiting.ensures) (sym (sum-woken c.args.is_blocked c.args.is_blocking c.args.at c.args.task.now)) in
     grind (arith, to_z-of_z, sum)
