@@ -2,6 +2,7 @@ pub mod Acyclic
 pub mod Awake
 pub mod BlockedTasks
 pub mod Drafts
+pub mod Extending
 pub mod Fits
 pub mod Fresh
 pub mod Goodness

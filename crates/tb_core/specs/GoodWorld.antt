@@ -8,6 +8,7 @@ use Rattle.tb_board.specs.declared.world.Person.{Person}
 use Rattle.tb_board.specs.declared.world.RoleOn.{RoleOn}
 use Rattle.tb_board.specs.declared.world.World.{World}
 use Rattle.tb_core.specs.Apply.{apply}
+use Rattle.tb_board.specs.Extends.{Extends}
 use Rattle.tb_board.specs.World.{key_of, opening, owns}
 use Rattle.tb_board.specs.Good.{IsGood}
 
@@ -49,6 +50,10 @@ KeepsGood = (w : World) (name : List ℕ) (c : Command) (m : ℕ) → IsGoodWorl
 abbrev pub KeepsPeople : Type 0
 KeepsPeople = (w : World) (name : List ℕ) (c : Command) (m : ℕ) (person key : List ℕ)
     → key_of w person ≡ Some key → key_of (apply w name c m).world person ≡ Some key
+
+-- each command leaves people, boards and the identifiers of tasks at their places
+abbrev pub AlwaysExtends : Type 0
+AlwaysExtends = (w : World) (name : List ℕ) (c : Command) (m : ℕ) → Extends w (apply w name c m).world
 
 abbrev pub OpensGood : Type 0
 OpensGood = (name key : List ℕ) → IsGoodWorld (opening name key)

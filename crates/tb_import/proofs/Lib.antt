@@ -1,5 +1,6 @@
 pub mod Again
 pub mod Counting
+pub mod Extending
 pub mod Keeping
 pub mod Marking
 pub mod Moving
