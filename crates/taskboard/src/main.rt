@@ -63,6 +63,7 @@ fn name_of(failure: &Failure) -> &'static str {
         Failure::Lines(LinesFault::ReadFailed) => "ReadFailed",
         Failure::Lines(LinesFault::WriteFailed) => "WriteFailed",
         Failure::Lines(LinesFault::Memory) => "Memory",
+        Failure::Lines(LinesFault::Store) => "Store",
     }
 }
 

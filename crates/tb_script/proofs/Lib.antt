@@ -1,6 +1,7 @@
+pub mod Failures
+pub mod Feeding
 pub mod Joining
 pub mod LineLaws
 pub mod Numerals
 pub mod Readable
-pub mod Reinserted
 pub mod Runs

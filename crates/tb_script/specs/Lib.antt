@@ -1,9 +1,10 @@
 pub mod Answer
 pub mod Arguments
 pub mod Bodies
+pub mod Faults
 pub mod Lines
 pub mod Outcome
 pub mod Reading
 pub mod Replies
-pub mod Views
+pub mod Runs
 pub mod Words

@@ -20,6 +20,11 @@ abbrev pub answers : {S : Type 0} → (S → List ℕ → Answered S) → S → 
 answers answer s [] = []
 answers answer s (line ∷ lines) = (answer s line).text ++ answers answer (answer s line).state lines
 
+-- the state that lines leave
+abbrev pub left_by : {S : Type 0} → (S → List ℕ → Answered S) → S → List (List ℕ) → S
+left_by answer s [] = s
+left_by answer s (line ∷ lines) = left_by answer (answer s line).state lines
+
 -- the answers to the lines of a text
 abbrev pub answers_from : {S : Type 0} → (S → List ℕ → Answered S) → S → List ℕ → List ℕ
 answers_from answer s text = answers answer s (lines_of text)

@@ -1,25 +1,15 @@
 -- The texts of replies. Their bodies are JSON.
-use Rattle.std.specs.Prelude.{ℕ, List, [], ◌∷◌, ◌++◌, Result, Err, codes, decimal}
+use Rattle.std.specs.Prelude.{ℕ, List, [], ◌∷◌, ◌++◌, codes, decimal}
 use Rattle.serde_json.specs.Data.{Data, number, unsigned, string, object, member, no_members}
 use Rattle.serde_json.specs.Written.{compact_text}
-use Rattle.tb_core.specs.declared.command.Answer.{Answer}
-use Rattle.tb_core.specs.declared.refusal.Refusal.{Refusal}
 use Rattle.tb_reply.specs.declared.reply.Reply.{Reply}
 use Rattle.tb_reply.specs.Bodies.{with_field}
-use Rattle.tb_reply.specs.Replies.{reply_of}
 use Rattle.tb_script.specs.declared.line_fault.Unreadable.{Unreadable}
 use Rattle.tb_script.specs.declared.line_fault.Unreadable.TheVariants.{BadLine, BadBody, BadItem}
 
 -- status, number and body, with a space between them
 abbrev pub reply_text : Reply → List ℕ
 reply_text r = decimal r.status ++ 32 ∷ (decimal r.number ++ 32 ∷ (r.body ++ 10 ∷ []))
-
--- the reply to a call
-abbrev pub call_text : Result Answer Refusal → List ℕ
-call_text answer = reply_text (reply_of answer)
-
-abbrev pub refusal_text : Refusal → List ℕ
-refusal_text refusal = call_text (Err refusal)
 
 abbrev pub item_body : ℕ → List ℕ → Data
 item_body at field = object

@@ -3,15 +3,16 @@ use Rattle.std.specs.Prelude.{ℕ, List, [], ◌∷◌, Result, Ok, Err, if◌th
 use Rattle.std.specs.Str.{bytes_eq}
 use Rattle.tb_values.specs.Outcome.{◌>>=◌}
 use Rattle.tb_task.specs.TaskId.{read_id}
+use Rattle.tb_board.specs.Names.{read_name, read_key, read_title}
 use Rattle.tb_core.specs.declared.action.Action.{Action}
 use Rattle.tb_core.specs.declared.action.Action.TheVariants.{Done, Delete, Reopen, Start, Stop, Annotate, Denotate}
-use Rattle.tb_core.specs.declared.command.Command.TheVariants.{Add, Depend, ImportJson, ImportTodo, Modify, OnTask, Sweep, Undepend}
+use Rattle.tb_core.specs.declared.command.Command.TheVariants.{Add, Depend, ImportJson, ImportTodo, Modify, NewBoard, NewPerson, OnTask, SetRole, Sweep, Undepend}
 use Rattle.tb_script.specs.declared.asked.Request.{Request}
 use Rattle.tb_script.specs.declared.asked.Request.TheVariants.{Call, View as ViewOf}
-use Rattle.tb_script.specs.declared.asked.View.TheVariants.{Listing, Export, Todo, One}
+use Rattle.tb_desk.specs.declared.view.View.TheVariants.{Listing, Export, Todo, One}
 use Rattle.tb_script.specs.declared.line_fault.Unreadable.{Unreadable}
 use Rattle.tb_script.specs.declared.line_fault.Unreadable.TheVariants.{BadLine}
-use Rattle.tb_script.specs.Arguments.{board_number}
+use Rattle.tb_script.specs.Arguments.{board_number, role_named}
 use Rattle.tb_script.specs.Bodies.{edits_in, import_in, incoming_in, tasks_in}
 use Rattle.tb_script.specs.Outcome.{or_bad_line}
 
@@ -124,6 +125,24 @@ importing_todo at (board ∷ lines) = do
   tasks ← tasks_in lines at n
   Ok (Call (ImportTodo n tasks))
 
+abbrev pub new_person : List ℕ → List ℕ → Result Request Unreadable
+new_person name key = do
+  person ← or_bad_line (read_name name)
+  secret ← or_bad_line (read_key key)
+  Ok (Call (NewPerson person secret))
+
+abbrev pub new_board : List ℕ → Result Request Unreadable
+new_board title = do
+  heading ← or_bad_line (read_title title)
+  Ok (Call (NewBoard heading))
+
+abbrev pub set_role : List ℕ → List ℕ → List ℕ → Result Request Unreadable
+set_role board name word = do
+  n ← or_bad_line (board_number board)
+  person ← or_bad_line (read_name name)
+  role ← or_bad_line (role_named word)
+  Ok (Call (SetRole n person role))
+
 -- ---- the words
 
 unfoldable pub request_in : List ℕ → List (List ℕ) → ℕ → Result Request Unreadable
@@ -146,4 +165,7 @@ request_in word arguments at =
     else if bytes_eq word (codes "depend") then linking arguments
     else if bytes_eq word (codes "undepend") then unlinking arguments
     else if bytes_eq word (codes "sweep") then one sweeping arguments
+    else if bytes_eq word (codes "person") then two new_person arguments
+    else if bytes_eq word (codes "board") then one new_board arguments
+    else if bytes_eq word (codes "role") then three set_role arguments
     else Err BadLine

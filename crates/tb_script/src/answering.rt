@@ -1,46 +1,40 @@
 //! The answer to a line.
-ghost use Rattle.std.specs.Prelude.{◌≡◌, true, false, IfOk, OnOk, MatchOption};
-ghost use Rattle.tb_core.specs.Apply.{apply, IsDecision};
-ghost use Rattle.tb_script.specs.Answer.{answered, called, carried_out, first_world, is_readable, request_of, view_text, viewed};
+ghost use Rattle.std.specs.Prelude.{◌≡◌, ◌⊎◌, ◌||◌, ◌∷◌, ◌++◌, [], true, false, IfOk, OnOk, MatchOption};
+ghost use Rattle.tb_desk.specs.Calls.{State, once, plain, reply};
+ghost use Rattle.tb_desk.specs.Views.{shown_in};
+ghost use Rattle.tb_script.specs.Answer.{answered, carried_out, is_readable, request_of, view_text};
+ghost use Rattle.tb_script.specs.Faults.{is_store};
 ghost use Rattle.tb_script.specs.Outcome.{Reads};
+ghost use Rattle.tb_script.specs.Replies.{reply_text};
 
-use crate::asked::{Asked, Request, View};
-use crate::changing::apply_changes;
+use crate::asked::{Asked, Look};
+use crate::fault::LinesFault;
 use crate::line_fault::LineFault;
 use crate::reading::read_line;
-use crate::replies::{write_call, write_refusal, write_unreadable};
-use crate::viewing::show;
+use crate::replies::{write_reply, write_unreadable};
 use std::alloc::{AllocError, Global};
-use tb_board::{Key, Name, World};
-use tb_core::{Command, Decision, Refusal, decide, look_for};
+use tb_desk::{Call, Desk, Keep, View};
+use tb_reply::Reply;
 use tb_values::Text;
 
 /// The longest line that is read.
 pub(crate) const LINE_LIMIT: usize = 1_048_576;
 
-/// The world in which a script begins.
-#[tactic(auto, unfolding(tb_board::specs::Names::is_name, tb_board::specs::Names::is_name_byte, tb_board::specs::Names::is_key))]
-pub(crate) fn begin(alloc: Global) -> Result<World, AllocError>
-    ensures { IfOk result (λ world. world ≡ first_world) }
-{
-    let Some(name) = Name::read(alloc, "root")? else {
-        unreachable!();
-    };
-    let Some(key) = Key::read(alloc, "root-key-1")? else {
-        unreachable!();
-    };
-    World::opening(alloc, &name, &key)
-}
-
 /// Answers a line that isn't empty.
-pub(crate) fn answer_line(alloc: Global, world: &mut World, line: &[u8]) -> Result<Text, AllocError>
-    ensures world { OnOk result (world.new ≡ (answered world.old (request_of line.now)).state) }
-    ensures text { IfOk result (λ text. text ≡ (answered world.old (request_of line.now)).text) }
+pub(crate) fn answer_line<K: Keep>(
+    alloc: Global,
+    desk: &mut Desk<K>,
+    line: &[u8],
+) -> Result<Text, LinesFault>
+    ensures told { (s : State) → K.holds desk.old s → IfOk result (λ text. text ≡ (answered s (request_of line.now)).text) }
+    ensures left { (s : State) → K.holds desk.old s → OnOk result (K.holds desk.new (answered s (request_of line.now)).state) }
+    ensures held { (s : State) → K.holds desk.old s → K.holds desk.new s ⊎ K.holds desk.new (answered s (request_of line.now)).state }
+    ensures failed { K.has_failed desk.new ≡ (is_store result || K.has_failed desk.old) }
 {
     match read_request(alloc, line) {
-        Ok(asked) => carry_out(alloc, world, &asked, &asked.request),
-        Err(LineFault::Refused(fault)) => write_unreadable(alloc, &fault),
-        Err(LineFault::Memory) => Err(AllocError),
+        Ok(asked) => carry_out(alloc, desk, &asked),
+        Err(LineFault::Refused(fault)) => Ok(write_unreadable(alloc, &fault)?),
+        Err(LineFault::Memory) => Err(LinesFault::Memory),
     }
 }
 
@@ -68,74 +62,55 @@ fn readable(line: &[u8]) -> Option<&str>
     }
 }
 
-fn carry_out(
-    alloc: Global,
-    world: &mut World,
-    asked: &Asked,
-    request: &Request,
-) -> Result<Text, AllocError>
-    ensures world { OnOk result (world.new ≡ (carried_out world.old asked.now request.now).state) }
-    ensures text { IfOk result (λ text. text ≡ (carried_out world.old asked.now request.now).text) }
+#[tactic(auto, unfolding(crate::specs::Answer::carried_out))]
+fn carry_out<K: Keep>(alloc: Global, desk: &mut Desk<K>, asked: &Asked) -> Result<Text, LinesFault>
+    ensures told { (s : State) → K.holds desk.old s → IfOk result (λ text. text ≡ (carried_out s asked.now).text) }
+    ensures left { (s : State) → K.holds desk.old s → OnOk result (K.holds desk.new (carried_out s asked.now).state) }
+    ensures held { (s : State) → K.holds desk.old s → K.holds desk.new s ⊎ K.holds desk.new (carried_out s asked.now).state }
+    ensures failed { K.has_failed desk.new ≡ (is_store result || K.has_failed desk.old) }
 {
-    match request {
-        Request::Call(command) => call(alloc, world, asked, command),
-        Request::View(view) => write_view(alloc, world, asked, view),
+    match asked {
+        Asked::Call(call) => answer_call(alloc, desk, call),
+        Asked::View(look) => answer_view(alloc, desk, look),
     }
 }
 
-/// Decides a command, and changes the world where it is accepted.
-#[tactic(auto, unfolding(crate::specs::Answer::called))]
-fn call(
-    alloc: Global,
-    world: &mut World,
-    asked: &Asked,
-    command: &Command,
-) -> Result<Text, AllocError>
-    ensures world { OnOk result (world.new ≡ (called world.old asked.now command.now).state) }
-    ensures text { IfOk result (λ text. text ≡ (called world.old asked.now command.now).text) }
+fn answer_call<K: Keep>(alloc: Global, desk: &mut Desk<K>, call: &Call) -> Result<Text, LinesFault>
+    ensures told { (s : State) → K.holds desk.old s → IfOk result (λ text. text ≡ reply_text (reply s [] call.now)) }
+    ensures left { (s : State) → K.holds desk.old s → OnOk result (K.holds desk.new (plain s (once s (call.now ∷ [])))) }
+    ensures held { (s : State) → K.holds desk.old s → K.holds desk.new s ⊎ K.holds desk.new (plain s (once s (call.now ∷ []))) }
+    ensures failed { K.has_failed desk.new ≡ (is_store result || K.has_failed desk.old) }
 {
-    if !world.knows(&asked.member, &asked.key) {
-        return write_refusal(alloc, Refusal::UnknownCaller);
-    }
-    let decision = decide_for(alloc, world, asked, command)?;
-    let text = write_call(alloc, &decision.answer)?;
-    apply_changes(alloc, world, decision.changes)?;
-    Ok(text)
+    let reply = desk.handle(alloc, call)?;
+    Ok(write_reply(alloc, &reply)?)
 }
 
-fn decide_for(
-    alloc: Global,
-    world: &World,
-    asked: &Asked,
-    command: &Command,
-) -> Result<Decision, AllocError>
-    ensures { IfOk result (λ decision. IsDecision world.now decision (apply world.now asked.now.member command.now asked.now.at)) }
+fn answer_view<K: Keep>(alloc: Global, desk: &mut Desk<K>, look: &Look) -> Result<Text, LinesFault>
+    ensures told { (s : State) → K.holds desk.old s → IfOk result (λ text. text ≡ view_text look.now.view (shown_in s look.now.member look.now.key look.now.view look.now.at)) }
+    ensures same { (s : State) → K.holds desk.old s → K.holds desk.new s }
+    ensures failed { K.has_failed desk.new ≡ (is_store result || K.has_failed desk.old) }
 {
-    let seen = look_for(world, &asked.member, command)?;
-    decide(alloc, &seen, command, asked.at)
+    let reply = desk.view(alloc, &look.member, &look.key, &look.view, look.at)?;
+    Ok(write_view(alloc, &look.view, reply)?)
 }
 
 /// A view's text, or the reply that refuses it.
-fn write_view(alloc: Global, world: &World, asked: &Asked, view: &View) -> Result<Text, AllocError>
-    ensures { IfOk result (λ text. text ≡ view_text (viewed world.now asked.now view.now)) }
+fn write_view(alloc: Global, view: &View, reply: Reply) -> Result<Text, AllocError>
+    ensures { IfOk result (λ text. text ≡ view_text view.now reply) }
 {
-    match show_to(alloc, world, asked, view)? {
-        Ok(text) => Ok(text),
-        Err(refusal) => write_refusal(alloc, refusal),
+    if reply.number != 0 {
+        return write_reply(alloc, &reply);
+    }
+    match view {
+        View::One(_, _) => end_line(reply.body),
+        _ => Ok(reply.body),
     }
 }
 
-#[tactic(auto, unfolding(crate::specs::Answer::viewed))]
-fn show_to(
-    alloc: Global,
-    world: &World,
-    asked: &Asked,
-    view: &View,
-) -> Result<Result<Text, Refusal>, AllocError>
-    ensures { IfOk result (λ shown. shown ≡ viewed world.now asked.now view.now) }
+fn end_line(text: Text) -> Result<Text, AllocError>
+    ensures { IfOk result (λ line. line ≡ text ++ 10 ∷ []) }
 {
-    if !world.knows(&asked.member, &asked.key) {
-        return Ok(Err(Refusal::UnknownCaller));
-    }
-    show(alloc, world, &asked.member, view, asked.at)
+    let mut line = text.into_string();
+    line.push('\n')?;
+    Ok(Text::from_string(line))
 }

@@ -1,14 +1,14 @@
 //! The fields of a line, and the arguments of its word.
 ghost use Rattle.std.specs.Prelude.{◌≡◌, nat_lt, slice_index};
-ghost use Rattle.tb_board.specs.Names.{read_name, read_key};
+ghost use Rattle.tb_board.specs.Names.{read_name, read_key, read_title};
 ghost use Rattle.tb_task.specs.MomentText.{moment_of};
 ghost use Rattle.tb_task.specs.TaskId.{read_id};
-ghost use Rattle.tb_script.specs.Arguments.{board_number};
+ghost use Rattle.tb_script.specs.Arguments.{board_number, role_named};
 ghost use Rattle.tb_script.specs.Outcome.{Reads, or_bad_line};
 
 use crate::line_fault::LineFault;
 use std::alloc::Global;
-use tb_board::{Key, Name};
+use tb_board::{Key, Name, Role, Title};
 use tb_task::{Moment, TaskId};
 
 pub(crate) fn read_moment(text: &str) -> Result<Moment, LineFault>
@@ -38,12 +38,32 @@ pub(crate) fn read_secret(alloc: Global, text: &str) -> Result<Key, LineFault>
     }
 }
 
+pub(crate) fn read_heading(alloc: Global, text: &str) -> Result<Title, LineFault>
+    ensures { Reads result (or_bad_line (read_title text.now)) }
+{
+    match Title::read(alloc, text)? {
+        Some(title) => Ok(title),
+        None => Err(LineFault::bad_line()),
+    }
+}
+
 pub(crate) fn read_uuid(text: &str) -> Result<TaskId, LineFault>
     ensures { Reads result (or_bad_line (read_id text.now)) }
 {
     match TaskId::read(text) {
         Some(id) => Ok(id),
         None => Err(LineFault::bad_line()),
+    }
+}
+
+pub(crate) fn read_role(text: &str) -> Result<Option<Role>, LineFault>
+    ensures { Reads result (or_bad_line (role_named text.now)) }
+{
+    match text {
+        "owner" => Ok(Some(Role::Owner)),
+        "member" => Ok(Some(Role::Member)),
+        "none" => Ok(None),
+        _ => Err(LineFault::bad_line()),
     }
 }
 

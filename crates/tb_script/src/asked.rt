@@ -1,18 +1,10 @@
 //! What a line asks.
 use tb_board::{Key, Name};
 use tb_core::Command;
-use tb_task::{Moment, TaskId};
+use tb_desk::{Call, View};
+use tb_task::Moment;
 
-/// What is asked, by whom, when, and under which identifier.
-#[derive(Drop)]
-pub struct Asked {
-    pub at: Moment,
-    pub member: Name,
-    pub key: Key,
-    pub id: TaskId,
-    pub request: Request,
-}
-
+/// What a word asks of its arguments.
 #[derive(Drop)]
 pub enum Request {
     /// A command, which may change the world.
@@ -21,15 +13,18 @@ pub enum Request {
     View(View),
 }
 
-/// What is looked at.
-#[derive(Clone, Copy, Debug, PartialEq, Eq)]
-pub enum View {
-    /// The open tasks of a board by urgency.
-    Listing(u32),
-    /// All tasks of a board as JSON.
-    Export(u32),
-    /// A line of todo.txt for each task of a board that has one.
-    Todo(u32),
-    /// One task of a board as JSON.
-    One(u32, TaskId),
+/// What a line asks of a desk.
+#[derive(Drop)]
+pub enum Asked {
+    Call(Call),
+    View(Look),
+}
+
+/// A look at a board, by whom and when.
+#[derive(Drop)]
+pub struct Look {
+    pub member: Name,
+    pub key: Key,
+    pub view: View,
+    pub at: Moment,
 }

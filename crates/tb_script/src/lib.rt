@@ -1,32 +1,36 @@
-//! Runs a script of lines: each is answered, in order, whatever pieces the reader gives them in.
+//! Runs a script of lines over a desk: each is answered, in order, whatever pieces the reader gives them in.
 //!
-//! It owns what a line asks, the texts of the answers, and the reading loop. It stands on `tb_core` for commands, on `tb_reply` for
-//! their replies, and on `tb_json`, `tb_todotxt` and `tb_report` for what is read and shown.
+//! It owns what a line asks, the texts of the answers, and the reading loop. It stands on `tb_desk` for calls and views, on `tb_reply`
+//! for replies, and on `tb_json` and `tb_todotxt` for what is read.
 #![tactic(auto)]
 
 mod answering;
 mod arguments;
 mod asked;
 mod body;
-mod changing;
 mod fault;
 mod line_fault;
 mod reading;
 mod replies;
 mod session;
-mod viewing;
 mod words;
 
-ghost use Rattle.std.specs.Prelude.{◌≡◌, OnOk, OnErr, IfSome, List, ℕ};
+ghost use Rattle.std.specs.Prelude.{◌≡◌, ◌≢◌, ◌||◌, false, Err, IfOk, OnOk, OnErr, IfSome};
 ghost use Rattle.std.specs.Io.KnownBytes.{Appends};
+ghost use Rattle.tb_desk.specs.Calls.{State};
 ghost use Rattle.tb_values.specs.Appends.{AppendsFront};
-ghost use Rattle.tb_script.specs.Lines.{answers_from};
-ghost use Rattle.tb_script.specs.Answer.{answer, first_world};
+ghost use Rattle.tb_script.specs.Answer.{answer, first_state};
+ghost use Rattle.tb_script.specs.Faults.{is_store};
+ghost use Rattle.tb_script.specs.Lines.{answers_from, lines_of};
+ghost use Rattle.tb_script.specs.Runs.{LeavesSome, after_lines};
+ghost use Rattle.tb_script.specs.declared.fault.LinesFault.TheVariants.{Store};
 
 pub use fault::LinesFault;
 use session::Session;
-use std::alloc::Global;
+use std::alloc::{AllocError, Global};
 use std::io::{Read, Write};
+use tb_board::{Key, Name};
+use tb_desk::{Desk, Keep, ListKeep};
 use tb_values::write_whole;
 
 /// How many reads a script may take.
@@ -36,15 +40,36 @@ const READ_LIMIT: u64 = 1_099_511_627_776;
 /// `root-key-1` and who owns board 1. The answers to a piece that is read are written before the next one is read.
 pub fn run_lines<R: Read + Drop, W: Write>(
     alloc: Global,
-    mut reader: R,
+    reader: R,
     writer: &mut W,
 ) -> Result<(), LinesFault>
     ensures answers { OnOk result (IfSome (R.remaining reader) (λ script.
-        Appends (W.contents writer.old) (W.contents writer.new) (answers_from answer first_world script))) }
+        Appends (W.contents writer.old) (W.contents writer.new) (answers_from answer first_state script))) }
     ensures front { OnErr result (IfSome (R.remaining reader) (λ script.
-        AppendsFront (W.contents writer.old) (W.contents writer.new) (answers_from answer first_world script))) }
+        AppendsFront (W.contents writer.old) (W.contents writer.new) (answers_from answer first_state script))) }
+    ensures no_store { result ≢ Err Store }
 {
-    let mut session = Session::new(alloc)?;
+    let mut desk = first_desk(alloc)?;
+    run_lines_on(alloc, reader, writer, &mut desk)
+}
+
+/// Does the same over a desk that is handed in. On a fault the calls of some first lines stand, and what is written answers those
+/// lines alone.
+pub fn run_lines_on<R: Read + Drop, W: Write, K: Keep>(
+    alloc: Global,
+    mut reader: R,
+    writer: &mut W,
+    desk: &mut Desk<K>,
+) -> Result<(), LinesFault>
+    ensures answers { (s : State) → K.holds desk.old s → OnOk result (IfSome (R.remaining reader) (λ script.
+        Appends (W.contents writer.old) (W.contents writer.new) (answers_from answer s script))) }
+    ensures left { (s : State) → K.holds desk.old s → OnOk result (IfSome (R.remaining reader) (λ script.
+        K.holds desk.new (after_lines s (lines_of script)))) }
+    ensures front { (s : State) → K.holds desk.old s → OnErr result (IfSome (R.remaining reader) (λ script.
+        LeavesSome s (lines_of script) (W.contents writer.old) (W.contents writer.new) (K.holds desk.new))) }
+    ensures failed { K.has_failed desk.new ≡ (is_store result || K.has_failed desk.old) }
+{
+    let mut session = Session::new(alloc);
     let mut chunk = [0u8; 8192];
     'reads: for _ in 0..READ_LIMIT {
         let Ok(count) = reader.read(&mut chunk) else {
@@ -52,18 +77,34 @@ pub fn run_lines<R: Read + Drop, W: Write>(
         };
         let mut output = Vec::new(alloc);
         if count == 0 {
-            session.finish(&mut output)?;
+            session.end_line(desk, &mut output)?;
             return write_answers(writer, output.as_slice());
         }
-        session.feed(&chunk[..count], &mut output)?;
+        session.feed(desk, &chunk[..count], &mut output)?;
         write_answers(writer, output.as_slice())?;
     }
     Err(LinesFault::ReadFailed)
 }
 
+/// The desk with which a script begins.
+#[tactic(auto, unfolding(tb_board::specs::Names::is_name, tb_board::specs::Names::is_name_byte, tb_board::specs::Names::is_key))]
+fn first_desk(alloc: Global) -> Result<Desk<ListKeep>, AllocError>
+    ensures { IfOk result (λ desk. ⟦<ListKeep as Keep>⟧.holds desk first_state) }
+{
+    let Some(name) = Name::read(alloc, "root")? else {
+        unreachable!();
+    };
+    let Some(key) = Key::read(alloc, "root-key-1")? else {
+        unreachable!();
+    };
+    let keep = ListKeep::new(alloc, &name, &key)?;
+    Ok(Desk::new(keep))
+}
+
 fn write_answers<W: Write>(writer: &mut W, answers: &[u8]) -> Result<(), LinesFault>
     ensures whole { OnOk result (Appends (W.contents writer.old) (W.contents writer.new) answers.now) }
     ensures front { OnErr result (AppendsFront (W.contents writer.old) (W.contents writer.new) answers.now) }
+    ensures no_store { is_store result ≡ false }
 {
     match write_whole(writer, answers) {
         Ok(()) => Ok(()),

@@ -1,33 +1,13 @@
 //! The texts of replies.
 ghost use Rattle.std.specs.Prelude.{◌≡◌, IfOk};
 ghost use Rattle.serde_json.specs.View.{view};
-ghost use Rattle.tb_script.specs.Replies.{call_text, item_body, refusal_text, reply_text, unreadable_body, unreadable_text};
+ghost use Rattle.tb_script.specs.Replies.{item_body, reply_text, unreadable_body, unreadable_text};
 
 use crate::line_fault::Unreadable;
 use serde_json::{Value, json};
 use std::alloc::{AllocError, Global};
-use tb_core::{Answer, Refusal};
-use tb_reply::{Reply, reply_to, reply_to_refused};
+use tb_reply::Reply;
 use tb_values::Text;
-
-/// The reply to a call.
-pub(crate) fn write_call(
-    alloc: Global,
-    answer: &Result<Answer, Refusal>,
-) -> Result<Text, AllocError>
-    ensures { IfOk result (λ text. text ≡ call_text answer.now) }
-{
-    let reply = reply_to(alloc, answer)?;
-    write_reply(alloc, &reply)
-}
-
-/// The reply to a call or a view that is refused.
-pub(crate) fn write_refusal(alloc: Global, refusal: Refusal) -> Result<Text, AllocError>
-    ensures { IfOk result (λ text. text ≡ refusal_text refusal) }
-{
-    let reply = reply_to_refused(alloc, refusal)?;
-    write_reply(alloc, &reply)
-}
 
 /// What is written for a line that can't be read.
 pub(crate) fn write_unreadable(alloc: Global, fault: &Unreadable) -> Result<Text, AllocError>
@@ -39,7 +19,8 @@ pub(crate) fn write_unreadable(alloc: Global, fault: &Unreadable) -> Result<Text
     Ok(Text::from_string(text))
 }
 
-fn write_reply(alloc: Global, reply: &Reply) -> Result<Text, AllocError>
+/// The reply to a call, or to a view that is refused.
+pub(crate) fn write_reply(alloc: Global, reply: &Reply) -> Result<Text, AllocError>
     ensures { IfOk result (λ text. text ≡ reply_text reply.now) }
 {
     let status = reply.status;

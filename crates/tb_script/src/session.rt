@@ -1,11 +1,14 @@
-//! The world, and the line that has begun.
-ghost use Rattle.std.specs.Prelude.{◌≡◌, ◌++◌, ◌∷◌, [], List, ℕ, true, IfOk, OnOk};
-ghost use Rattle.tb_script.specs.Lines.{is_one_line, answers_from};
-ghost use Rattle.tb_script.specs.Answer.{answer, first_world};
+//! The line that has begun, and the answers to those before it.
+ghost use Rattle.std.specs.Prelude.{◌≡◌, ◌⊎◌, ◌||◌, ◌++◌, [], ℕ, true, IfOk, OnOk, OnErr, take};
+ghost use Rattle.tb_desk.specs.Calls.{State};
+ghost use Rattle.tb_script.specs.Answer.{answer};
+ghost use Rattle.tb_script.specs.Faults.{is_store};
+ghost use Rattle.tb_script.specs.Runs.{fed, fed_byte, from};
 
-use crate::answering::{LINE_LIMIT, answer_line, begin};
-use std::alloc::{AllocError, Global};
-use tb_board::World;
+use crate::answering::{LINE_LIMIT, answer_line};
+use crate::fault::LinesFault;
+use std::alloc::Global;
+use tb_desk::{Desk, Keep};
 
 const LINE_FEED: u8 = b'\n';
 
@@ -13,46 +16,53 @@ const LINE_FEED: u8 = b'\n';
 #[derive(Drop)]
 pub(crate) struct Session {
     alloc: Global,
-    world: World,
     line: Vec<u8>,
 }
 
 impl Session {
-    pub(crate) fn new(alloc: Global) -> Result<Session, AllocError>
-        ensures world { IfOk result (λ session. session.world ≡ first_world) }
-        ensures line { IfOk result (λ session. session.line.items ≡ []) }
+    pub(crate) fn new(alloc: Global) -> Session
+        ensures { result.line.items ≡ [] }
     {
-        let world = begin(alloc)?;
-        Ok(Session {
+        Session {
             alloc,
-            world,
             line: Vec::new(alloc),
-        })
+        }
     }
 
-    /// Answers the lines that the chunk ends. Whatever follows it, no answer is lost or made.
-    pub(crate) fn feed(&mut self, chunk: &[u8], output: &mut Vec<u8>) -> Result<(), AllocError>
-        requires { is_one_line self.old.line.items ≡ true }
-        ensures one_line { OnOk result (is_one_line self.new.line.items ≡ true) }
-        ensures answers { OnOk result ((more : List ℕ) →
-            output.old.items ++ answers_from answer self.old.world (self.old.line.items ++ (chunk.now ++ more))
-            ≡ output.new.items ++ answers_from answer self.new.world (self.new.line.items ++ more)) }
+    /// Answers the lines that the chunk ends.
+    pub(crate) fn feed<K: Keep>(
+        &mut self,
+        desk: &mut Desk<K>,
+        chunk: &[u8],
+        output: &mut Vec<u8>,
+    ) -> Result<(), LinesFault>
+        ensures line { (s : State) → OnOk result (self.new.line.items ≡ (fed (from s self.old.line.items output.old.items) chunk.now).line) }
+        ensures told { (s : State) → K.holds desk.old s → OnOk result (output.new.items ≡ (fed (from s self.old.line.items output.old.items) chunk.now).told) }
+        ensures left { (s : State) → K.holds desk.old s → OnOk result (K.holds desk.new (fed (from s self.old.line.items output.old.items) chunk.now).state) }
+        ensures held { (s : State) → K.holds desk.old s → (n : ℕ) × K.holds desk.new (fed (from s self.old.line.items output.old.items) (take n chunk.now)).state }
+        ensures failed { K.has_failed desk.new ≡ (is_store result || K.has_failed desk.old) }
     {
         for byte in chunk {
-            self.take_byte(*byte, output)?;
+            self.take_byte(desk, *byte, output)?;
         }
         Ok(())
     }
 
-    fn take_byte(&mut self, byte: u8, output: &mut Vec<u8>) -> Result<(), AllocError>
-        requires { is_one_line self.old.line.items ≡ true }
-        ensures one_line { OnOk result (is_one_line self.new.line.items ≡ true) }
-        ensures answers { OnOk result ((more : List ℕ) →
-            output.old.items ++ answers_from answer self.old.world (self.old.line.items ++ byte ∷ more)
-            ≡ output.new.items ++ answers_from answer self.new.world (self.new.line.items ++ more)) }
+    fn take_byte<K: Keep>(
+        &mut self,
+        desk: &mut Desk<K>,
+        byte: u8,
+        output: &mut Vec<u8>,
+    ) -> Result<(), LinesFault>
+        ensures line { (s : State) → OnOk result (self.new.line.items ≡ (fed_byte (from s self.old.line.items output.old.items) byte).line) }
+        ensures told { (s : State) → K.holds desk.old s → OnOk result (output.new.items ≡ (fed_byte (from s self.old.line.items output.old.items) byte).told) }
+        ensures left { (s : State) → K.holds desk.old s → OnOk result (K.holds desk.new (fed_byte (from s self.old.line.items output.old.items) byte).state) }
+        ensures held { (s : State) → K.holds desk.old s
+            → K.holds desk.new s ⊎ K.holds desk.new (fed_byte (from s self.old.line.items output.old.items) byte).state }
+        ensures failed { K.has_failed desk.new ≡ (is_store result || K.has_failed desk.old) }
     {
         if byte == LINE_FEED {
-            self.end_line(output)?;
+            self.end_line(desk, output)?;
             self.line.clear();
         } else if self.line.len() <= LINE_LIMIT {
             self.line.push(byte)?;
@@ -60,26 +70,24 @@ impl Session {
         Ok(())
     }
 
-    /// Answers the last line.
-    #[tactic(auto, using(crate::proofs::LineLaws::answered_last))]
-    pub(crate) fn finish(&mut self, output: &mut Vec<u8>) -> Result<(), AllocError>
-        requires { is_one_line self.old.line.items ≡ true }
-        ensures { OnOk result (output.new.items
-            ≡ output.old.items ++ answers_from answer self.old.world self.old.line.items) }
-    {
-        self.end_line(output)
-    }
-
+    /// Answers the line that has begun, which is the last one at the end of the input.
     #[tactic(auto, unfolding(crate::specs::Answer::answer))]
-    fn end_line(&mut self, output: &mut Vec<u8>) -> Result<(), AllocError>
+    pub(crate) fn end_line<K: Keep>(
+        &mut self,
+        desk: &mut Desk<K>,
+        output: &mut Vec<u8>,
+    ) -> Result<(), LinesFault>
         ensures line { OnOk result (self.new.line.items ≡ self.old.line.items) }
-        ensures world { OnOk result (self.new.world ≡ (answer self.old.world self.old.line.items).state) }
-        ensures text { OnOk result (output.new.items ≡ output.old.items ++ (answer self.old.world self.old.line.items).text) }
+        ensures told { (s : State) → K.holds desk.old s → OnOk result (output.new.items ≡ output.old.items ++ (answer s self.old.line.items).text) }
+        ensures left { (s : State) → K.holds desk.old s → OnOk result (K.holds desk.new (answer s self.old.line.items).state) }
+        ensures held { (s : State) → K.holds desk.old s → K.holds desk.new s ⊎ K.holds desk.new (answer s self.old.line.items).state }
+        ensures failed { K.has_failed desk.new ≡ (is_store result || K.has_failed desk.old) }
     {
         if self.line.is_empty() {
             return Ok(());
         }
-        let text = answer_line(self.alloc, &mut self.world, self.line.as_slice())?;
-        output.extend_from_slice(text.as_str().as_bytes())
+        let text = answer_line(self.alloc, desk, self.line.as_slice())?;
+        output.extend_from_slice(text.as_str().as_bytes())?;
+        Ok(())
     }
 }

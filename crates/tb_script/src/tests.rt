@@ -53,23 +53,16 @@ fn joined(alloc: Global, texts: &[&str]) -> std::result::Result<String, Fail> {
     Ok(all)
 }
 
-/// A line on the first day of 2026.
-fn line_of(alloc: Global, caller: &str, asked: &str) -> std::result::Result<String, Fail> {
+/// A line of root's on the first day of 2026.
+fn line(alloc: Global, asked: &str) -> std::result::Result<String, Fail> {
     joined(
         alloc,
         &[
-            "20260101T000000Z\t",
-            caller,
-            "\t00000000-0000-4000-8000-000000000009\t",
+            "20260101T000000Z\troot\troot-key-1\t00000000-0000-4000-8000-000000000009\t",
             asked,
             "\n",
         ],
     )
-}
-
-/// A line of root's.
-fn line(alloc: Global, asked: &str) -> std::result::Result<String, Fail> {
-    line_of(alloc, "root\troot-key-1", asked)
 }
 
 /// What a script is answered.
@@ -105,65 +98,6 @@ fn buy_milk(rt: HostRuntime) -> std::result::Result<(), Fail> {
         assert_eq!(rt; run_lines(rt.alloc(), reader, &mut output), Ok(()));
         assert_eq!(rt; output.as_slice(), wanted.as_bytes());
     }
-    Ok(())
-}
-
-#[test]
-fn number_used_by_hand(rt: HostRuntime) -> std::result::Result<(), Fail> {
-    let by_hand =
-        "add\t1\t{\"description\":\"a\",\"uuid\":\"00000001-0000-8000-8000-000000000002\"}";
-    let plain = "add\t1\t{\"description\":\"a\"}";
-    let mut script = String::new(rt.alloc());
-    for asked in [by_hand, plain, plain, by_hand] {
-        script.push_str(&line(rt.alloc(), asked)?)?;
-    }
-    assert_eq!(rt;
-        answers(rt.alloc(), script.as_bytes())?.as_str(),
-        "200 0 {\"added\":0,\"board\":1,\"dropped\":0,\"more\":false,\"uuid\":\"00000001-0000-8000-8000-000000000002\"}\n200 0 {\"added\":0,\"board\":1,\"dropped\":0,\"more\":false,\"uuid\":\"00000001-0000-8000-8000-000000000001\"}\n200 0 {\"added\":0,\"board\":1,\"dropped\":0,\"more\":false,\"uuid\":\"00000001-0000-8000-8000-000000000003\"}\n409 7 {\"name\":\"UuidTaken\",\"refused\":7}\n"
-    );
-    Ok(())
-}
-
-#[test]
-fn notes_removed(rt: HostRuntime) -> std::result::Result<(), Fail> {
-    let changed =
-        "200 0 {\"added\":0,\"board\":1,\"more\":false,\"uuid\":\"00000001-0000-8000-8000-000000000001\"}\n";
-    let no_link = "409 10 {\"name\":\"NoLink\",\"refused\":10}\n";
-    let mut script = joined(rt.alloc(), &[ADD_MILK])?;
-    for word in ["denotate", "annotate", "denotate"] {
-        let asked = joined(
-            rt.alloc(),
-            &[word, "\t1\t00000001-0000-8000-8000-000000000001\tx"],
-        )?;
-        script.push_str(&line(rt.alloc(), &asked)?)?;
-    }
-    for word in ["start", "stop", "done", "reopen", "delete"] {
-        let asked = joined(
-            rt.alloc(),
-            &[word, "\t1\t00000001-0000-8000-8000-000000000001"],
-        )?;
-        script.push_str(&line(rt.alloc(), &asked)?)?;
-    }
-    script.push_str(&line(rt.alloc(), "sweep\t1")?)?;
-    let wanted = joined(
-        rt.alloc(),
-        &[
-            ADDED,
-            no_link,
-            changed,
-            changed,
-            changed,
-            changed,
-            changed,
-            changed,
-            changed,
-            "200 0 {\"added\":0,\"board\":1,\"more\":false}\n",
-        ],
-    )?;
-    assert_eq!(rt;
-        answers(rt.alloc(), script.as_bytes())?.as_str(),
-        wanted.as_str()
-    );
     Ok(())
 }
 
@@ -204,6 +138,9 @@ fn refused_lines(rt: HostRuntime) -> std::result::Result<(), Fail> {
             "annotate\t1\t00000001-0000-8000-8000-000000000001",
             BAD_LINE,
         ),
+        ("person\tBob\tbob-key-01", BAD_LINE),
+        ("board\t", BAD_LINE),
+        ("role\t1\troot\tOwner", BAD_LINE),
         ("list\t4294967295", no_board),
         ("export\t2", no_board),
         ("add\t2\t{\"description\":\"a\"}", no_board),

@@ -2,14 +2,15 @@
 ghost use Rattle.std.specs.Prelude.{◌≡◌, map};
 ghost use Rattle.tb_core.specs.declared.action.Action.TheVariants.{Annotate, Denotate};
 ghost use Rattle.tb_script.specs.Outcome.{Reads};
-ghost use Rattle.tb_script.specs.Words.{acting, acting_with, adding, export, importing, importing_todo, link, linking, listing, modifying, one, request_in, showing, sweeping, task, three, todo, two, unlinking};
+ghost use Rattle.tb_script.specs.Words.{acting, acting_with, adding, new_board, export, set_role, importing, importing_todo, new_person, link, linking, listing, modifying, one, request_in, showing, sweeping, task, three, todo, two, unlinking};
 
-use crate::arguments::{read_board, read_uuid};
-use crate::asked::{Request, View};
+use crate::arguments::{read_board, read_heading, read_person, read_role, read_secret, read_uuid};
+use crate::asked::Request;
 use crate::body::{read_edits, read_imported, read_incoming, read_tasks};
 use crate::line_fault::LineFault;
 use std::alloc::Global;
 use tb_core::{Action, Command};
+use tb_desk::View;
 use tb_task::{Moment, TaskId};
 use tb_values::Text;
 
@@ -41,6 +42,9 @@ pub(crate) fn read_request(
         "depend" => read_depend(arguments),
         "undepend" => read_undepend(arguments),
         "sweep" => read_sweep(arguments),
+        "person" => read_new_person(alloc, arguments),
+        "board" => read_new_board(alloc, arguments),
+        "role" => read_set_role(alloc, arguments),
         _ => Err(LineFault::bad_line()),
     }
 }
@@ -226,4 +230,37 @@ fn read_sweep(arguments: &[&str]) -> Result<Request, LineFault>
     };
     let board = read_board(board)?;
     Ok(Request::Call(Command::Sweep { board }))
+}
+
+fn read_new_person(alloc: Global, arguments: &[&str]) -> Result<Request, LineFault>
+    ensures { Reads result (two new_person (map (λ argument. argument.now) arguments.entry.now)) }
+{
+    let [name, key] = arguments else {
+        return Err(LineFault::bad_line());
+    };
+    let name = read_person(alloc, name)?;
+    let key = read_secret(alloc, key)?;
+    Ok(Request::Call(Command::NewPerson { name, key }))
+}
+
+fn read_new_board(alloc: Global, arguments: &[&str]) -> Result<Request, LineFault>
+    ensures { Reads result (one new_board (map (λ argument. argument.now) arguments.entry.now)) }
+{
+    let [title] = arguments else {
+        return Err(LineFault::bad_line());
+    };
+    let title = read_heading(alloc, title)?;
+    Ok(Request::Call(Command::NewBoard { title }))
+}
+
+fn read_set_role(alloc: Global, arguments: &[&str]) -> Result<Request, LineFault>
+    ensures { Reads result (three set_role (map (λ argument. argument.now) arguments.entry.now)) }
+{
+    let [board, name, role] = arguments else {
+        return Err(LineFault::bad_line());
+    };
+    let board = read_board(board)?;
+    let name = read_person(alloc, name)?;
+    let role = read_role(role)?;
+    Ok(Request::Call(Command::SetRole { board, name, role }))
 }

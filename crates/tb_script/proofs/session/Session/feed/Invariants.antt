@@ -1,11 +1,15 @@
-use Rattle.std.proofs.Common.{◌≡◌, ◌++◌, drop, true, List, ℕ}
-use Rattle.tb_script.specs.Lines.{is_one_line, answers_from}
-use Rattle.tb_script.specs.Answer.{answer}
+use Rattle.std.proofs.Common.{◌≡◌, take}
+use Rattle.tb_desk.specs.Calls.{State}
+use Rattle.tb_script.specs.Runs.{Progress, fed, from}
 use Rattle.tb_script.proofs.session.Session.feed.Given as goal
 
 abbrev pub invariant-loop-byte : goal.invariant-loop-byte
-invariant-loop-byte l = record {
-  one : is_one_line l.self.line.items ≡ true;
-  answers : (more : List ℕ) → l.output.items ++ answers_from answer l.self.world (l.self.line.items ++ (drop l.byte-index l.chunk ++ more))
-      ≡ l.initial.output.items ++ answers_from answer l.initial.self.world (l.initial.self.line.items ++ (l.chunk ++ more));
-}
+invariant-loop-byte g l =
+    let k = g.K.Keep in
+    let before = take l.byte-index l.chunk in
+    record {
+      line : (s : State) → l.self.line.items ≡ (fed (from s l.fn.self.line.items l.fn.output.items) before).line;
+      told : (s : State) → k.holds l.fn.desk s → l.output.items ≡ (fed (from s l.fn.self.line.items l.fn.output.items) before).told;
+      held : (s : State) → k.holds l.fn.desk s → k.holds l.desk (fed (from s l.fn.self.line.items l.fn.output.items) before).state;
+      failed : k.has_failed l.desk ≡ k.has_failed l.fn.desk;
+    }
