@@ -15,6 +15,7 @@ pub mod Pairs
 pub mod Places
 pub mod Relinked
 pub mod Relinking
+pub mod Reinserted
 pub mod RoleOrder
 pub mod Runs
 pub mod Walking

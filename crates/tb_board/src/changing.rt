@@ -1,4 +1,4 @@
-ghost use Rattle.std.specs.Prelude.{◌≡◌, ◌≤◌, [], ◌∷◌, ◌++◌, Some, None, IfOk, insert, length, position};
+ghost use Rattle.std.specs.Prelude.{◌≡◌, ◌≤◌, [], ◌∷◌, ◌++◌, Some, None, IfOk, OnOk, insert, length, position};
 ghost use Rattle.tb_board.specs.Changes.{change_board, changed, changed_by, put, with_gone, with_task_at, without_gone};
 ghost use Rattle.tb_board.specs.Roles.{comes_before, set_role, with_new_role};
 
@@ -177,95 +177,170 @@ pub fn roles_without(mut roles: Items<RoleOn>, board: u32, person: usize) -> Ite
 
 fn put_task(
     alloc: Global,
-    mut world: World,
+    world: World,
     number: u32,
     place: usize,
     task: &Shared<Task>,
 ) -> Result<World, AllocError>
     ensures { IfOk result (λ later. later ≡ record world { boards = change_board number (with_task_at place task.now) world.boards }) }
 {
-    let Some(at) = place_of_board(world.boards.as_slice(), number) else {
-        return Ok(world);
-    };
-    let board = board_with(world.boards.as_slice()[at].get(), place, task)?;
-    world.boards.set(at, Shared::new(alloc, board)?);
-    Ok(world)
-}
-
-fn board_with(board: &Board, place: usize, task: &Shared<Task>) -> Result<Board, AllocError>
-    ensures { IfOk result (λ b. b ≡ with_task_at place task.now board.now) }
-{
-    let title = board.title.duplicate()?;
-    let tasks = tasks_with(board.tasks.duplicate()?, place, task.share()?)?;
-    let gone = board.gone.duplicate()?;
-    Ok(Board {
-        number: board.number,
-        title,
-        tasks,
-        gone,
+    let World {
+        people,
+        boards,
+        roles,
+    } = world;
+    let boards = boards_with_task(alloc, boards, number, place, task.share()?)?;
+    Ok(World {
+        people,
+        boards,
+        roles,
     })
 }
 
-fn tasks_with(
-    mut tasks: Items<Shared<Task>>,
+/// Puts a task on the first board with this number.
+fn boards_with_task(
+    alloc: Global,
+    boards: Items<Shared<Board>>,
+    number: u32,
     place: usize,
     task: Shared<Task>,
-) -> Result<Items<Shared<Task>>, AllocError>
-    ensures { IfOk result (λ later. later ≡ put tasks place task) }
+) -> Result<Items<Shared<Board>>, AllocError>
+    ensures { IfOk result (λ later. later ≡ change_board number (with_task_at place task) boards) }
+{
+    let Some(index) = place_of_board(boards.as_slice(), number) else {
+        return Ok(boards);
+    };
+    let mut boards = boards.into_vec();
+    let board = boards.remove(index);
+    let board = board_with(board, place, task)?;
+    boards.insert(index, Shared::new(alloc, board)?)?;
+    Ok(Items::from_vec(boards))
+}
+
+/// The board with a task at its place. It is copied only where somebody else looks at it.
+fn board_with(board: Shared<Board>, place: usize, task: Shared<Task>) -> Result<Board, AllocError>
+    ensures { IfOk result (λ b. b ≡ with_task_at place task board) }
+{
+    let Ok(mut board) = board.into_value() else {
+        return Err(AllocError);
+    };
+    put_at(&mut board.tasks, place, task)?;
+    Ok(board)
+}
+
+fn put_at(
+    tasks: &mut Items<Shared<Task>>,
+    place: usize,
+    task: Shared<Task>,
+) -> Result<(), AllocError>
+    ensures { OnOk result (tasks.new ≡ put tasks.old place task) }
 {
     if place < tasks.len() {
         tasks.set(place, task);
+        Ok(())
     } else {
-        tasks.push(task)?;
+        tasks.push(task)
     }
-    Ok(tasks)
 }
 
-fn set_gone(alloc: Global, mut world: World, number: u32, gone: Gone) -> Result<World, AllocError>
+fn set_gone(alloc: Global, world: World, number: u32, gone: Gone) -> Result<World, AllocError>
     ensures { IfOk result (λ later. later ≡ record world { boards = change_board number (with_gone gone) world.boards }) }
 {
-    let Some(at) = place_of_board(world.boards.as_slice(), number) else {
-        return Ok(world);
-    };
-    let board = board_with_gone(world.boards.as_slice()[at].get(), gone)?;
-    world.boards.set(at, Shared::new(alloc, board)?);
-    Ok(world)
+    let World {
+        people,
+        boards,
+        roles,
+    } = world;
+    let boards = boards_with_gone(alloc, boards, number, &gone)?;
+    Ok(World {
+        people,
+        boards,
+        roles,
+    })
 }
 
-fn board_with_gone(board: &Board, gone: Gone) -> Result<Board, AllocError>
-    ensures { IfOk result (λ b. b ≡ with_gone gone board.now) }
+/// A place more is gone on the first board with this number.
+fn boards_with_gone(
+    alloc: Global,
+    boards: Items<Shared<Board>>,
+    number: u32,
+    gone: &Gone,
+) -> Result<Items<Shared<Board>>, AllocError>
+    ensures { IfOk result (λ later. later ≡ change_board number (with_gone gone.now) boards) }
 {
-    let mut board = board.duplicate()?;
-    board.gone.push(gone)?;
+    let Some(index) = place_of_board(boards.as_slice(), number) else {
+        return Ok(boards);
+    };
+    let mut boards = boards.into_vec();
+    let board = boards.remove(index);
+    let board = board_with_gone(board, gone)?;
+    boards.insert(index, Shared::new(alloc, board)?)?;
+    Ok(Items::from_vec(boards))
+}
+
+fn board_with_gone(board: Shared<Board>, gone: &Gone) -> Result<Board, AllocError>
+    ensures { IfOk result (λ b. b ≡ with_gone gone.now board) }
+{
+    let Ok(mut board) = board.into_value() else {
+        return Err(AllocError);
+    };
+    board.gone.push(*gone)?;
     Ok(board)
 }
 
 fn take_gone(
     alloc: Global,
-    mut world: World,
+    world: World,
     number: u32,
     template: TaskId,
     place: u32,
 ) -> Result<World, AllocError>
     ensures { IfOk result (λ later. later ≡ record world { boards = change_board number (without_gone template place) world.boards }) }
 {
-    let Some(at) = place_of_board(world.boards.as_slice(), number) else {
-        return Ok(world);
+    let World {
+        people,
+        boards,
+        roles,
+    } = world;
+    let boards = boards_without_gone(alloc, boards, number, template, place)?;
+    Ok(World {
+        people,
+        boards,
+        roles,
+    })
+}
+
+/// A place isn't gone any more on the first board with this number.
+fn boards_without_gone(
+    alloc: Global,
+    boards: Items<Shared<Board>>,
+    number: u32,
+    template: TaskId,
+    place: u32,
+) -> Result<Items<Shared<Board>>, AllocError>
+    ensures { IfOk result (λ later. later ≡ change_board number (without_gone template place) boards) }
+{
+    let Some(index) = place_of_board(boards.as_slice(), number) else {
+        return Ok(boards);
     };
-    let board = board_without(alloc, world.boards.as_slice()[at].get(), template, place)?;
-    world.boards.set(at, Shared::new(alloc, board)?);
-    Ok(world)
+    let mut boards = boards.into_vec();
+    let board = boards.remove(index);
+    let board = board_without(alloc, board, template, place)?;
+    boards.insert(index, Shared::new(alloc, board)?)?;
+    Ok(Items::from_vec(boards))
 }
 
 fn board_without(
     alloc: Global,
-    board: &Board,
+    board: Shared<Board>,
     template: TaskId,
     place: u32,
 ) -> Result<Board, AllocError>
-    ensures { IfOk result (λ b. b ≡ without_gone template place board.now) }
+    ensures { IfOk result (λ b. b ≡ without_gone template place board) }
 {
-    let mut board = board.duplicate()?;
+    let Ok(mut board) = board.into_value() else {
+        return Err(AllocError);
+    };
     board.gone = gone_without(alloc, board.gone.as_slice(), template, place)?;
     Ok(board)
 }
