@@ -1,6 +1,7 @@
 pub mod Blocked
 pub mod Board
 pub mod Changes
+pub mod Extends
 pub mod First
 pub mod Good
 pub mod Instances
