@@ -1,5 +1,5 @@
 -- What marks tell of the free numbers of a board.
-use Rattle.std.proofs.Common.{◌≡◌, ℕ, ◌+◌, ◌<◌, ◌≤◌, ◌==◌, ◌||◌, nat_lt, Bool, true, false, List, [], ◌∷◌, length, refl, sym, ◌∙◌, ap, arith, inl, inr}
+use Rattle.std.proofs.Common.{◌≡◌, ℕ, ◌+◌, ◌<◌, ◌≤◌, ◌==◌, ◌||◌, nat_lt, Bool, true, false, List, [], ◌∷◌, length, refl, sym, ◌∙◌, ap, arith, inl, inr, true≢false}
 use Rattle.std.proofs.Math.Bool.{or-false}
 use Rattle.std.proofs.lemmas.Bool.{cases_Bool, ltb-true, ltb-false, eq-eqb, ne_eqb}
 use Rattle.std.proofs.lemmas.List.Folds.{list_any-append}
@@ -35,6 +35,27 @@ next_is_free b marks next r knows is room =
     let early : r < 10001 = omega (arith, few, room) in
     let vacant : is_on b (made b.number r) ≡ false = sym (knows.after r is.from early) ∙ is.vacant (omega (arith, early, knows.size)) in
     sym (free_is b r from taken vacant)
+
+-- on a board that is full or not
+pub least_is_free : (b : Board) (marks : List Bool) (r : ℕ) → Knows b marks 1 → IsNextFree marks 1 r → length b.tasks ≤ 10000 → r ≡ free b
+least_is_free b marks r knows is few =
+    let taken = before_next b marks 1 r knows is in
+    elim (cases_Bool (is_on b (made b.number r))) [
+      | inl there ↦
+          let all = taken_few b (r + 1) (omega arith) (next_taken b r taken there) in
+          let early : r < 10001 = omega (arith, all, few) in
+          let vacant : is_on b (made b.number r) ≡ false = sym (knows.after r is.from early) ∙ is.vacant (omega (arith, early, knows.size)) in
+          absurd (true≢false (sym there ∙ vacant))
+      | inr vacant ↦ sym (free_is b r is.from taken vacant)
+    ]
+  where
+    next_taken : (b : Board) (r : ℕ) → ((j : ℕ) → 1 ≤ j → j < r → is_on b (made b.number j) ≡ true) → is_on b (made b.number r) ≡ true
+        → (j : ℕ) → 1 ≤ j → j < r + 1 → is_on b (made b.number j) ≡ true
+    next_taken b r before there j from below =
+        elim (cases_Bool (nat_lt j r)) [
+          | inl early ↦ before j from (ltb-true j r early)
+          | inr late ↦ let same : j ≡ r = omega (arith, below, ltb-false j r late) in ap (λ n. is_on b (made b.number n)) same ∙ there
+        ]
 
 on-with_task : (b : Board) (t : Task) (id : ℕ) → is_on (with_task b t) id ≡ (is_on b id || (t.id == id))
 on-with_task b t id = list_any-append (has_id id) b.tasks (t ∷ []) ∙ ap (λ q. is_on b id || q) (or-false (t.id == id))

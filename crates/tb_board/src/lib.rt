@@ -29,10 +29,10 @@ pub use gone::{Gone, gone_without};
 pub use key::Key;
 pub use links::{
     acyclic_boards_have_no_walks_back, blocked_tasks, blocking_tasks, is_acyclic_board, is_led,
-    walks_are_found,
+    places_of, walks_are_found,
 };
 pub use name::Name;
-pub use numbers::{next_number, taken_numbers};
+pub use numbers::{least_number, next_number, taken_numbers};
 pub use statuses::{
     is_open_status, is_pending_or_waiting_status, is_pending_status, is_template_task,
     settled_status,

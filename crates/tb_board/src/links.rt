@@ -75,7 +75,10 @@ fn links_of(alloc: Global, board: &Board) -> Result<Links, AllocError>
 }
 
 /// The place of each identifier among those of the tasks.
-fn places_of(alloc: Global, tasks: &[Shared<Task>]) -> Result<BTreeMap<TaskId, usize>, AllocError>
+pub fn places_of(
+    alloc: Global,
+    tasks: &[Shared<Task>],
+) -> Result<BTreeMap<TaskId, usize>, AllocError>
     ensures { IfOk result (λ places. ArePlaces (ids tasks.now) places) }
 {
     let mut places = BTreeMap::new(alloc);

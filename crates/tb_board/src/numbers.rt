@@ -73,3 +73,13 @@ pub fn taken_numbers(alloc: Global, board: &Board) -> Result<Vec<bool>, AllocErr
 {
     marks_of(alloc, board.tasks.as_slice(), board.number, NUMBERS)
 }
+
+/// The least number from 1 whose identifier isn't on a board, full or not.
+pub fn least_number(alloc: Global, board: &Board) -> Result<u32, AllocError>
+    requires { length board.now.tasks ≤ 10000 }
+    ensures { IfOk result (λ number. number ≡ free board.now) }
+{
+    let marks = taken_numbers(alloc, board)?;
+    let number = next_unmarked(&marks, 1);
+    Ok(number as u32)
+}

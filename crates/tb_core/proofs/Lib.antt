@@ -4,6 +4,7 @@ pub mod Decided
 pub mod Depending
 pub mod Early
 pub mod EditSteps
+pub mod Extending
 pub mod GoodImports
 pub mod GoodLinks
 pub mod GoodPeople

@@ -16,14 +16,14 @@ use Rattle.tb_task.specs.declared.status.Status.{Status}
 use Rattle.tb_task.specs.declared.task.Task.{Task}
 
 -- what edits with these names leave of a task
-record IsEdited (names_due names_recur : Bool) (t u : Task) : Type 0 where
-  id : u.id ≡ t.id
-  depends : u.depends ≡ t.depends
-  parent : u.parent ≡ t.parent
-  imask : u.imask ≡ t.imask
-  status : u.status ≡ t.status
-  due : names_due ≡ false → u.due ≡ t.due
-  recur : names_recur ≡ false → u.recur ≡ t.recur
+pub record IsEdited (names_due names_recur : Bool) (t u : Task) : Type 0 where
+  pub id : u.id ≡ t.id
+  pub depends : u.depends ≡ t.depends
+  pub parent : u.parent ≡ t.parent
+  pub imask : u.imask ≡ t.imask
+  pub status : u.status ≡ t.status
+  pub due : names_due ≡ false → u.due ≡ t.due
+  pub recur : names_recur ≡ false → u.recur ≡ t.recur
 
 abbrev is_due : Edit → Bool
 is_due e = bytes_eq e.name (codes "due")
@@ -56,7 +56,7 @@ is_edited e t =
     (either P (is_attribute e.name) _ _ (λ _. leaves e t _ refl refl refl refl refl refl refl)
     (leaves e t _ refl refl refl refl refl refl refl))))))))))
 
-is_edited_by : (es : List Edit) (t : Task) → IsEdited (names (codes "due") es) (names (codes "recur") es) t (edited_by es t)
+pub is_edited_by : (es : List Edit) (t : Task) → IsEdited (names (codes "due") es) (names (codes "recur") es) t (edited_by es t)
 is_edited_by [] t = record { id = refl; depends = refl; parent = refl; imask = refl; status = refl; due = λ _. refl; recur = λ _. refl }
 is_edited_by (e ∷ es) t =
     let first = is_edited e t in

@@ -2,7 +2,7 @@
 
 ghost use Rattle.tb_core.specs.Cycles.{AreCyclesRefused};
 ghost use Rattle.tb_core.specs.ImportAgain.{ImportTodoAgain};
-ghost use Rattle.tb_core.specs.GoodWorld.{KeepsGood, KeepsPeople, OpensGood};
+ghost use Rattle.tb_core.specs.GoodWorld.{AlwaysExtends, KeepsGood, KeepsPeople, OpensGood};
 
 /// Each command leaves a good world good.
 pub fn keeps_good()
@@ -12,6 +12,11 @@ pub fn keeps_good()
 /// Each command leaves the people who are known, with their keys.
 pub fn keeps_people()
     ensures { KeepsPeople }
+{}
+
+/// Each command leaves people, boards and the identifiers of tasks at their places, and what is new goes last.
+pub fn extends()
+    ensures { AlwaysExtends }
 {}
 
 /// The opening world is good.

@@ -1,9 +1,11 @@
 pub mod Again
 pub mod Counting
+pub mod Extending
 pub mod Keeping
 pub mod Marking
 pub mod Moving
 pub mod Numbering
+pub mod Ordering
 pub mod Setting
 pub mod Sound
 pub mod Steps

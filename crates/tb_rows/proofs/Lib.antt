@@ -1,0 +1,15 @@
+pub mod BoardRows
+pub mod BoardSteps
+pub mod Evolving
+pub mod GoneRows
+pub mod Kept
+pub mod Leading
+pub mod Masking
+pub mod PeopleAndRoles
+pub mod Places
+pub mod Pushing
+pub mod Smallness
+pub mod Staying
+pub mod Tables
+pub mod TaskRows
+pub mod Turning

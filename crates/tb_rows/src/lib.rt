@@ -2,3 +2,15 @@
 //!
 //! Stands on `tb_board` and `tb_core` for worlds and their changes, and on `tb_sql` for changes of rows.
 #![tactic(auto)]
+
+mod boards;
+mod concerned;
+mod gone;
+mod opening;
+mod people;
+mod roles;
+mod tasks;
+mod worlds;
+
+pub use opening::opening_rows;
+pub use worlds::row_changes;

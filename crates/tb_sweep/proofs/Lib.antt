@@ -1,5 +1,6 @@
 pub mod Adding
 pub mod Counting
+pub mod Extending
 pub mod Keeping
 pub mod Noting
 pub mod Settled

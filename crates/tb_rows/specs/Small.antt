@@ -1,0 +1,6 @@
+-- Boards with room for no more tasks than a good board has.
+use Rattle.std.specs.Prelude.{Bool, length, nat_le}
+use Rattle.tb_board.specs.declared.board.Board.{Board}
+
+abbrev pub has_few_tasks : Board → Bool
+has_few_tasks b = nat_le (length b.tasks) 10000

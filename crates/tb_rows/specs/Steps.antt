@@ -1,0 +1,173 @@
+-- The changes of rows that follow from changes of a world.
+use Rattle.std.specs.Prelude.{◌≡◌, ℕ, ◌+◌, ◌^◌, ◌==◌, Bool, true, false, not, ◌&&◌, ◌||◌, List, [], ◌∷◌, ◌++◌, Option, Some, None, if◌then◌else◌, length, map, nat_lt}
+use Rattle.std.specs.List.{flat_map, list_any}
+use Rattle.tb_task.specs.declared.task.Task.{Task}
+use Rattle.tb_json.specs.Stored.{stored_text}
+use Rattle.tb_board.specs.declared.board.Board.{Board}
+use Rattle.tb_board.specs.declared.change.Change.{Change}
+use Rattle.tb_board.specs.declared.change.Change.TheVariants.{PutTask, AddPerson as NewPerson, AddBoard as NewBoard, SetRole, SetGone, TakeGone}
+use Rattle.tb_board.specs.declared.gone.Gone.{Gone}
+use Rattle.tb_board.specs.declared.world.Person.{Person}
+use Rattle.tb_board.specs.declared.world.RoleOn.{RoleOn}
+use Rattle.tb_board.specs.declared.world.World.{World}
+use Rattle.tb_board.specs.Board.{ids}
+use Rattle.tb_board.specs.Links.{place_in, with_place}
+use Rattle.tb_board.specs.Numbers.{free}
+use Rattle.tb_sql_tables.specs.Content.{Content}
+use Rattle.tb_sql.specs.declared.changes.RowChange.{RowChange}
+use Rattle.tb_sql.specs.declared.changes.RowChange.TheVariants.{AddPerson, AddBoard, SetLow, AddRole, RemoveRole, AddTask, SetText, SetMask, AddLink, RemoveLinks, AddInstance, AddGone, RemoveGone}
+use Rattle.tb_sql.specs.Writing.{changed_by_all}
+use Rattle.tb_rows.specs.Rows.{rows_from, person_row, board_row, role_row, mask_cell, task_row, link_rows, instance_rows, gone_row, board_gone, world_rows, HaveSameRows}
+
+-- ---- which tasks of a board are concerned, by their places from 0
+
+-- where a change puts a task on board n
+abbrev pub put_place : ℕ → Change → List ℕ
+put_place n (PutTask m place t) = if n == m then place ∷ [] else []
+put_place n (NewPerson name key) = []
+put_place n (NewBoard m title) = []
+put_place n (SetRole m person role) = []
+put_place n (SetGone m g) = []
+put_place n (TakeGone m id k) = []
+
+abbrev pub is_among : List ℕ → ℕ → Bool
+is_among places place = list_any (λ p. p == place) places
+
+-- whether a change is of board n
+abbrev pub is_of_board : ℕ → Change → Bool
+is_of_board n (PutTask m place t) = n == m
+is_of_board n (NewPerson name key) = false
+is_of_board n (NewBoard m title) = false
+is_of_board n (SetRole m person role) = false
+is_of_board n (SetGone m g) = n == m
+is_of_board n (TakeGone m id k) = n == m
+
+abbrev pub template_place : Board → Option ℕ → List ℕ
+template_place b None = []
+template_place b (Some id) = with_place (place_in (ids b.tasks) id) []
+
+-- the template of which a change takes or leaves a gone place
+abbrev pub gone_template : Board → Change → List ℕ
+gone_template b (PutTask m place t) = []
+gone_template b (NewPerson name key) = []
+gone_template b (NewBoard m title) = []
+gone_template b (SetRole m person role) = []
+gone_template b (SetGone m g) = if b.number == m then template_place b (Some g.template) else []
+gone_template b (TakeGone m id k) = if b.number == m then template_place b (Some id) else []
+
+-- the task is new, or one of the changes puts it
+abbrev pub is_changed : ℕ → List ℕ → ℕ → Bool
+is_changed old put place = not (nat_lt place old) || is_among put place
+
+abbrev pub instance_template : Board → ℕ → List ℕ → ℕ → Task → List ℕ
+instance_template b old put place t = if is_changed old put place then template_place b t.parent else []
+
+-- the templates of which an instance or a gone place is changed
+abbrev pub changed_templates : Board → ℕ → List ℕ → List Change → List ℕ
+changed_templates b old put cs = rows_from (instance_template b old put) 0 b.tasks ++ flat_map (gone_template b) cs
+
+-- ---- the changes of rows of a task, by its place from 1
+
+abbrev pub new_task : Board → ℕ → Task → List RowChange
+new_task b place t = AddTask (task_row b place t) ∷ (map AddLink (link_rows b place t) ++ map AddInstance (instance_rows b place t))
+
+abbrev pub put_task : Board → ℕ → Task → List RowChange
+put_task b place t = SetText b.number place (stored_text t) (mask_cell b t) ∷ RemoveLinks b.number place ∷ map AddLink (link_rows b place t)
+
+abbrev pub new_mask : Board → ℕ → Task → List RowChange
+new_mask b place t = SetMask b.number place (mask_cell b t) ∷ []
+
+-- of the task at a place from 0, where there were so many tasks, and these are put, and these templates changed
+abbrev pub task_changes : Board → ℕ → List ℕ → List ℕ → ℕ → Task → List RowChange
+task_changes b old put templates place t =
+    if nat_lt place old then (if is_among put place then put_task b (place + 1) t else (if is_among templates place then new_mask b (place + 1) t else []))
+    else new_task b (place + 1) t
+
+-- ---- those of a board
+
+abbrev pub gone_added : Board → Gone → Option ℕ → List RowChange
+gone_added b g None = []
+gone_added b g (Some place) = AddGone (gone_row b g) ∷ []
+
+abbrev pub gone_removed : Board → ℕ → Option ℕ → List RowChange
+gone_removed b k None = []
+gone_removed b k (Some place) = RemoveGone b.number (place + 1) k ∷ []
+
+abbrev pub gone_changes : Board → Change → List RowChange
+gone_changes b (PutTask m place t) = []
+gone_changes b (NewPerson name key) = []
+gone_changes b (NewBoard m title) = []
+gone_changes b (SetRole m person role) = []
+gone_changes b (SetGone m g) = if b.number == m then gone_added b g (place_in (ids b.tasks) g.template) else []
+gone_changes b (TakeGone m id k) = if b.number == m then gone_removed b k (place_in (ids b.tasks) id) else []
+
+abbrev pub low_changes : ℕ → Board → List RowChange
+low_changes old b = if nat_lt old (length b.tasks) then SetLow b.number (free b) ∷ [] else []
+
+-- of a board that had so many tasks, and has others after the changes
+abbrev pub later_board : ℕ → Board → List Change → List RowChange
+later_board old b cs =
+    let put = flat_map (put_place b.number) cs in
+    low_changes old b ++ (rows_from (task_changes b old put (changed_templates b old put cs)) 0 b.tasks ++ flat_map (gone_changes b) cs)
+
+abbrev pub kept_board : ℕ → Board → List Change → List RowChange
+kept_board old b cs = if list_any (is_of_board b.number) cs then later_board old b cs else []
+
+abbrev pub new_board : Board → List RowChange
+new_board b = AddBoard (board_row b) ∷ (rows_from (λ place t. new_task b (place + 1) t) 0 b.tasks ++ map AddGone (board_gone b))
+
+-- of the boards that were and of those that are now
+abbrev pub board_changes : List Change → List Board → List Board → List RowChange
+board_changes cs earlier [] = []
+board_changes cs [] (b ∷ later) = new_board b ++ board_changes cs [] later
+board_changes cs (a ∷ earlier) (b ∷ later) = kept_board (length a.tasks) b cs ++ board_changes cs earlier later
+
+-- ---- those of a world
+
+abbrev pub person_changes : ℕ → ℕ → Person → List RowChange
+person_changes old place p = if nat_lt place old then [] else AddPerson (person_row (place + 1) p) ∷ []
+
+abbrev pub is_role_change : Change → Bool
+is_role_change (PutTask m place t) = false
+is_role_change (NewPerson name key) = false
+is_role_change (NewBoard m title) = false
+is_role_change (SetRole board person role) = true
+is_role_change (SetGone m g) = false
+is_role_change (TakeGone m id k) = false
+
+-- a change sets the role of the person on the board
+abbrev pub sets_role : ℕ → ℕ → Change → Bool
+sets_role board person (PutTask m place t) = false
+sets_role board person (NewPerson name key) = false
+sets_role board person (NewBoard m title) = false
+sets_role board person (SetRole m q role) = (board == m) && (person == q)
+sets_role board person (SetGone m g) = false
+sets_role board person (TakeGone m id k) = false
+
+-- the changes set the role of this person on this board
+abbrev pub is_set : List Change → RoleOn → Bool
+is_set cs r = list_any (sets_role r.board r.person) cs
+
+-- a person who has a number of 32 bits has no role on the board
+abbrev pub role_removed : Change → List RowChange
+role_removed (PutTask m place t) = []
+role_removed (NewPerson name key) = []
+role_removed (NewBoard m title) = []
+role_removed (SetRole m q role) = if nat_lt q (2 ^ 32) then RemoveRole m q ∷ [] else []
+role_removed (SetGone m g) = []
+role_removed (TakeGone m id k) = []
+
+abbrev pub role_added : List Change → RoleOn → List RowChange
+role_added cs r = if is_set cs r then (if nat_lt r.person (2 ^ 32) then AddRole (role_row r) ∷ [] else []) else []
+
+-- of the roles after the changes: those that are set go, and come as they are now
+abbrev pub role_changes : List Change → List RoleOn → List RowChange
+role_changes cs roles = if list_any is_role_change cs then flat_map role_removed cs ++ flat_map (role_added cs) roles else []
+
+abbrev pub world_changes : World → World → List Change → List RowChange
+world_changes w v cs = rows_from (person_changes (length w.people)) 0 v.people ++ (board_changes cs w.boards v.boards ++ role_changes cs v.roles)
+
+-- Of tables with the rows of the first world the changes make tables with the rows of the second, and kept replies stay.
+pub record Leads (rows : List RowChange) (w v : World) : Type 0 where
+  pub tables : (c : Content) → HaveSameRows c (world_rows w) → HaveSameRows (changed_by_all rows c) (world_rows v)
+  pub kept : (c : Content) → (changed_by_all rows c).kept ≡ c.kept

@@ -1,0 +1,162 @@
+//! The changes of rows of boards.
+
+ghost use Rattle.std.specs.Prelude.{◌≡◌, ◌≤◌, ◌<◌, ◌++◌, true, IfOk, OnOk, length, slice_index_or};
+ghost use Rattle.std.specs.List.{flat_map, list_all};
+ghost use Rattle.tb_board.specs.Board.{ids};
+ghost use Rattle.tb_board.specs.Links.{ArePlaces};
+ghost use Rattle.tb_rows.specs.Rows.{board_row};
+ghost use Rattle.tb_rows.specs.Small.{has_few_tasks};
+ghost use Rattle.tb_rows.specs.Steps.{board_changes, changed_templates, kept_board, later_board, low_changes, new_board, put_place};
+
+use crate::concerned::{PlaceList, changed_templates, is_concerned, put_places};
+use crate::gone::{push_all_gone, push_gone_changes};
+use crate::tasks::{Concerned, push_new_tasks, push_tasks};
+use std::alloc::{AllocError, Global};
+use std::collections::BTreeMap;
+use tb_board::{Board, Change, least_number, places_of};
+use tb_sql::changes::RowChange;
+use tb_sql_tables::rows::BoardRow;
+use tb_task::TaskId;
+use tb_values::{Items, Shared, Text};
+
+/// The changes of rows of the boards that were and of those that are now.
+pub(crate) fn push_boards(
+    alloc: Global,
+    rows: &mut Items<RowChange>,
+    earlier: &[Shared<Board>],
+    later: &[Shared<Board>],
+    changes: &[Change],
+) -> Result<(), AllocError>
+    requires { list_all has_few_tasks later.now ≡ true }
+    ensures { OnOk result (rows.new ≡ rows.old ++ board_changes changes.now earlier.now later.now) }
+{
+    for (place, board) in later.iter().enumerate() {
+        push_board(alloc, rows, earlier, place, board.get(), changes)?;
+    }
+    Ok(())
+}
+
+/// The changes of rows of the board at a place.
+fn push_board(
+    alloc: Global,
+    rows: &mut Items<RowChange>,
+    earlier: &[Shared<Board>],
+    place: usize,
+    board: &Board,
+    changes: &[Change],
+) -> Result<(), AllocError>
+    requires { length board.now.tasks ≤ 10000 }
+    ensures kept { place < length earlier.now → OnOk result (rows.new ≡ rows.old ++ kept_board (length (slice_index_or earlier.now place board.now).tasks) board.now changes.now) }
+    ensures new { length earlier.now ≤ place → OnOk result (rows.new ≡ rows.old ++ new_board board.now) }
+{
+    if place >= earlier.len() {
+        return push_new_board(alloc, rows, board);
+    }
+    let old = earlier[place].get().tasks.len();
+    push_kept_board(alloc, rows, old, board, changes)
+}
+
+/// The changes of rows of a board that had so many tasks.
+fn push_kept_board(
+    alloc: Global,
+    rows: &mut Items<RowChange>,
+    old: usize,
+    board: &Board,
+    changes: &[Change],
+) -> Result<(), AllocError>
+    requires { length board.now.tasks ≤ 10000 }
+    ensures { OnOk result (rows.new ≡ rows.old ++ kept_board old board.now changes.now) }
+{
+    if !is_concerned(changes, board.number) {
+        return Ok(());
+    }
+    push_later_board(alloc, rows, old, board, changes)
+}
+
+fn push_later_board(
+    alloc: Global,
+    rows: &mut Items<RowChange>,
+    old: usize,
+    board: &Board,
+    changes: &[Change],
+) -> Result<(), AllocError>
+    requires { length board.now.tasks ≤ 10000 }
+    ensures { OnOk result (rows.new ≡ rows.old ++ later_board old board.now changes.now) }
+{
+    let places = places_of(alloc, board.tasks.as_slice())?;
+    let concerned = concerned_tasks(alloc, board, &places, old, changes)?;
+    push_low(alloc, rows, old, board)?;
+    push_tasks(alloc, rows, board, &places, &concerned)?;
+    push_gone_changes(alloc, rows, board, &places, changes)
+}
+
+fn concerned_tasks(
+    alloc: Global,
+    board: &Board,
+    places: &BTreeMap<TaskId, usize>,
+    old: usize,
+    changes: &[Change],
+) -> Result<Concerned, AllocError>
+    requires { ArePlaces (ids board.now.tasks) places.now }
+    ensures old { IfOk result (λ concerned. concerned.old ≡ old) }
+    ensures put { IfOk result (λ concerned. concerned.put ≡ flat_map (put_place board.now.number) changes.now) }
+    ensures templates { IfOk result (λ concerned. concerned.templates ≡ changed_templates board.now old (flat_map (put_place board.now.number) changes.now) changes.now) }
+{
+    let count = board.tasks.len();
+    let put = PlaceList::of(alloc, put_places(alloc, changes, board.number)?, count)?;
+    let listed = changed_templates(alloc, board, places, old, &put, changes)?;
+    let templates = PlaceList::of(alloc, listed, count)?;
+    Ok(Concerned {
+        old,
+        put,
+        templates,
+    })
+}
+
+/// The least free number of a board that had so many tasks, if it has more now.
+fn push_low(
+    alloc: Global,
+    rows: &mut Items<RowChange>,
+    old: usize,
+    board: &Board,
+) -> Result<(), AllocError>
+    requires { length board.now.tasks ≤ 10000 }
+    ensures { OnOk result (rows.new ≡ rows.old ++ low_changes old board.now) }
+{
+    if old < board.tasks.len() {
+        let low = least_number(alloc, board)?;
+        rows.push(RowChange::SetLow {
+            board: board.number,
+            low,
+        })?;
+    }
+    Ok(())
+}
+
+/// The rows of a board that is new.
+fn push_new_board(
+    alloc: Global,
+    rows: &mut Items<RowChange>,
+    board: &Board,
+) -> Result<(), AllocError>
+    requires { length board.now.tasks ≤ 10000 }
+    ensures { OnOk result (rows.new ≡ rows.old ++ new_board board.now) }
+{
+    let places = places_of(alloc, board.tasks.as_slice())?;
+    let row = board_row(alloc, board)?;
+    rows.push(RowChange::AddBoard(row))?;
+    push_new_tasks(alloc, rows, board, &places)?;
+    push_all_gone(alloc, rows, board, &places)
+}
+
+fn board_row(alloc: Global, board: &Board) -> Result<BoardRow, AllocError>
+    requires { length board.now.tasks ≤ 10000 }
+    ensures { IfOk result (λ row. row ≡ board_row board.now) }
+{
+    let low = least_number(alloc, board)?;
+    Ok(BoardRow {
+        id: board.number,
+        title: Text::from_str(alloc, board.title.as_str())?,
+        low,
+    })
+}
