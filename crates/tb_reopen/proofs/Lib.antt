@@ -1,0 +1,12 @@
+pub mod Apart
+pub mod Found
+pub mod Joined
+pub mod Lists
+pub mod Orders
+pub mod ReadBoards
+pub mod ReadGone
+pub mod ReadPeople
+pub mod ReadTasks
+pub mod Rising
+pub mod RoleRows
+pub mod Worlds

@@ -1,0 +1,35 @@
+//! People and their rows.
+
+ghost use Rattle.std.specs.Prelude.{[]};
+ghost use Rattle.tb_reopen.specs.Outcome.{Reads};
+ghost use Rattle.tb_reopen.specs.Reading.{person_at, people_in};
+
+use crate::fault::ReopenFault;
+use std::alloc::Global;
+use tb_board::{Key, Name, Person};
+use tb_sql_tables::rows::PersonRow;
+use tb_values::Items;
+
+/// The person of a row, who has this number.
+fn read_person(alloc: Global, number: usize, row: &PersonRow) -> Result<Person, ReopenFault>
+    ensures { Reads result (person_at number row.now) }
+{
+    if row.id as usize != number {
+        return Err(ReopenFault::NotRows);
+    }
+    let name = Name::read(alloc, row.name.as_str())?.ok_or(ReopenFault::NotRows)?;
+    let key = Key::read(alloc, row.secret.as_str())?.ok_or(ReopenFault::NotRows)?;
+    Ok(Person { name, key })
+}
+
+/// The people of these rows, which number them in order from 1.
+pub fn read_people(alloc: Global, rows: &[PersonRow]) -> Result<Items<Person>, ReopenFault>
+    ensures { Reads result (people_in [] rows.now) }
+{
+    let mut people = Items::new(alloc);
+    for row in rows {
+        let person = read_person(alloc, people.len() + 1, row)?;
+        people.push(person)?;
+    }
+    Ok(people)
+}
