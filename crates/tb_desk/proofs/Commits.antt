@@ -7,8 +7,10 @@ use Rattle.tb_core.specs.declared.deciding.Decision.{Decision}
 use Rattle.tb_board.specs.declared.world.World.{World}
 use Rattle.tb_core.specs.Apply.{IsDecision, apply}
 use Rattle.tb_board.specs.Changes.{changed}
+use Rattle.tb_board.specs.Extends.{Extends}
 use Rattle.tb_core.specs.GoodWorld.{IsGoodWorld}
 use Rattle.tb_board.specs.World.{key_of}
+use Rattle.tb_core.proofs.Extending.{extends}
 use Rattle.tb_core.proofs.Stays.{stays_good}
 use Rattle.tb_desk.specs.declared.call.Call.{Call}
 use Rattle.tb_reply.specs.declared.reply.Reply.{Reply}
@@ -34,11 +36,14 @@ unfolding outcome
 told_new s c d r made told = told ∙ ap reply_of made.answer
 
 pub may_commit : (s : State) (c : Call) (d : Decision) (changes : List Change) → changes ≡ d.changes → IsGoodWorld s.world → IsNew s c → IsMade s c d → MayCommit s changes c
-may_commit s c d changes same good new made = record {
-  known = known_is_some s c new.known;
-  new = new.new;
-  good = subst IsGoodWorld (sym (ap (changed s.world) same ∙ made.world)) (stays_good s.world c.member c.command c.moment good);
-}
+may_commit s c d changes same good new made =
+    let later = sym (ap (changed s.world) same ∙ made.world) in
+    record {
+      known = known_is_some s c new.known;
+      new = new.new;
+      good = subst IsGoodWorld later (stays_good s.world c.member c.command c.moment good);
+      extends = subst (Extends s.world) later (extends s.world c.member c.command c.moment);
+    }
 
 -- the state with the reply
 abbrev answered_by : State → Call → World → Reply → State

@@ -1,6 +1,11 @@
--- What the lists stand for after a commit.
-use Rattle.std.proofs.Common.{◌≡◌, ◌⊎◌, ℕ, List, [], ◌∷◌, ◌++◌, map, None, refl, sym, ap, ◌∙◌, inl, inr}
-use Rattle.std.specs.FinMap.{get, insert, from_entries, get-from_entries, from_entries_push}
+-- What the world and the kept replies stand for after a commit.
+use Rattle.std.proofs.Common.{◌≡◌, ◌⊎◌, ℕ, Bool, true, false, true≢false, cond, List, [], ◌∷◌, map, Option, Some, None, Ordering, refl, sym, ap, ◌∙◌, inl, inr}
+use Rattle.std.specs.BTreeMap.{insert_entry, is_at}
+use Rattle.std.specs.FinMap.{find, insert, from_entries, get-from_entries, get-insert, same_map}
+use Rattle.std.specs.Map.{lookup}
+use Rattle.std.proofs.lemmas.Cmp.{eq_by_cmp_equiv}
+use Rattle.std.specs.Ordering.{eq_by_cmp, is_eq}
+use Rattle.std.specs.declared.cmp.Ordering.TheVariants.{Less, Equal, Greater}
 use Rattle.tb_board.specs.declared.change.Change.{Change}
 use Rattle.tb_board.specs.declared.world.World.{World}
 use Rattle.tb_board.specs.Changes.{changed}
@@ -8,48 +13,105 @@ use Rattle.tb_board.specs.World.{opening as opening_world}
 use Rattle.tb_core.proofs.Opening.{opens}
 use Rattle.tb_desk.specs.declared.call.Call.{Call}
 use Rattle.tb_desk.specs.declared.call.KeptReply.{KeptReply}
+use Rattle.tb_desk.specs.contracts.list_keep.KeptUnderOrd.TheImpl as kept_under_ord
+use Rattle.tb_desk.specs.declared.list_keep.KeptUnder.{KeptUnder}
 use Rattle.tb_reply.specs.declared.reply.Reply.{Reply}
-use Rattle.tb_desk.specs.declared.list_keep.Entry.{Entry}
-use Rattle.tb_desk.specs.Calls.{CallName, State, kept_for, name_cmp, name_of}
+use Rattle.tb_desk.specs.Calls.{CallName, State, name_cmp, name_of}
 use Rattle.tb_desk.specs.Keeping.{HoldsEither, MayCommit, with_reply}
-use Rattle.tb_desk.specs.Listed.{IsListed, listed, named}
+use Rattle.tb_desk.specs.Listed.{IsListed, call_name, listed, named}
 use Rattle.tb_desk.specs.Opening.{opening}
-use Rattle.tb_desk.proofs.Names.{names_exact, names_total}
+use Rattle.tb_desk.proofs.Names.{names_exact, names_total, tied}
 
-map_push : (es : List Entry) (e : Entry) → map named (es ++ e ∷ []) ≡ map named es ++ named e ∷ []
-map_push [] e = refl
-map_push (x ∷ es) e = ap (λ ns. named x ∷ ns) (map_push es e)
+-- the order of the keys is that of the names
+abbrev pub IsByName : (KeptUnder → KeptUnder → Ordering) → Type 0
+IsByName cmp = (a b : KeptUnder) → cmp a b ≡ name_cmp (call_name a) (call_name b)
 
-kept_push : (es : List Entry) (name : CallName) (kept : KeptReply) (e : Entry) → named e ≡ (name, kept) → get (from_entries {R = name_cmp} (map named es)) name ≡ None
-    → from_entries {R = name_cmp} (map named (es ++ e ∷ [])) ≡ insert (from_entries (map named es)) name kept
-kept_push es name kept e is new =
-    ap (from_entries {R = name_cmp}) (map_push es e ∙ ap (λ n. map named es ++ n ∷ []) is)
-    ∙ from_entries_push names_total names_exact (map named es) name kept (sym (get-from_entries names_total (map named es) name) ∙ new)
+-- the order in which replies are kept
+abbrev pub key_order : KeptUnder → KeptUnder → Ordering
+key_order = (kept_under_ord.ghosts).cmp
 
-abbrev entry_of : Call → Reply → Entry
-entry_of c r = record { member = c.member; id = c.id; kept = record { content = c.content; reply = r } }
+pub by_name : IsByName key_order
+by_name a b = refl
 
-with_entry : (w w' : World) (es es' : List Entry) (e : Entry) (changes : List Change) (c : Call) (r : Reply)
-    → w' ≡ changed w changes → es' ≡ es ++ e ∷ [] → e ≡ entry_of c r → kept_for (listed w es) c ≡ None
+pub lookup_named : (cmp : KeptUnder → KeptUnder → Ordering) (same : IsByName cmp) (n : KeptUnder) (es : List (KeptUnder × KeptReply)) → lookup (is_at (cmp n)) es ≡ find name_cmp (call_name n) (map named es)
+lookup_named cmp same n [] = refl
+lookup_named cmp same n (e ∷ es) =
+    ap (λ o. cond (is_eq o) (Some e.1) (lookup (is_at (cmp n)) es)) (same n e.0)
+    ∙ ap (cond (eq_by_cmp name_cmp (call_name n) (call_name e.0)) (Some e.1)) (lookup_named cmp same n es)
+
+twice : {A : Type 0} (b : Bool) (x y z : A) → cond b x z ≡ cond b x (cond b y z)
+twice true x y z = refl
+twice false x y z = refl
+
+apart : {A : Type 0} (a b : Bool) (x y z : A) → (a ≡ true → b ≡ true → ⊥) → cond a x (cond b y z) ≡ cond b y (cond a x z)
+apart true true x y z never = absurd (never refl refl)
+apart true false x y z never = refl
+apart false b x y z never = refl
+
+-- two names that tie with a third are one
+one_name : (q a b : CallName) → eq_by_cmp name_cmp q a ≡ true → eq_by_cmp name_cmp q b ≡ true → a ≡ b
+one_name q a b is_a is_b = sym (names_exact q a (tied _ is_a)) ∙ names_exact q b (tied _ is_b)
+
+self_tie : (a b : CallName) → a ≡ b → eq_by_cmp name_cmp a b ≡ true
+self_tie a b same = ap (eq_by_cmp name_cmp a) (sym same) ∙ (eq_by_cmp_equiv names_total).refl a
+
+find_inserted : (cmp : KeptUnder → KeptUnder → Ordering) (same : IsByName cmp) (es : List (KeptUnder × KeptReply)) (n : KeptUnder) (v : KeptReply) (q : CallName)
+    → find name_cmp q (map named (insert_entry cmp es n v)) ≡ cond (eq_by_cmp name_cmp q (call_name n)) (Some v) (find name_cmp q (map named es))
+find_inserted cmp same [] n v q = refl
+find_inserted cmp same (e ∷ es) n v q = by (cmp n e.0) refl (find_inserted cmp same es n v q)
+  where
+    by : (o : Ordering) → cmp n e.0 ≡ o → find name_cmp q (map named (insert_entry cmp es n v)) ≡ cond (eq_by_cmp name_cmp q (call_name n)) (Some v) (find name_cmp q (map named es)) → find name_cmp q (map named (insert_entry cmp (e ∷ es) n v)) ≡ cond (eq_by_cmp name_cmp q (call_name n)) (Some v) (find name_cmp q (map named (e ∷ es)))
+    by Less is more = rw is refl
+    by Equal is more =
+        let one : call_name n ≡ call_name e.0 = names_exact (call_name n) (call_name e.0) (sym (same n e.0) ∙ is) in
+        rw is
+        (twice (eq_by_cmp name_cmp q (call_name e.0)) (Some v) (Some e.1) (find name_cmp q (map named es))
+        ∙ ap (λ m. cond (eq_by_cmp name_cmp q m) (Some v) (cond (eq_by_cmp name_cmp q (call_name e.0)) (Some e.1) (find name_cmp q (map named es)))) (sym one))
+    by Greater is more =
+        rw is
+        (ap (cond (eq_by_cmp name_cmp q (call_name e.0)) (Some e.1)) more
+        ∙ sym
+        (apart (eq_by_cmp name_cmp q (call_name n)) (eq_by_cmp name_cmp q (call_name e.0)) (Some v) (Some e.1) (find name_cmp q (map named es))
+        (λ at_n at_e. absurd
+        (true≢false
+        (sym (self_tie (call_name n) (call_name e.0) (one_name q (call_name n) (call_name e.0) at_n at_e)) ∙ ap is_eq (sym (same n e.0) ∙ is))))))
+
+kept_inserted : (cmp : KeptUnder → KeptUnder → Ordering) (same : IsByName cmp) (es : List (KeptUnder × KeptReply)) (n : KeptUnder) (v : KeptReply)
+    → from_entries {R = name_cmp} (map named (insert_entry cmp es n v)) ≡ insert (from_entries (map named es)) (call_name n) v
+kept_inserted cmp same es n v =
+    same_map names_total names_exact _ _
+    (λ q.
+    get-from_entries names_total (map named (insert_entry cmp es n v)) q
+    ∙ find_inserted cmp same es n v q
+    ∙ ap (cond (eq_by_cmp name_cmp q (call_name n)) (Some v)) (sym (get-from_entries names_total (map named es) q))
+    ∙ sym (get-insert names_total (from_entries (map named es)) (call_name n) v q))
+
+with_kept : (cmp : KeptUnder → KeptUnder → Ordering) (same : IsByName cmp) (w w' : World) (es es' : List (KeptUnder × KeptReply)) (n : KeptUnder) (v : KeptReply) (changes : List Change) (c : Call) (r : Reply)
+    → w' ≡ changed w changes → es' ≡ insert_entry cmp es n v → call_name n ≡ name_of c → v ≡ record { content = c.content; reply = r }
     → with_reply (listed w es) changes c r ≡ listed w' es'
-with_entry w w' es es' e changes c r made pushed is new =
-    let kept = sym (ap (λ xs. from_entries {R = name_cmp} (map named xs)) pushed ∙ kept_push es (name_of c) (record { content = c.content; reply = r }) e (ap named is) new) in
+with_kept cmp same w w' es es' n v changes c r made put under is =
+    let kept =
+    sym
+    (ap (λ xs. from_entries {R = name_cmp} (map named xs)) put
+    ∙ kept_inserted cmp same es n v
+    ∙ ap (λ m. insert (from_entries {R = name_cmp} (map named es)) m v) under
+    ∙ ap (insert (from_entries {R = name_cmp} (map named es)) (name_of c)) is) in
     λ i. record { world = sym made i; kept = kept i }
 
-pub committed : (w w' : World) (es es' : List Entry) (e : Entry) (s : State) (changes : List Change) (c : Call) (r : Reply)
-    → w' ≡ changed w changes → es' ≡ es ++ e ∷ [] → e ≡ entry_of c r → IsListed w es s → MayCommit s changes c
+pub committed : (cmp : KeptUnder → KeptUnder → Ordering) (same : IsByName cmp) (w w' : World) (es es' : List (KeptUnder × KeptReply)) (n : KeptUnder) (v : KeptReply) (s : State) (changes : List Change) (c : Call) (r : Reply)
+    → w' ≡ changed w changes → es' ≡ insert_entry cmp es n v → call_name n ≡ name_of c → v ≡ record { content = c.content; reply = r } → IsListed w es s → MayCommit s changes c
     → IsListed w' es' (with_reply s changes c r)
-committed w w' es es' e s changes c r made pushed is held may = record {
+committed cmp same w w' es es' n v s changes c r made put under is held may = record {
   good = may.good;
-  is = ap (λ t. with_reply t changes c r) held.is ∙ with_entry w w' es es' e changes c r made pushed is (ap (λ t. kept_for t c) (sym held.is) ∙ may.new);
+  is = ap (λ t. with_reply t changes c r) held.is ∙ with_kept cmp same w w' es es' n v changes c r made put under is;
 }
 
 -- the change stands, now and after a stop
-pub either_second : (w : World) (es : List Entry) (a b : State) → IsListed w es b → HoldsEither a b (IsListed w es) (λ t. t ≡ listed w es)
+pub either_second : (w : World) (es : List (KeptUnder × KeptReply)) (a b : State) → IsListed w es b → HoldsEither a b (IsListed w es) (λ t. t ≡ listed w es)
 either_second w es a b held = record { held = inr held; stops = λ t left. inr (left ∙ sym held.is) }
 
--- the lists of a new keeper
-pub opened : (w : World) (es : List Entry) (name key : List ℕ) → w ≡ opening_world name key → es ≡ [] → IsListed w es (opening name key)
+-- what a new keeper has
+pub opened : (w : World) (es : List (KeptUnder × KeptReply)) (name key : List ℕ) → w ≡ opening_world name key → es ≡ [] → IsListed w es (opening name key)
 opened w es name key made none = record {
   good = opens name key;
   is = λ i. record { world = sym made i; kept = ap (λ xs. from_entries {R = name_cmp} (map named xs)) (sym none) i };

@@ -44,7 +44,7 @@ kept_of s d = record { content = d.content; reply = reply_of (outcome s d).answe
 pub kept_for-after_call : (s : State) (c d : Call) → kept_for (after_call s d) c ≡ cond (same_name c d) (Some (kept_of s d)) (kept_for s c)
 kept_for-after_call s c d = get-insert names_total s.kept (name_of d) (kept_of s d) (name_of c) ∙ ap (λ b. cond b (Some (kept_of s d)) (kept_for s c)) (ties c.member d.member c.id d.id)
 
-tied : (o : Ordering) → is_eq o ≡ true → o ≡ Equal
+pub tied : (o : Ordering) → is_eq o ≡ true → o ≡ Equal
 tied Less e = absurd (true≢false (sym e))
 tied Equal e = refl
 tied Greater e = absurd (true≢false (sym e))

@@ -3,6 +3,7 @@ use Rattle.std.specs.Prelude.{◌≡◌, ◌⊎◌, ℕ, ◌+◌, ◌≤◌, Boo
 use Rattle.std.specs.FinMap.{insert}
 use Rattle.tb_board.specs.declared.change.Change.{Change}
 use Rattle.tb_board.specs.Changes.{changed}
+use Rattle.tb_board.specs.Extends.{Extends}
 use Rattle.tb_core.specs.GoodWorld.{IsGoodWorld}
 use Rattle.tb_board.specs.World.{key_of}
 use Rattle.tb_desk.specs.declared.call.Call.{Call}
@@ -35,11 +36,12 @@ pub record HoldsEither (before after : State) (now : State → Type 0) (may_leav
 abbrev pub with_reply : State → List Change → Call → Reply → State
 with_reply s changes c r = record { world = changed s.world changes; kept = insert s.kept (name_of c) (record { content = c.content; reply = r }) }
 
--- when a call's changes and reply may be put: its person is known, its name is new, and the world stays good
+-- when a call's changes and reply may be put: its person is known, its name is new, and the world stays good and keeps what it has
 pub record MayCommit (s : State) (changes : List Change) (c : Call) : Type 0 where
   pub known : IsSome (key_of s.world c.member)
   pub new : kept_for s c ≡ None
   pub good : IsGoodWorld (changed s.world changes)
+  pub extends : Extends s.world (changed s.world changes)
 
 -- the call's caller is known, and nothing is kept under its name
 pub record IsNew (s : State) (c : Call) : Type 0 where

@@ -1,4 +1,4 @@
-ghost use Rattle.std.specs.Prelude.{◌≡◌, ◌≢◌, ◌+◌, ◌++◌, ◌∷◌, ◌<◌, ◌≤◌, [], Some, None, IfOk, IsErr, IsErrOf, IsSome, OnErr, OnOk, false, if◌then◌else◌, is_ok, length, take, true};
+ghost use Rattle.std.specs.Prelude.{◌≡◌, ◌≢◌, ◌⊎◌, ◌+◌, ◌++◌, ◌∷◌, ◌<◌, ◌≤◌, [], Some, None, IfOk, IsErr, IsErrOf, IsSome, OnErr, OnOk, false, if◌then◌else◌, is_ok, length, take, true};
 ghost use Rattle.tb_desk.specs.declared.fault.KeepFault.TheVariants.{Memory, Store};
 ghost use Rattle.tb_desk.specs.Calls.{State, once, plain, replies_to, reply};
 ghost use Rattle.tb_desk.specs.Keeping.{IsStill, Only, StandsAfter, is_store};
@@ -55,6 +55,7 @@ impl<K: Keep> Desk<K> {
         ensures told { (s : State) → K.holds self.old s → IfOk result (λ r. r ≡ reply s [] call.now) }
         ensures left { (s : State) → K.holds self.old s → OnOk result (K.holds self.new (plain s (once s (call.now ∷ [])))) }
         ensures memory { (s : State) → K.holds self.old s → IsErrOf result Memory → K.holds self.new s }
+        ensures held { (s : State) → K.holds self.old s → K.holds self.new s ⊎ K.holds self.new (plain s (once s (call.now ∷ []))) }
         ensures stands { (s : State) → K.holds self.old s → Only s (K.after_stop self.old)
             → StandsAfter s (call.now ∷ []) (if is_ok result then 1 else 0) (K.holds self.new) (K.after_stop self.new) }
         ensures failed { K.has_failed self.new ≡ is_store result }

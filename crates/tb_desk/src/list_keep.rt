@@ -1,43 +1,33 @@
-ghost use Rattle.std.specs.Prelude.{◌≡◌, ◌&&◌, IfOk, map};
+ghost use Rattle.std.specs.Prelude.{◌≡◌, IfOk, map};
 ghost use Rattle.std.specs.FinMap.{find};
-ghost use Rattle.std.specs.Ordering.{eq_by_cmp};
 ghost use Rattle.tb_board.specs.World.{key_of};
 ghost use Rattle.tb_desk.specs.Calls.{name_cmp};
-ghost use Rattle.tb_desk.specs.Listed.{named};
+ghost use Rattle.tb_desk.specs.Listed.{call_name, named};
 ghost use Rattle.tb_desk.specs.Opening.{opening};
 
 use crate::call::{Call, KeptReply};
 use crate::fault::KeepFault;
 use crate::keep::Keep;
 use std::alloc::{AllocError, Global};
+use std::collections::BTreeMap;
 use tb_board::{Change, Key, Name, World};
 use tb_core::{Command, Seen, look_for};
 use tb_reply::Reply;
 use tb_task::TaskId;
 use tb_values::Duplicate;
 
-/// What is kept of one call, and its name.
-#[derive(Drop)]
-pub(crate) struct Entry {
-    pub member: Name,
+/// The name of a call, under which its reply is kept.
+#[derive(PartialEq, Eq, PartialOrd, Ord, Drop)]
+pub(crate) struct KeptUnder {
+    pub member: String,
     pub id: TaskId,
-    pub kept: KeptReply,
 }
 
-impl Entry {
-    #[tactic(auto, using(crate::proofs::Names::ties))]
-    fn is_for(&self, member: &Name, id: TaskId) -> bool
-        ensures { result ≡ eq_by_cmp name_cmp (member.now, id) (self.now.member, self.now.id) }
-    {
-        member.as_str() == self.member.as_str() && id == self.id
-    }
-}
-
-/// Keeps a world and the replies given, as plain lists. It has no store that could fail.
+/// Keeps a world, and the replies given in the order of their names. It has no store that could fail.
 #[derive(Drop)]
 pub struct ListKeep {
     world: World,
-    entries: Vec<Entry>,
+    kept: BTreeMap<KeptUnder, KeptReply>,
 }
 
 impl ListKeep {
@@ -48,7 +38,7 @@ impl ListKeep {
         let world = World::opening(alloc, name, key)?;
         Ok(ListKeep {
             world,
-            entries: Vec::new(alloc),
+            kept: BTreeMap::new(alloc),
         })
     }
 }
@@ -57,9 +47,9 @@ impl Keep for ListKeep {
     ghost use Rattle.std.specs.Prelude.{◌≡◌, false};
     ghost use Rattle.tb_desk.specs.Listed.{IsListed, listed, only};
 
-    ghost holds = { λ k s. IsListed k.world k.entries.items s };
+    ghost holds = { λ k s. IsListed k.world k.kept.entries s };
 
-    ghost after_stop = { λ k s. s ≡ listed k.world k.entries.items };
+    ghost after_stop = { λ k s. s ≡ listed k.world k.kept.entries };
 
     ghost has_failed = { λ _. false };
 
@@ -77,11 +67,12 @@ impl Keep for ListKeep {
 
     fn kept(
         &mut self,
-        _alloc: Global,
+        alloc: Global,
         name: &Name,
         id: TaskId,
     ) -> Result<Option<KeptReply>, KeepFault> {
-        Ok(kept_in(self.entries.as_slice(), name, id)?)
+        let name = kept_under(alloc, name, id)?;
+        Ok(kept_in(&self.kept, &name)?)
     }
 
     fn look(&mut self, _alloc: Global, name: &Name, command: &Command) -> Result<Seen, KeepFault> {
@@ -95,10 +86,11 @@ impl Keep for ListKeep {
         call: &Call,
         reply: &Reply,
     ) -> Result<(), KeepFault> {
-        let entry = entry_for(call, reply)?;
-        self.entries.reserve(1)?;
-        self.world = self.world.changed(alloc, changes)?;
-        self.entries.push(entry).unwrap();
+        let name = kept_under(alloc, &call.member, call.id)?;
+        let kept = kept_reply(call, reply)?;
+        let world = self.world.changed(alloc, changes)?;
+        self.kept.insert(name, kept)?;
+        self.world = world;
         Ok(())
     }
 }
@@ -117,26 +109,29 @@ fn key_in(world: &World, name: &Name) -> Result<Option<Key>, AllocError>
     }
 }
 
-fn kept_in(entries: &[Entry], member: &Name, id: TaskId) -> Result<Option<KeptReply>, AllocError>
-    ensures { IfOk result (λ kept. kept ≡ find name_cmp (member.now, id) (map named entries.now)) }
+fn kept_under(alloc: Global, member: &Name, id: TaskId) -> Result<KeptUnder, AllocError>
+    ensures { IfOk result (λ name. call_name name ≡ (member.now, id)) }
 {
-    for entry in entries {
-        if entry.is_for(member, id) {
-            return Ok(Some(entry.kept.duplicate()?));
-        }
-    }
-    Ok(None)
+    let member = String::from_str(alloc, member.as_str())?;
+    Ok(KeptUnder { member, id })
 }
 
-fn entry_for(call: &Call, reply: &Reply) -> Result<Entry, AllocError>
-    ensures { IfOk result (λ e. e ≡ record { member = call.now.member; id = call.now.id; kept = record { content = call.now.content; reply = reply.now } }) }
+fn kept_in(
+    kept: &BTreeMap<KeptUnder, KeptReply>,
+    name: &KeptUnder,
+) -> Result<Option<KeptReply>, AllocError>
+    ensures { IfOk result (λ found. found ≡ find name_cmp (call_name name.now) (map named kept.now.entries)) }
 {
-    let member = call.member.duplicate()?;
+    match kept.get(name) {
+        Some(reply) => Ok(Some(reply.duplicate()?)),
+        None => Ok(None),
+    }
+}
+
+fn kept_reply(call: &Call, reply: &Reply) -> Result<KeptReply, AllocError>
+    ensures { IfOk result (λ kept. kept ≡ record { content = call.now.content; reply = reply.now }) }
+{
     let content = call.content.duplicate()?;
     let reply = reply.duplicate()?;
-    Ok(Entry {
-        member,
-        id: call.id,
-        kept: KeptReply { content, reply },
-    })
+    Ok(KeptReply { content, reply })
 }

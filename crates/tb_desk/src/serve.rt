@@ -1,5 +1,5 @@
 //! How one call is handled, over any keeper.
-ghost use Rattle.std.specs.Prelude.{◌≡◌, ◌∷◌, [], true, IfOk, OnOk, IsErrOf, MatchOption};
+ghost use Rattle.std.specs.Prelude.{◌≡◌, ◌⊎◌, ◌∷◌, [], true, IfOk, OnOk, IsErrOf, MatchOption};
 ghost use Rattle.tb_desk.specs.declared.fault.KeepFault.TheVariants.{Memory, Store};
 ghost use Rattle.tb_desk.specs.Calls.{State, after_call, once, outcome, plain, reply};
 ghost use Rattle.tb_reply.specs.Replies.{reply_of};
@@ -17,6 +17,7 @@ pub(crate) fn serve<K: Keep>(keep: &mut K, alloc: Global, call: &Call) -> Result
     ensures told { (s : State) → K.holds keep.old s → IfOk result (λ r. r ≡ reply s [] call.now) }
     ensures left { (s : State) → K.holds keep.old s → OnOk result (K.holds keep.new (plain s (once s (call.now ∷ [])))) }
     ensures memory { (s : State) → K.holds keep.old s → IsErrOf result Memory → K.holds keep.new s }
+    ensures held { (s : State) → K.holds keep.old s → K.holds keep.new s ⊎ K.holds keep.new (plain s (once s (call.now ∷ []))) }
     ensures store { (s : State) → K.holds keep.old s → Only s (K.after_stop keep.old) → IsErrOf result Store
         → HoldsEither s (plain s (once s (call.now ∷ []))) (K.holds keep.new) (K.after_stop keep.new) }
     ensures failed { K.has_failed keep.new ≡ is_store result }
@@ -57,6 +58,7 @@ fn answer_new<K: Keep>(keep: &mut K, alloc: Global, call: &Call) -> Result<Reply
     ensures told { (s : State) → K.holds keep.old s → IsNew s call.now → IfOk result (λ r. r ≡ reply_of (outcome s call.now).answer) }
     ensures left { (s : State) → K.holds keep.old s → IsNew s call.now → OnOk result (K.holds keep.new (after_call s call.now)) }
     ensures memory { (s : State) → K.holds keep.old s → IsNew s call.now → IsErrOf result Memory → K.holds keep.new s }
+    ensures held { (s : State) → K.holds keep.old s → IsNew s call.now → K.holds keep.new s ⊎ K.holds keep.new (after_call s call.now) }
     ensures store { (s : State) → K.holds keep.old s → IsNew s call.now → Only s (K.after_stop keep.old) → IsErrOf result Store
         → HoldsEither s (after_call s call.now) (K.holds keep.new) (K.after_stop keep.new) }
     ensures failed { K.has_failed keep.new ≡ is_store result }

@@ -1,4 +1,4 @@
-use Rattle.std.proofs.Common.{rules, ◌≡◌, refl, sym, ap, ◌∙◌, subst}
+use Rattle.std.proofs.Common.{rules, ◌≡◌, refl, sym, ap, ◌∙◌, subst, inr}
 use Rattle.tb_desk.specs.Calls.{State, after_call}
 use Rattle.tb_desk.proofs.Commits.{known_is_some, may_commit, told_new, with_reply-after_call}
 use Rattle.tb_desk.proofs.Moves.{either_of, still_either}
@@ -41,3 +41,17 @@ returns-in_err-commit-clause-memory g c s held new failed =
 
 pub returns-in_err-seen-clause-store : goal.returns-in_err-seen-clause-store
 returns-in_err-seen-clause-store g c s held new only failed = still_either s _ _ _ _ _ c.in_err-seen.ensures.same held only
+
+pub returns-clause-held : goal.returns-clause-held
+returns-clause-held g c s held new = inr (returns-clause-left g c s held new)
+
+pub returns-in_err-commit-clause-held : goal.returns-in_err-commit-clause-held
+returns-in_err-commit-clause-held g c s held new =
+    let call = c.args.call.now in
+    let saw = c.in_ok-seen.ensures.answer s held (known_is_some s call new.known) in
+    let made = c.in_ok-decision.ensures s.world call.member saw in
+    let decision = c.in_ok-decision.decision in
+    let may = may_commit s call decision _ c.as_slice.ensures (g.met.K.Keep.good _ s held) new made in
+    let either = either_of (after_call s call) (with_reply-after_call s call decision _ _ c.as_slice.ensures made c.in_ok-reply.ensures)
+    (c.in_err-commit.ensures.store s (c.in_ok-seen.ensures.same.held s held) may c.in_ok-seen.ensures.failed) in
+    either.held

@@ -1,4 +1,4 @@
-use Rattle.std.proofs.Common.{◌≡◌, ◌∙◌, sym, ap, map, rules}
+use Rattle.std.proofs.Common.{◌≡◌, ◌∙◌, sym, ap, map}
 use Rattle.std.specs.FinMap.{find, get, get-from_entries}
 use Rattle.tb_desk.specs.Calls.{State, name_cmp}
 use Rattle.tb_desk.specs.Listed.{named}
@@ -6,4 +6,8 @@ use Rattle.tb_desk.proofs.Names.{names_total}
 use Rattle.tb_desk.proofs.list_keep.ListKeepKeep.kept.Goals as goal
 
 pub returns-clause-answer : goal.returns-clause-answer
-returns-clause-answer c s held = c.in_ok-kept_in.ensures ∙ ap (find name_cmp _) (ap (map named) c.as_slice.ensures.value) ∙ sym (get-from_entries names_total _ _) ∙ ap (λ (t : State). get t.kept (c.args.name.now, c.args.id)) (sym held.is)
+returns-clause-answer c s held =
+    c.in_ok-kept_in.ensures
+    ∙ ap (λ name. find name_cmp name (map named c.args.self.now.kept.entries)) c.in_ok-name.ensures
+    ∙ sym (get-from_entries names_total (map named c.args.self.now.kept.entries) (c.args.name.now, c.args.id))
+    ∙ ap (λ (t : State). get t.kept (c.args.name.now, c.args.id)) (sym held.is)
