@@ -9,6 +9,7 @@ use Rattle.tb_core.proofs.Opening.{opens}
 use Rattle.tb_desk.specs.declared.call.KeptReply.{KeptReply}
 use Rattle.tb_desk.specs.Calls.{CallName, name_cmp}
 use Rattle.tb_desk.specs.Opening.{opening}
+use Rattle.tb_reopen.specs.Laws.{AreApart}
 use Rattle.tb_rows.specs.Rows.{world_rows, HaveSameRows, IsSameContent}
 use Rattle.tb_sql.specs.declared.changes.RowChange.{RowChange}
 use Rattle.tb_sql.specs.Writing.{opening as content_of}
@@ -27,8 +28,9 @@ board_title : is_title (codes "board") ≡ true
 unfolding is_title
 board_title = refl
 
-pub first_rows : (name key : List ℕ) (rows : List RowChange) → is_name name ≡ true → is_key key ≡ true → content_of rows ≡ world_rows (opening_world name key) → AreRowsOf (opening name key) (content_of rows)
-first_rows name key rows named keyed same = record {
+pub first_rows : AreApart → (name key : List ℕ) (rows : List RowChange) → is_name name ≡ true → is_key key ≡ true → content_of rows ≡ world_rows (opening_world name key) → AreRowsOf (opening name key) (content_of rows)
+first_rows apart name key rows named keyed same = record {
+  apart = apart;
   good = opens name key;
   form = record { people = (record { name = named; key = keyed }, tt); boards = (record { title = board_title; tasks = tt; gone = tt }, tt) };
   people = subst (AllByRecursion (IsKnown (opening_world name key))) (sym no_entries) tt;

@@ -29,11 +29,12 @@ module _ {K X : Type 0} (R : K → K → Ordering) (o : IsTotalOrder R) where
   all_in P xs ys same all = recursion_from_All P ys (All-permutation P xs ys same (All-from_recursion P xs all))
 
   under : (x : K × X) (xs ys : List (K × X)) → FindsSame xs ys → FindsSame (x ∷ xs) (x ∷ ys)
-  under x xs ys h =
-      (IsPermutation-cons x xs ys h.0,
-      λ apart.
-          let later = h.1 apart.1 in
-          ((all_in (λ b. eq_by_cmp R x.0 b.0 ≡ false) xs ys h.0 apart.0, later.0), λ q. ap (cond (eq_by_cmp R q x.0) (Some x.1)) (later.1 q)))
+  under x xs ys h = (
+    IsPermutation-cons x xs ys h.0,
+    λ apart.
+        let later = h.1 apart.1 in
+        ((all_in (λ b. eq_by_cmp R x.0 b.0 ≡ false) xs ys h.0 apart.0, later.0), λ q. ap (cond (eq_by_cmp R q x.0) (Some x.1)) (later.1 q)),
+  )
 
   turned : (x y : K × X) (rest : Option X) (q : K) → eq_by_cmp R x.0 y.0 ≡ false → cond (eq_by_cmp R q y.0) (Some y.1) (cond (eq_by_cmp R q x.0) (Some x.1) rest) ≡ cond (eq_by_cmp R q x.0) (Some x.1) (cond (eq_by_cmp R q y.0) (Some y.1) rest)
   turned x y rest q apart = go (eq_by_cmp R q x.0) (eq_by_cmp R q y.0) (λ a b. true≢false (sym b ∙ (eq_by_cmp_equiv o).congr q x.0 y.0 a ∙ apart))
@@ -44,16 +45,18 @@ module _ {K X : Type 0} (R : K → K → Ordering) (o : IsTotalOrder R) where
       go false b h = refl
 
   turn : (x y : K × X) (xs : List (K × X)) → FindsSame (x ∷ y ∷ xs) (y ∷ x ∷ xs)
-  turn x y xs =
-      (IsPermutation-sym _ _ (IsPermutation-middle (y ∷ []) x xs),
-      λ apart.
-          (((((eq_by_cmp_equiv o).symm y.0 x.0 ∙ apart.0.0), apart.1.0), (apart.0.1, apart.1.1)), λ q. turned x y (find R q xs) q apart.0.0))
+  turn x y xs = (
+    IsPermutation-sym _ _ (IsPermutation-middle (y ∷ []) x xs),
+    λ apart.
+        (((((eq_by_cmp_equiv o).symm y.0 x.0 ∙ apart.0.0), apart.1.0), (apart.0.1, apart.1.1)), λ q. turned x y (find R q xs) q apart.0.0),
+  )
 
   same_found : (xs ys : List (K × X)) → IsPermutation xs ys → FindsSame xs ys
   same_found = along_permutation FindsSame (λ xs. (IsPermutation-refl xs, λ apart. (apart, λ q. refl))) under turn
-      (λ xs ys zs p q.
-          (IsPermutation-trans xs ys zs p.0 q.0,
-          λ apart. let a = p.1 apart in let b = q.1 a.0 in (b.0, λ k. b.1 k ∙ a.1 k)))
+      (λ xs ys zs p q. (
+        IsPermutation-trans xs ys zs p.0 q.0,
+        λ apart. let a = p.1 apart in let b = q.1 a.0 in (b.0, λ k. b.1 k ∙ a.1 k),
+      ))
 
   above_apart : (x : K) (es : List (K × X)) → T (below_all R x es) → AllByRecursion (λ b. eq_by_cmp R x b.0 ≡ false) es
   above_apart x [] h = tt

@@ -71,4 +71,4 @@ module _ (w later : World) (more : List Person) (behind : later.people ≡ w.peo
     with_reply_rows rows same =
         IsPermutation-trans _ _ _ (IsPermutation-cons (kept_row w (name, kept)) _ _ same)
         (subst (λ l. IsPermutation l (map (kept_row later) (entries (insert m name kept)))) (rows_stay ((name, kept) ∷ entries m) (caller, known))
-          (IsPermutation-map (kept_row later) _ _ (insert_permutes name_cmp names_total m name kept new)))
+        (IsPermutation-map (kept_row later) _ _ (insert_permutes name_cmp names_total m name kept new)))

@@ -7,4 +7,3 @@ pub mod Replies
 pub mod SameTables
 pub mod States
 pub mod Stored
-pub mod Worlds

@@ -26,7 +26,7 @@ module _ (name : List ℕ) where
   at_number [] within = absurd (omega arith)
   at_number (p ∷ people) within =
       elim (has_name name p) as (λ b. has_name name p ≡ b → cond (not b) (1 + prefix_len (λ p. not (has_name name p)) people) 0 < length (p ∷ people)
-          → get_or (map (λ (p : Person). p.name) (p ∷ people)) (cond (not b) (1 + prefix_len (λ p. not (has_name name p)) people) 0) [] ≡ name) [
+      → get_or (map (λ (p : Person). p.name) (p ∷ people)) (cond (not b) (1 + prefix_len (λ p. not (has_name name p)) people) 0) [] ≡ name) [
         | true ↦ λ is h. (bytes_eq-Decides p.name name).0 is
         | false ↦ λ is h. next (map (λ (p : Person). p.name) people) p.name (prefix_len (λ p. not (has_name name p)) people) ∙ at_number people (omega arith)
       ] refl within
@@ -35,7 +35,7 @@ module _ (name : List ℕ) where
   first_more [] more within = absurd (omega arith)
   first_more (p ∷ people) more within =
       elim (has_name name p) as (λ b. cond (not b) (1 + prefix_len (λ p. not (has_name name p)) people) 0 < length (p ∷ people)
-          → cond (not b) (1 + prefix_len (λ p. not (has_name name p)) (people ++ more)) 0 ≡ cond (not b) (1 + prefix_len (λ p. not (has_name name p)) people) 0) [
+      → cond (not b) (1 + prefix_len (λ p. not (has_name name p)) (people ++ more)) 0 ≡ cond (not b) (1 + prefix_len (λ p. not (has_name name p)) people) 0) [
         | true ↦ λ h. refl
         | false ↦ λ h. ap (λ n. 1 + n) (first_more people more (omega arith))
       ] within

@@ -13,7 +13,6 @@ use Rattle.tb_sql_tables.specs.Content.{AreRows, Content}
 use Rattle.tb_keeper.specs.Stored.{kept_row, state_rows, AreOfPeople, AreRowsOf, Holds, IsStored, IsStoredAsEither, MayLeave}
 use Rattle.tb_keeper.specs.KeptRows.{IsKnown, same_replies}
 use Rattle.tb_keeper.specs.SameTables.{same_contents}
-use Rattle.tb_keeper.specs.Worlds.{rows_apart}
 
 meet : (a b c d : Content) → HaveSameRows a c → HaveSameRows b d → HaveSameRows a b → HaveSameRows c d
 meet a b c d ac bd ab = record {
@@ -38,7 +37,7 @@ pub same_states : (s t : State) (a b : Content) (db : Trees) → AreRowsOf s a �
 same_states s t a b db of_s of_t is_a is_b =
     let same = same_contents a b db is_a is_b in
     let tables = meet a b (world_rows s.world) (world_rows t.world) (plain a s of_s.same.tables) (plain b t of_t.same.tables) same.tables in
-    let world : s.world ≡ t.world = rows_apart s.world t.world of_s.good of_t.good of_s.form of_t.form tables in
+    let world : s.world ≡ t.world = of_s.apart s.world t.world of_s.good of_t.good of_s.form of_t.form tables in
     let rows = IsPermutation-trans _ _ _ (IsPermutation-sym _ _ of_s.same.kept) (IsPermutation-trans _ _ _ same.kept of_t.same.kept) in
     let known : AllByRecursion (IsKnown s.world) (entries t.kept) = subst (λ w. AllByRecursion (IsKnown w) (entries t.kept)) (sym world) of_t.people in
     let rows_of_one = subst (λ w. IsPermutation (map (kept_row s.world) (entries s.kept)) (map (kept_row w) (entries t.kept))) (sym world) rows in

@@ -12,6 +12,7 @@ use Rattle.tb_core.specs.GoodWorld.{IsGoodWorld}
 use Rattle.tb_desk.specs.declared.call.KeptReply.{KeptReply}
 use Rattle.tb_desk.specs.Calls.{CallName, State}
 use Rattle.tb_reopen.specs.Forms.{HasForm}
+use Rattle.tb_reopen.specs.Laws.{AreApart}
 use Rattle.tb_rows.specs.Rows.{world_rows, IsSameContent}
 use Rattle.tb_sql_tables.specs.declared.rows.KeptRow.{KeptRow}
 use Rattle.tb_sql_tables.specs.Content.{AreRows, Content, Stands, StandsAsEither, StandsEmptyOr}
@@ -46,6 +47,8 @@ AreOfPeople s = AllByRecursion (λ e. IsSome (key_of s.world e.0.0)) (entries s.
 
 -- the content is the rows of the state, in any order
 pub record AreRowsOf (s : State) (content : Content) : Type 0 where
+  -- no two good worlds have the same rows: a law, which is kept here for the laws of a keeper
+  pub apart : AreApart
   pub good : IsGoodWorld s.world
   pub form : HasForm s.world
   pub people : AreOfPeople s

@@ -15,6 +15,7 @@ use crate::sql_keep::SqlKeep;
 use sqlite::{Alter, Connection};
 use std::alloc::{AllocError, Global};
 use tb_board::{Key, Name, World};
+use tb_reopen::laws::rows_are_apart;
 use tb_rows::opening_rows;
 use tb_sql::changes::RowChange;
 use tb_sql::opening::is_empty;
@@ -76,6 +77,7 @@ struct First {
 fn first_state(alloc: Global, name: &Name, key: &Key) -> Result<First, AllocError>
     ensures { IfOk result (λ first. (first.world ≡ opening_world name.now key.now) × AreRowsOf (opening name.now key.now) (content_of first.rows)) }
 {
+    rows_are_apart();
     let world = World::opening(alloc, name, key)?;
     let rows = opening_rows(alloc, name, key)?;
     let named = is_name_read(alloc, name)?;

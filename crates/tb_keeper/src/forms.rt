@@ -28,7 +28,9 @@ fn has_form(alloc: Global, change: &Change) -> Result<bool, AllocError>
 {
     match change {
         Change::PutTask { task, .. } => Ok(is_taken(task.get())),
-        Change::AddPerson { name, key } => Ok(is_name_read(alloc, name)? && is_key_read(alloc, key)?),
+        Change::AddPerson { name, key } => Ok(
+            is_name_read(alloc, name)? && is_key_read(alloc, key)?,
+        ),
         Change::AddBoard { title, .. } => is_title_read(alloc, title),
         Change::SetRole { .. } => Ok(true),
         Change::SetGone { gone, .. } => {

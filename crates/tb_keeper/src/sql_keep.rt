@@ -100,8 +100,17 @@ impl<S: Alter> Keep for SqlKeep<S> {
         }
         let world = self.world.changed(alloc, changes)?;
         let name = name_for(&call.member, call.id)?;
-        self.replies.insert(name_for(&call.member, call.id)?, kept_for(call, reply)?)?;
-        match write_call(alloc, &mut self.conn, &self.world, &world, changes, call, reply) {
+        self.replies
+            .insert(name_for(&call.member, call.id)?, kept_for(call, reply)?)?;
+        match write_call(
+            alloc,
+            &mut self.conn,
+            &self.world,
+            &world,
+            changes,
+            call,
+            reply,
+        ) {
             Ok(()) => {
                 self.world = world;
                 Ok(())
