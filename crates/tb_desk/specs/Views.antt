@@ -12,15 +12,17 @@ use Rattle.tb_board.specs.Board.{has_id}
 use Rattle.tb_board.specs.World.{key_of, number_of}
 use Rattle.tb_report.specs.Listing.{listing}
 use Rattle.tb_report.specs.Shown.{shown, shown_task}
+use Rattle.tb_todotxt.specs.FileTexts.{file_text}
 use Rattle.tb_reply.specs.declared.reply.Reply.{Reply}
 use Rattle.tb_desk.specs.declared.view.View.{View}
-use Rattle.tb_desk.specs.declared.view.View.TheVariants.{Export, Listing, One}
+use Rattle.tb_desk.specs.declared.view.View.TheVariants.{Export, Listing, One, Todo}
 use Rattle.tb_desk.specs.Calls.{State, has_key, unknown_caller}
 use Rattle.tb_reply.specs.Replies.{reply_of}
 
 abbrev pub board_of : View → ℕ
 board_of (Listing n) = n
 board_of (Export n) = n
+board_of (Todo n) = n
 board_of (One n id) = n
 
 -- the JSON of all tasks
@@ -36,6 +38,7 @@ one_text b (Some t) m = Ok (shown_text (shown_task b m t))
 abbrev pub board_view : Board → View → ℕ → Result (List ℕ) Refusal
 board_view b (Listing n) m = Ok (listing b m)
 board_view b (Export n) m = Ok (export_text b m)
+board_view b (Todo n) m = Ok (file_text (shown b m))
 board_view b (One n id) m = one_text b (find (has_id id) b.tasks) m
 
 -- a board that isn't there, or on which the person has no role, isn't shown

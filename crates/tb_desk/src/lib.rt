@@ -1,7 +1,8 @@
 //! The desk: each call acts once, however often it is sent, and is answered from what is kept.
 //!
 //! It owns calls, the trait of what keeps a world with the replies given, and a keeper that holds lists. It stands on `tb_core` for
-//! commands, on `tb_reply` for replies, and on `tb_report` and `tb_json` for what views show.
+//! commands, on `tb_reply` for replies, and on `tb_report`, `tb_json` and `tb_todotxt` for what views
+//! show.
 #![tactic(auto)]
 
 mod call;

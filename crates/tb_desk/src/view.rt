@@ -7,6 +7,8 @@ pub enum View {
     Listing(u32),
     /// All tasks of a board as JSON.
     Export(u32),
+    /// A line of todo.txt for each task of a board that has one.
+    Todo(u32),
     /// One task of a board as JSON.
     One(u32, TaskId),
 }

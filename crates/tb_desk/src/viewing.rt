@@ -2,7 +2,8 @@
 ghost use Rattle.std.specs.Prelude.{◌≡◌, Err, IfOk, IsErrOf, Ok, find, option_map, true};
 ghost use Rattle.tb_board.specs.Board.{has_id};
 ghost use Rattle.tb_json.specs.Writing.{shown_text};
-ghost use Rattle.tb_report.specs.Shown.{shown_task as shown_task_of};
+ghost use Rattle.tb_report.specs.Shown.{shown as shown_tasks, shown_task as shown_task_of};
+ghost use Rattle.tb_todotxt.specs.FileTexts.{file_text};
 ghost use Rattle.tb_desk.specs.declared.fault.KeepFault.TheVariants.{Store};
 ghost use Rattle.tb_desk.specs.Calls.{State};
 ghost use Rattle.tb_desk.specs.Keeping.{IsStill, is_store};
@@ -18,6 +19,7 @@ use tb_json::{write_task, write_tasks};
 use tb_reply::{Reply, reply_to_refused};
 use tb_report::{listing, shown, shown_task};
 use tb_task::{Moment, Task, TaskId};
+use tb_todotxt::write_file;
 use tb_values::{Shared, Text};
 
 /// What a person with a key is shown of a board.
@@ -78,7 +80,8 @@ fn board_of(view: &View) -> u32
     ensures { result ≡ board_of_view view.now }
 {
     match view {
-        View::Listing(board) | View::Export(board) | View::One(board, _) => *board,
+        View::Listing(board) | View::Export(board) | View::Todo(board) | View::One(board, _) =>
+            *board,
     }
 }
 
@@ -93,6 +96,7 @@ fn show_board(
     match view {
         View::Listing(_) => Ok(Ok(listing(alloc, board, at)?)),
         View::Export(_) => Ok(Ok(export(alloc, board, at)?)),
+        View::Todo(_) => Ok(Ok(todo(alloc, board, at)?)),
         View::One(_, id) => show_one(alloc, board, task_on(board, *id), at),
     }
 }
@@ -103,6 +107,14 @@ fn export(alloc: Global, board: &Board, at: Moment) -> Result<Text, AllocError>
 {
     let tasks = shown(alloc, board, at)?;
     write_tasks(alloc, tasks.as_slice())
+}
+
+/// A line for each task of a board that has one.
+fn todo(alloc: Global, board: &Board, at: Moment) -> Result<Text, AllocError>
+    ensures { IfOk result (λ text. text ≡ file_text (shown_tasks board.now at)) }
+{
+    let tasks = shown(alloc, board, at)?;
+    write_file(alloc, tasks.as_slice())
 }
 
 fn task_on(board: &Board, id: TaskId) -> Option<&Shared<Task>>
