@@ -17,4 +17,4 @@ pub use asked::{Asked, Sender};
 pub use asking::call_of;
 pub use clock::Clock;
 pub use rejection::{CallFault, Rejection};
-pub use serving::{Exchange, ServeEnd, ServeFault, Turn, serve_message};
+pub use serving::{ServeEnd, ServeFault, serve};

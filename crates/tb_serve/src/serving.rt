@@ -4,7 +4,7 @@ ghost use Rattle.tb_desk.specs.Calls.{State};
 ghost use Rattle.tb_desk.specs.Keeping.{Only};
 ghost use Rattle.tb_http.specs.Answer.{answer_text};
 ghost use Rattle.tb_http.specs.Closing.{message_limit};
-ghost use Rattle.tb_serve.specs.Serving.{Exchanges, HandlesMessage, Sends, answers_one, ended_by, exchange_fault, goes_on, later, owes_one, reads_one, turn_fault, unread_text};
+ghost use Rattle.tb_serve.specs.Serving.{Exchanges, HandlesMessage, IsServed, Sends, answers_one, ended_by, exchange_fault, goes_on, later, owes_one, reads_one, turn_fault, unread_text};
 ghost use Rattle.tb_serve.specs.Telling as telling;
 
 use crate::clock::Clock;
@@ -56,7 +56,7 @@ pub struct Exchange {
 
 impl Exchange {
     /// The end behind so many messages that were read and answered, and this exchange.
-    pub fn ends(self, before: usize) -> ServeEnd
+    pub(crate) fn ends(self, before: usize) -> ServeEnd
         requires { before < 1000 }
         ensures { result ≡ ended_by before self }
     {
@@ -67,8 +67,8 @@ impl Exchange {
         }
     }
 
-    /// Whether a message was told what it asked for, and its answer written whole.
-    pub fn goes_on(self) -> bool
+    // Whether a message was told what it asked for, and its answer written whole.
+    fn goes_on(self) -> bool
         ensures { result ≡ goes_on self.turn self.is_whole }
     {
         match self.turn {
@@ -225,9 +225,8 @@ fn handle_message<W: Write, K: Keep>(
     }
 }
 
-/// Reads the next message at the moment that the clock gives when it is whole, and answers it. The desk handles a call before the
-/// first byte of its answer is written.
-pub fn serve_message<R: Read + Drop, W: Write, K: Keep, C: Clock>(
+// Reads the next message, and answers it.
+fn serve_message<R: Read + Drop, W: Write, K: Keep, C: Clock>(
     alloc: Global,
     routes: &Routes,
     room: &mut HeadRoom,
@@ -257,3 +256,66 @@ pub fn serve_message<R: Read + Drop, W: Write, K: Keep, C: Clock>(
         },
     }
 }
+
+// Answers a connection's messages, with all room made.
+fn serve_all<R: Read + Drop, W: Write, K: Keep, C: Clock>(
+    alloc: Global,
+    routes: &Routes,
+    room: &mut HeadRoom,
+    reader: &mut Reader<R>,
+    writer: &mut W,
+    desk: &mut Desk<K>,
+    clock: &mut C,
+) -> ServeEnd
+    requires goes_on { reader.old.is_closing ≡ false }
+    requires first { reader.old.messages ≡ 0 }
+    ensures { (s : State) → K.holds desk.old s → Only s (K.after_stop desk.old)
+        → IfSome reader.old.bytes (λ bytes. IfSome (C.answers clock.old) (λ moments.
+        IsServed s moments bytes (W.contents writer.old) (W.contents writer.new) (K.holds desk.new) (K.after_stop desk.new) result)) }
+{
+    let mut answered = 0;
+    'messages: while !reader.closing() {
+        let exchange = serve_message(alloc, routes, room, reader, writer, desk, clock);
+        if !exchange.goes_on() {
+            return exchange.ends(answered);
+        }
+        answered += 1;
+    }
+    ServeEnd {
+        messages: answered,
+        answered,
+        fault: None,
+    }
+}
+
+/// Answers the messages of a connection in turn, each at the moment that the clock gives when it was read whole: at most 1,000, and
+/// none behind one that closes the connection. The desk handles a call before the first byte of its answer is written.
+pub fn serve<R: Read + Drop, W: Write, K: Keep, C: Clock>(
+    alloc: Global,
+    source: R,
+    writer: &mut W,
+    desk: &mut Desk<K>,
+    clock: &mut C,
+) -> ServeEnd
+    ensures { (s : State) → K.holds desk.old s → Only s (K.after_stop desk.old)
+        → IfSome (R.remaining source) (λ bytes. IfSome (C.answers clock.old) (λ moments.
+        IsServed s moments bytes (W.contents writer.old) (W.contents writer.new) (K.holds desk.new) (K.after_stop desk.new) result)) }
+{
+    let Ok(routes) = Routes::new(alloc) else {
+        return UNSTARTED;
+    };
+    let Ok(mut room) = HeadRoom::new(alloc) else {
+        return UNSTARTED;
+    };
+    let Ok(mut reader) = Reader::new(alloc, source) else {
+        return UNSTARTED;
+    };
+    serve_all(alloc, &routes, &mut room, &mut reader, writer, desk, clock)
+}
+
+// There was no memory to begin with.
+const UNSTARTED: ServeEnd = ServeEnd {
+    messages: 0,
+    answered: 0,
+    fault: Some(ServeFault::Memory),
+};
