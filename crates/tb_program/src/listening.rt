@@ -1,4 +1,6 @@
 //! Connections, served one after the other.
+ghost use Rattle.std.specs.Prelude.{◌≡◌, IfErr};
+ghost use Rattle.tb_program.specs.declared.fault.Fault.TheVariants.{Store};
 
 use crate::fault::Fault;
 use std::io;
@@ -13,9 +15,10 @@ pub trait Service<S> {
 
     ghost joined: { (a b c : Self) → follows a b → follows b c → follows a c };
 
-    /// Answers one connection to its end. A fault ends the serving of further ones.
+    /// Answers one connection to its end. Where the store failed, no further one is answered.
     fn answer(&mut self, stream: S) -> Result<(), Fault>
-        ensures { follows self.old self.new };
+        ensures after { follows self.old self.new }
+        ensures fault { IfErr result (λ fault. fault ≡ Store) };
 }
 
 /// Serves up to so many connections. One that can't be accepted counts as served.
@@ -24,7 +27,8 @@ pub fn serve_connections<L: OpenListener, V: Service<L::Stream>>(
     connections: u32,
     service: &mut V,
 ) -> Result<(), Fault>
-    ensures { V.follows service.old service.new }
+    ensures after { V.follows service.old service.new }
+    ensures fault { IfErr result (λ fault. fault ≡ Store) }
 {
     for stream in listener.incoming().take(connections as usize) {
         answer_accepted(service, stream)?;
@@ -33,7 +37,8 @@ pub fn serve_connections<L: OpenListener, V: Service<L::Stream>>(
 }
 
 fn answer_accepted<S, V: Service<S>>(service: &mut V, stream: io::Result<S>) -> Result<(), Fault>
-    ensures { V.follows service.old service.new }
+    ensures after { V.follows service.old service.new }
+    ensures fault { IfErr result (λ fault. fault ≡ Store) }
 {
     match stream {
         Ok(stream) => service.answer(stream),

@@ -9,6 +9,7 @@ use std::test::Fail;
 use std::time::{Clock, Duration};
 
 /// A clock that stands still, or can't be read.
+#[derive(Drop)]
 struct Stopped {
     seconds: Option<u64>,
 }
@@ -68,6 +69,7 @@ fn a_line_ends_in_a_line_feed(rt: HostRuntime) -> Result<(), Fail> {
 }
 
 /// A listener at which somebody always waits, or that accepts nobody.
+#[derive(Drop)]
 struct Door {
     is_open: bool,
 }
@@ -85,6 +87,7 @@ impl OpenListener for Door {
 }
 
 /// Counts connections, and fails after so many.
+#[derive(Drop)]
 struct Counter {
     answered: u32,
     most: u32,
