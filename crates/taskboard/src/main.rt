@@ -1,74 +1,57 @@
-//! The program `taskboard`. `taskboard run` answers the lines of standard input on standard output.
+//! The program `taskboard`: boards of tasks in a file, served to a team, and scripts over boards in memory.
 #![tactic(auto)]
 
-use std::env::{self, Args};
-use std::io::ErrorKind;
-use std::process::ExitCode;
-use tb_script::{LinesFault, run_lines};
+ghost use Rattle.std.specs.Prelude.{◌≡◌, IfErr, true};
+ghost use Rattle.taskboard.specs.Telling.{is_of_scripts};
 
-/// Why the program ends without success. It is told on standard error.
-#[derive(Drop)]
-enum Failure {
-    /// The words are none of the program's.
-    Bad,
-    Lines(LinesFault),
-}
+mod check;
+mod clock;
+mod file;
+mod import;
+mod init;
+mod serve;
+mod view;
+
+use crate::check::check_file;
+use crate::import::import_input;
+use crate::init::make_file;
+use crate::serve::serve_file;
+use crate::view::print_board;
+use std::process::ExitCode;
+use tb_command_line::Order;
+use tb_orders::{Ending, read_order};
+use tb_program::Fault;
+use tb_script::{LinesFault, run_lines};
 
 fn main(rt: HostRuntime) -> ExitCode {
     match run(&rt) {
-        Ok(()) => ExitCode::SUCCESS,
-        Err(failure) => {
-            let _ = eprintln!(rt; "taskboard: {}", name_of(&failure));
-            status_of(&failure)
+        Ok(Ending::Accepted) => ExitCode::SUCCESS,
+        Ok(Ending::Refused) => ExitCode::FAILURE,
+        Err(fault) => {
+            let _ = eprintln!(rt; "taskboard: {}", fault.name());
+            ExitCode::from(fault.status())
         }
     }
 }
 
-fn run(rt: &HostRuntime) -> Result<(), Failure> {
-    check_words(rt)?;
+fn run(rt: &HostRuntime) -> Result<Ending, Fault> {
+    match read_order(rt)? {
+        Order::Init(order) => make_file(rt, &order),
+        Order::Serve(order) => serve_file(rt, &order),
+        Order::Run => run_script(rt),
+        Order::Import(order) => import_input(rt, &order),
+        Order::View(order) => print_board(rt, &order),
+        Order::Check(file) => check_file(rt, &file),
+    }
+}
+
+fn run_script(rt: &HostRuntime) -> Result<Ending, Fault>
+    ensures { IfErr result (λ fault. is_of_scripts fault ≡ true) }
+{
     match run_lines(rt.alloc(), rt.stdin(), &mut rt.stdout()) {
-        Ok(()) => Ok(()),
-        Err(fault) => Err(Failure::Lines(fault)),
-    }
-}
-
-fn check_words(rt: &HostRuntime) -> Result<(), Failure> {
-    match env::args(rt) {
-        Ok(words) => {
-            if is_run(words) {
-                Ok(())
-            } else {
-                Err(Failure::Bad)
-            }
-        }
-        Err(error) if error.kind() == ErrorKind::OutOfMemory => {
-            Err(Failure::Lines(LinesFault::Memory))
-        }
-        Err(_) => Err(Failure::Bad),
-    }
-}
-
-/// Whether the words after the program's name are `run` alone.
-fn is_run(mut words: Args) -> bool {
-    let _program = words.next();
-    let Some(word) = words.next() else {
-        return false;
-    };
-    word.as_str() == "run" && words.next().is_none()
-}
-
-fn name_of(failure: &Failure) -> &'static str {
-    match failure {
-        Failure::Bad => "Bad",
-        Failure::Lines(LinesFault::ReadFailed) => "ReadFailed",
-        Failure::Lines(LinesFault::WriteFailed) => "WriteFailed",
-        Failure::Lines(LinesFault::Memory) => "Memory",
-    }
-}
-
-fn status_of(failure: &Failure) -> ExitCode {
-    match failure {
-        Failure::Bad => ExitCode::from(2),
-        Failure::Lines(_) => ExitCode::FAILURE,
+        Ok(()) => Ok(Ending::Accepted),
+        Err(LinesFault::ReadFailed) => Err(Fault::ReadFailed),
+        Err(LinesFault::WriteFailed) => Err(Fault::WriteFailed),
+        Err(LinesFault::Memory) => Err(Fault::Memory),
     }
 }
