@@ -1,6 +1,7 @@
 -- What waking and one task more keep of a good board.
 use Rattle.std.proofs.Common.{◌≡◌, ℕ, suc, ◌<◌, ◌≤◌, ◌==◌, ◌||◌, nat_eq, Bool, true, false, not, List, [], ◌∷◌, ◌++◌, Some, find, length, map, refl, sym, ◌∙◌, ap, arith, subst, inl, inr, true≢false, length-append}
 use Rattle.std.specs.List.{IsDistinct, AllByRecursion, list_any}
+use Rattle.std.specs.List.Sorted.{IsStrictlySortedBy}
 use Rattle.std.specs.Cmp.{nat_eq_equiv}
 use Rattle.std.proofs.lemmas.Bool.{cases_Bool}
 use Rattle.std.proofs.lemmas.List.{map-append, length-map}
@@ -16,7 +17,8 @@ use Rattle.tb_board.proofs.Fresh.{on_ids, among-swapped}
 use Rattle.tb_board.proofs.Fits.{sound_woken}
 use Rattle.tb_board.specs.Links.{depends_of, IsAcyclic}
 use Rattle.tb_board.proofs.Relinking.{acyclic-empty, acyclic-push, acyclic-same}
-use Rattle.tb_board.specs.Instances.{HasRuns, HasTemplateOn}
+use Rattle.tb_board.specs.Instances.{by_template, HasRuns, HasTemplateOn}
+use Rattle.tb_board.proofs.GoneOrder.{gone_among, order-more, order-none, order-same}
 use Rattle.tb_board.proofs.Runs.{gone-change, gone-there, gone-wake, parent-more, parents-change, parents-more, parents-wake, run_empty, runs-change, runs-wake, templates-more, KeepsLinks}
 
 pub ids-wake : (m : ℕ) (ts : List Task) → ids (map (woken m) ts) ≡ ids ts
@@ -53,6 +55,7 @@ good-wake b m good =
       runs = runs-wake b m good.runs;
       parents = parents-wake b m good.parents;
       gone = gone-wake b m good.gone;
+      gone_order = order-same b (wake b m) (ids-wake m b.tasks) good.gone_order;
     }
 
 pub all_push : {A : Type 0} (P : A → Type 0) (xs : List A) (x : A) → AllByRecursion P xs → P x → AllByRecursion P (xs ++ x ∷ [])
@@ -92,6 +95,8 @@ good-push b t good room alone sound linked runs parent =
       runs = runs;
       parents = all_push (HasTemplateOn (with_task b t)) b.tasks t (parents-more b t b.tasks good.parents) (parent-more b t t parent);
       gone = gone-there b (with_task b t) (templates-more b t) b.gone good.gone;
+      gone_order = subst (λ all. IsStrictlySortedBy (by_template all) b.gone) (sym (map-append (λ (u : Task). u.id) b.tasks (t ∷ [])))
+          (order-more (ids b.tasks) (t.id ∷ []) b.gone (gone_among b b.gone good.gone) good.gone_order);
     }
 
 -- f keeps identifiers, dependencies, and the links between templates and instances
@@ -165,6 +170,7 @@ good-change b test f x keeps found sound good =
       runs = runs-change b test f keeps.links good.runs;
       parents = parents-change b test f keeps.id keeps.links good.parents;
       gone = gone-change b test f keeps.id keeps.links good.gone;
+      gone_order = order-same b later (ids-change test f keeps.id b.tasks) good.gone_order;
     }
 
 linked-same : (b c : Board) (ts : List Task) → ids c.tasks ≡ ids b.tasks → AllByRecursion (IsLinkedOn b) ts → AllByRecursion (IsLinkedOn c) ts
@@ -187,6 +193,7 @@ good-relink b test f x keeps links found sound linked acyclic good =
       runs = runs-change b test f links good.runs;
       parents = parents-change b test f keeps links good.parents;
       gone = gone-change b test f keeps links good.gone;
+      gone_order = order-same b later same good.gone_order;
     }
 
 -- a board without tasks
@@ -201,4 +208,5 @@ good-empty number title =
       runs = λ id. run_empty;
       parents = tt;
       gone = tt;
+      gone_order = order-none [];
     }

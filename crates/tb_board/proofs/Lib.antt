@@ -5,13 +5,16 @@ pub mod Drafts
 pub mod Extending
 pub mod Fits
 pub mod Fresh
+pub mod GoneOrder
 pub mod Goodness
 pub mod KnownNumbers
 pub mod Linking
 pub mod Marking
+pub mod Pairs
 pub mod Places
 pub mod Relinked
 pub mod Relinking
+pub mod RoleOrder
 pub mod Runs
 pub mod Walking
 pub mod Worlds

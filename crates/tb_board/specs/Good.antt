@@ -1,6 +1,7 @@
 -- What each board keeps.
 use Rattle.std.specs.Prelude.{◌≡◌, ◌≤◌, Bool, true, false, not, ◌&&◌, ◌||◌, None, is_some, if◌then◌else◌, length, nat_eq}
 use Rattle.std.specs.List.{IsDistinct, AllByRecursion}
+use Rattle.std.specs.List.Sorted.{IsStrictlySortedBy}
 use Rattle.tb_task.specs.declared.task.Task.{Task}
 use Rattle.tb_task.specs.declared.status.Status.{Status}
 use Rattle.tb_task.specs.declared.status.Status.TheVariants.{Pending, Waiting, Recurring, Completed, Deleted}
@@ -10,7 +11,7 @@ use Rattle.tb_board.specs.Board.{lacks_depends}
 use Rattle.tb_board.specs.Board.{ids}
 use Rattle.tb_board.specs.Links.{IsAcyclic}
 use Rattle.tb_board.specs.Statuses.{is_template}
-use Rattle.tb_board.specs.Instances.{HasRuns, HasTemplateOn, IsGoneOn}
+use Rattle.tb_board.specs.Instances.{by_template, HasRuns, HasTemplateOn, IsGoneOn}
 
 abbrev pub is_deleted : Status → Bool
 is_deleted Pending = false
@@ -41,3 +42,4 @@ pub record IsGood (b : Board) : Type 0 where
   pub runs : HasRuns b
   pub parents : AllByRecursion (HasTemplateOn b) b.tasks
   pub gone : AllByRecursion (IsGoneOn b) b.gone
+  pub gone_order : IsStrictlySortedBy (by_template (ids b.tasks)) b.gone

@@ -1,6 +1,6 @@
-ghost use Rattle.std.specs.Prelude.{◌≡◌, [], ◌∷◌, ◌++◌, Some, None, IfOk};
+ghost use Rattle.std.specs.Prelude.{◌≡◌, ◌≤◌, [], ◌∷◌, ◌++◌, Some, None, IfOk, insert, length, position};
 ghost use Rattle.tb_board.specs.Changes.{change_board, changed, changed_by, put, with_gone, with_task_at, without_gone};
-ghost use Rattle.tb_board.specs.Roles.{set_role};
+ghost use Rattle.tb_board.specs.Roles.{comes_before, set_role, with_new_role};
 
 use crate::board::Board;
 use crate::change::Change;
@@ -104,16 +104,54 @@ pub fn roles_with(
     ensures { IfOk result (λ later. later ≡ set_role roles board person (Some role)) }
 {
     let Some(place) = place_of_role(roles.as_slice(), board, person) else {
-        roles.push(RoleOn {
-            board,
-            person,
-            role,
-        })?;
-        return Ok(roles);
+        return with_new_role(
+            roles,
+            RoleOn {
+                board,
+                person,
+                role,
+            },
+        );
     };
     let item = with_role(roles.as_slice()[place], role);
     roles.set(place, item);
     Ok(roles)
+}
+
+/// The roles with one more, at its place in their order.
+fn with_new_role(roles: Items<RoleOn>, role: RoleOn) -> Result<Items<RoleOn>, AllocError>
+    ensures { IfOk result (λ later. later ≡ with_new_role roles role) }
+{
+    let place = place_of_new(roles.as_slice(), role);
+    let mut roles = roles.into_vec();
+    roles.insert(place, role)?;
+    Ok(Items::from_vec(roles))
+}
+
+/// How many roles stand before the first that comes after this one.
+fn place_of_new(roles: &[RoleOn], role: RoleOn) -> usize
+    ensures within { result ≤ length roles.now }
+    ensures place { insert roles.now result role ≡ with_new_role roles.now role }
+{
+    match first_after(roles, role) {
+        Some(place) => place,
+        None => roles.len(),
+    }
+}
+
+fn first_after(roles: &[RoleOn], role: RoleOn) -> Option<usize>
+    ensures { result ≡ position (comes_before role) roles.now }
+{
+    roles.iter().position(|other| comes_before(&role, other))
+}
+
+fn comes_before(role: &RoleOn, other: &RoleOn) -> bool
+    ensures { result ≡ comes_before role.now other.now }
+{
+    role.board
+        .cmp(&other.board)
+        .then(role.person.cmp(&other.person))
+        .is_lt()
 }
 
 fn with_role(item: RoleOn, role: Role) -> RoleOn

@@ -1,22 +1,19 @@
 -- A command leaves what a world has.
-use Rattle.std.proofs.Common.{◌≡◌, ℕ, ◌+◌, Bool, List, [], ◌∷◌, Option, Some, None, IfOk, Result, Ok, Err, find, refl, sym, ◌∙◌, ap, subst, inl, inr}
+use Rattle.std.proofs.Common.{◌≡◌, ℕ, ◌+◌, List, [], ◌∷◌, Option, Some, None, IfOk, Result, Ok, Err, find, refl, sym, ◌∙◌, subst, inl, inr}
 use Rattle.std.proofs.lemmas.Bool.{cases_Bool}
 use Rattle.std.proofs.lemmas.List.{append-nil}
 use Rattle.tb_task.specs.declared.edit.Edit.{Edit}
 use Rattle.tb_task.specs.declared.task.Task.{Task}
 use Rattle.tb_board.specs.declared.board.Board.{Board}
-use Rattle.tb_board.specs.declared.world.Person.{Person}
 use Rattle.tb_board.specs.declared.world.Role.{Role}
 use Rattle.tb_board.specs.declared.world.World.{World}
 use Rattle.tb_board.specs.Board.{has_id, wake, with_task}
 use Rattle.tb_board.specs.Changes.{change_board}
 use Rattle.tb_board.specs.Extends.{Extends, ExtendsBoard, ExtendsTask, IsFrontOf}
-use Rattle.tb_board.specs.First.{change_first}
 use Rattle.tb_board.specs.World.{find_board, has_number, number_of, role_of}
 use Rattle.tb_board.proofs.Extending.{board-append, board-change, board-refl, board-trans, board-wake, extends-board, extends-refl, front-append, front-refl}
 use Rattle.tb_board.proofs.Worlds.{number_found}
 use Rattle.tb_sweep.specs.Sweep.{sweep}
-use Rattle.tb_sweep.proofs.Adding.{number-sweep}
 use Rattle.tb_sweep.proofs.Extending.{extends-sweep}
 use Rattle.tb_import.specs.declared.imported.ImportCounts.{ImportCounts}
 use Rattle.tb_import.specs.declared.refusal.ImportRefusal.{ImportRefusal}
@@ -31,7 +28,6 @@ use Rattle.tb_core.specs.declared.command.Command.{Command}
 use Rattle.tb_core.specs.declared.command.Command.TheVariants.{Add, OnTask, Modify, ImportJson, ImportTodo, Sweep, SetRole, NewPerson, NewBoard, Depend, Undepend}
 use Rattle.tb_core.specs.declared.command.Told.{Told}
 use Rattle.tb_core.specs.declared.look.Seen.{Seen}
-use Rattle.tb_core.specs.declared.look.SeenBoard.{SeenBoard}
 use Rattle.tb_core.specs.declared.refusal.Refusal.{Refusal}
 use Rattle.tb_core.specs.Actions.{acted, action_refusals}
 use Rattle.tb_core.specs.Add.{add_refusals, entered}

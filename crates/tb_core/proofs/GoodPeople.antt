@@ -20,7 +20,7 @@ use Rattle.tb_core.specs.People.{with_new_board, with_person}
 use Rattle.tb_core.specs.Owners.{leaves_none}
 use Rattle.tb_board.specs.Roles.{set_role}
 use Rattle.tb_board.specs.World.{has_name, is_role_of, number_of, owns, role_of, owners}
-use Rattle.tb_core.proofs.GoodRoles.{all-set, distinct-set, new_owner, owner_leaves, owner_stays}
+use Rattle.tb_core.proofs.GoodRoles.{all-set, new_owner, owner_leaves, owner_stays, sorted-set}
 use Rattle.tb_board.proofs.Goodness.{all_push, good-empty}
 use Rattle.tb_board.proofs.Places.{place}
 
@@ -79,7 +79,7 @@ good-person w name key good room none =
       good = good.good;
       owned = good.owned;
       roles = roles-within w (with_person w name key) (omega (arith, more)) (omega arith) w.roles good.roles;
-      single = good.single;
+      ordered = good.ordered;
     }
 
 range_push : (a n : ℕ) → range_with_len a n ++ (a + n) ∷ [] ≡ range_with_len a (suc n)
@@ -114,7 +114,7 @@ good-new_board w caller title good room from to =
           (λ r role is. record { from_board = is.from_board; to_board = is.to_board; from_person = is.from_person; to_person = is.to_person })
           (λ role. record { from_board = omega arith; to_board = omega (arith, more); from_person = from; to_person = to })
           (roles-within w v (omega arith) (omega (arith, more)) w.roles good.roles);
-      single = distinct-set w.roles n caller (Some Owner) good.single;
+      ordered = sorted-set w.roles n caller (Some Owner) good.ordered;
     }
 
 -- the number of a board with an owner
@@ -149,5 +149,5 @@ good-role w n p o good owner from to stays =
           (λ r role is. record { from_board = is.from_board; to_board = is.to_board; from_person = is.from_person; to_person = is.to_person })
           (λ role. record { from_board = number.0; to_board = number.1; from_person = from; to_person = to })
           (roles-within w v (omega arith) (omega arith) w.roles good.roles);
-      single = distinct-set w.roles n p o good.single;
+      ordered = sorted-set w.roles n p o good.ordered;
     }

@@ -1,23 +1,23 @@
 -- What setting a role keeps of the roles.
-use Rattle.std.proofs.Common.{◌≡◌, ℕ, ◌+◌, ◌≤◌, ◌<◌, ◌==◌, ◌&&◌, ◌||◌, Bool, true, false, List, [], ◌∷◌, Option, Some, None, find, cond, refl, sym, ◌∙◌, ap, arith, subst, true≢false, inl, inr, nat_le}
-use Rattle.std.specs.List.{AllByRecursion, IsDistinct, count_by, list_any}
+use Rattle.std.proofs.Common.{◌≡◌, ℕ, ◌+◌, ◌≤◌, ◌<◌, ◌==◌, ◌&&◌, ◌||◌, Bool, true, false, List, [], ◌∷◌, Option, Some, None, find, cond, refl, sym, ◌∙◌, ap, arith, subst, true≢false, inl, inr, nat_le, Less, Equal}
+use Rattle.std.specs.List.{AllByRecursion, count_by, list_any}
+use Rattle.std.specs.List.Sorted.{IsStrictlySortedBy}
 use Rattle.std.specs.Cmp.{nat_eq_equiv}
+use Rattle.std.specs.Ordering.{is_eq}
 use Rattle.std.specs.Option.{option_map}
 use Rattle.std.specs.Set.{remove_key}
 use Rattle.std.proofs.lemmas.Bool.{cases_Bool, eqb-true, leb-false}
-use Rattle.std.proofs.lemmas.List.Folds.{list_any-append}
+use Rattle.std.proofs.lemmas.Cmp.{tied_back}
 use Rattle.std.proofs.lemmas.List.Sums.{sum_by-cons}
-use Rattle.std.proofs.lemmas.Map.Keys.{IsDistinct-cons, IsDistinct-head, IsDistinct-push, IsDistinct-tail}
 use Rattle.tb_board.specs.declared.world.Role.{Role}
 use Rattle.tb_board.specs.declared.world.Role.TheVariants.{Owner, Member}
 use Rattle.tb_board.specs.declared.world.RoleOn.{RoleOn}
 use Rattle.tb_board.specs.First.{change_first}
-use Rattle.tb_core.specs.GoodWorld.{same_place}
 use Rattle.tb_core.specs.Owners.{is_owners, leaves_none}
-use Rattle.tb_board.specs.Roles.{set_role}
+use Rattle.tb_board.specs.Roles.{comes_before, role_order, set_role, with_new_role}
 use Rattle.tb_board.specs.World.{is_owner, is_role_of, owns}
-use Rattle.tb_board.proofs.Goodness.{all_push}
-use Rattle.tb_core.proofs.Opening.{same_place_equiv}
+use Rattle.tb_board.proofs.Pairs.{comes_after, is_less, same_pair}
+use Rattle.tb_board.proofs.RoleOrder.{role_total}
 
 both : (p q : Bool) → (p && q) ≡ true → (p ≡ true) × (q ≡ true)
 both true q h = (refl, h)
@@ -48,6 +48,14 @@ all-changed P test f (r ∷ rs) keeps h =
       | inr other ↦ rw other (h.0, all-changed P test f rs keeps h.1)
     ]
 
+pub all-new : (P : RoleOn → Type 0) (r : RoleOn) (rs : List RoleOn) → AllByRecursion P rs → P r → AllByRecursion P (with_new_role rs r)
+all-new P r [] h p = (p, tt)
+all-new P r (s ∷ ss) h p =
+    elim (cases_Bool (comes_before r s)) [
+      | inl here ↦ rw here (p, h)
+      | inr other ↦ rw other (h.0, all-new P r ss h.1 p)
+    ]
+
 -- what doesn't look at the role holds of each, where it holds of the new one
 pub all-set : (P : RoleOn → Type 0) (rs : List RoleOn) (b p : ℕ) (o : Option Role) → ((r : RoleOn) (role : Role) → P r → P (record r { role = role }))
     → ((role : Role) → P (record { board = b; person = p; role = role })) → AllByRecursion P rs → AllByRecursion P (set_role rs b p o)
@@ -55,57 +63,63 @@ all-set P rs b p None keeps new h = all-removed P (is_role_of b p) rs h
 all-set P rs b p (Some role) keeps new h =
     elim (cases_Bool (list_any (is_role_of b p) rs)) [
       | inl there ↦ rw there (all-changed P (is_role_of b p) (λ r. record r { role = role }) rs (λ r. keeps r role) h)
-      | inr none ↦ rw none (all_push P rs (record { board = b; person = p; role = role }) h (new role))
+      | inr none ↦ rw none (all-new P (record { board = b; person = p; role = role }) rs h (new role))
     ]
 
-apart_changed : (x : RoleOn) (test : RoleOn → Bool) (role : Role) (rs : List RoleOn) → AllByRecursion (λ y. same_place x y ≡ false) rs
-    → AllByRecursion (λ y. same_place x y ≡ false) (change_first test (λ r. record r { role = role }) rs)
-apart_changed x test role rs h = all-changed (λ y. same_place x y ≡ false) test (λ r. record r { role = role }) rs (λ r p. p) h
-
-distinct-removed : (test : RoleOn → Bool) (rs : List RoleOn) → IsDistinct same_place rs → IsDistinct same_place (remove_key test rs)
-distinct-removed test [] h = h
-distinct-removed test (r ∷ rs) h =
-    let tail = IsDistinct-tail same_place r rs h in
+sorted-removed : (test : RoleOn → Bool) (rs : List RoleOn) → IsStrictlySortedBy role_order rs → IsStrictlySortedBy role_order (remove_key test rs)
+unfolding IsStrictlySortedBy
+sorted-removed test [] h = h
+sorted-removed test (r ∷ rs) h =
     elim (cases_Bool (test r)) [
-      | inl here ↦ rw here tail
-      | inr other ↦
-          rw other (IsDistinct-cons same_place r (remove_key test rs)
-          (all-removed (λ y. same_place r y ≡ false) test rs (IsDistinct-head same_place r rs h)) (distinct-removed test rs tail))
+      | inl here ↦ rw here h.1
+      | inr other ↦ rw other (all-removed (λ y. role_order r y ≡ Less) test rs h.0, sorted-removed test rs h.1)
     ]
 
-distinct-changed : (test : RoleOn → Bool) (role : Role) (rs : List RoleOn) → IsDistinct same_place rs
-    → IsDistinct same_place (change_first test (λ r. record r { role = role }) rs)
-distinct-changed test role [] h = h
-distinct-changed test role (r ∷ rs) h =
-    let head = IsDistinct-head same_place r rs h in
-    let tail = IsDistinct-tail same_place r rs h in
+sorted-changed : (test : RoleOn → Bool) (role : Role) (rs : List RoleOn) → IsStrictlySortedBy role_order rs
+    → IsStrictlySortedBy role_order (change_first test (λ r. record r { role = role }) rs)
+unfolding IsStrictlySortedBy
+sorted-changed test role [] h = h
+sorted-changed test role (r ∷ rs) h =
     elim (cases_Bool (test r)) [
-      | inl here ↦ rw here (IsDistinct-cons same_place (record r { role = role }) rs head tail)
+      | inl here ↦ rw here h
       | inr other ↦
-          rw other (IsDistinct-cons same_place r (change_first test (λ r. record r { role = role }) rs)
-          (apart_changed r test role rs head) (distinct-changed test role rs tail))
+          rw other (all-changed (λ y. role_order r y ≡ Less) test (λ y. record y { role = role }) rs (λ y less. less) h.0, sorted-changed test role rs h.1)
     ]
+
+-- what comes before another role comes before all that follow it
+all_later : (r s : RoleOn) (ss : List RoleOn) → role_order r s ≡ Less → AllByRecursion (λ y. role_order s y ≡ Less) ss → AllByRecursion (λ y. role_order r y ≡ Less) ss
+all_later r s [] less h = tt
+all_later r s (y ∷ ys) less h = (role_total.trans r s y less h.0, all_later r s ys less h.1)
+
+of_one_place : (r s : RoleOn) → role_order r s ≡ Equal → is_role_of r.board r.person s ≡ true
+of_one_place r s same = sym (same_pair s.board r.board s.person r.person) ∙ ap is_eq (tied_back role_total r s same)
+
+neither : (p q : Bool) → (p || q) ≡ false → (p ≡ false) × (q ≡ false)
+neither true q h = absurd (true≢false h)
+neither false q h = (refl, h)
 
 -- none stands on that place
-none_there : (b p : ℕ) (role : Role) (rs : List RoleOn) → list_any (is_role_of b p) rs ≡ false
-    → list_any (same_place (record { board = b; person = p; role = role })) rs ≡ false
-none_there b p role [] h = refl
-none_there b p role (r ∷ rs) h =
-    elim (cases_Bool (is_role_of b p r)) [
-      | inl here ↦ let wrong : true ≡ false = rw here at h in absurd (true≢false wrong)
+sorted-new : (r : RoleOn) (rs : List RoleOn) → list_any (is_role_of r.board r.person) rs ≡ false → IsStrictlySortedBy role_order rs
+    → IsStrictlySortedBy role_order (with_new_role rs r)
+unfolding IsStrictlySortedBy
+sorted-new r [] none h = (tt, tt)
+sorted-new r (s ∷ ss) none h =
+    let parts = neither (is_role_of r.board r.person s) (list_any (is_role_of r.board r.person) ss) none in
+    elim (cases_Bool (comes_before r s)) [
+      | inl here ↦
+          let less : role_order r s ≡ Less = is_less (role_order r s) here in
+          rw here ((less, all_later r s ss less h.0), h)
       | inr other ↦
-          let rest : list_any (is_role_of b p) rs ≡ false = rw other at h in
-          let swapped : same_place (record { board = b; person = p; role = role }) r ≡ is_role_of b p r
-          = rw (nat_eq_equiv.symm b r.board, nat_eq_equiv.symm p r.person) refl in
-          rw (swapped, other) (none_there b p role rs rest)
+          let less : role_order s r ≡ Less = comes_after role_total r s (role_order r s) refl other (λ same. true≢false (sym (of_one_place r s same) ∙ parts.0)) in
+          rw other (all-new (λ y. role_order s y ≡ Less) r ss h.0 less, sorted-new r ss parts.1 h.1)
     ]
 
-pub distinct-set : (rs : List RoleOn) (b p : ℕ) (o : Option Role) → IsDistinct same_place rs → IsDistinct same_place (set_role rs b p o)
-distinct-set rs b p None h = distinct-removed (is_role_of b p) rs h
-distinct-set rs b p (Some role) h =
+pub sorted-set : (rs : List RoleOn) (b p : ℕ) (o : Option Role) → IsStrictlySortedBy role_order rs → IsStrictlySortedBy role_order (set_role rs b p o)
+sorted-set rs b p None h = sorted-removed (is_role_of b p) rs h
+sorted-set rs b p (Some role) h =
     elim (cases_Bool (list_any (is_role_of b p) rs)) [
-      | inl there ↦ rw there (distinct-changed (is_role_of b p) role rs h)
-      | inr none ↦ rw none (IsDistinct-push same_place_equiv rs (record { board = b; person = p; role = role }) h (none_there b p role rs none))
+      | inl there ↦ rw there (sorted-changed (is_role_of b p) role rs h)
+      | inr none ↦ rw none (sorted-new (record { board = b; person = p; role = role }) rs none h)
     ]
 
 -- one more where it holds
@@ -235,6 +249,30 @@ two_owners rs b p x o c found stays none owned =
     let more : 1 < count_by (owns b) rs = leb-false (count_by (owns b) rs) 1 few in
     subst (λ n. 2 ≤ count_by (owns n) rs) same (omega (arith, more))
 
+or_true : (p q : Bool) → q ≡ true → (p || q) ≡ true
+or_true true q h = refl
+or_true false q h = h
+
+-- with a new role the others are still there
+any-old : (q : RoleOn → Bool) (r : RoleOn) (rs : List RoleOn) → list_any q rs ≡ true → list_any q (with_new_role rs r) ≡ true
+any-old q r [] h = absurd (true≢false (sym h))
+any-old q r (s ∷ ss) h =
+    elim (cases_Bool (comes_before r s)) [
+      | inl here ↦ rw here (or_true (q r) (list_any q (s ∷ ss)) h)
+      | inr other ↦ rw other (elim (cases_Bool (q s)) [
+        | inl passes ↦ rw passes refl
+        | inr fails ↦ let rest : list_any q ss ≡ true = rw fails at h in or_true (q s) (list_any q (with_new_role ss r)) (any-old q r ss rest)
+      ])
+    ]
+
+any-new : (q : RoleOn → Bool) (r : RoleOn) (rs : List RoleOn) → q r ≡ true → list_any q (with_new_role rs r) ≡ true
+any-new q r [] h = rw h refl
+any-new q r (s ∷ ss) h =
+    elim (cases_Bool (comes_before r s)) [
+      | inl here ↦ rw (here, h) refl
+      | inr other ↦ rw other (or_true (q s) (list_any q (with_new_role ss r)) (any-new q r ss h))
+    ]
+
 seen_role : List RoleOn → ℕ → ℕ → Option Role
 seen_role rs b p = option_map (λ (r : RoleOn). r.role) (find (is_role_of b p) rs)
 
@@ -255,7 +293,7 @@ owner-changed : (rs : List RoleOn) (b p c : ℕ) (role : Role) (o : Option RoleO
     → leaves_none (Some (record { number = p; role = option_map (λ (r : RoleOn). r.role) o })) (Some role) (count_by (owns b) rs) ≡ false
     → list_any (owns c) (set_role rs b p (Some role)) ≡ true
 owner-changed rs b p c role None found owned stays =
-    rw (none-found (is_role_of b p) rs found, list_any-append (owns c) rs (record { board = b; person = p; role = role } ∷ []), owned) refl
+    rw (none-found (is_role_of b p) rs found) (any-old (owns c) (record { board = b; person = p; role = role }) rs owned)
 owner-changed rs b p c role (Some x) found owned stays =
     rw (any-found (is_role_of b p) rs x found)
     (any_count (owns c) (change_first (is_role_of b p) (λ r. record r { role = role }) rs)
@@ -280,20 +318,17 @@ changed_owner [] b p h = absurd (true≢false (sym h))
 changed_owner (r ∷ rs) b p h =
     elim (cases_Bool (is_role_of b p r)) [
       | inl here ↦ let board = (both (r.board == b) (r.person == p) here).0 in rw (here, board) refl
-      | inr other ↦ let rest : list_any (is_role_of b p) rs ≡ true = rw other at h in rw other (or_true (owns b r) (changed_owner rs b p rest))
+      | inr other ↦
+          let rest : list_any (is_role_of b p) rs ≡ true = rw other at h in
+          rw other (or_true (owns b r) (list_any (owns b) (change_first (is_role_of b p) (λ s. record s { role = Owner }) rs)) (changed_owner rs b p rest))
     ]
-  where
-    or_true : (q : Bool) {s : Bool} → s ≡ true → (q || s) ≡ true
-    or_true true h = refl
-    or_true false h = h
 
 pub new_owner : (rs : List RoleOn) (b p : ℕ) → list_any (owns b) (set_role rs b p (Some Owner)) ≡ true
 new_owner rs b p =
     elim (cases_Bool (list_any (is_role_of b p) rs)) [
       | inl there ↦ rw there (changed_owner rs b p there)
-      | inr none ↦ rw (none, list_any-append (owns b) rs (record { board = b; person = p; role = Owner } ∷ []), nat_eq_equiv.refl b) (or_true (list_any (owns b) rs))
+      | inr none ↦
+          let owner : RoleOn = record { board = b; person = p; role = Owner } in
+          let owned : owns b owner ≡ true = rw (nat_eq_equiv.refl b) refl in
+          rw none (any-new (owns b) owner rs owned)
     ]
-  where
-    or_true : (q : Bool) → (q || true) ≡ true
-    or_true true = refl
-    or_true false = refl

@@ -71,5 +71,5 @@ good-with_board w x b good found number is_good =
       good = all-changed IsGood b.number b w.boards good.good is_good;
       owned = all-changed (HasOwner w) b.number b w.boards good.owned owner;
       roles = roles-kept w (with_board w b) refl size w.roles good.roles;
-      single = good.single;
+      ordered = good.ordered;
     }

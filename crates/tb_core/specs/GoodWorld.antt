@@ -1,6 +1,7 @@
 -- What each world keeps.
-use Rattle.std.specs.Prelude.{ℕ, ◌≡◌, ◌≤◌, Bool, true, ◌&&◌, ◌==◌, List, Some, map, length}
+use Rattle.std.specs.Prelude.{ℕ, ◌≡◌, ◌≤◌, true, List, Some, map, length}
 use Rattle.std.specs.List.{IsDistinct, AllByRecursion, list_any, range_with_len}
+use Rattle.std.specs.List.Sorted.{IsStrictlySortedBy}
 use Rattle.std.specs.Str.{bytes_eq}
 use Rattle.tb_board.specs.declared.board.Board.{Board}
 use Rattle.tb_core.specs.declared.command.Command.{Command}
@@ -9,6 +10,7 @@ use Rattle.tb_board.specs.declared.world.RoleOn.{RoleOn}
 use Rattle.tb_board.specs.declared.world.World.{World}
 use Rattle.tb_core.specs.Apply.{apply}
 use Rattle.tb_board.specs.Extends.{Extends}
+use Rattle.tb_board.specs.Roles.{role_order}
 use Rattle.tb_board.specs.World.{key_of, opening, owns}
 use Rattle.tb_board.specs.Good.{IsGood}
 
@@ -17,10 +19,6 @@ names w = map (λ (p : Person). p.name) w.people
 
 abbrev pub numbers : List Board → List ℕ
 numbers bs = map (λ (b : Board). b.number) bs
-
--- the two are of one person on one board
-abbrev pub same_place : RoleOn → RoleOn → Bool
-same_place r s = (r.board == s.board) && (r.person == s.person)
 
 -- of a person of the world on one of its boards
 pub record IsRoleIn (w : World) (r : RoleOn) : Type 0 where
@@ -40,7 +38,7 @@ pub record IsGoodWorld (w : World) : Type 0 where
   pub good : AllByRecursion IsGood w.boards
   pub owned : AllByRecursion (HasOwner w) w.boards
   pub roles : AllByRecursion (IsRoleIn w) w.roles
-  pub single : IsDistinct same_place w.roles
+  pub ordered : IsStrictlySortedBy role_order w.roles
 
 -- each command leaves a good world good
 abbrev pub KeepsGood : Type 0

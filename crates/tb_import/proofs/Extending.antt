@@ -1,5 +1,5 @@
 -- An import leaves what a board has.
-use Rattle.std.proofs.Common.{List, [], ◌∷◌, Option, Some, None, IfOk, refl, sym, subst}
+use Rattle.std.proofs.Common.{List, Option, Some, None, IfOk, refl, sym, subst}
 use Rattle.tb_task.specs.declared.incoming.Incoming.{Incoming}
 use Rattle.tb_board.specs.declared.board.Board.{Board}
 use Rattle.tb_board.specs.Extends.{ExtendsBoard}

@@ -1,6 +1,7 @@
 -- An import leaves a good board good.
 use Rattle.std.proofs.Common.{◌≡◌, ℕ, ◌+◌, ◌==◌, nat_eq, nat_lt, not, Bool, true, false, true≢false, List, [], ◌∷◌, ◌++◌, Option, Some, None, IfOk, length, refl, sym, ◌∙◌, ap, subst, inl, inr}
 use Rattle.std.specs.List.{AllByRecursion, IsDistinct, list_any, range_with_len}
+use Rattle.std.specs.List.Sorted.{IsStrictlySortedBy}
 use Rattle.std.proofs.lemmas.Bool.{cases_Bool, eqb-true, ltb-false}
 use Rattle.std.proofs.lemmas.List.{append-nil}
 use Rattle.tb_graph.specs.Leads.{is_acyclic}
@@ -10,14 +11,13 @@ use Rattle.tb_task.specs.declared.incoming.Incoming.{Incoming}
 use Rattle.tb_task.specs.declared.task.Task.{Task}
 use Rattle.tb_board.specs.declared.board.Board.{Board}
 use Rattle.tb_board.specs.declared.gone.Gone.{Gone}
-use Rattle.tb_board.specs.Board.{has_id, ids, is_on}
+use Rattle.tb_board.specs.Board.{ids, is_on}
 use Rattle.tb_board.specs.Good.{IsGood, IsLinkedOn, IsSound}
-use Rattle.tb_board.specs.Instances.{has_template, is_template_with, HasRuns, HasTemplateOn, IsGoneOn}
+use Rattle.tb_board.specs.Instances.{by_template, has_template, is_template_with, HasRuns, HasTemplateOn, IsGoneOn}
 use Rattle.tb_board.specs.Links.{links}
-use Rattle.tb_board.specs.Statuses.{is_template}
 use Rattle.tb_board.specs.Templates.{gone_places, instance_places, is_id}
-use Rattle.tb_board.proofs.Fits.{and_true}
 use Rattle.tb_board.proofs.Fresh.{on_ids}
+use Rattle.tb_board.proofs.GoneOrder.{template_is_on}
 use Rattle.tb_board.proofs.Runs.{gone-there, parents-there, HasTemplatesOf}
 use Rattle.tb_import.specs.declared.refusal.ImportRefusal.{ImportRefusal}
 use Rattle.tb_import.specs.declared.refusal.ImportRefusal.TheVariants.{Cycle, Full}
@@ -28,6 +28,7 @@ use Rattle.tb_import.specs.New.{has_own_id, is_there, new_tasks}
 use Rattle.tb_import.specs.Refusals.{bad_task, bad_task_or, import_fault, import_refusals, is_cyclic, is_too_full, least, unless_refused, where_holds}
 use Rattle.tb_import.proofs.Moving.{apart_from, or_left, or_right, run_range}
 use Rattle.tb_import.proofs.Numbering.{gone_places-append, masks_none, masks_range, on_own, own_ids, runs_all}
+use Rattle.tb_import.proofs.Ordering.{left_sorted}
 use Rattle.tb_import.proofs.Sound.{sound_entered}
 use Rattle.tb_import.proofs.Templates.{all_append, all_left, entered_tasks, found_all, found_distinct, HasParentsOf, ids_after, kept_linked, left_all, masks_on, parent_after, shape, still_linked, templates_after, there_after}
 
@@ -53,18 +54,10 @@ second_distinct (x ∷ xs) ys h = second_distinct xs ys h.1
 
 -- ---- the places at the start
 
-on_if : (ts : List Task) (q : ℕ) → list_any (is_template_with q) ts ≡ true → list_any (has_id q) ts ≡ true
-on_if [] q h = absurd (true≢false (sym h))
-on_if (t ∷ ts) q h =
-    elim (cases_Bool (is_template_with q t)) [
-      | inl here ↦ or_left (has_id q t) (list_any (has_id q) ts) (and_true (has_id q t) (is_template t) here).0
-      | inr other ↦ let later : list_any (is_template_with q) ts ≡ true = rw other at h in or_right (has_id q t) (list_any (has_id q) ts) (on_if ts q later)
-    ]
-
 not_template : (b : Board) (id q : ℕ) → is_on b id ≡ false → list_any (is_template_with q) b.tasks ≡ true → (q == id) ≡ false
 not_template b id q none there =
     elim (cases_Bool (q == id)) [
-      | inl same ↦ absurd (true≢false (sym (on_if b.tasks q there) ∙ ap (is_on b) (eqb-true q id same) ∙ none))
+      | inl same ↦ absurd (true≢false (sym (template_is_on b.tasks q there) ∙ ap (is_on b) (eqb-true q id same) ∙ none))
       | inr other ↦ other
     ]
 
@@ -148,6 +141,8 @@ good_after b later new good read distinct is acyclic room =
           (all_append (HasTemplateOn later) b.tasks (entered_tasks b new gs new) (parents-there b later old b.tasks good.parents) (parents_all b later new all gs new));
       gone = subst (AllByRecursion (IsGoneOn later)) (sym left)
           (all_left (IsGoneOn later) b new gs new (all_append (IsGoneOn later) b.gone (mask_places new) (gone-there b later old b.gone good.gone) (masks_on later new fresh)));
+      gone_order = subst (λ hs. IsStrictlySortedBy (by_template (ids later.tasks)) hs) (sym left)
+          (subst (λ all. IsStrictlySortedBy (by_template all) (left_all b new gs new)) (sym (ap ids tasks ∙ ids_after b new gs)) (left_sorted b new good.gone good.gone_order distinct));
     }
 
 -- ---- the import

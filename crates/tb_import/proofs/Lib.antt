@@ -5,6 +5,7 @@ pub mod Keeping
 pub mod Marking
 pub mod Moving
 pub mod Numbering
+pub mod Ordering
 pub mod Setting
 pub mod Sound
 pub mod Steps

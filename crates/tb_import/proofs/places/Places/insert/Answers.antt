@@ -1,6 +1,7 @@
 use Rattle.std.proofs.Common.{◌∙◌, true, cond, ap}
 use Rattle.tb_import.specs.Sets.{has_place}
-use Rattle.tb_import.proofs.Setting.{came, same_pair}
+use Rattle.tb_board.proofs.Pairs.{same_pair}
+use Rattle.tb_import.proofs.Setting.{came}
 use Rattle.tb_import.proofs.places.Places.insert.Goals as goal
 
 pub returns : goal.returns

@@ -1,6 +1,7 @@
 use Rattle.std.proofs.Common.{◌∙◌, false, cond, ap}
 use Rattle.tb_import.specs.Sets.{has_place}
-use Rattle.tb_import.proofs.Setting.{same_pair, went}
+use Rattle.tb_board.proofs.Pairs.{same_pair}
+use Rattle.tb_import.proofs.Setting.{went}
 use Rattle.tb_import.proofs.places.Places.remove.Goals as goal
 
 pub returns : goal.returns
