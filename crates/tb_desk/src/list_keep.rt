@@ -95,7 +95,8 @@ impl Keep for ListKeep {
     }
 }
 
-fn key_in(world: &World, name: &Name) -> Result<Option<Key>, AllocError>
+/// The key of the person of that name.
+pub fn key_in(world: &World, name: &Name) -> Result<Option<Key>, AllocError>
     ensures { IfOk result (λ key. key ≡ key_of world.now name.now) }
 {
     match world

@@ -1,24 +1,19 @@
 -- The texts of replies. Their bodies are JSON.
 use Rattle.std.specs.Prelude.{ℕ, List, [], ◌∷◌, ◌++◌, codes, decimal}
-use Rattle.serde_json.specs.Data.{Data, number, unsigned, string, object, member, no_members}
+use Rattle.serde_json.specs.Data.{Data, string, object, member, no_members}
 use Rattle.serde_json.specs.Written.{compact_text}
 use Rattle.tb_reply.specs.declared.reply.Reply.{Reply}
-use Rattle.tb_reply.specs.Bodies.{with_field}
+use Rattle.tb_body.specs.Fault.{json_of}
 use Rattle.tb_script.specs.declared.line_fault.Unreadable.{Unreadable}
-use Rattle.tb_script.specs.declared.line_fault.Unreadable.TheVariants.{BadLine, BadBody, BadItem}
+use Rattle.tb_script.specs.declared.line_fault.Unreadable.TheVariants.{BadLine, BadBody}
 
 -- status, number and body, with a space between them
 abbrev pub reply_text : Reply → List ℕ
 reply_text r = decimal r.status ++ 32 ∷ (decimal r.number ++ 32 ∷ (r.body ++ 10 ∷ []))
 
-abbrev pub item_body : ℕ → List ℕ → Data
-item_body at field = object
-    (member (codes "at") (number (unsigned at)) (member (codes "field") (string field) (member (codes "name") (string (codes "BadBody")) no_members)))
-
 abbrev pub unreadable_body : Unreadable → Data
 unreadable_body BadLine = object (member (codes "name") (string (codes "BadLine")) no_members)
-unreadable_body (BadItem at field) = item_body at field
-unreadable_body (BadBody field) = with_field field (member (codes "name") (string (codes "BadBody")) no_members)
+unreadable_body (BadBody fault) = json_of fault
 
 -- no call was made
 abbrev pub unreadable_text : Unreadable → List ℕ

@@ -4,17 +4,14 @@ ghost use Rattle.tb_script.specs.declared.line_fault.LineFault.TheVariants.{Memo
 ghost use Rattle.tb_script.specs.declared.line_fault.Unreadable.TheVariants.{BadLine};
 
 use std::alloc::{AllocError, AllocFailed};
-use tb_values::Text;
+use tb_body::BadBody;
 
 /// Why a line can't be read.
 #[derive(Debug, Drop)]
 pub enum Unreadable {
     BadLine,
-    /// The body isn't JSON, or no task; the name is that of a member in a wrong form.
-    BadBody(Option<Text>),
-    /// The task at this index of an import, counted from 0, is in a wrong form; the name is that of the member at fault, and empty
-    /// where the item is no object.
-    BadItem(usize, Text),
+    /// The line has the form, and its body can't be taken.
+    BadBody(BadBody),
 }
 
 /// Why the reading of a line ended.

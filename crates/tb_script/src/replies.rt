@@ -1,7 +1,7 @@
 //! The texts of replies.
 ghost use Rattle.std.specs.Prelude.{◌≡◌, IfOk};
 ghost use Rattle.serde_json.specs.View.{view};
-ghost use Rattle.tb_script.specs.Replies.{item_body, reply_text, unreadable_body, unreadable_text};
+ghost use Rattle.tb_script.specs.Replies.{reply_text, unreadable_body, unreadable_text};
 
 use crate::line_fault::Unreadable;
 use serde_json::{Value, json};
@@ -35,15 +35,6 @@ fn body_of_fault(alloc: Global, fault: &Unreadable) -> Result<Value, AllocError>
 {
     match fault {
         Unreadable::BadLine => json!(in alloc; {"name": "BadLine"}),
-        Unreadable::BadBody(None) => json!(in alloc; {"name": "BadBody"}),
-        Unreadable::BadItem(at, field) => body_of_item(alloc, *at, field.as_str()),
-        Unreadable::BadBody(Some(field)) =>
-            json!(in alloc; {"field": field.as_str(), "name": "BadBody"}),
+        Unreadable::BadBody(fault) => fault.to_json(alloc),
     }
-}
-
-fn body_of_item(alloc: Global, at: usize, field: &str) -> Result<Value, AllocError>
-    ensures { IfOk result (λ body. view body ≡ item_body at field.now) }
-{
-    json!(in alloc; {"at": at, "field": field, "name": "BadBody"})
 }

@@ -1,5 +1,5 @@
 -- What the statements on kept replies do.
-use Rattle.std.proofs.Common.{◌≡◌, ◌<◌, ◌^◌, ◌&&◌, ℕ, pos, List, [], ◌∷◌, drop, codes, option_map, slice_get, refl, ap₂}
+use Rattle.std.proofs.Common.{◌≡◌, ◌<◌, ◌^◌, ◌&&◌, ℕ, pos, List, [], ◌∷◌, drop, map, codes, true, option_map, slice_get, refl, subst, ap₂, IsPermutation}
 use Rattle.std.specs.Prelude.{filter}
 use Rattle.std.specs.Int.{to_be_bytes, w128}
 use Rattle.sqlite_value.specs.declared.value.Value.TheVariants.{Null, Int, Blob}
@@ -18,7 +18,7 @@ use Rattle.tb_sql_tables.specs.Reading.{kept_of}
 use Rattle.tb_sql_tables.specs.Content.{Changes, Finds, Ran}
 use Rattle.tb_sql_tables.specs.Found.{IsOneOf}
 use Rattle.tb_sql_tables.proofs.Contents.{kept_changed}
-use Rattle.tb_sql_tables.proofs.Effects.{each_of, each_left, cells_shown, found_one}
+use Rattle.tb_sql_tables.proofs.Effects.{each, all_left, each_of, each_left, cells_shown, found_one, found_same}
 use Rattle.tb_sql_tables.proofs.Inserts.{row_put, cast_integer, cast_null}
 use Rattle.tb_sql_tables.proofs.Inside.{shown_open}
 use Rattle.tb_sql_tables.proofs.KeyTests.{by_two, has_two, two_tested, equal_numbers, equal_identifiers}
@@ -90,4 +90,25 @@ find_kept old new person id low rows shown = record {
       let answer = cells_shown kept_row (is_kept person id) content.kept kept_tree refl find_text by_two shown_terms [] asks_one old new params rows is.schema shown
       (has_two (Int (pos person)) (Blob (to_be_bytes w128 id))) out_one (two_tested (Int (pos person)) (Blob (to_be_bytes w128 id)) []) (shows_one params) same is.rows.tables.kept in
       found_one kept_of (query_of kept_tree by_two shown_terms []) (λ row. out_one (kept_row row)) _ rows (each_of kept_read _ (each_left _ _ content.kept is.rows.tables.kept_identifiers)) answer;
+}
+
+abbrev pub select_text : List ℕ
+select_text = codes "SELECT person, id, content, number, status, body FROM kept"
+
+asks_all : Asks select_text kept_tree [] shown_terms []
+unfolding understood everything
+asks_all = record { names = names; means = record { is = refl; bare = (refl, refl) }; unlisted = refl }
+
+shows_all : (row : Row) → output_at kept_tree refl [] shown_terms [] [] row ≡ out_one (drop 1 row)
+shows_all [] = refl
+shows_all (id ∷ cells) = refl
+
+pub select_kept : (old new : State) (rows : List Row) → Shown select_text [] old new rows → Finds (λ content. IsPermutation content.kept (map kept_of rows)) old
+select_kept old new rows shown = record {
+  was_open = shown_open select_text _ old new rows shown;
+  found = λ content is.
+      let answer = cells_shown kept_row (λ row. true) content.kept kept_tree refl select_text [] shown_terms [] asks_all old new [] rows is.schema shown
+      (λ cells. true) out_one (λ r. refl) shows_all (each (λ row. refl) _) is.rows.tables.kept in
+      subst (λ all. IsPermutation all (map kept_of rows)) (all_left content.kept)
+      (found_same kept_of (query_of kept_tree [] shown_terms []) (λ row. out_one (kept_row row)) _ rows (each_of kept_read _ (each_left (λ (row : KeptRow). row.id < 2 ^ 128) (λ row. true) content.kept is.rows.tables.kept_identifiers)) answer);
 }

@@ -1,6 +1,6 @@
 //! The statements on the kept replies.
 
-ghost use Rattle.std.specs.Prelude.{◌≡◌, IsTrue, IfOk, OnOk, OnErr, filter};
+ghost use Rattle.std.specs.Prelude.{◌≡◌, IsTrue, IfOk, IsPermutation, OnOk, OnErr, filter};
 ghost use Rattle.sqlite.specs.Held.{state};
 ghost use Rattle.sqlite.specs.State.{HasCleanDisk, KeepsCommit, Survives};
 ghost use Rattle.tb_sql_tables.specs.Content.{Changes, Finds};
@@ -9,10 +9,11 @@ ghost use Rattle.tb_sql.specs.Changes.{with_kept, is_kept};
 
 use crate::bind::identifier_bytes;
 use sqlite::{Alter, Error, Transaction, params};
-use tb_sql_tables::read::read_first;
+use tb_sql_tables::read::{read_all, read_first};
 use tb_sql_tables::rows::KeptRow;
 use tb_sql_tables::run::{find_rows, run};
 use tb_task::TaskId;
+use tb_values::Items;
 
 /// Keeps a reply. It fails where there is no such person, or one is kept under this identifier.
 pub fn insert_kept<S: Alter>(tx: &mut Transaction<'_, S>, kept: &KeptRow) -> Result<(), Error>
@@ -55,4 +56,21 @@ pub fn find_kept<S: Alter>(
         params![person, bytes],
     )?;
     read_first(&rows)
+}
+
+/// All replies that are kept, in no order.
+pub fn select_kept<S: Alter>(tx: &mut Transaction<'_, S>) -> Result<Items<KeptRow>, Error>
+    ensures same_reference { tx.new.conn.ghost_name ≡ tx.old.conn.ghost_name }
+    ensures found { HasCleanDisk (state S.Store tx.new.conn.now)
+        → IfOk result (λ kept. Finds (λ content. IsPermutation content.kept kept) (state S.Store tx.old.conn.now)) }
+    ensures kept { HasCleanDisk (state S.Store tx.new.conn.now) → IsTrue (state S.Store tx.old.conn.now).in_transaction
+        → KeepsCommit (state S.Store tx.old.conn.now) (state S.Store tx.new.conn.now) }
+    ensures survives { Survives (state S.Store tx.old.conn.now) (state S.Store tx.new.conn.now) (λ _. ⊥) }
+{
+    let rows = find_rows(
+        tx,
+        "SELECT person, id, content, number, status, body FROM kept",
+        &[],
+    )?;
+    read_all(*rows.allocator(), &rows)
 }

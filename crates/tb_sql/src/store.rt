@@ -23,7 +23,7 @@ pub enum StoreFault {
 
 impl StoreFault {
     /// The fault of a statement before the commit. An error of the commit is always `Store`.
-    pub(crate) fn before_commit(error: &Error) -> StoreFault
+    pub fn before_commit(error: &Error) -> StoreFault
         ensures { (result ≡ StoreFault.Memory) ↔ (error.now ≡ Error.SqliteFailure ErrorCode.OutOfMemory) }
     {
         match error {

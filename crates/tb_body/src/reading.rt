@@ -1,0 +1,110 @@
+//! Bodies that hold tasks.
+ghost use Rattle.std.specs.Prelude.{◌≡◌, Some, IfOk, option_map};
+ghost use Rattle.serde_json.specs.Read.{read};
+ghost use Rattle.serde_json.specs.View.{view};
+ghost use Rattle.tb_body.specs.Fault.{Reads};
+ghost use Rattle.tb_body.specs.Reading.{edits_in, edits_of, import_in, incoming_in, incoming_of, text_in, todo_in};
+
+use crate::fault::{BadBody, BodyFault};
+use serde_json::Value;
+use std::alloc::{AllocError, Global};
+use tb_json::{ImportFault, JsonFault, read_import, read_modify, read_task};
+use tb_task::{Edit, Incoming, Moment, Task};
+use tb_todotxt::{FileFault, read_file};
+use tb_values::Items;
+
+/// The text that bytes are, if they are UTF-8.
+pub fn read_text(bytes: &[u8]) -> Option<&str>
+    ensures { option_map (λ text. text.now) result ≡ text_in bytes.now }
+{
+    match str::from_utf8(bytes) {
+        Ok(text) => Some(text),
+        Err(_) => None,
+    }
+}
+
+/// The value that a text is, if it is JSON.
+pub fn read_value(alloc: Global, text: &str) -> Result<Option<Value>, AllocError>
+    ensures { IfOk result (λ value. option_map view value ≡ read text.now) }
+{
+    match Value::from_str(alloc, text) {
+        Ok(value) => Ok(Some(value)),
+        Err(fault) => {
+            if fault.is_memory() {
+                return Err(AllocError);
+            }
+            Ok(None)
+        }
+    }
+}
+
+/// The task that a text is when it comes in at a moment.
+pub fn read_incoming(alloc: Global, text: &str, at: Moment) -> Result<Incoming, BodyFault>
+    ensures { Reads result (incoming_in text.now at) }
+{
+    match read_value(alloc, text)? {
+        Some(value) => incoming_from(alloc, &value, at),
+        None => Err(BodyFault::Refused(BadBody::Whole)),
+    }
+}
+
+fn incoming_from(alloc: Global, value: &Value, at: Moment) -> Result<Incoming, BodyFault>
+    ensures { Reads result (incoming_of (Some (view value.now)) at) }
+{
+    match read_task(alloc, value, at) {
+        Ok(incoming) => Ok(incoming),
+        Err(JsonFault::NotObject) => Err(BodyFault::Refused(BadBody::Whole)),
+        Err(JsonFault::BadField(name)) => Err(BodyFault::Refused(BadBody::Field(name))),
+        Err(JsonFault::Memory) => Err(BodyFault::Memory),
+    }
+}
+
+/// The edits that a text asks for.
+pub fn read_edits(alloc: Global, text: &str) -> Result<Items<Edit>, BodyFault>
+    ensures { Reads result (edits_in text.now) }
+{
+    match read_value(alloc, text)? {
+        Some(value) => edits_from(alloc, &value),
+        None => Err(BodyFault::Refused(BadBody::Whole)),
+    }
+}
+
+fn edits_from(alloc: Global, value: &Value) -> Result<Items<Edit>, BodyFault>
+    ensures { Reads result (edits_of (Some (view value.now))) }
+{
+    match read_modify(alloc, value) {
+        Ok(edits) => Ok(edits),
+        Err(JsonFault::NotObject) => Err(BodyFault::Refused(BadBody::Whole)),
+        Err(JsonFault::BadField(name)) => Err(BodyFault::Refused(BadBody::Field(name))),
+        Err(JsonFault::Memory) => Err(BodyFault::Memory),
+    }
+}
+
+/// The tasks of an import's text at a moment.
+pub fn read_imported(alloc: Global, text: &str, at: Moment) -> Result<Items<Incoming>, BodyFault>
+    ensures { Reads result (import_in text.now at) }
+{
+    match read_import(alloc, text.as_bytes(), at) {
+        Ok(tasks) => Ok(tasks),
+        Err(ImportFault::NotJson) => Err(BodyFault::Refused(BadBody::Whole)),
+        Err(ImportFault::TooMany) => Err(BodyFault::Refused(BadBody::Whole)),
+        Err(ImportFault::BadTask(at, name)) => Err(BodyFault::Refused(BadBody::Item(at, name))),
+        Err(ImportFault::Memory) => Err(BodyFault::Memory),
+    }
+}
+
+/// The tasks that lines of todo.txt make on a board at a moment.
+pub fn read_todo(
+    alloc: Global,
+    text: &str,
+    at: Moment,
+    board: u32,
+) -> Result<Items<Task>, BodyFault>
+    ensures { Reads result (todo_in text.now at board) }
+{
+    match read_file(alloc, text, at, board) {
+        Ok(tasks) => Ok(tasks),
+        Err(FileFault::TooMany) => Err(BodyFault::Refused(BadBody::Whole)),
+        Err(FileFault::Memory) => Err(BodyFault::Memory),
+    }
+}

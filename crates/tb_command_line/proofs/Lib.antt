@@ -1,0 +1,4 @@
+pub mod Entering
+pub mod NumeralLemmas
+pub mod Positionals
+pub mod Requests

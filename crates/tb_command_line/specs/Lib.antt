@@ -1,0 +1,5 @@
+pub mod Grammar
+pub mod Matches
+pub mod Numerals
+pub mod Orders
+pub mod Outcome

@@ -1,0 +1,120 @@
+-- The forms of the command line, and the order that each is.
+use Rattle.std.specs.Prelude.{◌==◌, ℕ, Bool, true, not, List, [], ◌∷◌, codes, Option, Some, None, Result, Ok, Err, if◌then◌else◌}
+use Rattle.std.specs.Str.{bytes_eq}
+use Rattle.tb_values.specs.Outcome.{◌>>=◌}
+use Rattle.tb_board.specs.Names.{read_name, read_key}
+use Rattle.tb_task.specs.TaskId.{read_id}
+use Rattle.tb_command_line.specs.declared.order.ImportKind.{ImportKind}
+use Rattle.tb_command_line.specs.declared.order.ImportKind.TheVariants as kind
+use Rattle.tb_command_line.specs.declared.order.Order.{Order}
+use Rattle.tb_command_line.specs.declared.order.Order.TheVariants as order
+use Rattle.tb_command_line.specs.declared.order.ViewKind.{ViewKind}
+use Rattle.tb_command_line.specs.declared.order.ViewKind.TheVariants as view
+use Rattle.tb_command_line.specs.declared.order.WordsFault.{WordsFault}
+use Rattle.tb_command_line.specs.Numerals.{number_to}
+use Rattle.tb_command_line.specs.Outcome.{or_bad}
+
+abbrev pub Text : Type 0
+Text = List ℕ
+
+-- the forms of the words after the program's name, with what stands in them
+pub data Request : Type 0 where
+  -- FILE, NAME and KEY
+  Init : Text → Text → Text → Request
+  -- FILE, the port, and the number of connections where it is given
+  Serve : Text → Text → Option Text → Request
+  Run : Request
+  -- FILE, MEMBER, KEY, ID, BOARD and KIND
+  Import : Text → Text → Text → Text → Text → Text → Request
+  -- FILE, MEMBER, KEY and BOARD
+  View : ViewKind → Text → Text → Text → Text → Request
+  Check : Text → Request
+
+-- the word that asks for a view
+abbrev pub word_of : ViewKind → Text
+word_of view.Export = codes "export"
+word_of view.Listing = codes "list"
+word_of view.Todo = codes "todo"
+
+-- the words, without the options
+abbrev pub texts_of : Request → List Text
+texts_of (Init file name key) = file ∷ name ∷ key ∷ []
+texts_of (Serve file port None) = file ∷ port ∷ []
+texts_of (Serve file port (Some connections)) = file ∷ port ∷ connections ∷ []
+texts_of Run = []
+texts_of (Import file member key id board kind) = file ∷ member ∷ key ∷ id ∷ board ∷ kind ∷ []
+texts_of (View kind file member key board) = file ∷ member ∷ key ∷ board ∷ []
+texts_of (Check file) = file ∷ []
+
+abbrev pub words_of : Request → List Text
+words_of (Init file name key) = codes "init" ∷ file ∷ name ∷ key ∷ []
+words_of (Serve file port None) = codes "serve" ∷ file ∷ codes "--port" ∷ port ∷ []
+words_of (Serve file port (Some connections)) = codes "serve" ∷ file ∷ codes "--port" ∷ port ∷ codes "--connections" ∷ connections ∷ []
+words_of Run = codes "run" ∷ []
+words_of (Import file member key id board kind) = codes "import" ∷ file ∷ member ∷ key ∷ id ∷ board ∷ kind ∷ []
+words_of (View kind file member key board) = word_of kind ∷ file ∷ member ∷ key ∷ board ∷ []
+words_of (Check file) = codes "check" ∷ file ∷ []
+
+-- the word doesn't begin with a hyphen
+abbrev pub is_plain : Text → Bool
+is_plain [] = true
+is_plain (b ∷ bs) = not (b == 45)
+
+-- ---- the parts of an order
+
+abbrev pub kind_in : Text → Option ImportKind
+kind_in text = if bytes_eq text (codes "json") then Some kind.Json
+    else if bytes_eq text (codes "todo") then Some kind.Todo
+    else None
+
+-- from 1 to 65535
+abbrev pub port_in : Text → Option ℕ
+port_in text = number_to 65535 text
+
+-- from 1 to 1000000, and 1000 where none is given
+abbrev pub connections_in : Option Text → Option ℕ
+connections_in None = Some 1000
+connections_in (Some text) = number_to 1000000 text
+
+-- from 1 to 4294967295
+abbrev pub board_in : Text → Option ℕ
+board_in text = number_to 4294967295 text
+
+-- ---- the order
+
+abbrev pub init_of : Text → Text → Text → Result Order WordsFault
+init_of file name key = do
+  n ← or_bad (read_name name)
+  k ← or_bad (read_key key)
+  Ok (order.Init (record { file = file; name = n; key = k }))
+
+abbrev pub serve_of : Text → Text → Option Text → Result Order WordsFault
+serve_of file port connections = do
+  p ← or_bad (port_in port)
+  n ← or_bad (connections_in connections)
+  Ok (order.Serve (record { file = file; port = p; connections = n }))
+
+abbrev pub import_of : Text → Text → Text → Text → Text → Text → Result Order WordsFault
+import_of file member key id board kind = do
+  n ← or_bad (read_name member)
+  k ← or_bad (read_key key)
+  i ← or_bad (read_id id)
+  b ← or_bad (board_in board)
+  t ← or_bad (kind_in kind)
+  Ok (order.Import (record { file = file; member = n; key = k; id = i; board = b; kind = t }))
+
+abbrev pub view_of : ViewKind → Text → Text → Text → Text → Result Order WordsFault
+view_of kind file member key board = do
+  n ← or_bad (read_name member)
+  k ← or_bad (read_key key)
+  b ← or_bad (board_in board)
+  Ok (order.View (record { kind = kind; file = file; member = n; key = k; board = b }))
+
+-- the order that a request is, or Bad where a part of it isn't in its form
+abbrev pub order_of : Request → Result Order WordsFault
+order_of (Init file name key) = init_of file name key
+order_of (Serve file port connections) = serve_of file port connections
+order_of Run = Ok order.Run
+order_of (Import file member key id board kind) = import_of file member key id board kind
+order_of (View kind file member key board) = view_of kind file member key board
+order_of (Check file) = Ok (order.Check file)

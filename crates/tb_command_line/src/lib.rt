@@ -1,0 +1,13 @@
+//! The words of the command line, and the order that they are.
+//! Stands on `clap` for the splitting of words, on `tb_board` for names and keys, and on `tb_task` for identifiers.
+#![tactic(auto)]
+
+mod numerals;
+mod order;
+mod reading;
+mod words;
+
+pub use order::{
+    ImportKind, ImportOrder, InitOrder, Order, ServeOrder, ViewKind, ViewOrder, WordsFault,
+};
+pub use words::command_of;

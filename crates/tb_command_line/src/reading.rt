@@ -1,0 +1,204 @@
+//! The order that the matches of the command line are.
+ghost use Rattle.std.specs.Prelude.{◌≡◌, option_map, codes};
+ghost use Rattle.clap.specs.Matches.{found_of};
+ghost use Rattle.clap.specs.Simple.{subcommand_rows_of};
+ghost use Rattle.clap.specs.Walk.{first_of, rows_of};
+ghost use Rattle.tb_board.specs.Names.{read_key, read_name};
+ghost use Rattle.tb_command_line.specs.Matches.{check_at, import_at, init_at, named_at, order_at, serve_at, text_at, value_at, view_at};
+ghost use Rattle.tb_command_line.specs.Orders.{board_in, connections_in, kind_in, port_in};
+ghost use Rattle.tb_command_line.specs.Outcome.{Reads, or_bad};
+ghost use Rattle.tb_task.specs.TaskId.{read_id};
+
+use crate::numerals::read_number;
+use crate::order::{
+    ImportKind, ImportOrder, InitOrder, Order, ServeOrder, ViewKind, ViewOrder, WordsFault,
+};
+use clap::ArgMatches;
+use std::alloc::Global;
+use tb_board::{Key, Name};
+use tb_task::TaskId;
+use tb_values::Text;
+
+const LAST_PORT: u32 = 65_535;
+
+const MOST_CONNECTIONS: u32 = 1_000_000;
+
+const USUAL_CONNECTIONS: u32 = 1_000;
+
+pub(crate) fn read_order(alloc: Global, matches: &ArgMatches<'_>) -> Result<Order, WordsFault>
+    ensures { Reads result (order_at (subcommand_rows_of matches.now)) }
+{
+    match matches.subcommand() {
+        Some((name, found)) => read_named(alloc, name, found),
+        None => Err(WordsFault::Bad),
+    }
+}
+
+#[tactic(auto, unfolding(crate::specs::Matches::named_at))]
+fn read_named(alloc: Global, name: &str, found: &ArgMatches<'_>) -> Result<Order, WordsFault>
+    ensures { Reads result (named_at name.now (rows_of (found_of found.now))) }
+{
+    match name {
+        "init" => read_init(alloc, found),
+        "serve" => read_serve(alloc, found),
+        "run" => Ok(Order::Run),
+        "import" => read_import(alloc, found),
+        "export" => read_view(alloc, ViewKind::Export, found),
+        "list" => read_view(alloc, ViewKind::Listing, found),
+        "todo" => read_view(alloc, ViewKind::Todo, found),
+        "check" => read_check(alloc, found),
+        _ => Err(WordsFault::Bad),
+    }
+}
+
+fn read_init(alloc: Global, found: &ArgMatches<'_>) -> Result<Order, WordsFault>
+    ensures { Reads result (init_at (rows_of (found_of found.now))) }
+{
+    let file = file_of(alloc, found)?;
+    let name = name_of(alloc, found, "name")?;
+    let key = key_of(alloc, found)?;
+    Ok(Order::Init(InitOrder { file, name, key }))
+}
+
+fn read_serve(alloc: Global, found: &ArgMatches<'_>) -> Result<Order, WordsFault>
+    ensures { Reads result (serve_at (rows_of (found_of found.now))) }
+{
+    let file = file_of(alloc, found)?;
+    let port = port_of(found)?;
+    let connections = connections_of(found)?;
+    Ok(Order::Serve(ServeOrder {
+        file,
+        port,
+        connections,
+    }))
+}
+
+fn read_import(alloc: Global, found: &ArgMatches<'_>) -> Result<Order, WordsFault>
+    ensures { Reads result (import_at (rows_of (found_of found.now))) }
+{
+    let file = file_of(alloc, found)?;
+    let member = name_of(alloc, found, "member")?;
+    let key = key_of(alloc, found)?;
+    let id = id_of(found)?;
+    let board = board_of(found)?;
+    let kind = kind_of(found)?;
+    Ok(Order::Import(ImportOrder {
+        file,
+        member,
+        key,
+        id,
+        board,
+        kind,
+    }))
+}
+
+fn read_view(alloc: Global, kind: ViewKind, found: &ArgMatches<'_>) -> Result<Order, WordsFault>
+    ensures { Reads result (view_at kind (rows_of (found_of found.now))) }
+{
+    let file = file_of(alloc, found)?;
+    let member = name_of(alloc, found, "member")?;
+    let key = key_of(alloc, found)?;
+    let board = board_of(found)?;
+    Ok(Order::View(ViewOrder {
+        kind,
+        file,
+        member,
+        key,
+        board,
+    }))
+}
+
+fn read_check(alloc: Global, found: &ArgMatches<'_>) -> Result<Order, WordsFault>
+    ensures { Reads result (check_at (rows_of (found_of found.now))) }
+{
+    let file = file_of(alloc, found)?;
+    Ok(Order::Check(file))
+}
+
+fn file_of(alloc: Global, found: &ArgMatches<'_>) -> Result<Text, WordsFault>
+    ensures { Reads result (text_at (codes "file") (rows_of (found_of found.now))) }
+{
+    let Some(text) = text_of(found, "file") else {
+        return Err(WordsFault::Bad);
+    };
+    Ok(Text::from_str(alloc, text)?)
+}
+
+fn name_of(alloc: Global, found: &ArgMatches<'_>, id: &str) -> Result<Name, WordsFault>
+    ensures { Reads result (value_at read_name id.now (rows_of (found_of found.now))) }
+{
+    let Some(text) = text_of(found, id) else {
+        return Err(WordsFault::Bad);
+    };
+    match Name::read(alloc, text)? {
+        Some(name) => Ok(name),
+        None => Err(WordsFault::Bad),
+    }
+}
+
+fn key_of(alloc: Global, found: &ArgMatches<'_>) -> Result<Key, WordsFault>
+    ensures { Reads result (value_at read_key (codes "key") (rows_of (found_of found.now))) }
+{
+    let Some(text) = text_of(found, "key") else {
+        return Err(WordsFault::Bad);
+    };
+    match Key::read(alloc, text)? {
+        Some(key) => Ok(key),
+        None => Err(WordsFault::Bad),
+    }
+}
+
+fn id_of(found: &ArgMatches<'_>) -> Result<TaskId, WordsFault>
+    ensures { Reads result (value_at read_id (codes "id") (rows_of (found_of found.now))) }
+{
+    let Some(text) = text_of(found, "id") else {
+        return Err(WordsFault::Bad);
+    };
+    TaskId::read(text).ok_or(WordsFault::Bad)
+}
+
+fn board_of(found: &ArgMatches<'_>) -> Result<u32, WordsFault>
+    ensures { Reads result (value_at board_in (codes "board") (rows_of (found_of found.now))) }
+{
+    let Some(text) = text_of(found, "board") else {
+        return Err(WordsFault::Bad);
+    };
+    read_number(text, u32::MAX).ok_or(WordsFault::Bad)
+}
+
+fn kind_of(found: &ArgMatches<'_>) -> Result<ImportKind, WordsFault>
+    ensures { Reads result (value_at kind_in (codes "kind") (rows_of (found_of found.now))) }
+{
+    match text_of(found, "kind") {
+        Some("json") => Ok(ImportKind::Json),
+        Some("todo") => Ok(ImportKind::Todo),
+        _ => Err(WordsFault::Bad),
+    }
+}
+
+fn port_of(found: &ArgMatches<'_>) -> Result<u16, WordsFault>
+    ensures { Reads result (value_at port_in (codes "port") (rows_of (found_of found.now))) }
+{
+    let Some(text) = text_of(found, "port") else {
+        return Err(WordsFault::Bad);
+    };
+    match read_number(text, LAST_PORT) {
+        Some(port) => Ok(port as u16),
+        None => Err(WordsFault::Bad),
+    }
+}
+
+fn connections_of(found: &ArgMatches<'_>) -> Result<u32, WordsFault>
+    ensures { Reads result (or_bad (connections_in (first_of (codes "connections") (rows_of (found_of found.now))))) }
+{
+    match text_of(found, "connections") {
+        Some(text) => read_number(text, MOST_CONNECTIONS).ok_or(WordsFault::Bad),
+        None => Ok(USUAL_CONNECTIONS),
+    }
+}
+
+fn text_of<'a>(found: &ArgMatches<'a>, id: &str) -> Option<&'a str>
+    ensures { option_map (λ text. text.now) result ≡ first_of id.now (rows_of (found_of found.now)) }
+{
+    found.get_str(id)
+}

@@ -1,0 +1,155 @@
+//! The command line that names the orders.
+ghost use Rattle.std.specs.Prelude.{◌≡◌, IfOk, Bool, List, codes, false, map, true, ℕ};
+ghost use Rattle.std.specs.List.{list_all};
+ghost use Rattle.clap.specs.Simple.{app_of, new_app};
+ghost use Rattle.clap.specs.Walk.{rule_of};
+ghost use Rattle.tb_command_line.specs.Grammar.{IsShaped, bare, check_app, file_app, import_app, init_app, input_app, member_app, needed, option_rule, program_app, serve_app, view_app};
+ghost use Rattle.tb_command_line.specs.Orders.{Request, is_plain, order_of, texts_of, words_of};
+ghost use Rattle.tb_command_line.specs.Outcome.{Reads};
+
+use crate::order::{Order, WordsFault};
+use crate::reading::read_order;
+use clap::error::ErrorKind;
+use clap::{Arg, ArgAction, Command};
+use std::alloc::{AllocError, Global};
+
+/// The order that the words after the program's name are. Of words in none of the forms, and of words that begin with a hyphen where
+/// no option stands, nothing is promised: tests show that they are bad.
+pub fn command_of(alloc: Global, words: &[&str]) -> Result<Order, WordsFault>
+    ensures { (request : Request) → map (λ word. word.now) words.entry.now ≡ words_of request
+        → list_all is_plain (texts_of request) ≡ true → Reads result (order_of request) }
+{
+    let Ok(command) = program(alloc) else {
+        return Err(WordsFault::Memory);
+    };
+    match command.try_get_matches_from(words) {
+        Ok(matches) => read_order(alloc, &matches),
+        Err(error) => Err(fault_of(error.kind())),
+    }
+}
+
+fn fault_of(kind: ErrorKind) -> WordsFault
+    ensures { kind ≡ ErrorKind.OutOfMemory → result ≡ WordsFault.Memory }
+{
+    match kind {
+        ErrorKind::OutOfMemory => WordsFault::Memory,
+        _ => WordsFault::Bad,
+    }
+}
+
+fn program<'a>(alloc: Global) -> Result<Command<'a>, AllocError>
+    ensures { IfOk result (λ c. app_of c ≡ program_app) }
+{
+    let export = view(alloc, "export")?;
+    let list = view(alloc, "list")?;
+    let todo = view(alloc, "todo")?;
+    input_commands(alloc)?
+        .subcommand(export)?
+        .subcommand(list)?
+        .subcommand(todo)
+}
+
+/// The program with the subcommands for a file as a whole, and those that read standard input.
+fn input_commands<'a>(alloc: Global) -> Result<Command<'a>, AllocError>
+    ensures { IfOk result (λ c. app_of c ≡ input_app) }
+{
+    let import = import(alloc)?;
+    file_commands(alloc)?
+        .subcommand(Command::new(alloc, "run"))?
+        .subcommand(import)
+}
+
+/// The program with the subcommands for a file as a whole.
+fn file_commands<'a>(alloc: Global) -> Result<Command<'a>, AllocError>
+    ensures { IfOk result (λ c. app_of c ≡ file_app) }
+{
+    let init = init(alloc)?;
+    let serve = serve(alloc)?;
+    let check = check(alloc)?;
+    bare(alloc)
+        .subcommand(init)?
+        .subcommand(serve)?
+        .subcommand(check)
+}
+
+/// The program without its subcommands.
+fn bare<'a>(alloc: Global) -> Command<'a>
+    ensures { app_of result ≡ bare (new_app (codes "taskboard")) }
+{
+    Command::new(alloc, "taskboard")
+        .no_binary_name(true)
+        .disable_help_flag(true)
+        .disable_help_subcommand(true)
+        .subcommand_required(true)
+}
+
+/// `init FILE NAME KEY`.
+fn init<'a>(alloc: Global) -> Result<Command<'a>, AllocError>
+    ensures { IfOk result (IsShaped init_app) }
+{
+    Command::new(alloc, "init")
+        .arg(positional(alloc, "file"))?
+        .arg(positional(alloc, "name"))?
+        .arg(positional(alloc, "key"))
+}
+
+/// `serve FILE --port P [--connections N]`.
+fn serve<'a>(alloc: Global) -> Result<Command<'a>, AllocError>
+    ensures { IfOk result (IsShaped serve_app) }
+{
+    Command::new(alloc, "serve")
+        .arg(positional(alloc, "file"))?
+        .arg(option(alloc, "port", true))?
+        .arg(option(alloc, "connections", false))
+}
+
+/// `NAME FILE MEMBER KEY`, and what follows it.
+fn member<'a>(alloc: Global, name: &'a str) -> Result<Command<'a>, AllocError>
+    ensures { IfOk result (IsShaped (member_app name.entry.now)) }
+{
+    Command::new(alloc, name)
+        .arg(positional(alloc, "file"))?
+        .arg(positional(alloc, "member"))?
+        .arg(positional(alloc, "key"))
+}
+
+/// `import FILE MEMBER KEY ID BOARD KIND`.
+fn import<'a>(alloc: Global) -> Result<Command<'a>, AllocError>
+    ensures { IfOk result (IsShaped import_app) }
+{
+    member(alloc, "import")?
+        .arg(positional(alloc, "id"))?
+        .arg(positional(alloc, "board"))?
+        .arg(positional(alloc, "kind"))
+}
+
+/// `NAME FILE MEMBER KEY BOARD`.
+fn view<'a>(alloc: Global, name: &'a str) -> Result<Command<'a>, AllocError>
+    ensures { IfOk result (IsShaped (view_app name.entry.now)) }
+{
+    member(alloc, name)?.arg(positional(alloc, "board"))
+}
+
+/// `check FILE`.
+fn check<'a>(alloc: Global) -> Result<Command<'a>, AllocError>
+    ensures { IfOk result (IsShaped check_app) }
+{
+    Command::new(alloc, "check").arg(positional(alloc, "file"))
+}
+
+fn positional<'a>(alloc: Global, id: &'a str) -> Arg<'a>
+    ensures rule { rule_of result ≡ needed id.entry.now }
+    ensures local { result.global ≡ false }
+{
+    Arg::new(alloc, id).required(true).action(ArgAction::Set)
+}
+
+fn option<'a>(alloc: Global, name: &'a str, is_required: bool) -> Arg<'a>
+    ensures rule { rule_of result ≡ option_rule name.entry.now is_required }
+    ensures local { result.global ≡ false }
+{
+    Arg::new(alloc, name)
+        .long(name)
+        .required(is_required)
+        .action(ArgAction::Set)
+}

@@ -1,0 +1,101 @@
+-- Changes that have their forms leave a world that has.
+use Rattle.std.proofs.Common.{◌≡◌, ℕ, suc, zero, Bool, true, false, cond, List, [], ◌∷◌, ◌++◌, Option, Some, None, refl, length}
+use Rattle.std.specs.Prelude.{nat_lt, slice_set, filter}
+use Rattle.std.specs.List.{AllByRecursion}
+use Rattle.tb_task.specs.declared.task.Task.{Task}
+use Rattle.tb_task.specs.declared.extra.Extra.{Extra}
+use Rattle.tb_task.specs.Ranges.{IsNamedExtra}
+use Rattle.tb_task.specs.Storable.{IsStorable, IsStorableExtra}
+use Rattle.tb_board.specs.declared.board.Board.{Board}
+use Rattle.tb_board.specs.declared.change.Change.{Change}
+use Rattle.tb_board.specs.declared.change.Change.TheVariants.{PutTask, AddPerson, AddBoard, SetRole, SetGone, TakeGone}
+use Rattle.tb_board.specs.declared.gone.Gone.{Gone}
+use Rattle.tb_board.specs.declared.world.World.{World}
+use Rattle.tb_board.specs.Changes.{changed, changed_by, change_board, put, with_gone, with_task_at, without_gone}
+use Rattle.tb_board.specs.Names.{is_key, is_name, is_title, read_key, read_name, read_title}
+use Rattle.tb_reopen.specs.Forms.{HasBoardForm, HasForm, HasMark, HasPersonForm, HasTaskForm}
+use Rattle.tb_keeper.specs.Forms.{HasChangeForm}
+
+-- a task that a board takes has its form
+pub storable_form : (t : Task) → IsStorable t → HasTaskForm t
+storable_form t storable = record {
+  moments = storable.moments;
+  links = record { id = storable.id; parent = storable.parent; imask = storable.imask; depends = storable.depends; links = storable.links };
+  texts = record { project = storable.project; recur = storable.recur; annotations = storable.annotations; tags = storable.tags };
+  extras = named t.extras storable.extras;
+  names = storable.names;
+}
+  where
+    named : (es : List Extra) → AllByRecursion IsStorableExtra es → AllByRecursion IsNamedExtra es
+    named [] all = tt
+    named (e ∷ es) all = (record { named = all.0.named; value = all.0.value }, named es all.1)
+
+-- what reads as a name, a key or a title has its form
+some_only : {X : Type 0} (b : Bool) (x y : X) → Some y ≡ cond b (Some x) None → b ≡ true
+some_only true x y some = refl
+some_only false x y some = absurd (cc)
+
+pub name_read : (text found : List ℕ) → Some found ≡ read_name text → is_name text ≡ true
+name_read text found some = some_only (is_name text) text found some
+
+pub key_read : (text found : List ℕ) → Some found ≡ read_key text → is_key text ≡ true
+key_read text found some = some_only (is_key text) text found some
+
+pub title_read : (text found : List ℕ) → Some found ≡ read_title text → is_title text ≡ true
+title_read text found some = some_only (is_title text) text found some
+
+all_pushed : {X : Type 0} (P : X → Type 0) (xs : List X) (x : X) → AllByRecursion P xs → P x → AllByRecursion P (xs ++ x ∷ [])
+all_pushed P [] x all last = (last, tt)
+all_pushed P (y ∷ xs) x all last = (all.0, all_pushed P xs x all.1 last)
+
+all_set : {X : Type 0} (P : X → Type 0) (xs : List X) (place : ℕ) (x : X) → AllByRecursion P xs → P x → AllByRecursion P (slice_set xs place x)
+all_set P [] place x all here = tt
+all_set P (y ∷ xs) zero x all here = (here, all.1)
+all_set P (y ∷ xs) (suc place) x all here = (all.0, all_set P xs place x all.1 here)
+
+all_left : {X : Type 0} (P : X → Type 0) (test : X → Bool) (xs : List X) → AllByRecursion P xs → AllByRecursion P (filter test xs)
+all_left P test [] all = tt
+all_left P test (x ∷ xs) all = elim (test x) as (λ b. AllByRecursion P (cond b (x ∷ filter test xs) (filter test xs))) [
+  | true ↦ (all.0, all_left P test xs all.1)
+  | false ↦ all_left P test xs all.1
+]
+
+all_put : (ts : List Task) (place : ℕ) (t : Task) → AllByRecursion HasTaskForm ts → HasTaskForm t → AllByRecursion HasTaskForm (put ts place t)
+all_put ts place t all form = elim (nat_lt place (length ts)) as (λ b. AllByRecursion HasTaskForm (cond b (slice_set ts place t) (ts ++ t ∷ []))) [
+  | true ↦ all_set HasTaskForm ts place t all form
+  | false ↦ all_pushed HasTaskForm ts t all form
+]
+
+one_changed : (n : ℕ) (f : Board → Board) → ((b : Board) → HasBoardForm b → HasBoardForm (f b)) → (bs : List Board) → AllByRecursion HasBoardForm bs → AllByRecursion HasBoardForm (change_board n f bs)
+one_changed n f keeps [] all = tt
+one_changed n f keeps (b ∷ bs) all = elim (Rattle.tb_board.specs.World.has_number n b) as (λ c. AllByRecursion HasBoardForm (cond c (f b ∷ bs) (b ∷ change_board n f bs))) [
+  | true ↦ (keeps b all.0, all.1)
+  | false ↦ (all.0, one_changed n f keeps bs all.1)
+]
+
+change_kept : (w : World) (c : Change) → HasForm w → HasChangeForm c → HasForm (changed_by w c)
+change_kept w (PutTask n place t) form has = record {
+  people = form.people;
+  boards = one_changed n (with_task_at place t) (λ b own. record { title = own.title; tasks = all_put b.tasks place t own.tasks has; gone = own.gone }) w.boards form.boards;
+}
+change_kept w (AddPerson name key) form has = record {
+  people = all_pushed HasPersonForm w.people _ form.people (record { name = has.0; key = has.1 });
+  boards = form.boards;
+}
+change_kept w (AddBoard n title) form has = record {
+  people = form.people;
+  boards = all_pushed HasBoardForm w.boards _ form.boards (record { title = has; tasks = tt; gone = tt });
+}
+change_kept w (SetRole n person role) form has = record { people = form.people; boards = form.boards }
+change_kept w (SetGone n g) form has = record {
+  people = form.people;
+  boards = one_changed n (with_gone g) (λ b own. record { title = own.title; tasks = own.tasks; gone = all_pushed HasMark b.gone g own.gone has }) w.boards form.boards;
+}
+change_kept w (TakeGone n id k) form has = record {
+  people = form.people;
+  boards = one_changed n (without_gone id k) (λ b own. record { title = own.title; tasks = own.tasks; gone = all_left HasMark _ b.gone own.gone }) w.boards form.boards;
+}
+
+pub changes_kept : (w : World) (cs : List Change) → HasForm w → AllByRecursion HasChangeForm cs → HasForm (changed w cs)
+changes_kept w [] form all = form
+changes_kept w (c ∷ cs) form all = changes_kept (changed_by w c) cs (change_kept w c form all.0) all.1

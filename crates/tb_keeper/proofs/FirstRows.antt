@@ -1,0 +1,52 @@
+-- The rows of the opening state.
+use Rattle.std.proofs.Common.{◌≡◌, ◌∙◌, ℕ, true, List, [], ◌∷◌, map, length, codes, refl, sym, ap, subst, IsPermutation, arith}
+use Rattle.std.proofs.lemmas.List.Sorted.{IsPermutation-refl}
+use Rattle.std.specs.List.{AllByRecursion}
+use Rattle.std.specs.FinMap.{FinMap, empty, entries, len-empty, len-entries}
+use Rattle.tb_board.specs.Names.{is_key, is_name, is_title}
+use Rattle.tb_board.specs.World.{opening as opening_world}
+use Rattle.tb_core.proofs.Opening.{opens}
+use Rattle.tb_desk.specs.declared.call.KeptReply.{KeptReply}
+use Rattle.tb_desk.specs.Calls.{CallName, name_cmp}
+use Rattle.tb_desk.specs.Opening.{opening}
+use Rattle.tb_reopen.specs.Laws.{AreApart}
+use Rattle.tb_rows.specs.Rows.{world_rows, HaveSameRows, IsSameContent}
+use Rattle.tb_sql.specs.declared.changes.RowChange.{RowChange}
+use Rattle.tb_sql.specs.Writing.{opening as content_of}
+use Rattle.tb_sql_tables.specs.Content.{Content}
+use Rattle.tb_keeper.specs.Stored.{kept_row, state_rows, AreRowsOf}
+use Rattle.tb_keeper.specs.KeptRows.{IsKnown}
+
+none : (es : List (CallName × KeptReply)) → length es ≡ 0 → es ≡ []
+none [] e = refl
+none (x ∷ es) e = absurd (omega arith)
+
+no_entries : entries (empty {X = KeptReply} {R = name_cmp}) ≡ []
+no_entries = none _ (sym (len-entries (empty {X = KeptReply} {R = name_cmp})) ∙ len-empty name_cmp KeptReply)
+
+board_title : is_title (codes "board") ≡ true
+unfolding is_title
+board_title = refl
+
+pub first_rows : AreApart → (name key : List ℕ) (rows : List RowChange) → is_name name ≡ true → is_key key ≡ true → content_of rows ≡ world_rows (opening_world name key) → AreRowsOf (opening name key) (content_of rows)
+first_rows apart name key rows named keyed same = record {
+  apart = apart;
+  good = opens name key;
+  form = record { people = (record { name = named; key = keyed }, tt); boards = (record { title = board_title; tasks = tt; gone = tt }, tt) };
+  people = subst (AllByRecursion (IsKnown (opening_world name key))) (sym no_entries) tt;
+  same = subst (λ (c : Content). IsSameContent c (state_rows (opening name key))) (sym same) rows_of_first;
+}
+  where
+    tables : HaveSameRows (world_rows (opening_world name key)) (state_rows (opening name key))
+    tables = record {
+      people = IsPermutation-refl _;
+      boards = IsPermutation-refl _;
+      roles = IsPermutation-refl _;
+      tasks = IsPermutation-refl _;
+      links = IsPermutation-refl _;
+      instances = IsPermutation-refl _;
+      gone = IsPermutation-refl _;
+    }
+
+    rows_of_first : IsSameContent (world_rows (opening_world name key)) (state_rows (opening name key))
+    rows_of_first = record { tables = tables; kept = subst (λ l. IsPermutation [] (map (kept_row (opening_world name key)) l)) (sym no_entries) (IsPermutation-refl []) }

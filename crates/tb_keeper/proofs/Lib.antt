@@ -1,0 +1,5 @@
+pub mod ChangedForms
+pub mod Commits
+pub mod FirstRows
+pub mod Given
+pub mod Standing

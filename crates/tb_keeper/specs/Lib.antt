@@ -1,0 +1,9 @@
+pub mod Entries
+pub mod Forms
+pub mod KeptRows
+pub mod Laws
+pub mod Numbers
+pub mod Replies
+pub mod SameTables
+pub mod States
+pub mod Stored

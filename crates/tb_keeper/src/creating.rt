@@ -1,0 +1,92 @@
+ghost use Rattle.std.specs.Prelude.{◌≡◌, false, IfErr, IfOk};
+ghost use Rattle.sqlite.specs.Held.{state};
+ghost use Rattle.sqlite.specs.State.{Opens};
+ghost use Rattle.tb_board.specs.World.{opening as opening_world};
+ghost use Rattle.tb_desk.specs.Opening.{opening};
+ghost use Rattle.tb_sql.specs.Writing.{opening as content_of};
+ghost use Rattle.tb_keeper.specs.Stored.{Holds, AreRowsOf, IsEmptyOrStored};
+ghost use Rattle.tb_keeper.specs.Replies.{given};
+ghost use Rattle.tb_sql_tables.specs.Content.{StandsEmpty};
+ghost use Rattle.tb_sql_tables.specs.Tables.{no_schema};
+
+use crate::forms::{is_key_read, is_name_read};
+use crate::replies::Replies;
+use crate::sql_keep::SqlKeep;
+use sqlite::{Alter, Connection};
+use std::alloc::{AllocError, Global};
+use tb_board::{Key, Name, World};
+use tb_reopen::laws::rows_are_apart;
+use tb_rows::opening_rows;
+use tb_sql::changes::RowChange;
+use tb_sql::opening::is_empty;
+use tb_sql::store::{StoreFault, create};
+use tb_values::Items;
+
+/// Why no store is made.
+#[derive(Clone, Copy, Debug, PartialEq, Eq)]
+pub enum CreateFault {
+    /// The database has a table, an index or a view. It is as it was.
+    NotEmpty,
+    /// The database failed. It is as it was, or it is a store that holds the opening world.
+    Store,
+    /// For want of memory. The database is as it was.
+    Memory,
+}
+
+impl<S: Alter> SqlKeep<S> {
+    /// Makes a store in an empty database, for one person, who owns the one board.
+    pub fn create(
+        alloc: Global,
+        mut conn: Connection<S>,
+        name: &Name,
+        key: &Key,
+    ) -> Result<SqlKeep<S>, (Connection<S>, CreateFault)>
+        requires { conn.in_transaction ≡ false }
+        ensures created { IfOk result (λ keep. Opens (state S.Store conn) → Holds keep.failed (record { world = keep.world; kept = given keep.replies }) (state S.Store keep.conn) (opening name.now key.now)) }
+        ensures taken { IfErr result (λ e. e.1 ≡ CreateFault.NotEmpty → (e.0 ≡ conn) × ((state S.Store conn).now.schema ≡ no_schema → ⊥)) }
+        ensures memory { IfErr result (λ e. e.1 ≡ CreateFault.Memory → Opens (state S.Store conn) → StandsEmpty (state S.Store e.0)) }
+        ensures store { IfErr result (λ e. e.1 ≡ CreateFault.Store → Opens (state S.Store conn) → IsEmptyOrStored (opening name.now key.now) (state S.Store e.0)) }
+        ensures idle { IfErr result (λ e. e.0.in_transaction ≡ false) }
+    {
+        if !is_empty(&conn) {
+            return Err((conn, CreateFault::NotEmpty));
+        }
+        let Ok(first) = first_state(alloc, name, key) else {
+            return Err((conn, CreateFault::Memory));
+        };
+        match create(&mut conn, first.rows.as_slice()) {
+            Ok(()) => Ok(SqlKeep {
+                conn,
+                world: first.world,
+                replies: Replies::new(alloc),
+                failed: false,
+            }),
+            Err(StoreFault::Memory) => Err((conn, CreateFault::Memory)),
+            Err(StoreFault::Store) => Err((conn, CreateFault::Store)),
+        }
+    }
+}
+
+/// The opening world, and the changes that put its rows into empty tables.
+#[derive(Drop)]
+struct First {
+    world: World,
+    rows: Items<RowChange>,
+}
+
+fn first_state(alloc: Global, name: &Name, key: &Key) -> Result<First, AllocError>
+    ensures { IfOk result (λ first. (first.world ≡ opening_world name.now key.now) × AreRowsOf (opening name.now key.now) (content_of first.rows)) }
+{
+    rows_are_apart();
+    let world = World::opening(alloc, name, key)?;
+    let rows = opening_rows(alloc, name, key)?;
+    let named = is_name_read(alloc, name)?;
+    let keyed = is_key_read(alloc, key)?;
+    if !named {
+        return Err(AllocError); // Never: a name has the form of its type.
+    }
+    if !keyed {
+        return Err(AllocError);
+    }
+    Ok(First { world, rows })
+}

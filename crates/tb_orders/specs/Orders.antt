@@ -1,0 +1,40 @@
+-- What views ask for, and what replies come to on standard output.
+use Rattle.std.specs.Prelude.{ℕ, ◌==◌, List, [], ◌∷◌, ◌++◌, if◌then◌else◌}
+use Rattle.tb_command_line.specs.declared.order.ViewKind.TheVariants as shows
+use Rattle.tb_command_line.specs.declared.order.ViewOrder.{ViewOrder}
+use Rattle.tb_command_line.specs.declared.order.ViewKind.{ViewKind}
+use Rattle.tb_desk.specs.declared.fault.KeepFault.{KeepFault}
+use Rattle.tb_desk.specs.declared.fault.KeepFault.TheVariants as keep
+use Rattle.tb_desk.specs.declared.view.View.{View}
+use Rattle.tb_desk.specs.declared.view.View.TheVariants as view
+use Rattle.tb_orders.specs.declared.ending.Ending.{Ending}
+use Rattle.tb_orders.specs.declared.ending.Ending.TheVariants.{Accepted, Refused}
+use Rattle.tb_program.specs.declared.fault.Fault.{Fault}
+use Rattle.tb_program.specs.declared.fault.Fault.TheVariants as fault
+use Rattle.tb_reply.specs.declared.reply.Reply.{Reply}
+
+-- ---- what is asked for
+
+abbrev pub view_in : ViewKind → ℕ → View
+view_in shows.Export board = view.Export board
+view_in shows.Listing board = view.Listing board
+view_in shows.Todo board = view.Todo board
+
+abbrev pub view_of : ViewOrder → View
+view_of order = view_in order.kind order.board
+
+-- ---- what comes of it
+
+abbrev pub ending_of : Reply → Ending
+ending_of reply = if reply.number == 0 then Accepted else Refused
+
+-- a refusal stands on a line of its own
+abbrev pub view_text : Reply → List ℕ
+view_text reply = if reply.number == 0 then reply.body else reply.body ++ 10 ∷ []
+
+abbrev pub line_text : Reply → List ℕ
+line_text reply = reply.body ++ 10 ∷ []
+
+abbrev pub fault_of : KeepFault → Fault
+fault_of keep.Memory = fault.Memory
+fault_of keep.Store = fault.Store

@@ -1,0 +1,34 @@
+//! How an order ended.
+ghost use Rattle.std.specs.Prelude.{◌≡◌};
+ghost use Rattle.tb_orders.specs.Orders.{ending_of, fault_of};
+
+use tb_desk::KeepFault;
+use tb_program::Fault;
+use tb_reply::Reply;
+
+/// How an order ended that was carried out.
+#[derive(Clone, Copy, Debug, PartialEq, Eq)]
+pub enum Ending {
+    Accepted,
+    /// The reply is a refusal.
+    Refused,
+}
+
+pub(crate) fn ending_of(reply: &Reply) -> Ending
+    ensures { result ≡ ending_of reply.now }
+{
+    if reply.number == 0 {
+        Ending::Accepted
+    } else {
+        Ending::Refused
+    }
+}
+
+pub(crate) fn fault_of(fault: KeepFault) -> Fault
+    ensures { result ≡ fault_of fault }
+{
+    match fault {
+        KeepFault::Memory => Fault::Memory,
+        KeepFault::Store => Fault::Store,
+    }
+}

@@ -1,0 +1,16 @@
+//! The orders of the command line: the words as they come from the machine, what views and imports ask a desk, and what they print.
+//! Stands on `tb_command_line` for the orders, on `tb_serve` for what a message asks for, on `tb_desk` for its answer, and on
+//! `tb_program` for faults and printing.
+#![tactic(auto)]
+
+mod ending;
+mod importing;
+mod message;
+mod viewing;
+mod words;
+
+pub use ending::Ending;
+pub use importing::import_text;
+pub use message::import_message;
+pub use viewing::print_view;
+pub use words::read_order;

@@ -1,0 +1,57 @@
+//! Views of a board.
+ghost use Rattle.std.specs.Prelude.{◌≡◌, OnOk, IfOk};
+ghost use Rattle.std.specs.Io.KnownBytes.{Appends};
+ghost use Rattle.tb_desk.specs.Calls.{State};
+ghost use Rattle.tb_desk.specs.Keeping.{IsStill};
+ghost use Rattle.tb_desk.specs.Views.{shown_in};
+ghost use Rattle.tb_orders.specs.Orders.{ending_of, view_of, view_text};
+
+use crate::ending::{Ending, ending_of, fault_of};
+use std::alloc::Global;
+use std::io::Write;
+use tb_command_line::{ViewKind, ViewOrder};
+use tb_desk::{Desk, Keep, View};
+use tb_program::{Fault, print_line, print_text};
+use tb_reply::Reply;
+use tb_task::Moment;
+
+/// Prints what a view shows of a board at a moment, or why it is refused.
+pub fn print_view<K: Keep, W: Write>(
+    alloc: Global,
+    desk: &mut Desk<K>,
+    order: &ViewOrder,
+    at: Moment,
+    writer: &mut W,
+) -> Result<Ending, Fault>
+    ensures told { (s : State) → K.holds desk.old s
+        → OnOk result (Appends (W.contents writer.old) (W.contents writer.new) (view_text (shown_in s order.now.member order.now.key (view_of order.now) at))) }
+    ensures ending { (s : State) → K.holds desk.old s → IfOk result (λ ending. ending ≡ ending_of (shown_in s order.now.member order.now.key (view_of order.now) at)) }
+    ensures same { IsStill (K.holds desk.old) (K.after_stop desk.old) (K.holds desk.new) (K.after_stop desk.new) }
+{
+    match desk.view(alloc, &order.member, &order.key, &view_of(order), at) {
+        Ok(reply) => print_shown(writer, &reply),
+        Err(fault) => Err(fault_of(fault)),
+    }
+}
+
+fn print_shown<W: Write>(writer: &mut W, reply: &Reply) -> Result<Ending, Fault>
+    ensures told { OnOk result (Appends (W.contents writer.old) (W.contents writer.new) (view_text reply.now)) }
+    ensures ending { IfOk result (λ ending. ending ≡ ending_of reply.now) }
+{
+    if reply.number == 0 {
+        print_text(writer, reply.body.as_str())?;
+    } else {
+        print_line(writer, reply.body.as_str())?;
+    }
+    Ok(ending_of(reply))
+}
+
+fn view_of(order: &ViewOrder) -> View
+    ensures { result ≡ view_of order.now }
+{
+    match order.kind {
+        ViewKind::Export => View::Export(order.board),
+        ViewKind::Listing => View::Listing(order.board),
+        ViewKind::Todo => View::Todo(order.board),
+    }
+}

@@ -1,0 +1,45 @@
+//! The words that the program was started with.
+ghost use Rattle.std.specs.Prelude.{◌≡◌, IfErr, IfOk, map, true};
+ghost use Rattle.std.specs.String.{string_bytes};
+ghost use Rattle.tb_orders.specs.Telling.{is_of_words};
+
+use std::alloc::{AllocError, Global};
+use std::env::{self, Args};
+use std::io::ErrorKind;
+use tb_command_line::{Order, WordsFault, command_of};
+use tb_program::Fault;
+
+/// The order that the words after the program's name are. Words that aren't UTF-8 are bad.
+pub fn read_order(rt: &HostRuntime) -> Result<Order, Fault>
+    ensures { IfErr result (λ fault. is_of_words fault ≡ true) }
+{
+    let words = match env::args(rt) {
+        Ok(words) => after_first(rt.alloc(), words)?,
+        Err(error) if error.kind() == ErrorKind::OutOfMemory => return Err(Fault::Memory),
+        Err(_) => return Err(Fault::Bad),
+    };
+    let texts = texts_of(rt.alloc(), words.as_slice())?;
+    match command_of(rt.alloc(), texts.as_slice()) {
+        Ok(order) => Ok(order),
+        Err(WordsFault::Bad) => Err(Fault::Bad),
+        Err(WordsFault::Memory) => Err(Fault::Memory),
+    }
+}
+
+fn after_first(alloc: Global, words: Args) -> Result<Vec<String>, AllocError> {
+    let mut rest = Vec::new(alloc);
+    for word in words.skip(1) {
+        rest.push(word)?;
+    }
+    Ok(rest)
+}
+
+fn texts_of<'a>(alloc: Global, words: &'a [String]) -> Result<Vec<&'a str>, AllocError>
+    ensures { IfOk result (λ texts. map (λ text. text.now) texts.items ≡ map string_bytes words.entry.now) }
+{
+    let mut texts = Vec::new(alloc);
+    for word in words {
+        texts.push(word.as_str())?;
+    }
+    Ok(texts)
+}

@@ -1,0 +1,28 @@
+//! Standard input, whole.
+ghost use Rattle.std.specs.Prelude.{◌≡◌, ◌≤◌, ◌<◌, length, IfOk, IfSome, IsErrOf};
+ghost use Rattle.tb_program.specs.declared.fault.Fault.TheVariants.{BadBody};
+
+use crate::fault::Fault;
+use std::alloc::Global;
+use std::io::{ErrorKind, Read};
+use tb_values::Items;
+
+const LONGEST_TEXT: usize = 1_048_576;
+
+/// The whole text of a reader, of up to 1,048,576 bytes; a longer one is `BadBody`.
+pub fn read_text<R: Read + Drop>(alloc: Global, reader: R) -> Result<Items<u8>, Fault>
+    ensures whole { IfSome (R.remaining reader) (λ text. IfOk result (λ read. (read ≡ text) × (length text ≤ 1048576))) }
+    ensures long { IfSome (R.remaining reader) (λ text. IsErrOf result BadBody → 1048576 < length text) }
+{
+    let mut bytes = Vec::new(alloc);
+    match reader.take(LONGEST_TEXT as u64 + 1).read_to_end(&mut bytes) {
+        Ok(_) => (),
+        Err(error) if error.kind() == ErrorKind::OutOfMemory => return Err(Fault::Memory),
+        Err(_) => return Err(Fault::ReadFailed),
+    }
+    let text = Items::from_vec(bytes);
+    if text.len() > LONGEST_TEXT {
+        return Err(Fault::BadBody);
+    }
+    Ok(text)
+}

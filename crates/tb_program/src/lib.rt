@@ -1,0 +1,19 @@
+//! What the program takes from the machine and tells it: its faults, the clock, standard input, what is printed, connections.
+//! All of it is generic over readers, writers, clocks and listeners, so that tests can stand in for the machine.
+//! Stands on `tb_values` for texts and writing, and on `tb_task` for moments.
+#![tactic(auto)]
+
+mod clock;
+mod fault;
+mod input;
+mod listening;
+mod printing;
+
+pub use clock::machine_moment;
+pub use fault::Fault;
+pub use input::read_text;
+pub use listening::{Service, serve_connections};
+pub use printing::{print_line, print_text};
+
+#[cfg(test)]
+mod tests;

@@ -1,0 +1,47 @@
+//! Connections, served one after the other.
+ghost use Rattle.std.specs.Prelude.{◌≡◌, IfErr};
+ghost use Rattle.tb_program.specs.declared.fault.Fault.TheVariants.{Store};
+
+use crate::fault::Fault;
+use std::io;
+use std::net::OpenListener;
+
+/// What answers the messages of connections.
+pub trait Service<S> {
+    /// One service comes of another by answering connections.
+    ghost follows: { Self → Self → Type 0 };
+
+    ghost unchanged: { (s : Self) → follows s s };
+
+    ghost joined: { (a b c : Self) → follows a b → follows b c → follows a c };
+
+    /// Answers one connection to its end. Where the store failed, no further one is answered.
+    fn answer(&mut self, stream: S) -> Result<(), Fault>
+        ensures after { follows self.old self.new }
+        ensures fault { IfErr result (λ fault. fault ≡ Store) };
+}
+
+/// Serves up to so many connections. One that can't be accepted counts as served.
+pub fn serve_connections<L: OpenListener, V: Service<L::Stream>>(
+    listener: &L,
+    connections: u32,
+    service: &mut V,
+) -> Result<(), Fault>
+    ensures after { V.follows service.old service.new }
+    ensures fault { IfErr result (λ fault. fault ≡ Store) }
+{
+    for stream in listener.incoming().take(connections as usize) {
+        answer_accepted(service, stream)?;
+    }
+    Ok(())
+}
+
+fn answer_accepted<S, V: Service<S>>(service: &mut V, stream: io::Result<S>) -> Result<(), Fault>
+    ensures after { V.follows service.old service.new }
+    ensures fault { IfErr result (λ fault. fault ≡ Store) }
+{
+    match stream {
+        Ok(stream) => service.answer(stream),
+        Err(_) => Ok(()),
+    }
+}

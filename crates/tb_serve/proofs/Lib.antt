@@ -1,0 +1,3 @@
+pub mod Connection
+pub mod Lists
+pub mod Standing

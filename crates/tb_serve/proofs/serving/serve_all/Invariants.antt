@@ -1,0 +1,19 @@
+use Rattle.std.proofs.Common.{◌≡◌, ◌<◌, ◌-◌, false}
+use Rattle.tb_desk.specs.Calls.{State}
+use Rattle.tb_desk.specs.Keeping.{Only}
+use Rattle.tb_serve.proofs.Connection.{Runs}
+use Rattle.tb_serve.proofs.serving.serve_all.Given as goal
+
+-- so far every message was told, and its answer written whole
+abbrev pub invariant-messages : goal.invariant-messages
+invariant-messages g l = record {
+  counted : l.reader.messages ≡ l.answered;
+  goes_on : l.reader.is_closing ≡ false → l.answered < 1000;
+  runs : (s : State) → g.K.Keep.holds l.fn.desk s → Only s (g.K.Keep.after_stop l.fn.desk)
+      → Runs s l.fn.reader.bytes (g.C.Clock.answers l.fn.clock) l.reader.bytes (g.C.Clock.answers l.clock)
+      (g.W.Write.contents l.fn.writer) (g.W.Write.contents l.writer) (g.K.Keep.holds l.desk) (g.K.Keep.after_stop l.desk)
+      l.reader.messages l.reader.is_closing;
+}
+
+abbrev pub decreases-messages : goal.decreases-messages
+decreases-messages g l = 1000 - l.answered

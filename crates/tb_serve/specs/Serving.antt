@@ -1,0 +1,219 @@
+-- A connection's messages, answered in turn.
+use Rattle.std.specs.Prelude.{◌≡◌, ◌⊎◌, ℕ, ◌+◌, ◌<◌, Bool, true, false, if◌then◌else◌, List, [], ◌∷◌, ◌++◌, length, take, Option, Some, None, is_some}
+use Rattle.std.specs.Io.KnownBytes.{Appends}
+use Rattle.tb_desk.specs.declared.call.Call.{Call}
+use Rattle.tb_desk.specs.declared.fault.KeepFault.{KeepFault}
+use Rattle.tb_desk.specs.declared.fault.KeepFault.TheVariants as keep
+use Rattle.tb_desk.specs.Calls.{State}
+use Rattle.tb_http.specs.declared.fault.WireFault.{WireFault}
+use Rattle.tb_http.specs.declared.fault.WireFault.TheVariants as wire
+use Rattle.tb_http.specs.declared.answer.Answer.{Answer}
+use Rattle.tb_http.specs.declared.message.Message.{Message}
+use Rattle.tb_http.specs.Answer.{answer_text, fault_answer}
+use Rattle.tb_http.specs.Fault.{body_of, status_of}
+use Rattle.tb_http.specs.Message.{takes_body}
+use Rattle.tb_http.specs.Wire.{BeginsWithMessage, Faults, is_last}
+use Rattle.tb_serve.specs.declared.serving.Exchange.{Exchange}
+use Rattle.tb_serve.specs.declared.serving.ServeEnd.{ServeEnd}
+use Rattle.tb_serve.specs.declared.serving.ServeFault.{ServeFault}
+use Rattle.tb_serve.specs.declared.serving.ServeFault.TheVariants as fault
+use Rattle.tb_serve.specs.declared.serving.Turn.{Turn}
+use Rattle.tb_serve.specs.declared.serving.Turn.TheVariants.{Told, Failed, Unread}
+use Rattle.tb_serve.specs.Telling.{FailedAt, StandsAt, after, calls_in, failed_text, told_at, told_text}
+
+-- ---- messages and moments
+
+-- A message that was read, and whether its sender closes the connection after it.
+pub record Received : Type 0 where
+  pub message : Message
+  pub closes : Bool
+
+-- bytes begin with these messages, and the rest is behind them
+abbrev pub Brings : List ℕ → List Received → List ℕ → Type 0
+Brings bytes [] rest = bytes ≡ rest
+Brings bytes (m ∷ ms) rest = (behind : List ℕ) × BeginsWithMessage bytes m.message m.closes behind × Brings behind ms rest
+
+-- what the clock gives next, and what it has behind that; at its end it gives no moment
+abbrev pub next : List (Option ℕ) → Option ℕ
+next [] = None
+next (at ∷ more) = at
+
+abbrev pub later : List (Option ℕ) → List (Option ℕ)
+later [] = []
+later (at ∷ more) = more
+
+-- what the clock has left behind so many messages
+abbrev pub left_by : List (Option ℕ) → List Received → List (Option ℕ)
+left_by clock [] = clock
+left_by clock (m ∷ ms) = left_by (later clock) ms
+
+-- ---- answers and calls
+
+-- the answer to a message, to which so many came before
+abbrev pub answer_to : State → Option ℕ → ℕ → Received → List ℕ
+answer_to s at before m = told_text (told_at s m.message at) (is_last m.closes before) (takes_body m.message)
+
+-- the calls among messages, at the clock's moments
+abbrev pub calls_of : List (Option ℕ) → List Received → List Call
+calls_of clock [] = []
+calls_of clock (m ∷ ms) = calls_in m.message (next clock) ++ calls_of (later clock) ms
+
+-- the answers to messages, each in the state that the calls before it led to
+abbrev pub answers : State → List (Option ℕ) → ℕ → List Received → List ℕ
+answers s clock before [] = []
+answers s clock before (m ∷ ms) =
+    answer_to s (next clock) before m ++ answers (after s (calls_in m.message (next clock))) (later clock) (before + 1) ms
+
+-- the last of the messages closes the connection
+abbrev pub ends_last : ℕ → List Received → Bool
+ends_last before [] = false
+ends_last before (m ∷ []) = is_last m.closes before
+ends_last before (m ∷ n ∷ ms) = ends_last (before + 1) (n ∷ ms)
+
+-- ---- the answer to bytes that are no message
+
+abbrev pub text_with : Option Answer → List ℕ → List ℕ
+text_with None body = []
+text_with (Some answer) body = answer_text answer body
+
+unfoldable pub unread_text : WireFault → List ℕ
+unread_text fault = text_with (fault_answer fault None true true) (body_of fault)
+
+-- ---- one turn
+
+-- behind a front the text is written, whole or up to some byte
+abbrev pub Sends : Option (List ℕ) → Option (List ℕ) → List ℕ → List ℕ → Bool → Type 0
+Sends old new front text true = Appends old new (front ++ text)
+Sends old new front text false = (count : ℕ) × (count < length text) × Appends old new (front ++ take count text)
+
+-- What came of a message that was read, which closes the connection or not, the text that answers it, and what stands then.
+abbrev pub Handles : State → Option ℕ → Bool → Message → Turn → List ℕ → (State → Type 0) → (State → Type 0) → Type 0
+Handles s at closes message Told text now may_leave =
+    (text ≡ told_text (told_at s message at) closes (takes_body message)) × StandsAt (after s (calls_in message at)) now may_leave
+Handles s at closes message (Failed fault) text now may_leave =
+    (text ≡ failed_text fault (takes_body message)) × FailedAt fault s (calls_in message at) now may_leave
+Handles s at closes message (Unread fault) text now may_leave = ⊥
+
+-- the same, with what was written of the text
+abbrev pub HandlesMessage : State → Option ℕ → Bool → Message → Option (List ℕ) → Option (List ℕ) → Turn → Bool → (State → Type 0) → (State → Type 0) → Type 0
+HandlesMessage s at closes message old new turn is_whole now may_leave =
+    (text : List ℕ) × Sends old new [] text is_whole × Handles s at closes message turn text now may_leave
+
+-- What comes of the bytes at the front of which the next message stands, if one does. What is left of them is told where the
+-- connection goes on.
+abbrev pub Turns : State → List (Option ℕ) → ℕ → List ℕ → Turn → List ℕ → (State → Type 0) → (State → Type 0) → Option (List ℕ) → Bool → Type 0
+Turns s clock before bytes (Unread fault) text now may_leave left is_closing =
+    Faults bytes fault × (text ≡ unread_text fault) × StandsAt s now may_leave
+Turns s clock before bytes Told text now may_leave left is_closing =
+    (m : Received) × (rest : List ℕ) × BeginsWithMessage bytes m.message m.closes rest × (left ≡ Some rest)
+    × (is_closing ≡ is_last m.closes before) × Handles s (next clock) (is_last m.closes before) m.message Told text now may_leave
+Turns s clock before bytes (Failed fault) text now may_leave left is_closing =
+    (m : Received) × (rest : List ℕ) × BeginsWithMessage bytes m.message m.closes rest × (left ≡ Some rest)
+    × (is_closing ≡ is_last m.closes before) × Handles s (next clock) (is_last m.closes before) m.message (Failed fault) text now may_leave
+
+-- What came of the next message, what was written of its answer, and what stands then.
+abbrev pub Exchanges : State → List (Option ℕ) → ℕ → List ℕ → Option (List ℕ) → Option (List ℕ) → Exchange → (State → Type 0) → (State → Type 0) → Option (List ℕ) → Bool → Type 0
+Exchanges s clock before bytes old new exchange now may_leave left is_closing =
+    (text : List ℕ) × Sends old new [] text exchange.is_whole × Turns s clock before bytes exchange.turn text now may_leave left is_closing
+
+-- ---- how a connection ends
+
+abbrev pub unread_fault : WireFault → Option ServeFault
+unread_fault wire.ReadFailed = Some fault.ReadFailed
+unread_fault wire.Memory = Some fault.Memory
+unread_fault wire.Ended = None
+unread_fault wire.Torn = None
+unread_fault wire.BadHead = None
+unread_fault wire.HeadTooLong = None
+unread_fault wire.Coding = None
+unread_fault wire.NoLength = None
+unread_fault wire.BodyTooLong = None
+unread_fault wire.NoRoute = None
+unread_fault wire.NoMethod = None
+unread_fault wire.NoId = None
+unread_fault wire.BadBody = None
+unread_fault wire.NoClock = None
+
+abbrev pub keep_fault : KeepFault → ServeFault
+keep_fault keep.Memory = fault.Memory
+keep_fault keep.Store = fault.Store
+
+abbrev pub turn_fault : Turn → Option ServeFault
+turn_fault Told = None
+turn_fault (Failed fault) = Some (keep_fault fault)
+turn_fault (Unread fault) = unread_fault fault
+
+abbrev pub exchange_fault : Exchange → Option ServeFault
+exchange_fault exchange = if exchange.is_whole then turn_fault exchange.turn else Some fault.WriteFailed
+
+-- a message was told what it asked for, and its answer written whole
+abbrev pub goes_on : Turn → Bool → Bool
+goes_on Told is_whole = is_whole
+goes_on (Failed fault) is_whole = false
+goes_on (Unread fault) is_whole = false
+
+-- a message was read, and an answer is owed
+abbrev pub reads_one : Turn → ℕ
+reads_one Told = 1
+reads_one (Failed fault) = 1
+reads_one (Unread fault) = 0
+
+abbrev pub owes_one : Turn → ℕ
+owes_one Told = 1
+owes_one (Failed fault) = 1
+owes_one (Unread fault) = if is_some (status_of fault) then 1 else 0
+
+-- an answer was written whole
+abbrev pub answers_one : Exchange → ℕ
+answers_one exchange = if exchange.is_whole then owes_one exchange.turn else 0
+
+-- the end behind so many messages that were read and answered, and an exchange
+abbrev pub ended_by : ℕ → Exchange → ServeEnd
+ended_by before exchange = record {
+  messages = before + reads_one exchange.turn;
+  answered = before + answers_one exchange;
+  fault = exchange_fault exchange;
+}
+
+-- the end behind so many messages, all of which were answered
+abbrev pub ended_well : ℕ → ServeEnd
+ended_well before = record { messages = before; answered = before; fault = None }
+
+-- the end where there was no memory to begin with
+abbrev pub no_start : ServeEnd
+no_start = record { messages = 0; answered = 0; fault = Some fault.Memory }
+
+-- The connection ended behind messages that were all answered whole, the last of which closes it.
+pub record IsClosed (s : State) (clock : List (Option ℕ)) (bytes : List ℕ) (old new : Option (List ℕ)) (now : State → Type 0) (may_leave : State → Type 0) (end : ServeEnd) : Type 0 where
+  pub told : List Received
+  pub left : List ℕ
+  pub brings : Brings bytes told left
+  pub last : ends_last 0 told ≡ true
+  pub written : Appends old new (answers s clock 0 told)
+  pub stands : StandsAt (after s (calls_of clock told)) now may_leave
+  pub counts : end ≡ ended_well (length told)
+
+-- The connection ended behind messages that were all answered whole, by an exchange that was no whole answer to a message.
+pub record IsEnded (s : State) (clock : List (Option ℕ)) (bytes : List ℕ) (old new : Option (List ℕ)) (now : State → Type 0) (may_leave : State → Type 0) (end : ServeEnd) : Type 0 where
+  pub told : List Received
+  pub left : List ℕ
+  pub brings : Brings bytes told left
+  pub exchange : Exchange
+  pub ends : goes_on exchange.turn exchange.is_whole ≡ false
+  pub text : List ℕ
+  pub sends : Sends old new (answers s clock 0 told) text exchange.is_whole
+  pub turns : (rest : Option (List ℕ)) × (is_closing : Bool)
+      × Turns (after s (calls_of clock told)) (left_by clock told) (length told) left exchange.turn text now may_leave rest is_closing
+  pub counts : end ≡ ended_by (length told) exchange
+
+-- There was no memory to begin with.
+pub record IsUnstarted (s : State) (old new : Option (List ℕ)) (now : State → Type 0) (may_leave : State → Type 0) (end : ServeEnd) : Type 0 where
+  pub written : Appends old new []
+  pub stands : StandsAt s now may_leave
+  pub counts : end ≡ no_start
+
+-- how the serving of a connection ends
+abbrev pub IsServed : State → List (Option ℕ) → List ℕ → Option (List ℕ) → Option (List ℕ) → (State → Type 0) → (State → Type 0) → ServeEnd → Type 0
+IsServed s clock bytes old new now may_leave end =
+    IsClosed s clock bytes old new now may_leave end
+    ⊎ (IsEnded s clock bytes old new now may_leave end ⊎ IsUnstarted s old new now may_leave end)
