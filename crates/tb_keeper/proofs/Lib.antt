@@ -1,5 +1,9 @@
+pub mod BoardsRead
 pub mod ChangedForms
 pub mod Commits
 pub mod FirstRows
 pub mod Given
+pub mod Reopened
 pub mod Standing
+pub mod Taken
+pub mod WorldRead

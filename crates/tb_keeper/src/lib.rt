@@ -6,10 +6,12 @@
 
 mod creating;
 mod forms;
+mod kept;
 mod opening;
 mod reading;
 mod replies;
 mod sql_keep;
+mod world;
 
 pub use creating::CreateFault;
 pub use sql_keep::SqlKeep;
