@@ -1,6 +1,7 @@
 -- A connection's messages, turn by turn.
-use Rattle.std.proofs.Common.{◌≡◌, ◌≢◌, ℕ, ◌+◌, ◌<◌, Bool, true, false, List, [], ◌∷◌, ◌++◌, length, take, Option, Some, None, IfSome, refl, sym, ap, ◌∙◌, subst, append_assoc, arith, inl, inr}
+use Rattle.std.proofs.Common.{◌≡◌, ◌≢◌, ℕ, ◌+◌, ◌<◌, ◌≤◌, Bool, true, false, true≢false, List, [], ◌∷◌, ◌++◌, length, take, Option, Some, None, IfSome, refl, sym, ap, ◌∙◌, subst, append_assoc, arith, inl, inr, ⊎_elim}
 use Rattle.std.specs.Prelude.{IsSomeAnd}
+use Rattle.std.proofs.lemmas.Bool.{cases_lt}
 use Rattle.std.proofs.lemmas.List.{length-append}
 use Rattle.std.specs.Io.KnownBytes.{Appends}
 use Rattle.tb_values.proofs.Appends.{Appends-nil, Appends-then}
@@ -129,26 +130,33 @@ more s all bytes known clock later_clock old new newer now stops next_now next_s
       closing = turn.4 ∙ ap (λ k. is_last m.closes k) counted ∙ sym (ends-push 0 told m);
     }
 
-told_on : (turn : Turn) (is_whole : Bool) → goes_on turn is_whole ≡ true → (turn ≡ Told) × (is_whole ≡ true)
+pub told_on : (turn : Turn) (is_whole : Bool) → goes_on turn is_whole ≡ true → (turn ≡ Told) × (is_whole ≡ true)
 told_on Told is_whole on = (refl, on)
 told_on (Failed fault) is_whole on = absurd (cc)
 told_on (Unread fault) is_whole on = absurd (cc)
 
-pub run_more : (s : State) (source : Option (List ℕ)) (moments : Option (List (Option ℕ))) (known : Option (List ℕ)) (clock later_clock : Option (List (Option ℕ))) (old new newer : Option (List ℕ)) (now stops next_now next_stops : State → Type 0) (count : ℕ) (is_closing closing : Bool) (exchange : Exchange) (left : Option (List ℕ))
+pub run_more : (s : State) (source : Option (List ℕ)) (moments : Option (List (Option ℕ))) (known : Option (List ℕ)) (clock later_clock : Option (List (Option ℕ))) (old new newer : Option (List ℕ)) (now stops next_now next_stops : State → Type 0) (count next_count : ℕ) (is_closing closing : Bool) (exchange : Exchange) (left : Option (List ℕ))
     → Runs s source moments known clock old new now stops count is_closing
     → Goes known clock count new newer exchange now stops next_now next_stops left closing
     → goes_on exchange.turn exchange.is_whole ≡ true
     → IfSome clock (λ c. later_clock ≡ Some (later c))
-    → Runs s source moments left later_clock old newer next_now next_stops (count + 1) closing
-run_more s None moments known clock later_clock old new newer now stops next_now next_stops count is_closing closing exchange left run goes on passed = tt
-run_more s (Some bytes) None known clock later_clock old new newer now stops next_now next_stops count is_closing closing exchange left run goes on passed = tt
-run_more s (Some bytes) (Some all) known clock later_clock old new newer now stops next_now next_stops count is_closing closing exchange left run goes on passed =
+    → next_count ≡ count + 1
+    → Runs s source moments left later_clock old newer next_now next_stops next_count closing
+run_more s None moments known clock later_clock old new newer now stops next_now next_stops count next_count is_closing closing exchange left run goes on passed counted = tt
+run_more s (Some bytes) None known clock later_clock old new newer now stops next_now next_stops count next_count is_closing closing exchange left run goes on passed counted = tt
+run_more s (Some bytes) (Some all) known clock later_clock old new newer now stops next_now next_stops count next_count is_closing closing exchange left run goes on passed counted =
     let at = here s all bytes known clock old new newer now stops next_now next_stops count is_closing closing exchange left run goes in
     let t = after s (calls_of all run.told) in
-    more s all bytes known clock later_clock old new newer now stops next_now next_stops count is_closing closing left at.0 run
+    subst (λ (k : ℕ). SoFar s all bytes left later_clock old newer next_now next_stops k closing) (sym counted)
+    (more s all bytes known clock later_clock old new newer now stops next_now next_stops count is_closing closing left at.0 run
     (subst (λ (b : Bool). Sends new newer [] at.0 b) (told_on exchange.turn exchange.is_whole on).1 at.1)
     (subst (λ (u : Turn). Turns t (left_by all run.told) count run.left u at.0 next_now next_stops left closing) (told_on exchange.turn exchange.is_whole on).0 at.2)
-    (at_some clock (left_by all run.told) (λ c. later_clock ≡ Some (later c)) run.clock_is passed)
+    (at_some clock (left_by all run.told) (λ c. later_clock ≡ Some (later c)) run.clock_is passed))
+
+-- fewer messages than the limit were read where the connection goes on
+pub has_room : (count : ℕ) (is_closing : Bool) → (1000 ≤ count → is_closing ≡ true) → is_closing ≡ false → count < 1000
+has_room count is_closing full unclosed =
+    ⊎_elim (λ (room : count < 1000). room) (λ (none : 1000 ≤ count). absurd (true≢false (sym (full none) ∙ unclosed))) (cases_lt count 1000)
 
 -- ---- how it ends
 

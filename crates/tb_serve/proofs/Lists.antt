@@ -26,7 +26,9 @@ reached-after s clock (m ∷ ms) =
 
 pub answers-push : (s : State) (clock : List (Option ℕ)) (before : ℕ) (ms : List Received) (m : Received)
     → answers s clock before (ms ++ m ∷ []) ≡ answers s clock before ms ++ answer_to (reached s clock ms) (next (left_by clock ms)) (before + length ms) m
-answers-push s clock before [] m = append-nil (answer_to s (next clock) before m)
+answers-push s clock before [] m =
+    let count : before ≡ before + 0 = omega arith in
+    append-nil (answer_to s (next clock) before m) ∙ ap (λ k. answer_to s (next clock) k m) count
 answers-push s clock before (n ∷ ms) m =
     let t = after s (calls_in n.message (next clock)) in
     let first = answer_to s (next clock) before n in
@@ -49,8 +51,12 @@ left-push clock [] m = refl
 left-push clock (n ∷ ms) m = left-push (later clock) ms m
 
 pub ends-push : (before : ℕ) (ms : List Received) (m : Received) → ends_last before (ms ++ m ∷ []) ≡ is_last m.closes (before + length ms)
-ends-push before [] m = refl
-ends-push before (n ∷ []) m = refl
+ends-push before [] m =
+    let count : before ≡ before + 0 = omega arith in
+    ap (λ i. is_last m.closes i) count
+ends-push before (n ∷ []) m =
+    let count : before + 1 ≡ before + length (n ∷ []) = omega arith in
+    ap (λ i. is_last m.closes i) count
 ends-push before (n ∷ k ∷ ms) m =
     let count : (before + 1) + length (k ∷ ms) ≡ before + length (n ∷ k ∷ ms) = omega arith in
     ends-push (before + 1) (k ∷ ms) m ∙ ap (λ i. is_last m.closes i) count

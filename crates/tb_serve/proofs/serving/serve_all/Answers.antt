@@ -1,5 +1,6 @@
-use Rattle.std.proofs.Common.{arith}
-use Rattle.tb_serve.proofs.Connection.{run_none}
+use Rattle.std.proofs.Common.{◌+◌, arith, sym, ap, ◌∙◌}
+use Rattle.tb_serve.proofs.Connection.{has_room, run_closed, run_ends, run_more, run_none, told_on}
+use Rattle.tb_serve.specs.Serving.{ended_by, ended_well}
 use Rattle.tb_serve.proofs.serving.serve_all.Goals as goal
 
 pub messages-init : goal.messages-init
@@ -10,3 +11,39 @@ messages-init g c = record {
       c.requires.first c.requires.goes_on held only;
 }
 
+pub messages-preserved : goal.messages-preserved
+messages-preserved g c =
+    let exchange = c.serve_message-exchange.result in
+    let on = sym c.goes_on.ensures ∙ c.if-not-goes_on.false in
+    let told = (told_on exchange.turn exchange.is_whole on).0 in
+    let count = c.serve_message-exchange.ensures.counted told ∙ ap (λ k. k + 1) c.messages.invariant.counted in
+    record {
+      counted = count;
+      goes_on = λ unclosed. has_room _ _ (λ full. c.serve_message-exchange.ensures.limit told (omega (arith, count, full))) unclosed;
+      runs = λ s held only. run_more s c.args.reader.now.bytes (g.C.Clock.answers c.args.clock.now) c.messages.reader.bytes (g.C.Clock.answers c.messages.clock) (g.C.Clock.answers c.serve_message-exchange.new.clock)
+          (g.W.Write.contents c.args.writer.now) (g.W.Write.contents c.messages.writer) (g.W.Write.contents c.serve_message-exchange.new.writer)
+          (g.K.Keep.holds c.messages.desk) (g.K.Keep.after_stop c.messages.desk) (g.K.Keep.holds c.serve_message-exchange.new.desk) (g.K.Keep.after_stop c.serve_message-exchange.new.desk)
+          c.messages.reader.messages c.serve_message-exchange.new.reader.messages c.messages.reader.is_closing c.serve_message-exchange.new.reader.is_closing exchange c.serve_message-exchange.new.reader.bytes
+          (c.messages.invariant.runs s held only) c.serve_message-exchange.ensures.exchanges on (c.serve_message-exchange.ensures.clock told)
+          (c.serve_message-exchange.ensures.counted told);
+    }
+
+pub returns-then-not-goes_on : goal.returns-then-not-goes_on
+returns-then-not-goes_on g c s held only =
+    let exchange = c.serve_message-exchange.result in
+    let cut = sym c.goes_on.ensures ∙ c.if-not-goes_on.true in
+    let counts = c.ends.ensures ∙ ap (λ k. ended_by k exchange) (sym c.messages.invariant.counted) in
+    run_ends s c.args.reader.now.bytes (g.C.Clock.answers c.args.clock.now) c.messages.reader.bytes (g.C.Clock.answers c.messages.clock)
+    (g.W.Write.contents c.args.writer.now) (g.W.Write.contents c.messages.writer) (g.W.Write.contents c.serve_message-exchange.new.writer)
+    (g.K.Keep.holds c.messages.desk) (g.K.Keep.after_stop c.messages.desk) (g.K.Keep.holds c.serve_message-exchange.new.desk) (g.K.Keep.after_stop c.serve_message-exchange.new.desk)
+    c.messages.reader.messages c.messages.reader.is_closing c.serve_message-exchange.new.reader.is_closing exchange c.serve_message-exchange.new.reader.bytes c.ends.result
+    (c.messages.invariant.runs s held only) c.serve_message-exchange.ensures.exchanges cut counts
+
+pub returns : goal.returns
+returns g c s held only =
+    let closed = sym c.closing.ensures ∙ c.messages-test.false in
+    run_closed s c.args.reader.now.bytes (g.C.Clock.answers c.args.clock.now) c.messages.reader.bytes (g.C.Clock.answers c.messages.clock)
+    (g.W.Write.contents c.args.writer.now) (g.W.Write.contents c.messages.writer)
+    (g.K.Keep.holds c.messages.desk) (g.K.Keep.after_stop c.messages.desk)
+    c.messages.reader.messages c.messages.reader.is_closing _
+    (c.messages.invariant.runs s held only) closed (ap ended_well (sym c.messages.invariant.counted))
