@@ -29,6 +29,8 @@ impl<'a> Service<TcpStream> for Server<'a> {
     ghost joined = { λ _ _ _ _ _. tt };
 
     fn answer(&mut self, stream: TcpStream) -> Result<(), Fault> {
+        // An answer is written as a head and a body, and neither is to wait for the other.
+        let _ = stream.set_nodelay(true);
         let end = serve(
             self.alloc,
             &stream,
