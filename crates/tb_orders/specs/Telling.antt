@@ -1,5 +1,5 @@
 -- Which faults orders tell.
-use Rattle.std.specs.Prelude.{◌≡◌, ⊥, Bool, true, false, Result, Err, Unit}
+use Rattle.std.specs.Prelude.{◌≡◌, Bool, true, false, Result, Err}
 use Rattle.tb_values.specs.Outcome.{Gives}
 use Rattle.tb_command_line.specs.declared.order.Order.{Order}
 use Rattle.tb_command_line.specs.declared.order.WordsFault.{WordsFault}
