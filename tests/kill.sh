@@ -1,80 +1,115 @@
 #!/bin/sh
 # Kills the server 20 times at random moments while a client adds 500 tasks, and sends again what got no answer.
-# Each task has to be there once. Run at the top of the repository. It needs curl, and takes some minutes.
+# Each task has to be there once. Run at the top of the repository. It needs python3, and takes seconds once the program is built.
 set -eu
 
 top=$(pwd)
-port=${PORT:-8081}
-tasks=${TASKS:-500}
-kills=${KILLS:-20}
 folder=$(mktemp -d)
-keeper=
-trap 'touch "$folder/enough"; if [ -n "$keeper" ]; then wait "$keeper" || true; fi; rm -rf "$folder"' EXIT
+trap 'rm -rf "$folder"' EXIT
 
+# Builds the program where a source has changed since it was built.
 "$top/taskboard" run </dev/null
-program=$top/crates/taskboard/out/taskboard
 cd "$folder"
-"$program" init b.db ann ann-key-1
+"$top/taskboard" init b.db ann ann-key-1
+python3 - "$top/crates/taskboard/out/taskboard" "${PORT:-8081}" "${TASKS:-500}" "${KILLS:-20}" <<'CLIENT'
+import http.client
+import random
+import subprocess
+import sys
+import threading
+import time
 
-# A number from 0 to 255.
-random() {
-    od -An -N1 -tu1 /dev/urandom | tr -d ' '
-}
+program = sys.argv[1]
+port, tasks, kills = (int(word) for word in sys.argv[2:])
 
-# Starts the server again and again. The first so many times it is killed within half a second of answering.
-keep_serving() {
-    left=$kills
-    while [ ! -e enough ]; do
-        "$program" serve b.db --port "$port" --connections 1000000 &
-        server=$!
-        if [ "$left" -gt 0 ]; then
-            sleep "0.$(printf '%03d' $(($(random) * 2)))"
-            left=$((left - 1))
-            echo "$left" >kills_left
-        else
-            while [ ! -e enough ]; do
-                sleep 0.1
-            done
-        fi
-        kill -KILL "$server" || true
-        wait "$server" || true
-    done
-}
 
-# Adds the task of a number under an identifier of its own, until it is answered.
-add() {
-    id=$(printf '00000000-0000-4000-8000-%012d' "$1")
-    for _ in $(seq 1 200); do
-        if curl --silent --fail --max-time 5 --output /dev/null --header 'x-member: ann' --header 'x-key: ann-key-1' \
-            --header "x-request-id: $id" --data "{\"description\":\"Task $1 of many\"}" "http://127.0.0.1:$port/boards/1/tasks"; then
-            return 0
-        fi
-        sleep 0.05
-    done
-    echo "task $1 got no answer"
-    exit 1
-}
+class Server:
+    def __init__(self):
+        self.killed = 0
+        self.start()
 
-keep_serving >/dev/null 2>&1 &
-keeper=$!
-for number in $(seq 1 "$tasks"); do
-    add "$number"
-done
-touch enough
-wait "$keeper" || true
-keeper=
+    def start(self):
+        words = [program, "serve", "b.db", "--port", str(port), "--connections", "1000000"]
+        self.process = subprocess.Popen(words)
 
-"$program" export b.db ann ann-key-1 1 >exported
-for number in $(seq 1 "$tasks"); do
+    def kill(self):
+        self.process.kill()
+        self.process.wait()
+
+    def kill_within(self, seconds):
+        """Kills it at a random moment of that time, and starts it again."""
+        time.sleep(random.uniform(0, seconds))
+        self.kill()
+        self.killed += 1
+        self.start()
+
+
+class Client:
+    def __init__(self):
+        self.connection = None
+        self.sent_again = 0
+
+    def send(self, number):
+        """One try; None where no answer came."""
+        fields = {
+            "x-member": "ann",
+            "x-key": "ann-key-1",
+            "x-request-id": f"00000000-0000-4000-8000-{number:012d}",
+        }
+        body = f'{{"description":"Task {number} of many"}}'
+        try:
+            if self.connection is None:
+                self.connection = http.client.HTTPConnection("127.0.0.1", port, timeout=10)
+            self.connection.request("POST", "/boards/1/tasks", body, fields)
+            answer = self.connection.getresponse()
+            text = answer.read()
+            return answer.status, text
+        except (OSError, http.client.HTTPException):
+            self.connection = None
+            return None
+
+    def add(self, number):
+        """Sends a task until it is answered, and gives the time of the last try."""
+        for _ in range(1000):
+            begun = time.monotonic()
+            answer = self.send(number)
+            if answer is not None:
+                if answer[0] != 200:
+                    sys.exit(f"task {number}: {answer}")
+                return time.monotonic() - begun
+            self.sent_again += 1
+            time.sleep(0.01)
+        sys.exit(f"task {number} got no answer")
+
+
+server, client = Server(), Client()
+try:
+    took = client.add(1)
+    unlucky = set(random.sample(range(2, tasks + 1), kills))
+    for number in range(2, tasks + 1):
+        killer = None
+        if number in unlucky:
+            killer = threading.Thread(target=server.kill_within, args=(2 * took,))
+            killer.start()
+        took = client.add(number)
+        if killer is not None:
+            killer.join()
+finally:
+    server.kill()
+print(f"killed {server.killed} times; {client.sent_again} tries got no answer")
+CLIENT
+
+"$top/taskboard" export b.db ann ann-key-1 1 >exported
+for number in $(seq 1 "${TASKS:-500}"); do
     count=$(grep -c "\"description\":\"Task $number of many\"" exported || true)
     if [ "$count" != 1 ]; then
         echo "task $number is there $count times"
         exit 1
     fi
 done
-checked=$("$program" check b.db)
-if [ "$checked" != "boards 1 tasks $tasks faults 0" ]; then
+checked=$("$top/taskboard" check b.db)
+if [ "$checked" != "boards 1 tasks ${TASKS:-500} faults 0" ]; then
     echo "check: $checked"
     exit 1
 fi
-echo "each of $tasks tasks is there once, with $(cat kills_left) of $kills kills left"
+echo "each of ${TASKS:-500} tasks is there once"

@@ -1,6 +1,6 @@
 #!/bin/sh
-# Makes a board in a real file, adds a task over HTTP twice under one identifier, and lists it over HTTP and by the program.
-# Run at the top of the repository. It needs curl, and takes seconds once the program is built.
+# Makes a board in a real file, adds a task over HTTP twice under one identifier, and lists it over HTTP and by the program;
+# imports tasks, and tries what is refused. Run at the top of the repository. It needs curl, and takes seconds once the program is built.
 set -eu
 
 top=$(pwd)
@@ -20,6 +20,17 @@ expect() {
     fi
 }
 
+# Runs the program with the words behind the first two, and compares its status and all that it prints.
+ends() {
+    wanted_status=$1
+    wanted=$2
+    shift 2
+    status=0
+    printed=$("$top/taskboard" "$@" 2>&1) || status=$?
+    expect "$*" "$wanted" "$printed"
+    expect "status of $*" "$wanted_status" "$status"
+}
+
 # Sends one message as ann; the server may still be starting.
 send() {
     curl --silent --show-error --max-time 10 --retry 30 --retry-delay 1 --retry-connrefused \
@@ -31,7 +42,7 @@ add() {
         --data '{"description":"Buy milk"}' "http://127.0.0.1:$port/boards/1/tasks"
 }
 
-"$top/taskboard" init b.db ann ann-key-1
+ends 0 "" init b.db ann ann-key-1
 timeout 120 "$top/taskboard" serve b.db --port "$port" --connections 3 &
 server=$!
 
@@ -41,27 +52,41 @@ listed='place  urgency flg due              project      description
 1 of 1 tasks'
 expect "add" "$added" "$(add)"
 expect "the same add again" "$added" "$(add)"
+"$top/taskboard" init other.db ann ann-key-1
+ends 1 "taskboard: NoListen" serve other.db --port "$port"
 expect "list" "$listed" "$(send "http://127.0.0.1:$port/boards/1/list")"
 
 status=0
 wait "$server" || status=$?
 server=
 expect "status of serve after its connections" 0 "$status"
-expect "list of the file" "$listed" "$("$top/taskboard" list b.db ann ann-key-1 1)"
-expect "check" "boards 1 tasks 1 faults 0" "$("$top/taskboard" check b.db)"
+ends 0 "$listed" list b.db ann ann-key-1 1
+ends 1 '{"name":"UnknownCaller","refused":1}' list b.db ann ann-key-2 1
+ends 1 '{"name":"NoBoard","refused":3}' todo b.db ann ann-key-1 2
 
-status=0
-refused=$("$top/taskboard" list b.db ann ann-key-2 1) || status=$?
-expect "list with a wrong key" '{"name":"UnknownCaller","refused":1}' "$refused"
-expect "status of a refusal" 1 "$status"
+# Imports a text, which `ends` passes on.
+import() {
+    printf '%s' "$1" >text
+    shift
+    ends "$@" <text
+}
 
-status=0
-fault=$("$top/taskboard" init b.db ann ann-key-1 2>&1) || status=$?
-expect "init again" "taskboard: NotEmpty" "$fault"
-expect "status of a fault" 1 "$status"
+first=00000000-0000-4000-8000-000000000002
+second=00000000-0000-4000-8000-000000000003
+imported='{"added":0,"board":1,"known":0,"more":false,"new":1}'
+import '(A) Call Mom' 0 "$imported" import b.db ann ann-key-1 "$first" 1 todo
+import '(A) Call Mom' 0 "$imported" import b.db ann ann-key-1 "$first" 1 todo
+import '(B) Call Mom' 1 '{"name":"IdReused","refused":2}' import b.db ann ann-key-1 "$first" 1 todo
+import '[{' 1 "taskboard: BadBody" import b.db ann ann-key-1 "$second" 1 json
+head -c 1048577 /dev/zero | tr '\0' ' ' >text
+ends 1 "taskboard: BadBody" import b.db ann ann-key-1 "$second" 1 json <text
+ends 0 "boards 1 tasks 2 faults 0" check b.db
 
-status=0
-fault=$("$top/taskboard" fly 2>&1) || status=$?
-expect "unknown words" "taskboard: Bad" "$fault"
-expect "status of bad words" 2 "$status"
+ends 1 "taskboard: NotEmpty" init b.db ann ann-key-1
+ends 1 "taskboard: NotOurs" list missing.db ann ann-key-1 1
+ends 1 "taskboard: Store" list . ann ann-key-1 1
+echo 'no database' >letter.txt
+ends 1 "taskboard: Store" list letter.txt ann ann-key-1 1
+ends 2 "taskboard: Bad" fly
+ends 2 "taskboard: Bad" serve b.db --port 0
 echo "served"

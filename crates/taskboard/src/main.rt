@@ -1,75 +1,73 @@
-//! The program `taskboard`. `taskboard run` answers the lines of standard input on standard output.
+//! The program `taskboard`: boards of tasks in a file, served to a team, and scripts over boards in memory.
 #![tactic(auto)]
 
-use std::env::{self, Args};
-use std::io::ErrorKind;
+ghost use Rattle.std.specs.Prelude.{◌≡◌, IfErr, true};
+ghost use Rattle.taskboard.specs.Telling.{fault_of_script, is_of_scripts, status_at};
+
+mod clock;
+mod file;
+mod import;
+mod init;
+mod serve;
+mod view;
+
+use crate::import::import_input;
+use crate::init::make_file;
+use crate::serve::serve_file;
+use crate::view::print_board;
 use std::process::ExitCode;
+use tb_command_line::Order;
+use tb_orders::{Ending, read_order};
+use tb_program::Fault;
 use tb_script::{LinesFault, run_lines};
 
-/// Why the program ends without success. It is told on standard error.
-#[derive(Drop)]
-enum Failure {
-    /// The words are none of the program's.
-    Bad,
-    Lines(LinesFault),
-}
-
 fn main(rt: HostRuntime) -> ExitCode {
-    match run(&rt) {
-        Ok(()) => ExitCode::SUCCESS,
-        Err(failure) => {
-            let _ = eprintln!(rt; "taskboard: {}", name_of(&failure));
-            status_of(&failure)
-        }
+    let end = run(&rt);
+    if let Err(fault) = end {
+        let _ = eprintln!(rt; "taskboard: {}", fault.name());
+    }
+    ExitCode::from(status_of(end))
+}
+
+/// 0 where the order was accepted, 2 where the words are none, and else 1.
+fn status_of(end: Result<Ending, Fault>) -> u8
+    ensures { result ≡ status_at end }
+{
+    match end {
+        Ok(Ending::Accepted) => 0,
+        Ok(Ending::Refused) => 1,
+        Err(fault) => fault.status(),
     }
 }
 
-fn run(rt: &HostRuntime) -> Result<(), Failure> {
-    check_words(rt)?;
+fn run(rt: &HostRuntime) -> Result<Ending, Fault> {
+    match read_order(rt)? {
+        Order::Init(order) => make_file(rt, &order),
+        Order::Serve(order) => serve_file(rt, &order),
+        Order::Run => run_script(rt),
+        Order::Import(order) => import_input(rt, &order),
+        Order::View(order) => print_board(rt, &order),
+        Order::Check(_) => Err(Fault::Bad),
+    }
+}
+
+fn run_script(rt: &HostRuntime) -> Result<Ending, Fault>
+    ensures { IfErr result (λ fault. is_of_scripts fault ≡ true) }
+{
     match run_lines(rt.alloc(), rt.stdin(), &mut rt.stdout()) {
-        Ok(()) => Ok(()),
-        Err(fault) => Err(Failure::Lines(fault)),
+        Ok(()) => Ok(Ending::Accepted),
+        Err(fault) => Err(fault_of(fault)),
     }
 }
 
-fn check_words(rt: &HostRuntime) -> Result<(), Failure> {
-    match env::args(rt) {
-        Ok(words) => {
-            if is_run(words) {
-                Ok(())
-            } else {
-                Err(Failure::Bad)
-            }
-        }
-        Err(error) if error.kind() == ErrorKind::OutOfMemory => {
-            Err(Failure::Lines(LinesFault::Memory))
-        }
-        Err(_) => Err(Failure::Bad),
-    }
-}
-
-/// Whether the words after the program's name are `run` alone.
-fn is_run(mut words: Args) -> bool {
-    let _program = words.next();
-    let Some(word) = words.next() else {
-        return false;
-    };
-    word.as_str() == "run" && words.next().is_none()
-}
-
-fn name_of(failure: &Failure) -> &'static str {
-    match failure {
-        Failure::Bad => "Bad",
-        Failure::Lines(LinesFault::ReadFailed) => "ReadFailed",
-        Failure::Lines(LinesFault::WriteFailed) => "WriteFailed",
-        Failure::Lines(LinesFault::Memory) => "Memory",
-        Failure::Lines(LinesFault::Store) => "Store",
-    }
-}
-
-fn status_of(failure: &Failure) -> ExitCode {
-    match failure {
-        Failure::Bad => ExitCode::from(2),
-        Failure::Lines(_) => ExitCode::FAILURE,
+fn fault_of(fault: LinesFault) -> Fault
+    ensures value { result ≡ fault_of_script fault }
+    ensures kind { is_of_scripts result ≡ true }
+{
+    match fault {
+        LinesFault::ReadFailed => Fault::ReadFailed,
+        LinesFault::WriteFailed => Fault::WriteFailed,
+        LinesFault::Memory => Fault::Memory,
+        LinesFault::Store => Fault::Store,
     }
 }

@@ -1,17 +1,23 @@
 -- What views ask for, and what replies come to on standard output.
-use Rattle.std.specs.Prelude.{ℕ, ◌==◌, List, [], ◌∷◌, ◌++◌, if◌then◌else◌}
+use Rattle.std.specs.Prelude.{◌≡◌, ℕ, ◌==◌, List, [], ◌∷◌, ◌++◌, Ok, if◌then◌else◌}
 use Rattle.tb_command_line.specs.declared.order.ViewKind.TheVariants as shows
 use Rattle.tb_command_line.specs.declared.order.ViewOrder.{ViewOrder}
 use Rattle.tb_command_line.specs.declared.order.ViewKind.{ViewKind}
+use Rattle.tb_desk.specs.Calls.{State}
+use Rattle.tb_desk.specs.Views.{shown_in}
+use Rattle.tb_desk.specs.declared.call.Call.{Call}
 use Rattle.tb_desk.specs.declared.fault.KeepFault.{KeepFault}
 use Rattle.tb_desk.specs.declared.fault.KeepFault.TheVariants as keep
 use Rattle.tb_desk.specs.declared.view.View.{View}
 use Rattle.tb_desk.specs.declared.view.View.TheVariants as view
+use Rattle.tb_http.specs.declared.message.Message.{Message}
 use Rattle.tb_orders.specs.declared.ending.Ending.{Ending}
 use Rattle.tb_orders.specs.declared.ending.Ending.TheVariants.{Accepted, Refused}
 use Rattle.tb_program.specs.declared.fault.Fault.{Fault}
 use Rattle.tb_program.specs.declared.fault.Fault.TheVariants as fault
 use Rattle.tb_reply.specs.declared.reply.Reply.{Reply}
+use Rattle.tb_serve.specs.Asking.{asked_of}
+use Rattle.tb_serve.specs.declared.asked.Asked.TheVariants as asked
 
 -- ---- what is asked for
 
@@ -22,6 +28,14 @@ view_in shows.Todo board = view.Todo board
 
 abbrev pub view_of : ViewOrder → View
 view_of order = view_in order.kind order.board
+
+-- what a view's order is shown of a state at a moment
+abbrev pub shown_by : State → ViewOrder → ℕ → Reply
+shown_by s order at = shown_in s order.member order.key (view_of order) at
+
+-- a message that came at a moment asks for a call
+abbrev pub AsksFor : Message → ℕ → Call → Type 0
+AsksFor message at call = asked_of message at ≡ Ok (asked.Call call)
 
 -- ---- what comes of it
 

@@ -1,10 +1,36 @@
--- Which faults the words tell.
-use Rattle.std.specs.Prelude.{Bool, true, false}
+-- Which faults orders tell.
+use Rattle.std.specs.Prelude.{◌≡◌, Bool, true, false, Result, Err}
+use Rattle.tb_values.specs.Outcome.{Gives}
+use Rattle.tb_command_line.specs.declared.order.Order.{Order}
+use Rattle.tb_command_line.specs.declared.order.WordsFault.{WordsFault}
+use Rattle.tb_command_line.specs.declared.order.WordsFault.TheVariants as words
 use Rattle.tb_program.specs.declared.fault.Fault.{Fault}
-use Rattle.tb_program.specs.declared.fault.Fault.TheVariants.{Bad, Memory}
+use Rattle.tb_program.specs.declared.fault.Fault.TheVariants.{Bad, BadBody, Memory, Store, WriteFailed}
 
 -- of the words
 abbrev pub is_of_words : Fault → Bool
 is_of_words Bad = true
 is_of_words Memory = true
 is_of_words _ = false
+
+-- of what a desk is asked, and of printing what it answers
+abbrev pub is_of_answers : Fault → Bool
+is_of_answers Memory = true
+is_of_answers Store = true
+is_of_answers WriteFailed = true
+is_of_answers _ = false
+
+-- of an import
+abbrev pub is_of_imports : Fault → Bool
+is_of_imports BadBody = true
+is_of_imports fault = is_of_answers fault
+
+-- bad words alone are told as such, and memory may run out whatever they are
+abbrev pub Tells : {X : Type 0} → Fault → Result X WordsFault → Type 0
+Tells Bad expected = expected ≡ Err words.Bad
+Tells Memory expected = Unit {0}
+Tells _ expected = ⊥
+
+-- the order is the one that is expected, or its fault is told
+abbrev pub Told : {X : Type 0} → Result X Fault → Result X WordsFault → Type 0
+Told read expected = Gives Tells read expected

@@ -1,6 +1,7 @@
 //! How an order ended.
-ghost use Rattle.std.specs.Prelude.{◌≡◌};
+ghost use Rattle.std.specs.Prelude.{◌≡◌, true};
 ghost use Rattle.tb_orders.specs.Orders.{ending_of, fault_of};
+ghost use Rattle.tb_orders.specs.Telling.{is_of_answers};
 
 use tb_desk::KeepFault;
 use tb_program::Fault;
@@ -25,7 +26,8 @@ pub(crate) fn ending_of(reply: &Reply) -> Ending
 }
 
 pub(crate) fn fault_of(fault: KeepFault) -> Fault
-    ensures { result ≡ fault_of fault }
+    ensures value { result ≡ fault_of fault }
+    ensures kind { is_of_answers result ≡ true }
 {
     match fault {
         KeepFault::Memory => Fault::Memory,

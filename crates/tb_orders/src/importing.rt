@@ -1,11 +1,12 @@
 //! Imports of standard input.
-ghost use Rattle.std.specs.Prelude.{◌≡◌, ◌∷◌, [], IfOk, OnOk, Ok};
+ghost use Rattle.std.specs.Prelude.{◌≡◌, ◌⊎◌, ◌∷◌, [], ⊥, IfErr, IfOk, IsErrOf, OnErr, OnOk, true};
 ghost use Rattle.std.specs.Io.KnownBytes.{Appends};
 ghost use Rattle.tb_desk.specs.Calls.{State, once, plain, reply};
 ghost use Rattle.tb_desk.specs.declared.call.Call.{Call};
-ghost use Rattle.tb_orders.specs.Orders.{ending_of, line_text};
-ghost use Rattle.tb_serve.specs.Asking.{asked_of};
-ghost use Rattle.tb_serve.specs.declared.asked.Asked.TheVariants as asked;
+ghost use Rattle.tb_orders.specs.Orders.{AsksFor, ending_of, line_text};
+ghost use Rattle.tb_orders.specs.Telling.{is_of_answers, is_of_imports};
+ghost use Rattle.tb_program.specs.declared.fault.Fault.TheVariants.{BadBody, Store, WriteFailed};
+ghost use Rattle.tb_values.specs.Appends.{AppendsFront};
 
 use crate::ending::{Ending, ending_of, fault_of};
 use std::alloc::Global;
@@ -13,6 +14,7 @@ use std::io::Write;
 use tb_desk::{Call, Desk, Keep};
 use tb_http::Message;
 use tb_program::{Fault, print_line};
+use tb_reply::Reply;
 use tb_serve::{Asked, CallFault, call_of};
 use tb_task::Moment;
 
@@ -24,12 +26,20 @@ pub fn import_text<K: Keep, W: Write>(
     at: Moment,
     writer: &mut W,
 ) -> Result<Ending, Fault>
-    ensures told { (s : State) → K.holds desk.old s → (call : Call) → asked_of message.now at ≡ Ok (asked.Call call)
+    ensures told { (s : State) → K.holds desk.old s → (call : Call) → AsksFor message.now at call
         → OnOk result (Appends (W.contents writer.old) (W.contents writer.new) (line_text (reply s [] call))) }
-    ensures left { (s : State) → K.holds desk.old s → (call : Call) → asked_of message.now at ≡ Ok (asked.Call call)
+    ensures front { (s : State) → K.holds desk.old s → (call : Call) → AsksFor message.now at call
+        → OnErr result (AppendsFront (W.contents writer.old) (W.contents writer.new) (line_text (reply s [] call))) }
+    ensures left { (s : State) → K.holds desk.old s → (call : Call) → AsksFor message.now at call
         → OnOk result (K.holds desk.new (plain s (once s (call ∷ [])))) }
-    ensures ending { (s : State) → K.holds desk.old s → (call : Call) → asked_of message.now at ≡ Ok (asked.Call call)
+    ensures held { (s : State) → K.holds desk.old s → (call : Call) → AsksFor message.now at call
+        → K.holds desk.new s ⊎ K.holds desk.new (plain s (once s (call ∷ []))) }
+    ensures ending { (s : State) → K.holds desk.old s → (call : Call) → AsksFor message.now at call
         → IfOk result (λ ending. ending ≡ ending_of (reply s [] call)) }
+    ensures unread { IsErrOf result BadBody → (call : Call) → AsksFor message.now at call → ⊥ }
+    ensures same { IsErrOf result BadBody → desk.new ≡ desk.old }
+    ensures fault { IfErr result (λ fault. is_of_imports fault ≡ true) }
+    ensures store { IsErrOf result Store → K.has_failed desk.new ≡ true }
 {
     match call_of(alloc, message, at) {
         Ok(Asked::Call(call)) => make_call(alloc, desk, &call, writer),
@@ -47,13 +57,26 @@ fn make_call<K: Keep, W: Write>(
 ) -> Result<Ending, Fault>
     ensures told { (s : State) → K.holds desk.old s
         → OnOk result (Appends (W.contents writer.old) (W.contents writer.new) (line_text (reply s [] call.now))) }
+    ensures front { (s : State) → K.holds desk.old s
+        → OnErr result (AppendsFront (W.contents writer.old) (W.contents writer.new) (line_text (reply s [] call.now))) }
     ensures left { (s : State) → K.holds desk.old s → OnOk result (K.holds desk.new (plain s (once s (call.now ∷ [])))) }
+    ensures held { (s : State) → K.holds desk.old s → K.holds desk.new s ⊎ K.holds desk.new (plain s (once s (call.now ∷ []))) }
     ensures ending { (s : State) → K.holds desk.old s → IfOk result (λ ending. ending ≡ ending_of (reply s [] call.now)) }
+    ensures fault { IfErr result (λ fault. is_of_answers fault ≡ true) }
+    ensures store { IsErrOf result Store → K.has_failed desk.new ≡ true }
 {
-    let reply = match desk.handle(alloc, call) {
-        Ok(reply) => reply,
-        Err(fault) => return Err(fault_of(fault)),
-    };
+    match desk.handle(alloc, call) {
+        Ok(reply) => print_reply(writer, &reply),
+        Err(fault) => Err(fault_of(fault)),
+    }
+}
+
+fn print_reply<W: Write>(writer: &mut W, reply: &Reply) -> Result<Ending, Fault>
+    ensures told { OnOk result (Appends (W.contents writer.old) (W.contents writer.new) (line_text reply.now)) }
+    ensures front { OnErr result (AppendsFront (W.contents writer.old) (W.contents writer.new) (line_text reply.now)) }
+    ensures ending { IfOk result (λ ending. ending ≡ ending_of reply.now) }
+    ensures fault { IfErr result (λ fault. fault ≡ WriteFailed) }
+{
     print_line(writer, reply.body.as_str())?;
-    Ok(ending_of(&reply))
+    Ok(ending_of(reply))
 }

@@ -13,4 +13,4 @@ pub use ending::Ending;
 pub use importing::import_text;
 pub use message::import_message;
 pub use viewing::print_view;
-pub use words::read_order;
+pub use words::{order_of, read_order};

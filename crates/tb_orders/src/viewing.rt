@@ -1,10 +1,12 @@
 //! Views of a board.
-ghost use Rattle.std.specs.Prelude.{◌≡◌, OnOk, IfOk};
+ghost use Rattle.std.specs.Prelude.{◌≡◌, IfErr, IfOk, IsErrOf, OnErr, OnOk, true};
 ghost use Rattle.std.specs.Io.KnownBytes.{Appends};
 ghost use Rattle.tb_desk.specs.Calls.{State};
 ghost use Rattle.tb_desk.specs.Keeping.{IsStill};
-ghost use Rattle.tb_desk.specs.Views.{shown_in};
-ghost use Rattle.tb_orders.specs.Orders.{ending_of, view_of, view_text};
+ghost use Rattle.tb_orders.specs.Orders.{ending_of, shown_by, view_of, view_text};
+ghost use Rattle.tb_orders.specs.Telling.{is_of_answers};
+ghost use Rattle.tb_program.specs.declared.fault.Fault.TheVariants.{Store, WriteFailed};
+ghost use Rattle.tb_values.specs.Appends.{AppendsFront};
 
 use crate::ending::{Ending, ending_of, fault_of};
 use std::alloc::Global;
@@ -24,9 +26,13 @@ pub fn print_view<K: Keep, W: Write>(
     writer: &mut W,
 ) -> Result<Ending, Fault>
     ensures told { (s : State) → K.holds desk.old s
-        → OnOk result (Appends (W.contents writer.old) (W.contents writer.new) (view_text (shown_in s order.now.member order.now.key (view_of order.now) at))) }
-    ensures ending { (s : State) → K.holds desk.old s → IfOk result (λ ending. ending ≡ ending_of (shown_in s order.now.member order.now.key (view_of order.now) at)) }
+        → OnOk result (Appends (W.contents writer.old) (W.contents writer.new) (view_text (shown_by s order.now at))) }
+    ensures front { (s : State) → K.holds desk.old s
+        → OnErr result (AppendsFront (W.contents writer.old) (W.contents writer.new) (view_text (shown_by s order.now at))) }
+    ensures ending { (s : State) → K.holds desk.old s → IfOk result (λ ending. ending ≡ ending_of (shown_by s order.now at)) }
     ensures same { IsStill (K.holds desk.old) (K.after_stop desk.old) (K.holds desk.new) (K.after_stop desk.new) }
+    ensures fault { IfErr result (λ fault. is_of_answers fault ≡ true) }
+    ensures store { IsErrOf result Store → K.has_failed desk.new ≡ true }
 {
     match desk.view(alloc, &order.member, &order.key, &view_of(order), at) {
         Ok(reply) => print_shown(writer, &reply),
@@ -36,14 +42,24 @@ pub fn print_view<K: Keep, W: Write>(
 
 fn print_shown<W: Write>(writer: &mut W, reply: &Reply) -> Result<Ending, Fault>
     ensures told { OnOk result (Appends (W.contents writer.old) (W.contents writer.new) (view_text reply.now)) }
+    ensures front { OnErr result (AppendsFront (W.contents writer.old) (W.contents writer.new) (view_text reply.now)) }
     ensures ending { IfOk result (λ ending. ending ≡ ending_of reply.now) }
+    ensures fault { IfErr result (λ fault. fault ≡ WriteFailed) }
+{
+    print_body(writer, reply)?;
+    Ok(ending_of(reply))
+}
+
+fn print_body<W: Write>(writer: &mut W, reply: &Reply) -> Result<(), Fault>
+    ensures told { OnOk result (Appends (W.contents writer.old) (W.contents writer.new) (view_text reply.now)) }
+    ensures front { OnErr result (AppendsFront (W.contents writer.old) (W.contents writer.new) (view_text reply.now)) }
+    ensures fault { IfErr result (λ fault. fault ≡ WriteFailed) }
 {
     if reply.number == 0 {
-        print_text(writer, reply.body.as_str())?;
+        print_text(writer, reply.body.as_str())
     } else {
-        print_line(writer, reply.body.as_str())?;
+        print_line(writer, reply.body.as_str())
     }
-    Ok(ending_of(reply))
 }
 
 fn view_of(order: &ViewOrder) -> View

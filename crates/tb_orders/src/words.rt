@@ -1,7 +1,9 @@
 //! The words that the program was started with.
 ghost use Rattle.std.specs.Prelude.{◌≡◌, IfErr, IfOk, map, true};
+ghost use Rattle.std.specs.List.{list_all};
 ghost use Rattle.std.specs.String.{string_bytes};
-ghost use Rattle.tb_orders.specs.Telling.{is_of_words};
+ghost use Rattle.tb_command_line.specs.Orders.{Request, is_plain, order_of, texts_of, words_of};
+ghost use Rattle.tb_orders.specs.Telling.{Told, is_of_words};
 
 use std::alloc::{AllocError, Global};
 use std::env::{self, Args};
@@ -19,7 +21,16 @@ pub fn read_order(rt: &HostRuntime) -> Result<Order, Fault>
         Err(_) => return Err(Fault::Bad),
     };
     let texts = texts_of(rt.alloc(), words.as_slice())?;
-    match command_of(rt.alloc(), texts.as_slice()) {
+    order_of(rt.alloc(), texts.as_slice())
+}
+
+/// The order that words are, or the program's fault.
+pub fn order_of(alloc: Global, words: &[&str]) -> Result<Order, Fault>
+    ensures order { (request : Request) → map (λ word. word.now) words.entry.now ≡ words_of request
+        → list_all is_plain (texts_of request) ≡ true → Told result (order_of request) }
+    ensures fault { IfErr result (λ fault. is_of_words fault ≡ true) }
+{
+    match command_of(alloc, words) {
         Ok(order) => Ok(order),
         Err(WordsFault::Bad) => Err(Fault::Bad),
         Err(WordsFault::Memory) => Err(Fault::Memory),

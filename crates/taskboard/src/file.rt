@@ -1,0 +1,62 @@
+//! The file of boards.
+ghost use Rattle.std.specs.Prelude.{◌≡◌, IfErr, true};
+ghost use Rattle.taskboard.specs.Telling.{fault_of_opening, is_of_files, is_of_opening};
+
+use sqlite::{Connection, Error, ErrorCode, File, FileStore};
+use tb_desk::Desk;
+use tb_keeper::SqlKeep;
+use tb_program::Fault;
+use tb_sql::opening::OpenFault;
+
+/// The store of a real file.
+pub(crate) type RealFile = FileStore<File>;
+
+/// Opens the file at a path, or makes an empty one where none is.
+pub(crate) fn open_file(rt: &HostRuntime, path: &str) -> Result<Connection<RealFile>, Fault>
+    ensures { IfErr result (λ fault. is_of_files fault ≡ true) }
+{
+    match Connection::open(rt, path) {
+        Ok(conn) => Ok(conn),
+        Err(Error::SqliteFailure(ErrorCode::OutOfMemory)) => Err(Fault::Memory),
+        Err(_) => Err(Fault::Store),
+    }
+}
+
+/// The keeper of the boards in the file at a path.
+pub(crate) fn open_keep(rt: &HostRuntime, path: &str) -> Result<SqlKeep<RealFile>, Fault>
+    ensures { IfErr result (λ fault. is_of_opening fault ≡ true) }
+{
+    let conn = open_file(rt, path)?;
+    match SqlKeep::open(rt.alloc(), conn) {
+        Ok(keep) => Ok(keep),
+        Err((_, fault)) => Err(fault_of(fault)),
+    }
+}
+
+pub(crate) fn open_desk(rt: &HostRuntime, path: &str) -> Result<Desk<SqlKeep<RealFile>>, Fault>
+    ensures { IfErr result (λ fault. is_of_opening fault ≡ true) }
+{
+    Ok(Desk::new(open_keep(rt, path)?))
+}
+
+fn fault_of(fault: OpenFault) -> Fault
+    ensures value { result ≡ fault_of_opening fault }
+    ensures kind { is_of_opening result ≡ true }
+{
+    match fault {
+        OpenFault::NotOurs => Fault::NotOurs,
+        OpenFault::WrongVersion => Fault::WrongVersion,
+        OpenFault::Store => Fault::Store,
+        OpenFault::Memory => Fault::Memory,
+    }
+}
+
+/// Copies what was committed into the database file, and closes it.
+pub(crate) fn close_file(conn: Connection<RealFile>) -> Result<(), Fault>
+    ensures { IfErr result (λ fault. is_of_files fault ≡ true) }
+{
+    match conn.close() {
+        Ok(()) => Ok(()),
+        Err(_) => Err(Fault::Store),
+    }
+}

@@ -1,0 +1,80 @@
+//! The server of a file, on the loopback.
+ghost use Rattle.std.specs.Prelude.{◌≡◌, IfErr, true};
+ghost use Rattle.taskboard.specs.Telling.{ends_serving, is_of_serving};
+
+use crate::clock::MachineClock;
+use crate::file::{RealFile, close_file, open_desk};
+use std::alloc::Global;
+use std::net::{SocketAddr, TcpListener, TcpStream};
+use tb_command_line::ServeOrder;
+use tb_desk::Desk;
+use tb_keeper::SqlKeep;
+use tb_orders::Ending;
+use tb_program::{Fault, Service, serve_connections};
+use tb_serve::{ServeFault, serve};
+
+/// Answers the messages of connections over the boards of a file.
+#[derive(Drop)]
+struct Server<'a> {
+    alloc: Global,
+    desk: Desk<SqlKeep<RealFile>>,
+    clock: MachineClock<'a>,
+}
+
+impl<'a> Service<TcpStream> for Server<'a> {
+    ghost follows = { λ _ _. Unit {0} };
+
+    ghost unchanged = { λ _. tt };
+
+    ghost joined = { λ _ _ _ _ _. tt };
+
+    fn answer(&mut self, stream: TcpStream) -> Result<(), Fault> {
+        // An answer is written as a head and a body, and neither is to wait for the other.
+        let _ = stream.set_nodelay(true);
+        let end = serve(
+            self.alloc,
+            &stream,
+            &mut &stream,
+            &mut self.desk,
+            &mut self.clock,
+        );
+        if ends_serving(end.fault) {
+            return Err(Fault::Store);
+        }
+        Ok(())
+    }
+}
+
+/// Whether no further connection is served: after every other end the next one is.
+fn ends_serving(fault: Option<ServeFault>) -> bool
+    ensures { result ≡ ends_serving fault }
+{
+    match fault {
+        Some(ServeFault::Store) => true,
+        _ => false,
+    }
+}
+
+/// Serves a file on a port of the loopback, up to the number of connections.
+pub(crate) fn serve_file(rt: &HostRuntime, order: &ServeOrder) -> Result<Ending, Fault>
+    ensures { IfErr result (λ fault. is_of_serving fault ≡ true) }
+{
+    let desk = open_desk(rt, order.file.as_str())?;
+    let address = SocketAddr::from(([127, 0, 0, 1], order.port));
+    let Ok(listener) = TcpListener::bind(rt, address) else {
+        return Err(Fault::NoListen);
+    };
+    let mut server = Server {
+        alloc: rt.alloc(),
+        desk,
+        clock: MachineClock::new(rt),
+    };
+    serve_connections(&listener, order.connections, &mut server)?;
+    let Server {
+        desk,
+        alloc: _,
+        clock: _,
+    } = server;
+    close_file(desk.into_keep().close())?;
+    Ok(Ending::Accepted)
+}
