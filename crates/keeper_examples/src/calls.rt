@@ -1,14 +1,12 @@
-//! Calls over a store in memory, which is closed and opened again.
+//! The three calls of the examples, what a desk answers to them, and what a board then shows.
 
 use serde_json::Value;
-use sqlite::{Alter, Connection};
 use std::alloc::Global;
 use std::test::Fail;
 use tb_board::{Key, Name};
 use tb_core::{Action, Command};
-use tb_desk::{Call, Desk, View};
+use tb_desk::{Call, Desk, Keep, View};
 use tb_json::read_task;
-use tb_keeper::SqlKeep;
 use tb_reply::Reply;
 use tb_task::{Moment, TaskId};
 use tb_values::{Items, Text};
@@ -21,11 +19,12 @@ pub fn root(alloc: Global) -> Result<(Name, Key), Fail> {
     Ok((name, key))
 }
 
-fn first_of_february() -> Result<Moment, Fail> {
+pub fn first_of_february() -> Result<Moment, Fail> {
     Ok(Moment::read(b"20260201T000000Z").ok_or("a moment")?)
 }
 
-fn call(alloc: Global, number: u64, content: &[u8], command: Command) -> Result<Call, Fail> {
+/// A call of root under the identifier of this number.
+pub fn call(alloc: Global, number: u64, content: &[u8], command: Command) -> Result<Call, Fail> {
     let (member, key) = root(alloc)?;
     Ok(Call {
         member,
@@ -37,14 +36,21 @@ fn call(alloc: Global, number: u64, content: &[u8], command: Command) -> Result<
     })
 }
 
-pub fn add_rent(alloc: Global) -> Result<Call, Fail> {
-    let value = Value::from_str(alloc, RENT)?;
-    let Ok(incoming) = read_task(alloc, &value, first_of_february()?) else {
-        return Err(Fail::from("no task"));
-    };
-    call(alloc, 1, b"add", Command::Add { board: 1, incoming })
+/// The command that adds the task of a JSON text to board 1.
+pub fn add(alloc: Global, text: &str) -> Result<Command, Fail> {
+    let value = Value::from_str(alloc, text)?;
+    match read_task(alloc, &value, first_of_february()?) {
+        Ok(incoming) => Ok(Command::Add { board: 1, incoming }),
+        Err(_) => Err(Fail::from("no task")),
+    }
 }
 
+/// Adds a monthly template, which makes two instances.
+pub fn add_rent(alloc: Global) -> Result<Call, Fail> {
+    call(alloc, 1, b"add", add(alloc, RENT)?)
+}
+
+/// Completes the first instance.
 pub fn done(alloc: Global) -> Result<Call, Fail> {
     let id = TaskId::made(1, 2).ok_or("an identifier")?;
     let command = Command::OnTask {
@@ -59,29 +65,19 @@ pub fn sweep(alloc: Global) -> Result<Call, Fail> {
     call(alloc, 3, b"sweep", Command::Sweep { board: 1 })
 }
 
-fn handled<S: Alter>(
-    alloc: Global,
-    desk: &mut Desk<SqlKeep<S>>,
-    call: &Call,
-) -> Result<Reply, Fail> {
+pub fn three_calls(alloc: Global) -> Result<[Call; 3], Fail> {
+    Ok([add_rent(alloc)?, done(alloc)?, sweep(alloc)?])
+}
+
+pub fn handled<K: Keep>(alloc: Global, desk: &mut Desk<K>, call: &Call) -> Result<Reply, Fail> {
     match desk.handle(alloc, call) {
         Ok(reply) => Ok(reply),
         Err(_) => Err(Fail::from("a fault")),
     }
 }
 
-/// Whether the template's mask is this one.
-fn mask_is<S: Alter>(alloc: Global, desk: &mut Desk<SqlKeep<S>>, mask: &str) -> Result<bool, Fail> {
-    let (name, key) = root(alloc)?;
-    let id = TaskId::made(1, 1).ok_or("an identifier")?;
-    match desk.view(alloc, &name, &key, &View::One(1, id), first_of_february()?) {
-        Ok(reply) => Ok(reply.body.as_str().contains(mask)),
-        Err(_) => Ok(false),
-    }
-}
-
-/// The board as JSON.
-pub fn exported<S: Alter>(alloc: Global, desk: &mut Desk<SqlKeep<S>>) -> Result<Text, Fail> {
+/// Board 1 as JSON.
+pub fn exported<K: Keep>(alloc: Global, desk: &mut Desk<K>) -> Result<Text, Fail> {
     let (name, key) = root(alloc)?;
     match desk.view(alloc, &name, &key, &View::Export(1), first_of_february()?) {
         Ok(reply) => Ok(reply.body),
@@ -89,33 +85,19 @@ pub fn exported<S: Alter>(alloc: Global, desk: &mut Desk<SqlKeep<S>>) -> Result<
     }
 }
 
-/// An added template and a completed instance stand after the store is opened again, and both replies are kept.
-#[test]
-fn reopened_in_memory(rt: HostRuntime) -> Result<(), Fail> {
-    let alloc = rt.alloc();
-    let (name, key) = root(alloc)?;
-    let conn = Connection::open_in_memory(alloc)?;
-    let Ok(keep) = SqlKeep::create(alloc, conn, &name, &key) else {
-        return Err(Fail::from("no store"));
-    };
-    let mut desk = Desk::new(keep);
-    let added = handled(alloc, &mut desk, &add_rent(alloc)?)?;
-    let completed = handled(alloc, &mut desk, &done(alloc)?)?;
-    let Ok(keep) = SqlKeep::open(alloc, desk.into_keep().close()) else {
-        return Err(Fail::from("not opened"));
-    };
-    let mut desk = Desk::new(keep);
-    assert!(rt; mask_is(alloc, &mut desk, r#""mask":"+-""#)?);
-    assert!(rt;
-        handled(alloc, &mut desk, &add_rent(alloc)?)?
-            .body
-            .is(&added.body)
-    );
-    assert!(rt;
-        handled(alloc, &mut desk, &done(alloc)?)?
-            .body
-            .is(&completed.body)
-    );
-    assert!(rt; mask_is(alloc, &mut desk, r#""mask":"+-""#)?);
-    Ok(())
+pub fn is_same_reply(one: &Reply, other: &Reply) -> bool {
+    one.number == other.number && one.status == other.status && one.body.is(&other.body)
+}
+
+/// Whether these replies are the first of the others.
+pub fn are_first(replies: &[Reply], others: &[Reply]) -> bool {
+    if replies.len() > others.len() {
+        return false;
+    }
+    for (one, other) in replies.iter().zip(others) {
+        if !is_same_reply(one, other) {
+            return false;
+        }
+    }
+    true
 }

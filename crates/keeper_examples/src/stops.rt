@@ -1,20 +1,31 @@
-//! A disk that stops at one of its calls, and what the next open finds.
+//! A disk that stops at each of its calls in turn, and what the next open finds.
 
 ghost use Rattle.std.specs.Prelude.{◌≡◌, false, IsTrue};
 
-use crate::calls::{add_rent, done, exported, root, sweep};
+use crate::calls::{are_first, exported, three_calls};
+use crate::expected::{Expected, expected_by_lists};
 use sqlite::{Alter, Connection, Files, Options};
 use sqlite_disk::{Crash, Disk, Fuse, Memory};
 use std::alloc::Global;
 use std::process::Abort;
 use std::test::Fail;
-use tb_desk::{Desk, Keep};
+use tb_board::{Key, Name};
+use tb_desk::{Call, Desk, Keep};
 use tb_keeper::SqlKeep;
+use tb_reply::Reply;
 use tb_sql::opening::is_empty;
-use tb_values::Text;
+use tb_values::{Items, Text};
+
+/// Two files in memory, which stop after so many calls.
+pub fn fused(alloc: Global, log_calls: u64, file_calls: u64) -> Files<Fuse<Memory>> {
+    Files {
+        log: Fuse::new(Memory::new(alloc), log_calls),
+        db: Fuse::new(Memory::new(alloc), file_calls),
+    }
+}
 
 /// The files, after a stop of the machine.
-fn stopped<D: Crash>(mut files: Files<D>) -> Files<D>
+pub fn stopped<D: Crash>(mut files: Files<D>) -> Files<D>
     ensures { IsTrue (D.Disk.is_usable result.log) × IsTrue (D.Disk.is_usable result.db) }
 {
     files.log.crash();
@@ -23,50 +34,97 @@ fn stopped<D: Crash>(mut files: Files<D>) -> Files<D>
 }
 
 /// The store that is there, or a new one where there is none.
-fn keeper<S: Alter>(
-    alloc: Global,
-    conn: Connection<S>,
-) -> Result<Result<SqlKeep<S>, Connection<S>>, Fail>
+fn keeper<S: Alter + Drop>(alloc: Global, conn: Connection<S>) -> Result<SqlKeep<S>, Connection<S>>
     requires { conn.in_transaction ≡ false }
 {
-    let (name, key) = root(alloc)?;
-    let kept = if is_empty(&conn) {
-        match SqlKeep::create(alloc, conn, &name, &key) {
+    if !is_empty(&conn) {
+        return match SqlKeep::open(alloc, conn) {
             Ok(keep) => Ok(keep),
             Err((conn, _)) => Err(conn),
-        }
-    } else {
-        match SqlKeep::open(alloc, conn) {
-            Ok(keep) => Ok(keep),
-            Err((conn, _)) => Err(conn),
-        }
+        };
+    }
+    let (Ok(Some(name)), Ok(Some(key))) = (
+        Name::read(alloc, "root"),
+        Key::read(alloc, "root-key-1"),
+    ) else {
+        return Err(conn);
     };
-    Ok(kept)
+    match SqlKeep::create(alloc, conn, &name, &key) {
+        Ok(keep) => Ok(keep),
+        Err((conn, _)) => Err(conn),
+    }
 }
 
-/// Sends the three calls. How many were answered.
-fn session<D: Crash + Drop>(alloc: Global, files: Files<D>) -> Result<(usize, Files<D>), Fail>
+/// What became of a run: the replies given, and the files.
+#[derive(Drop)]
+pub struct Ending<D: Disk> {
+    pub replies: Items<Reply>,
+    pub files: Files<D>,
+}
+
+/// Opens the store and sends the calls, up to the first fault.
+pub fn session<D: Crash + Drop>(alloc: Global, files: Files<D>, calls: &[Call]) -> Ending<D>
     requires { IsTrue (D.Disk.is_usable files.log) × IsTrue (D.Disk.is_usable files.db) }
 {
+    let nothing = Items::new(alloc);
     let conn = match Connection::open_files(alloc, files, Options::new(7)) {
         Ok(conn) => conn,
-        Err((_, left)) => return Ok((0, left.into_files())),
+        Err((_, left)) => {
+            return Ending {
+                replies: nothing,
+                files: left.into_files(),
+            };
+        }
     };
-    let keep = match keeper(alloc, conn)? {
+    let keep = match keeper(alloc, conn) {
         Ok(keep) => keep,
-        Err(conn) => return Ok((0, conn.into_store().close())),
+        Err(conn) => {
+            return Ending {
+                replies: nothing,
+                files: conn.into_store().close(),
+            };
+        }
     };
     let mut desk = Desk::new(keep);
-    let calls = [add_rent(alloc)?, done(alloc)?, sweep(alloc)?];
-    let end = desk.run(alloc, &calls);
-    let answered = end.replies.len();
-    Ok((answered, desk.into_keep().close().into_store().close()))
+    let end = desk.run(alloc, calls);
+    Ending {
+        replies: end.replies,
+        files: desk.into_keep().close().into_store().close(),
+    }
 }
 
-/// How many of the calls stand.
-fn standing<S: Alter>(alloc: Global, keep: &mut SqlKeep<S>) -> Result<usize, Fail> {
+/// What stands in the files: how many of the calls, and the board.
+#[derive(Drop)]
+pub struct Left<D: Disk> {
+    pub count: usize,
+    pub board: Text,
+    pub files: Files<D>,
+}
+
+/// Opens the store again, to look only.
+pub fn found<D: Crash + Drop>(alloc: Global, files: Files<D>) -> Result<Left<D>, Fail>
+    requires { IsTrue (D.Disk.is_usable files.log) × IsTrue (D.Disk.is_usable files.db) }
+{
+    let Ok(conn) = Connection::open_files(alloc, files, Options::new(7)) else {
+        return Err(Fail::from("not found"));
+    };
+    let Ok(mut keep) = keeper(alloc, conn) else {
+        return Err(Fail::from("no store"));
+    };
+    let count = standing(alloc, &mut keep)?;
+    let mut desk = Desk::new(keep);
+    let board = exported(alloc, &mut desk)?;
+    Ok(Left {
+        count,
+        board,
+        files: desk.into_keep().close().into_store().close(),
+    })
+}
+
+/// How many of the three calls have a kept reply.
+fn standing<K: Keep>(alloc: Global, keep: &mut K) -> Result<usize, Fail> {
     let mut count = 0usize;
-    for call in [add_rent(alloc)?, done(alloc)?, sweep(alloc)?] {
+    for call in three_calls(alloc)? {
         if matches!(keep.kept(alloc, &call.member, call.id), Ok(Some(_))) {
             count = count.saturating_add(1);
         }
@@ -74,73 +132,75 @@ fn standing<S: Alter>(alloc: Global, keep: &mut SqlKeep<S>) -> Result<usize, Fai
     Ok(count)
 }
 
-/// What the next open finds: how many calls stand, and the board.
-fn found<D: Crash + Drop>(alloc: Global, files: Files<D>) -> Result<(usize, Text, Files<D>), Fail>
-    requires { IsTrue (D.Disk.is_usable files.log) × IsTrue (D.Disk.is_usable files.db) }
-{
-    let conn = match Connection::open_files(alloc, files, Options::new(7)) {
-        Ok(conn) => conn,
-        Err(_) => return Err(Fail::from("not found")),
+/// Whether so many calls stand, with the board that they make.
+pub fn stands<D: Disk>(found: &Left<D>, count: usize, expected: &Expected) -> bool {
+    let Some(board) = expected.boards.get(count) else {
+        return false;
     };
-    let Ok(mut keep) = keeper(alloc, conn)? else {
-        return Err(Fail::from("no store"));
-    };
-    let count = standing(alloc, &mut keep)?;
-    let mut desk = Desk::new(keep);
-    let board = exported(alloc, &mut desk)?;
-    Ok((count, board, desk.into_keep().close().into_store().close()))
+    found.count == count && found.board.is(board)
 }
 
-fn fused(alloc: Global, log_calls: u64, file_calls: u64) -> Files<Fuse<Memory>> {
-    Files {
-        log: Fuse::new(Memory::new(alloc), log_calls),
-        db: Fuse::new(Memory::new(alloc), file_calls),
-    }
-}
-
-/// A run that the disk stops after so many calls, and another to the end.
-fn stop_once(rt: &impl Abort, alloc: Global, log_calls: u64, file_calls: u64) -> Result<(), Fail> {
-    let files = fused(alloc, log_calls, file_calls);
+/// A run that the disk stops after so many calls, and another that sends everything again. True where nothing stopped the first.
+fn stop_once(
+    rt: &impl Abort,
+    alloc: Global,
+    files: Files<Fuse<Memory>>,
+    expected: &Expected,
+) -> Result<bool, Fail> {
     if !files.may_be_used() {
-        return Ok(());
+        return Err(Fail::from("new files that can't be used"));
     }
-    let (answered, files) = session(alloc, files)?;
-    let (count, _, files) = found(alloc, stopped(files))?;
-    assert!(rt; answered <= count && count <= answered.saturating_add(1));
-    let (again, files) = session(alloc, stopped(files))?;
-    assert_eq!(rt; again, 3);
-    let (count, board, _) = found(alloc, stopped(files))?;
-    assert_eq!(rt; count, 3);
-    let whole = fused(alloc, u64::MAX, u64::MAX);
-    if !whole.may_be_used() {
-        return Ok(());
+    let calls = three_calls(alloc)?;
+    let first = session(alloc, files, &calls);
+    let answered = first.replies.len();
+    assert!(rt; are_first(first.replies.as_slice(), &expected.replies));
+    let left = found(alloc, stopped(first.files))?;
+    assert!(rt;
+        stands(&left, answered, expected) || stands(&left, answered.saturating_add(1), expected),
+        "{answered} answered, {} stand",
+        left.count
+    );
+    let second = session(alloc, stopped(left.files), &calls);
+    assert_eq!(rt; second.replies.len(), 3);
+    assert!(rt; are_first(second.replies.as_slice(), &expected.replies));
+    let last = found(alloc, stopped(second.files))?;
+    assert!(rt; stands(&last, 3, expected));
+    Ok(answered == 3)
+}
+
+/// Stops at so many calls of the log, one run after the other. True where a run ended without a stop.
+fn log_stops(rt: &impl Abort, alloc: Global, first: u64, count: u64) -> Result<bool, Fail> {
+    let expected = expected_by_lists(alloc)?;
+    for more in 0..count {
+        let files = fused(alloc, first.saturating_add(more), u64::MAX);
+        if stop_once(rt, alloc, files, &expected)? {
+            return Ok(true);
+        }
     }
-    let (_, files) = session(alloc, whole)?;
-    let (_, expected, _) = found(alloc, stopped(files))?;
-    assert!(rt; board.is(&expected));
+    Ok(false)
+}
+
+fn file_stops(rt: &impl Abort, alloc: Global, first: u64, count: u64) -> Result<bool, Fail> {
+    let expected = expected_by_lists(alloc)?;
+    for more in 0..count {
+        let files = fused(alloc, u64::MAX, first.saturating_add(more));
+        if stop_once(rt, alloc, files, &expected)? {
+            return Ok(true);
+        }
+    }
+    Ok(false)
+}
+
+#[test]
+fn the_log_stops_from_0(rt: HostRuntime) -> Result<(), Fail> {
+    let whole = log_stops(&rt, rt.alloc(), 0, 4)?;
+    assert!(rt; !whole);
     Ok(())
 }
 
 #[test]
-fn the_log_stops_early(rt: HostRuntime) -> Result<(), Fail> {
-    for calls in [3u64, 9, 15] {
-        stop_once(&rt, rt.alloc(), calls, u64::MAX)?;
-    }
-    Ok(())
-}
-
-#[test]
-fn the_log_stops_late(rt: HostRuntime) -> Result<(), Fail> {
-    for calls in [21u64, 27, 33] {
-        stop_once(&rt, rt.alloc(), calls, u64::MAX)?;
-    }
-    Ok(())
-}
-
-#[test]
-fn the_file_stops(rt: HostRuntime) -> Result<(), Fail> {
-    for calls in [1u64, 4, 8] {
-        stop_once(&rt, rt.alloc(), u64::MAX, calls)?;
-    }
+fn the_file_stops_from_0(rt: HostRuntime) -> Result<(), Fail> {
+    let whole = file_stops(&rt, rt.alloc(), 0, 4)?;
+    assert!(rt; !whole);
     Ok(())
 }
