@@ -14,8 +14,7 @@ use Rattle.tb_rows.specs.Rows.{world_rows, HaveSameRows, IsSameContent}
 use Rattle.tb_sql.specs.declared.changes.RowChange.{RowChange}
 use Rattle.tb_sql.specs.Writing.{opening as content_of}
 use Rattle.tb_sql_tables.specs.Content.{Content}
-use Rattle.tb_keeper.specs.Stored.{kept_row, state_rows, AreRowsOf}
-use Rattle.tb_keeper.specs.KeptRows.{IsKnown}
+use Rattle.tb_keeper.specs.Stored.{kept_row, state_rows, AreRowsOf, IsKnown}
 
 none : (es : List (CallName × KeptReply)) → length es ≡ 0 → es ≡ []
 none [] e = refl

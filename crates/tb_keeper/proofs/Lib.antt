@@ -1,3 +1,4 @@
+pub mod BoardsRead
 pub mod ChangedForms
 pub mod Commits
 pub mod Counting
@@ -5,4 +6,7 @@ pub mod FirstRows
 pub mod FoundBoards
 pub mod Given
 pub mod Images
+pub mod Reopened
 pub mod Standing
+pub mod Taken
+pub mod WorldRead

@@ -1,10 +1,13 @@
 -- What stands on a connection.
-use Rattle.std.proofs.Common.{◌≡◌, ◌∙◌, true, sym}
+use Rattle.std.proofs.Common.{◌≡◌, ◌∙◌, false, true, sym}
 use Rattle.sqlite_trees.specs.declared.store.Store.{Ghosts}
 use Rattle.sqlite.specs.Held.{Held, state}
 use Rattle.sqlite.specs.State.{HasCleanDisk, State as Database}
+use Rattle.tb_desk.specs.Calls.{State}
 use Rattle.tb_sql.specs.Opening.{IsAsBefore}
-use Rattle.tb_sql_tables.specs.Content.{Content, Finds, Stands}
+use Rattle.tb_sql.proofs.Opened.{stands_again}
+use Rattle.tb_sql_tables.specs.Content.{AreRows, Content, Finds, IsContent, Stands}
+use Rattle.tb_keeper.specs.Stored.{IsStored}
 
 module _ {S : Type 0} (g : Ghosts S) where
   -- what a transaction that has just begun finds is of what stands
@@ -21,4 +24,13 @@ before_then a b c first second = record {
       let two = second.seen clean is_open (one.1 ∙ sym one.0) in
       (two.0 ∙ one.0, two.1 ∙ one.0);
   left = λ clean db may. first.left (second.clean clean) db (second.left clean db may);
+}
+
+-- what is stored stays so
+pub stored_again : (s : State) (old new : Database) → IsStored s old → IsAsBefore old new → new.in_transaction ≡ false → IsStored s new
+stored_again s old new stored before idle = record {
+  content = stored.content;
+  rows = stored.rows;
+  stands = stands_again (IsContent stored.content) (AreRows stored.content) old new stored.stands before;
+  idle = idle;
 }

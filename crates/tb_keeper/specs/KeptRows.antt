@@ -2,7 +2,7 @@
 use Rattle.std.proofs.Common.{◌≡◌, ◌∙◌, ℕ, List, [], ◌∷◌, ◌++◌, map, None, refl, sym, ap, ap₂, subst, IsPermutation}
 use Rattle.std.specs.Prelude.{IsSome}
 use Rattle.std.specs.List.{AllByRecursion}
-use Rattle.std.specs.FinMap.{FinMap, entries, from_entries, get, insert}
+use Rattle.std.specs.FinMap.{FinMap, entries, get, insert}
 use Rattle.std.proofs.lemmas.List.Sorted.{IsPermutation-cons, IsPermutation-map, IsPermutation-sym, IsPermutation-trans, All-permutation}
 use Rattle.std.proofs.lemmas.List.Elements.{All-from_recursion, recursion_from_All}
 use Rattle.sqlite_trees.proofs.ListLemmas.{map-map}
@@ -13,13 +13,9 @@ use Rattle.tb_desk.specs.declared.call.KeptReply.{KeptReply}
 use Rattle.tb_desk.specs.Calls.{CallName, State, name_cmp}
 use Rattle.tb_desk.proofs.Names.{names_exact, names_total}
 use Rattle.tb_sql_tables.specs.declared.rows.KeptRow.{KeptRow}
-use Rattle.tb_keeper.specs.Stored.{entry_of, kept_row}
-use Rattle.tb_keeper.specs.Entries.{insert_permutes, map_of_entries, same_entries}
+use Rattle.tb_keeper.specs.Stored.{entry_of, kept_row, IsKnown}
+use Rattle.tb_keeper.specs.Entries.{insert_permutes, same_entries}
 use Rattle.tb_keeper.specs.Numbers.{known_stays, name_of_number, number_stays}
-
--- the entry's person is there
-abbrev pub IsKnown : World → CallName × KeptReply → Type 0
-IsKnown w e = IsSome (key_of w e.0.0)
 
 -- an entry is read back from its row
 entry_back : (w : World) (e : CallName × KeptReply) → IsKnown w e → entry_of w.people (kept_row w e) ≡ e
@@ -39,10 +35,6 @@ pub same_replies : (w : World) (m n : FinMap name_cmp KeptReply) → AllByRecurs
     → IsPermutation (map (kept_row w) (entries m)) (map (kept_row w) (entries n)) → m ≡ n
 same_replies w m n known_m known_n same =
     same_entries name_cmp names_total names_exact m n (subst (IsPermutation (entries m)) (all_back w (entries n) known_n) (entries_of_rows w (entries m) _ known_m (IsPermutation-sym _ _ same)))
-
--- the map that rows tell
-pub replies_of_rows : (w : World) (m : FinMap name_cmp KeptReply) (rows : List KeptRow) → AllByRecursion (IsKnown w) (entries m) → IsPermutation rows (map (kept_row w) (entries m)) → from_entries {R = name_cmp} (map (entry_of w.people) rows) ≡ m
-replies_of_rows w m rows known same = map_of_entries name_cmp names_total names_exact m _ (entries_of_rows w (entries m) rows known same)
 
 module _ (w later : World) (more : List Person) (behind : later.people ≡ w.people ++ more) where
   -- a row stays where people come in behind

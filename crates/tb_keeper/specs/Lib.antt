@@ -4,6 +4,7 @@ pub mod Forms
 pub mod KeptRows
 pub mod Laws
 pub mod Numbers
+pub mod Reopening
 pub mod Replies
 pub mod SameTables
 pub mod States

@@ -10,8 +10,8 @@ use Rattle.tb_board.specs.declared.world.World.{World}
 use Rattle.tb_desk.specs.Calls.{State}
 use Rattle.tb_rows.specs.Rows.{world_rows, HaveSameRows, IsSameContent}
 use Rattle.tb_sql_tables.specs.Content.{AreRows, Content}
-use Rattle.tb_keeper.specs.Stored.{kept_row, state_rows, AreOfPeople, AreRowsOf, Holds, IsStored, IsStoredAsEither, MayLeave}
-use Rattle.tb_keeper.specs.KeptRows.{IsKnown, same_replies}
+use Rattle.tb_keeper.specs.Stored.{kept_row, state_rows, AreRowsOf, Holds, IsKnown, IsStored, IsStoredAsEither, MayLeave}
+use Rattle.tb_keeper.specs.KeptRows.{same_replies}
 use Rattle.tb_keeper.specs.SameTables.{same_contents}
 
 meet : (a b c d : Content) → HaveSameRows a c → HaveSameRows b d → HaveSameRows a b → HaveSameRows c d
@@ -47,13 +47,13 @@ same_states s t a b db of_s of_t is_a is_b =
 -- where the rows of a state are stored, a stop leaves that state
 pub stored_alone : (s t : State) (d : Database) → IsStored s d → MayLeave d t → t ≡ s
 stored_alone s t d stored may =
-    same_states t s may.content stored.content may.trees may.rows stored.rows may.stored (stored.stands.left may.clean may.trees may.left)
+    same_states t s may.stored.content stored.content may.trees may.stored.rows stored.rows may.stored.stored (stored.stands.left may.clean may.trees may.left)
 
 -- where those of one of two are, it leaves one of the two
 pub either_alone : (s other t : State) (d : Database) → IsStoredAsEither s other d → MayLeave d t → (t ≡ s) ⊎ (t ≡ other)
 either_alone s other t d stored may = elim (stored.stands.left may.clean may.trees may.left) [
-  | inl is ↦ inl (same_states t s may.content stored.before may.trees may.rows stored.rows_before may.stored is)
-  | inr is ↦ inr (same_states t other may.content stored.after may.trees may.rows stored.rows_after may.stored is)
+  | inl is ↦ inl (same_states t s may.stored.content stored.before may.trees may.stored.rows stored.rows_before may.stored.stored is)
+  | inr is ↦ inr (same_states t other may.stored.content stored.after may.trees may.stored.rows stored.rows_after may.stored.stored is)
 ]
 
 pub held_alone : (failed : Bool) (held : State) (d : Database) (s t : State) → Holds failed held d s → failed ≡ false → MayLeave d t → t ≡ s

@@ -41,9 +41,12 @@ entry_of people row = ((name_at people row.person, row.id), record { content = r
 abbrev pub state_rows : State → Content
 state_rows s = record (world_rows s.world) { kept = map (kept_row s.world) (entries s.kept) }
 
--- each reply is kept for a person of the world
+-- the entry is kept for a person of the world
+abbrev pub IsKnown : World → CallName × KeptReply → Type 0
+IsKnown w e = IsSome (key_of w e.0.0)
+
 abbrev pub AreOfPeople : State → Type 0
-AreOfPeople s = AllByRecursion (λ e. IsSome (key_of s.world e.0.0)) (entries s.kept)
+AreOfPeople s = AllByRecursion (IsKnown s.world) (entries s.kept)
 
 -- the content is the rows of the state, in any order
 pub record AreRowsOf (s : State) (content : Content) : Type 0 where
@@ -53,6 +56,12 @@ pub record AreRowsOf (s : State) (content : Content) : Type 0 where
   pub form : HasForm s.world
   pub people : AreOfPeople s
   pub same : IsSameContent content (state_rows s)
+
+-- the trees are the rows of the state
+pub record AreTreesOf (s : State) (db : Trees) : Type 0 where
+  pub content : Content
+  pub rows : AreRowsOf s content
+  pub stored : AreRows content db
 
 -- ---- a database that holds them
 
@@ -82,9 +91,7 @@ pub record MayLeave (d : Database) (t : State) : Type 0 where
   pub clean : HasCleanDisk d
   pub trees : Trees
   pub left : d.may_leave trees
-  pub content : Content
-  pub rows : AreRowsOf t content
-  pub stored : AreRows content trees
+  pub stored : AreTreesOf t trees
 
 -- ---- what a keeper holds
 

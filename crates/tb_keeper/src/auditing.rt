@@ -21,11 +21,12 @@ ghost use Rattle.tb_keeper.specs.Stored.{Holds, IsStored, MayLeave};
 
 use crate::reading::{board_rows, gone_rows, task_rows};
 use crate::sql_keep::SqlKeep;
+use crate::world::fault_of;
 use sqlite::{Alter, Connection};
 use std::alloc::Global;
 use tb_audit::is_as_stored;
 use tb_desk::KeepFault;
-use tb_reopen::{ReopenFault, read_board};
+use tb_reopen::read_board;
 use tb_sql::instances::select_instances;
 use tb_sql::links::select_links;
 use tb_sql::store::StoreFault;
@@ -118,14 +119,6 @@ fn instance_rows<S: Alter>(
     match found {
         Ok(rows) => Ok(rows),
         Err(error) => Err(StoreFault::before_commit(&error)),
-    }
-}
-
-/// Rows that no state has are a failure of the store.
-fn fault_of(fault: ReopenFault) -> StoreFault {
-    match fault {
-        ReopenFault::NotRows => StoreFault::Store,
-        ReopenFault::Memory => StoreFault::Memory,
     }
 }
 

@@ -7,10 +7,12 @@
 mod auditing;
 mod creating;
 mod forms;
+mod kept;
 mod opening;
 mod reading;
 mod replies;
 mod sql_keep;
+mod world;
 
 pub use auditing::Audit;
 pub use creating::CreateFault;

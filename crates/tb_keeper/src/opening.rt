@@ -1,25 +1,23 @@
-ghost use Rattle.std.specs.Prelude.{◌≡◌, ◌⊎◌, IfErr, IfOk, false, map};
-ghost use Rattle.std.specs.FinMap.{empty};
+ghost use Rattle.std.specs.Prelude.{◌≡◌, ◌⊎◌, Err, IfErr, IfOk, MatchResult, false, true};
 ghost use Rattle.sqlite.specs.Held.{state};
 ghost use Rattle.sqlite.specs.State.{HasCleanDisk, Opens};
-ghost use Rattle.tb_sql.specs.Opening.{IsAsBefore};
+ghost use Rattle.tb_desk.specs.Calls.{State};
+ghost use Rattle.tb_sql.specs.Opening.{has_meta, IsAnswered, IsAsBefore};
 ghost use Rattle.tb_sql_tables.specs.Content.{AreRows, Content};
-ghost use Rattle.tb_keeper.specs.Replies.{given, reply_named, taken_in};
-ghost use Rattle.tb_keeper.specs.Stored.{entry_of};
+ghost use Rattle.tb_keeper.specs.Reopening.{OfState};
+ghost use Rattle.tb_keeper.specs.Replies.{given};
+ghost use Rattle.tb_keeper.specs.Stored.{AreTreesOf, Holds};
 
-use crate::reading::{board_rows, gone_rows, kept_rows, people_rows, role_rows, task_rows};
-use crate::replies::{Replies, ReplyName, name_for};
+use crate::kept::read_kept;
+use crate::replies::Replies;
 use crate::sql_keep::SqlKeep;
+use crate::world::read_world;
 use sqlite::{Alter, Connection};
 use std::alloc::Global;
-use tb_board::{Board, Person, RoleOn, World};
-use tb_desk::KeptReply;
-use tb_reopen::{ReopenFault, add_roles, read_board, read_people};
-use tb_reply::Reply;
+use tb_board::World;
+use tb_reopen::laws::rows_are_found_again;
 use tb_sql::opening::{OpenFault, accept};
 use tb_sql::store::StoreFault;
-use tb_sql_tables::rows::{BoardRow, KeptRow};
-use tb_values::{Duplicate, Items, Shared};
 
 impl<S: Alter> SqlKeep<S> {
     /// Takes a database as the store that it is.
@@ -28,9 +26,16 @@ impl<S: Alter> SqlKeep<S> {
         mut conn: Connection<S>,
     ) -> Result<SqlKeep<S>, (Connection<S>, OpenFault)>
         requires { conn.in_transaction ≡ false }
+        ensures holds { IfOk result (λ keep. OfState (state S.Store conn) (state S.Store keep.conn)
+            (λ s. Holds keep.failed (record { world = keep.world; kept = given keep.replies }) (state S.Store keep.conn) s)) }
+        ensures opened { IfOk result (λ keep. HasCleanDisk (state S.Store keep.conn) → Opens (state S.Store conn) → (s : State) → AreTreesOf s (state S.Store conn).now.trees
+            → Holds keep.failed (record { world = keep.world; kept = given keep.replies }) (state S.Store keep.conn) s) }
         ensures refused { IfErr result (λ e. IsAsBefore (state S.Store conn) (state S.Store e.0)) }
         ensures foreign { IfErr result (λ e. (e.1 ≡ OpenFault.NotOurs) ⊎ (e.1 ≡ OpenFault.WrongVersion)
             → HasCleanDisk (state S.Store e.0) → Opens (state S.Store conn) → (content : Content) → AreRows content (state S.Store conn).now.trees → ⊥) }
+        ensures unmarked { has_meta (state S.Store conn).now.schema.tables ≡ false → MatchResult result (λ keep. ⊥) (λ e. e.1 ≡ OpenFault.NotOurs) }
+        ensures shown { IfErr result (λ e. (e.1 ≡ OpenFault.NotOurs) ⊎ (e.1 ≡ OpenFault.WrongVersion)
+            → HasCleanDisk (state S.Store e.0) → has_meta (state S.Store conn).now.schema.tables ≡ true → IsAnswered S.Store conn (Err e.1)) }
         ensures idle { IfErr result (λ e. e.0.in_transaction ≡ false) }
     {
         if let Err(fault) = accept(&mut conn) {
@@ -49,134 +54,18 @@ impl<S: Alter> SqlKeep<S> {
     }
 }
 
-/// Rows that no state has are a failure of the store.
-fn fault_of(fault: ReopenFault) -> StoreFault {
-    match fault {
-        ReopenFault::NotRows => StoreFault::Store,
-        ReopenFault::Memory => StoreFault::Memory,
-    }
-}
-
+/// The world and the kept replies, as they are stored.
 fn read_state<S: Alter>(
     alloc: Global,
     conn: &mut Connection<S>,
 ) -> Result<(World, Replies), StoreFault>
     requires { conn.old.in_transaction ≡ false }
     ensures idle { conn.new.in_transaction ≡ false }
+    ensures read { IfOk result (λ found. OfState (state S.Store conn.old) (state S.Store conn.new) (λ s. (found.0 ≡ s.world) × (given found.1 ≡ s.kept))) }
     ensures same { IsAsBefore (state S.Store conn.old) (state S.Store conn.new) }
 {
-    let rows = people_rows(conn)?;
-    let people = match read_people(alloc, rows.as_slice()) {
-        Ok(people) => people,
-        Err(fault) => return Err(fault_of(fault)),
-    };
-    let (boards, roles) = read_boards(alloc, conn)?;
-    let kept = kept_rows(conn)?;
-    let replies = match read_replies(alloc, people.as_slice(), kept.as_slice()) {
-        Ok(replies) => replies,
-        Err(fault) => return Err(fault_of(fault)),
-    };
-    let world = World {
-        people,
-        boards,
-        roles,
-    };
+    rows_are_found_again();
+    let world = read_world(alloc, conn)?;
+    let replies = read_kept(alloc, conn, world.people.as_slice())?;
     Ok((world, replies))
-}
-
-/// The boards, and the roles on them.
-fn read_boards<S: Alter>(
-    alloc: Global,
-    conn: &mut Connection<S>,
-) -> Result<(Items<Shared<Board>>, Items<RoleOn>), StoreFault>
-    requires { conn.old.in_transaction ≡ false }
-    ensures idle { conn.new.in_transaction ≡ false }
-    ensures same { IsAsBefore (state S.Store conn.old) (state S.Store conn.new) }
-{
-    let rows = board_rows(conn)?;
-    let mut boards = Items::new(alloc);
-    let mut roles = Items::new(alloc);
-    for row in rows.as_slice() {
-        let board = read_one(alloc, conn, row)?;
-        let board = match Shared::new(alloc, board) {
-            Ok(board) => board,
-            Err(_) => return Err(StoreFault::Memory),
-        };
-        if boards.push(board).is_err() {
-            return Err(StoreFault::Memory);
-        }
-        roles = with_roles(conn, roles, row.id)?;
-    }
-    Ok((boards, roles))
-}
-
-fn read_one<S: Alter>(
-    alloc: Global,
-    conn: &mut Connection<S>,
-    row: &BoardRow,
-) -> Result<Board, StoreFault>
-    requires { conn.old.in_transaction ≡ false }
-    ensures idle { conn.new.in_transaction ≡ false }
-    ensures same { IsAsBefore (state S.Store conn.old) (state S.Store conn.new) }
-{
-    let tasks = task_rows(conn, row.id)?;
-    let gone = gone_rows(conn, row.id)?;
-    match read_board(alloc, row, tasks.as_slice(), gone.as_slice()) {
-        Ok(board) => Ok(board),
-        Err(fault) => Err(fault_of(fault)),
-    }
-}
-
-fn with_roles<S: Alter>(
-    conn: &mut Connection<S>,
-    roles: Items<RoleOn>,
-    board: u32,
-) -> Result<Items<RoleOn>, StoreFault>
-    requires { conn.old.in_transaction ≡ false }
-    ensures idle { conn.new.in_transaction ≡ false }
-    ensures same { IsAsBefore (state S.Store conn.old) (state S.Store conn.new) }
-{
-    let rows = role_rows(conn, board)?;
-    match add_roles(roles, rows.as_slice()) {
-        Ok(roles) => Ok(roles),
-        Err(fault) => Err(fault_of(fault)),
-    }
-}
-
-/// The kept replies of rows, which name these people by their numbers.
-fn read_replies(alloc: Global, people: &[Person], rows: &[KeptRow]) -> Result<Replies, ReopenFault>
-    ensures { IfOk result (λ replies. given replies ≡ taken_in (map (entry_of people.now) rows.now) empty) }
-{
-    let mut replies = Replies::new(alloc);
-    for row in rows {
-        let (name, kept) = read_reply(people, row)?;
-        replies.insert(name, kept)?;
-    }
-    Ok(replies)
-}
-
-fn read_reply(people: &[Person], row: &KeptRow) -> Result<(ReplyName, KeptReply), ReopenFault>
-    ensures { IfOk result (λ found. reply_named found ≡ entry_of people.now row.now) }
-{
-    if row.person == 0 {
-        return Err(ReopenFault::NotRows);
-    }
-    let Some(person) = people.get(row.person as usize - 1) else {
-        return Err(ReopenFault::NotRows);
-    };
-    let Ok(number) = u8::try_from(row.number) else {
-        return Err(ReopenFault::NotRows);
-    };
-    let Ok(status) = u16::try_from(row.status) else {
-        return Err(ReopenFault::NotRows);
-    };
-    let name = name_for(&person.name, row.id)?;
-    let content = row.content.duplicate()?;
-    let body = row.body.duplicate()?;
-    let reply = Reply {
-        number,
-        status,
-        body,
-    };
-    Ok((name, KeptReply { content, reply }))
 }

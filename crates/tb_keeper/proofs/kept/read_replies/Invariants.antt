@@ -2,7 +2,7 @@ use Rattle.std.proofs.Common.{◌≡◌, drop, map}
 use Rattle.std.specs.FinMap.{empty}
 use Rattle.tb_keeper.specs.Replies.{given, taken_in}
 use Rattle.tb_keeper.specs.Stored.{entry_of}
-use Rattle.tb_keeper.proofs.opening.read_replies.Given as goal
+use Rattle.tb_keeper.proofs.kept.read_replies.Given as goal
 
 -- what is left goes into what is there
 abbrev pub invariant-loop-row : goal.invariant-loop-row
