@@ -1,8 +1,11 @@
 pub mod BoardsRead
 pub mod ChangedForms
 pub mod Commits
+pub mod Counting
 pub mod FirstRows
+pub mod FoundBoards
 pub mod Given
+pub mod Images
 pub mod Reopened
 pub mod Standing
 pub mod Taken

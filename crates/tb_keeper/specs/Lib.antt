@@ -1,3 +1,4 @@
+pub mod Auditing
 pub mod Entries
 pub mod Forms
 pub mod KeptRows

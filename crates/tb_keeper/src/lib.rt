@@ -4,6 +4,7 @@
 //! transactions, on `tb_rows` and `tb_reopen` for the rows of a world, and on `tb_desk` for what a keeper promises.
 #![tactic(auto)]
 
+mod auditing;
 mod creating;
 mod forms;
 mod kept;
@@ -13,5 +14,6 @@ mod replies;
 mod sql_keep;
 mod world;
 
+pub use auditing::Audit;
 pub use creating::CreateFault;
 pub use sql_keep::SqlKeep;

@@ -1,0 +1,5 @@
+pub mod Comparing
+pub mod RowOrders
+pub mod Rows
+pub mod TaskMasks
+pub mod Telling

@@ -1,0 +1,15 @@
+use Rattle.std.proofs.Common.{arith, sym, ◌∙◌}
+use Rattle.tb_board.proofs.Linking.{place_within}
+use Rattle.tb_audit.proofs.places.place_number.Goals as goal
+
+pub overflow_cast-result : goal.overflow_cast-result
+overflow_cast-result c =
+    let found = rw c.in-Some.is at c.get.ensures.value in
+    let fits = place_within c.args.board.now.tasks c.args.id c.in-Some.place.now (sym (c.requires.places c.args.id) ∙ sym found) in
+    omega (arith, fits, c.requires.few)
+
+pub overflow_add-result : goal.overflow_add-result
+overflow_add-result c =
+    let found = rw c.in-Some.is at c.get.ensures.value in
+    let fits = place_within c.args.board.now.tasks c.args.id c.in-Some.place.now (sym (c.requires.places c.args.id) ∙ sym found) in
+    omega (arith, fits, c.requires.few)

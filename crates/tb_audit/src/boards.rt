@@ -1,0 +1,46 @@
+//! A board beside its rows.
+
+ghost use Rattle.std.specs.Prelude.{◌≡◌, ◌≤◌, ◌↔◌, IsTrue, IfOk, length};
+ghost use Rattle.tb_audit.specs.Stored.{AreAsStored};
+ghost use Rattle.tb_rows.specs.Rows.{board_row};
+
+use crate::instances::have_instances;
+use crate::links::have_links;
+use crate::masks::have_masks;
+use std::alloc::{AllocError, Global};
+use tb_board::{Board, least_number, places_of};
+use tb_sql_tables::rows::{BoardRow, InstanceRow, LinkRow, TaskRow};
+
+/// Whether a board has this row, its tasks in order of place these masks, and the board these links and instances. What else the rows
+/// of the tasks hold isn't looked at.
+pub fn is_as_stored(
+    alloc: Global,
+    board: &Board,
+    row: &BoardRow,
+    tasks: &[TaskRow],
+    links: &[LinkRow],
+    instances: &[InstanceRow],
+) -> Result<bool, AllocError>
+    requires { length board.now.tasks ≤ 10000 }
+    ensures { IfOk result (λ same. IsTrue same ↔ AreAsStored board.now row.now tasks.now links.now instances.now) }
+{
+    if !has_row(alloc, board, row)? {
+        return Ok(false);
+    }
+    if !have_masks(alloc, board, tasks)? {
+        return Ok(false);
+    }
+    let places = places_of(alloc, board.tasks.as_slice())?;
+    if !have_links(alloc, board, &places, links)? {
+        return Ok(false);
+    }
+    have_instances(alloc, board, &places, instances)
+}
+
+fn has_row(alloc: Global, board: &Board, row: &BoardRow) -> Result<bool, AllocError>
+    requires { length board.now.tasks ≤ 10000 }
+    ensures { IfOk result (λ same. IsTrue same ↔ (row.now ≡ board_row board.now)) }
+{
+    let low = least_number(alloc, board)?;
+    Ok(row.id == board.number && row.low == low && row.title.as_str() == board.title.as_str())
+}

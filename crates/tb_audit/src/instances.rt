@@ -1,0 +1,89 @@
+//! The instances of a board's templates.
+
+ghost use Rattle.std.specs.Prelude.{◌≡◌, ◌≤◌, ◌↔◌, ◌++◌, IsTrue, IsPermutation, IsSorted, IfOk, OnOk, length};
+ghost use Rattle.tb_audit.specs.Orders.{instance_order};
+ghost use Rattle.tb_board.specs.Board.{ids};
+ghost use Rattle.tb_board.specs.Links.{ArePlaces};
+ghost use Rattle.tb_rows.specs.Rows.{board_instances, instance_rows};
+
+use crate::places::place_number;
+use std::alloc::{AllocError, Global};
+use std::collections::BTreeMap;
+use tb_board::Board;
+use tb_sql_tables::rows::InstanceRow;
+use tb_task::{Task, TaskId};
+use tb_values::Items;
+
+/// Whether a board has these instances, in whatever order.
+pub(crate) fn have_instances(
+    alloc: Global,
+    board: &Board,
+    places: &BTreeMap<TaskId, usize>,
+    rows: &[InstanceRow],
+) -> Result<bool, AllocError>
+    requires places { ArePlaces (ids board.now.tasks) places.now }
+    requires few { length board.now.tasks ≤ 10000 }
+    ensures { IfOk result (λ same. IsTrue same ↔ IsPermutation rows.now (board_instances board.now)) }
+{
+    let wanted = in_order(board_instances(alloc, board, places)?.into_vec());
+    let found = in_order(Vec::from_slice(alloc, rows)?);
+    Ok(found == wanted)
+}
+
+/// The instances by template and number.
+fn in_order(mut instances: Vec<InstanceRow>) -> Vec<InstanceRow>
+    ensures same { IsPermutation instances.items result.items }
+    ensures sorted { IsSorted instance_order result.items }
+{
+    instances.sort_unstable_by_key(|instance| {
+        (
+            instance.board,
+            instance.template,
+            instance.imask,
+            instance.place,
+        )
+    });
+    instances
+}
+
+/// All instances of a board.
+fn board_instances(
+    alloc: Global,
+    board: &Board,
+    places: &BTreeMap<TaskId, usize>,
+) -> Result<Items<InstanceRow>, AllocError>
+    requires places { ArePlaces (ids board.now.tasks) places.now }
+    requires few { length board.now.tasks ≤ 10000 }
+    ensures { IfOk result (λ instances. instances ≡ board_instances board.now) }
+{
+    let mut instances = Items::new(alloc);
+    for (place, task) in board.tasks.as_slice().iter().enumerate() {
+        push_instance(&mut instances, board, places, place as u32 + 1, task.get())?;
+    }
+    Ok(instances)
+}
+
+/// A row where the task is an instance.
+fn push_instance(
+    instances: &mut Items<InstanceRow>,
+    board: &Board,
+    places: &BTreeMap<TaskId, usize>,
+    place: u32,
+    task: &Task,
+) -> Result<(), AllocError>
+    requires places { ArePlaces (ids board.now.tasks) places.now }
+    requires few { length board.now.tasks ≤ 10000 }
+    ensures { OnOk result (instances.new ≡ instances.old ++ instance_rows board.now place task.now) }
+{
+    if let Some(parent) = task.parent {
+        if let Some(imask) = task.imask {
+            instances.push(InstanceRow {
+                board: board.number,
+                template: place_number(board, places, parent),
+                imask,
+                place,
+            })?;
+        }
+    }
+    Ok(())
+}

@@ -1,0 +1,87 @@
+//! The links of a board.
+
+ghost use Rattle.std.specs.Prelude.{◌≡◌, ◌≤◌, ◌↔◌, ◌++◌, IsTrue, IsPermutation, IsSorted, IfOk, OnOk, length};
+ghost use Rattle.tb_audit.specs.Orders.{link_order};
+ghost use Rattle.tb_board.specs.Board.{ids};
+ghost use Rattle.tb_board.specs.Links.{ArePlaces};
+ghost use Rattle.tb_rows.specs.Rows.{board_links, link_row, link_rows};
+
+use crate::places::place_number;
+use std::alloc::{AllocError, Global};
+use std::collections::BTreeMap;
+use tb_board::Board;
+use tb_sql_tables::rows::LinkRow;
+use tb_task::{Task, TaskId};
+use tb_values::Items;
+
+/// Whether a board has these links, in whatever order.
+pub(crate) fn have_links(
+    alloc: Global,
+    board: &Board,
+    places: &BTreeMap<TaskId, usize>,
+    rows: &[LinkRow],
+) -> Result<bool, AllocError>
+    requires places { ArePlaces (ids board.now.tasks) places.now }
+    requires few { length board.now.tasks ≤ 10000 }
+    ensures { IfOk result (λ same. IsTrue same ↔ IsPermutation rows.now (board_links board.now)) }
+{
+    let wanted = in_order(board_links(alloc, board, places)?.into_vec());
+    let found = in_order(Vec::from_slice(alloc, rows)?);
+    Ok(found == wanted)
+}
+
+/// The links by place and target.
+fn in_order(mut links: Vec<LinkRow>) -> Vec<LinkRow>
+    ensures same { IsPermutation links.items result.items }
+    ensures sorted { IsSorted link_order result.items }
+{
+    links.sort_unstable_by_key(|link| (link.board, link.place, link.target));
+    links
+}
+
+/// All links of a board.
+fn board_links(
+    alloc: Global,
+    board: &Board,
+    places: &BTreeMap<TaskId, usize>,
+) -> Result<Items<LinkRow>, AllocError>
+    requires places { ArePlaces (ids board.now.tasks) places.now }
+    requires few { length board.now.tasks ≤ 10000 }
+    ensures { IfOk result (λ links. links ≡ board_links board.now) }
+{
+    let mut links = Items::new(alloc);
+    for (place, task) in board.tasks.as_slice().iter().enumerate() {
+        push_links(&mut links, board, places, place as u32 + 1, task.get())?;
+    }
+    Ok(links)
+}
+
+/// A link for each task on which the task depends.
+fn push_links(
+    links: &mut Items<LinkRow>,
+    board: &Board,
+    places: &BTreeMap<TaskId, usize>,
+    place: u32,
+    task: &Task,
+) -> Result<(), AllocError>
+    requires places { ArePlaces (ids board.now.tasks) places.now }
+    requires few { length board.now.tasks ≤ 10000 }
+    ensures { OnOk result (links.new ≡ links.old ++ link_rows board.now place task.now) }
+{
+    for id in task.depends.as_slice() {
+        links.push(link_row(board, places, place, *id))?;
+    }
+    Ok(())
+}
+
+fn link_row(board: &Board, places: &BTreeMap<TaskId, usize>, place: u32, id: TaskId) -> LinkRow
+    requires places { ArePlaces (ids board.now.tasks) places.now }
+    requires few { length board.now.tasks ≤ 10000 }
+    ensures { result ≡ link_row board.now place id }
+{
+    LinkRow {
+        board: board.number,
+        place,
+        target: place_number(board, places, id),
+    }
+}

@@ -1,0 +1,95 @@
+-- What an audit counts.
+use Rattle.std.specs.Prelude.{◌≡◌, ◌⊎◌, ◌+◌, ◌==◌, ◌↔◌, ℕ, Bool, IsTrue, List, [], ◌∷◌, None, Ok, filter, length, map, IsPermutation}
+use Rattle.sqlite.specs.State.{HasCleanDisk, State as Database}
+use Rattle.tb_board.specs.declared.board.Board.{Board}
+use Rattle.tb_board.specs.declared.world.World.{World}
+use Rattle.tb_sql_tables.specs.declared.rows.BoardRow.{BoardRow}
+use Rattle.tb_sql_tables.specs.declared.rows.TaskRow.{TaskRow}
+use Rattle.tb_sql_tables.specs.declared.rows.LinkRow.{LinkRow}
+use Rattle.tb_sql_tables.specs.declared.rows.InstanceRow.{InstanceRow}
+use Rattle.tb_sql_tables.specs.declared.rows.GoneRow.{GoneRow}
+use Rattle.tb_sql_tables.specs.Content.{Content, Stands}
+use Rattle.tb_sql_tables.specs.Found.{AreFound}
+use Rattle.tb_sql.specs.Changes.{is_board, IsGoneBefore, IsTaskBefore}
+use Rattle.tb_rows.specs.Rows.{board_instances, board_links, board_row, board_tasks, world_rows}
+use Rattle.tb_reopen.specs.Reading.{board_of, is_gone_on, is_task_on}
+use Rattle.tb_keeper.specs.declared.auditing.Audit.{Audit}
+use Rattle.tb_keeper.specs.declared.auditing.Checked.{Checked}
+
+-- ---- the rows of one board
+
+abbrev pub is_link_on : ℕ → LinkRow → Bool
+is_link_on n row = row.board == n
+
+abbrev pub is_instance_on : ℕ → InstanceRow → Bool
+is_instance_on n row = row.board == n
+
+-- on the board's number the content has its row, tasks, links and instances, in any order
+pub record HasItsRows (c : Content) (b : Board) : Type 0 where
+  pub row_is : IsPermutation (filter (is_board b.number) c.boards) (board_row b ∷ [])
+  pub tasks_are : IsPermutation (filter (is_task_on b.number) c.tasks) (board_tasks b)
+  pub links_are : IsPermutation (filter (is_link_on b.number) c.links) (board_links b)
+  pub instances_are : IsPermutation (filter (is_instance_on b.number) c.instances) (board_instances b)
+
+-- ---- the numbers
+
+abbrev pub task_count : List Board → ℕ
+task_count [] = 0
+task_count (b ∷ bs) = length b.tasks + task_count bs
+
+-- so many of the boards have other rows than their own
+abbrev pub AreFaults : Content → List Board → ℕ → Type 0
+AreFaults c [] n = n ≡ 0
+AreFaults c (b ∷ bs) n = (HasItsRows c b × AreFaults c bs n) ⊎ ((HasItsRows c b → ⊥) × ((m : ℕ) × (n ≡ m + 1) × AreFaults c bs m))
+
+-- the audit has the numbers of these boards, of their tasks, and of those that have other rows in the content
+pub record Tells (c : Content) (bs : List Board) (audit : Audit) : Type 0 where
+  pub boards_are : audit.boards ≡ length bs
+  pub tasks_are : audit.tasks ≡ task_count bs
+  pub faults_are : AreFaults c bs audit.faults
+
+-- it has the numbers of boards and tasks of the world, and no faults
+abbrev pub sound : World → Audit
+sound w = record { boards = length w.boards; tasks = task_count w.boards; faults = 0 }
+
+-- ---- contents that differ in what is computed from the tasks
+
+abbrev pub without_low : BoardRow → BoardRow
+without_low row = record row { low = 0 }
+
+abbrev pub without_mask : TaskRow → TaskRow
+without_mask row = record row { mask = None }
+
+-- The boards, the tasks and the gone places are those of the world, but for lows and masks. Links and instances may be any.
+pub record HasBoardsOf (w : World) (c : Content) : Type 0 where
+  pub boards : IsPermutation (map without_low c.boards) (map without_low (world_rows w).boards)
+  pub tasks : IsPermutation (map without_mask c.tasks) (map without_mask (world_rows w).tasks)
+  pub gone : IsPermutation c.gone (world_rows w).gone
+
+-- ---- the rows of boards as they are found
+
+-- what is found on the number of a row is read as the board, whatever the lows and masks
+pub record StandsFor (c : Content) (row : BoardRow) (b : Board) : Type 0 where
+  pub number : row.id ≡ b.number
+  pub own : IsPermutation (filter (is_board b.number) c.boards) (row ∷ [])
+  pub tasks : (tasks : List TaskRow) → AreFound IsTaskBefore (filter (is_task_on b.number) c.tasks) tasks → map without_mask tasks ≡ map without_mask (board_tasks b)
+  pub read : (tasks : List TaskRow) (gone : List GoneRow) → AreFound IsTaskBefore (filter (is_task_on b.number) c.tasks) tasks → AreFound IsGoneBefore (filter (is_gone_on b.number) c.gone) gone
+      → board_of row tasks gone ≡ Ok b
+
+-- each row for the board at its place
+abbrev pub StandFor : Content → List BoardRow → List Board → Type 0
+StandFor c [] [] = Unit {0}
+StandFor c [] (b ∷ bs) = ⊥
+StandFor c (row ∷ rows) [] = ⊥
+StandFor c (row ∷ rows) (b ∷ bs) = StandsFor c row b × StandFor c rows bs
+
+-- how many tasks the board has, and whether it has its rows
+pub record IsCheckOf (c : Content) (b : Board) (checked : Checked) : Type 0 where
+  pub size : checked.tasks ≡ length b.tasks
+  pub tells : IsTrue checked.as_stored ↔ HasItsRows c b
+
+-- ---- while the disk returns what was written
+
+-- this holds of each content that stood
+abbrev pub OfContent : Database → Database → (Content → Type 0) → Type 0
+OfContent old new P = HasCleanDisk new → (c : Content) → Stands c old → P c

@@ -1,0 +1,240 @@
+//! The audit of a store.
+
+ghost use Rattle.std.specs.Prelude.{◌≡◌, ◌≤◌, ◌+◌, List, ◌↔◌, ◌==◌, Ok, IsTrue, true, false, filter, if◌then◌else◌, IfOk, IsErrOf, length};
+ghost use Rattle.sqlite.specs.Held.{state};
+ghost use Rattle.sqlite.specs.State.{HasCleanDisk};
+ghost use Rattle.tb_audit.specs.Stored.{AreAsStored};
+ghost use Rattle.tb_board.specs.declared.board.Board.{Board};
+ghost use Rattle.tb_board.specs.declared.world.World.{World};
+ghost use Rattle.tb_core.specs.GoodWorld.{IsGoodWorld};
+ghost use Rattle.tb_desk.specs.Calls.{State};
+ghost use Rattle.tb_desk.specs.Keeping.{IsStill, is_store};
+ghost use Rattle.tb_reopen.specs.Forms.{HasForm};
+ghost use Rattle.tb_reopen.specs.Reading.{board_of};
+ghost use Rattle.tb_sql.specs.Changes.{IsInstanceBefore, IsLinkBefore};
+ghost use Rattle.tb_sql.specs.Opening.{IsAsBefore};
+ghost use Rattle.tb_sql_tables.specs.Content.{Content, Stands};
+ghost use Rattle.tb_sql_tables.specs.Found.{AreFound};
+ghost use Rattle.tb_keeper.specs.Auditing.{is_instance_on, is_link_on, sound, HasBoardsOf, IsCheckOf, OfContent, StandFor, StandsFor, Tells};
+ghost use Rattle.tb_keeper.specs.Replies.{given};
+ghost use Rattle.tb_keeper.specs.Stored.{Holds, IsStored, MayLeave};
+
+use crate::reading::{board_rows, gone_rows, task_rows};
+use crate::sql_keep::SqlKeep;
+use crate::world::fault_of;
+use sqlite::{Alter, Connection};
+use std::alloc::Global;
+use tb_audit::is_as_stored;
+use tb_desk::KeepFault;
+use tb_reopen::read_board;
+use tb_sql::instances::select_instances;
+use tb_sql::links::select_links;
+use tb_sql::store::StoreFault;
+use tb_sql_tables::rows::{BoardRow, GoneRow, InstanceRow, LinkRow, TaskRow};
+use tb_task::ids_are_read;
+use tb_values::Items;
+
+/// A good world has no more boards, and none of them more tasks.
+const MOST: usize = 10000;
+
+/// How many boards and tasks are stored, and how many of the boards have a least free number, a mask, a link or an instance that isn't
+/// theirs.
+#[derive(Clone, Copy, Debug, PartialEq, Eq)]
+pub struct Audit {
+    pub boards: u64,
+    pub tasks: u64,
+    pub faults: u64,
+}
+
+/// What is found of one board.
+#[derive(Clone, Copy)]
+struct Checked {
+    tasks: u64,
+    as_stored: bool,
+}
+
+impl<S: Alter> SqlKeep<S> {
+    /// Looks through all boards that are stored. It changes nothing.
+    pub fn audit(&mut self, alloc: Global) -> Result<Audit, KeepFault>
+        ensures sound { IfOk result (λ audit. HasCleanDisk (state S.Store self.new.conn) → (s : State) → IsStored s (state S.Store self.old.conn) → audit ≡ sound s.world) }
+        ensures counted { IfOk result (λ audit. HasCleanDisk (state S.Store self.new.conn) → (c : Content) → Stands c (state S.Store self.old.conn)
+            → (w : World) → IsGoodWorld w → HasForm w → HasBoardsOf w c → Tells c w.boards audit) }
+        ensures same { IsStill (λ s. Holds self.old.failed (record { world = self.old.world; kept = given self.old.replies }) (state S.Store self.old.conn) s) (λ t. MayLeave (state S.Store self.old.conn) t)
+            (λ s. Holds self.new.failed (record { world = self.new.world; kept = given self.new.replies }) (state S.Store self.new.conn) s) (λ t. MayLeave (state S.Store self.new.conn) t) }
+        ensures failed { self.new.failed ≡ is_store result }
+        ensures closed { self.old.failed ≡ true → IsErrOf result KeepFault.Store }
+    {
+        if self.failed {
+            return Err(KeepFault::Store);
+        }
+        if !self.conn.is_autocommit() {
+            self.failed = true; // Never: each call ends its transaction.
+            return Err(KeepFault::Store);
+        }
+        match audit_boards(alloc, &mut self.conn) {
+            Ok(audit) => Ok(audit),
+            Err(StoreFault::Memory) => Err(KeepFault::Memory),
+            Err(StoreFault::Store) => {
+                self.failed = true;
+                Err(KeepFault::Store)
+            }
+        }
+    }
+}
+
+/// The links of a board, in order of place and target.
+fn link_rows<S: Alter>(
+    conn: &mut Connection<S>,
+    board: u32,
+) -> Result<Items<LinkRow>, StoreFault>
+    requires { conn.old.in_transaction ≡ false }
+    ensures idle { conn.new.in_transaction ≡ false }
+    ensures found { IfOk result (λ rows. HasCleanDisk (state S.Store conn.new) → (content : Content) → Stands content (state S.Store conn.old)
+        → AreFound IsLinkBefore (filter (λ row. row.board == board) content.links) rows) }
+    ensures same { IsAsBefore (state S.Store conn.old) (state S.Store conn.new) }
+{
+    let mut tx = conn.transaction();
+    let found = select_links(&mut tx, board);
+    drop(tx);
+    match found {
+        Ok(rows) => Ok(rows),
+        Err(error) => Err(StoreFault::before_commit(&error)),
+    }
+}
+
+/// The instances on a board, in order of template and number.
+fn instance_rows<S: Alter>(
+    conn: &mut Connection<S>,
+    board: u32,
+) -> Result<Items<InstanceRow>, StoreFault>
+    requires { conn.old.in_transaction ≡ false }
+    ensures idle { conn.new.in_transaction ≡ false }
+    ensures found { IfOk result (λ rows. HasCleanDisk (state S.Store conn.new) → (content : Content) → Stands content (state S.Store conn.old)
+        → AreFound IsInstanceBefore (filter (λ row. row.board == board) content.instances) rows) }
+    ensures same { IsAsBefore (state S.Store conn.old) (state S.Store conn.new) }
+{
+    let mut tx = conn.transaction();
+    let found = select_instances(&mut tx, board);
+    drop(tx);
+    match found {
+        Ok(rows) => Ok(rows),
+        Err(error) => Err(StoreFault::before_commit(&error)),
+    }
+}
+
+fn audit_boards<S: Alter>(alloc: Global, conn: &mut Connection<S>) -> Result<Audit, StoreFault>
+    requires { conn.old.in_transaction ≡ false }
+    ensures idle { conn.new.in_transaction ≡ false }
+    ensures counted { IfOk result (λ audit. OfContent (state S.Store conn.old) (state S.Store conn.new)
+        (λ c. (w : World) → IsGoodWorld w → HasForm w → HasBoardsOf w c → Tells c w.boards audit)) }
+    ensures same { IsAsBefore (state S.Store conn.old) (state S.Store conn.new) }
+{
+    ids_are_read();
+    let rows = board_rows(conn)?;
+    if rows.len() > MOST {
+        return Err(StoreFault::Store); // No state has so many boards.
+    }
+    audit_rows(alloc, conn, rows.as_slice())
+}
+
+/// Counts the boards of these rows.
+fn audit_rows<S: Alter>(
+    alloc: Global,
+    conn: &mut Connection<S>,
+    rows: &[BoardRow],
+) -> Result<Audit, StoreFault>
+    requires idle { conn.old.in_transaction ≡ false }
+    requires few { length rows.now ≤ 10000 }
+    ensures idle { conn.new.in_transaction ≡ false }
+    ensures counted { IfOk result (λ audit. OfContent (state S.Store conn.old) (state S.Store conn.new) (λ c. (bs : List Board) → StandFor c rows.now bs → Tells c bs audit)) }
+    ensures same { IsAsBefore (state S.Store conn.old) (state S.Store conn.new) }
+{
+    let mut audit = Audit {
+        boards: 0,
+        tasks: 0,
+        faults: 0,
+    };
+    for row in rows {
+        let checked = check_board(alloc, conn, row)?;
+        audit = with_board(audit, checked);
+    }
+    Ok(audit)
+}
+
+/// The counts with one board more.
+fn with_board(audit: Audit, checked: Checked) -> Audit
+    requires boards { audit.boards ≤ 10000 }
+    requires tasks { audit.tasks ≤ 100000000 }
+    requires faults { audit.faults ≤ 10000 }
+    requires few { checked.tasks ≤ 10000 }
+    ensures boards { result.boards ≡ audit.boards + 1 }
+    ensures tasks { result.tasks ≡ audit.tasks + checked.tasks }
+    ensures faults { result.faults ≡ (if checked.as_stored then audit.faults else audit.faults + 1) }
+{
+    let faults = if checked.as_stored {
+        audit.faults
+    } else {
+        audit.faults + 1
+    };
+    Audit {
+        boards: audit.boards + 1,
+        tasks: audit.tasks + checked.tasks,
+        faults,
+    }
+}
+
+/// Reads the board of a row, and compares it with its rows.
+fn check_board<S: Alter>(
+    alloc: Global,
+    conn: &mut Connection<S>,
+    row: &BoardRow,
+) -> Result<Checked, StoreFault>
+    requires { conn.old.in_transaction ≡ false }
+    ensures idle { conn.new.in_transaction ≡ false }
+    ensures checked { IfOk result (λ checked. OfContent (state S.Store conn.old) (state S.Store conn.new) (λ c. (b : Board) → StandsFor c row.now b → IsCheckOf c b checked)) }
+    ensures few { IfOk result (λ checked. checked.tasks ≤ 10000) }
+    ensures same { IsAsBefore (state S.Store conn.old) (state S.Store conn.new) }
+{
+    let tasks = task_rows(conn, row.id)?;
+    let gone = gone_rows(conn, row.id)?;
+    let links = link_rows(conn, row.id)?;
+    let instances = instance_rows(conn, row.id)?;
+    compare(
+        alloc,
+        row,
+        tasks.as_slice(),
+        gone.as_slice(),
+        links.as_slice(),
+        instances.as_slice(),
+    )
+}
+
+/// Reads a board from its rows, and compares it with what else is stored of it.
+fn compare(
+    alloc: Global,
+    row: &BoardRow,
+    tasks: &[TaskRow],
+    gone: &[GoneRow],
+    links: &[LinkRow],
+    instances: &[InstanceRow],
+) -> Result<Checked, StoreFault>
+    ensures size { IfOk result (λ checked. (b : Board) → board_of row.now tasks.now gone.now ≡ Ok b → checked.tasks ≡ length b.tasks) }
+    ensures tells { IfOk result (λ checked. (b : Board) → board_of row.now tasks.now gone.now ≡ Ok b → IsTrue checked.as_stored ↔ AreAsStored b row.now tasks.now links.now instances.now) }
+    ensures few { IfOk result (λ checked. checked.tasks ≤ 10000) }
+{
+    let board = match read_board(alloc, row, tasks, gone) {
+        Ok(board) => board,
+        Err(fault) => return Err(fault_of(fault)),
+    };
+    let count = board.tasks.len();
+    if count > MOST {
+        return Err(StoreFault::Store); // No state has so many tasks on a board.
+    }
+    match is_as_stored(alloc, &board, row, tasks, links, instances) {
+        Ok(as_stored) => Ok(Checked {
+            tasks: count as u64,
+            as_stored,
+        }),
+        Err(_) => Err(StoreFault::Memory),
+    }
+}
