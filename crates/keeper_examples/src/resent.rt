@@ -36,19 +36,20 @@ fn answer_five(replies: &[Reply], expected: &Expected) -> bool {
         && is_same_reply(five, third)
 }
 
+/// A log that stops after so many calls stops a session in its second call.
+const LOG_CALLS: u64 = 30;
+
 /// The files that a session left which was stopped in its second call.
 fn stopped_in_second_call(alloc: Global) -> Result<Files<Fuse<Memory>>, Fail> {
-    let calls = three_calls(alloc)?;
-    for log_calls in 0..100u64 {
-        let files = fused(alloc, log_calls, u64::MAX);
-        if files.may_be_used() {
-            let first = session(alloc, files, &calls);
-            if first.replies.len() == 1 {
-                return Ok(first.files);
-            }
-        }
+    let files = fused(alloc, LOG_CALLS, u64::MAX);
+    if !files.may_be_used() {
+        return Err(Fail::from("new files that can't be used"));
     }
-    Err(Fail::from("no session with one reply"))
+    let first = session(alloc, files, &three_calls(alloc)?);
+    if first.replies.len() != 1 {
+        return Err(Fail::from("not one reply"));
+    }
+    Ok(first.files)
 }
 
 #[test]

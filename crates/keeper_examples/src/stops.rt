@@ -1,6 +1,6 @@
 //! A disk that stops at each of its calls in turn, and what the next open finds.
 
-ghost use Rattle.std.specs.Prelude.{◌≡◌, false, IsTrue};
+ghost use Rattle.std.specs.Prelude.{IsTrue};
 
 use crate::calls::{are_first, exported, three_calls};
 use crate::expected::{Expected, expected_by_lists};
@@ -34,9 +34,13 @@ pub fn stopped<D: Crash>(mut files: Files<D>) -> Files<D>
 }
 
 /// The store that is there, or a new one where there is none.
-fn keeper<S: Alter + Drop>(alloc: Global, conn: Connection<S>) -> Result<SqlKeep<S>, Connection<S>>
-    requires { conn.in_transaction ≡ false }
-{
+fn keeper<S: Alter + Drop>(
+    alloc: Global,
+    conn: Connection<S>,
+) -> Result<SqlKeep<S>, Connection<S>> {
+    if !conn.is_autocommit() {
+        return Err(conn);
+    }
     if !is_empty(&conn) {
         return match SqlKeep::open(alloc, conn) {
             Ok(keep) => Ok(keep),
@@ -55,41 +59,48 @@ fn keeper<S: Alter + Drop>(alloc: Global, conn: Connection<S>) -> Result<SqlKeep
     }
 }
 
-/// What became of a run: the replies given, and the files.
+/// What became of a run.
 #[derive(Drop)]
 pub struct Ending<D: Disk> {
     pub replies: Items<Reply>,
     pub files: Files<D>,
+    /// Whether the log was copied into the database file at the end.
+    pub is_closed: bool,
 }
 
-/// Opens the store and sends the calls, up to the first fault.
+/// Opens the store, sends the calls up to the first fault, and closes the files.
 pub fn session<D: Crash + Drop>(alloc: Global, files: Files<D>, calls: &[Call]) -> Ending<D>
     requires { IsTrue (D.Disk.is_usable files.log) × IsTrue (D.Disk.is_usable files.db) }
 {
-    let nothing = Items::new(alloc);
     let conn = match Connection::open_files(alloc, files, Options::new(7)) {
         Ok(conn) => conn,
-        Err((_, left)) => {
-            return Ending {
-                replies: nothing,
-                files: left.into_files(),
-            };
-        }
+        Err((_, left)) => return nothing_done(alloc, left.into_files()),
     };
     let keep = match keeper(alloc, conn) {
         Ok(keep) => keep,
-        Err(conn) => {
-            return Ending {
-                replies: nothing,
-                files: conn.into_store().close(),
-            };
-        }
+        Err(conn) => return nothing_done(alloc, conn.into_store().close()),
     };
     let mut desk = Desk::new(keep);
-    let end = desk.run(alloc, calls);
+    let replies = desk.run(alloc, calls).replies;
+    match desk.into_keep().close().close_files() {
+        Ok(files) => Ending {
+            replies,
+            files,
+            is_closed: true,
+        },
+        Err((_, store)) => Ending {
+            replies,
+            files: store.close(),
+            is_closed: false,
+        },
+    }
+}
+
+fn nothing_done<D: Disk>(alloc: Global, files: Files<D>) -> Ending<D> {
     Ending {
-        replies: end.replies,
-        files: desk.into_keep().close().into_store().close(),
+        replies: Items::new(alloc),
+        files,
+        is_closed: false,
     }
 }
 
@@ -153,6 +164,7 @@ fn stop_once(
     let calls = three_calls(alloc)?;
     let first = session(alloc, files, &calls);
     let answered = first.replies.len();
+    let is_whole = answered == 3 && first.is_closed;
     assert!(rt; are_first(first.replies.as_slice(), &expected.replies));
     let left = found(alloc, stopped(first.files))?;
     assert!(rt;
@@ -165,14 +177,14 @@ fn stop_once(
     assert!(rt; are_first(second.replies.as_slice(), &expected.replies));
     let last = found(alloc, stopped(second.files))?;
     assert!(rt; stands(&last, 3, expected));
-    Ok(answered == 3)
+    Ok(is_whole)
 }
 
-/// Stops at so many calls of the log, one run after the other. True where a run ended without a stop.
-fn log_stops(rt: &impl Abort, alloc: Global, first: u64, count: u64) -> Result<bool, Fail> {
+/// Stops at one call of the log after the other. True where a run ended without a stop.
+fn log_stops(rt: &impl Abort, alloc: Global, first: u64, end: u64) -> Result<bool, Fail> {
     let expected = expected_by_lists(alloc)?;
-    for more in 0..count {
-        let files = fused(alloc, first.saturating_add(more), u64::MAX);
+    for calls in first..end {
+        let files = fused(alloc, calls, u64::MAX);
         if stop_once(rt, alloc, files, &expected)? {
             return Ok(true);
         }
@@ -180,10 +192,10 @@ fn log_stops(rt: &impl Abort, alloc: Global, first: u64, count: u64) -> Result<b
     Ok(false)
 }
 
-fn file_stops(rt: &impl Abort, alloc: Global, first: u64, count: u64) -> Result<bool, Fail> {
+fn file_stops(rt: &impl Abort, alloc: Global, first: u64, end: u64) -> Result<bool, Fail> {
     let expected = expected_by_lists(alloc)?;
-    for more in 0..count {
-        let files = fused(alloc, u64::MAX, first.saturating_add(more));
+    for calls in first..end {
+        let files = fused(alloc, u64::MAX, calls);
         if stop_once(rt, alloc, files, &expected)? {
             return Ok(true);
         }
@@ -193,14 +205,112 @@ fn file_stops(rt: &impl Abort, alloc: Global, first: u64, count: u64) -> Result<
 
 #[test]
 fn the_log_stops_from_0(rt: HostRuntime) -> Result<(), Fail> {
-    let whole = log_stops(&rt, rt.alloc(), 0, 4)?;
-    assert!(rt; !whole);
+    let is_whole = log_stops(&rt, rt.alloc(), 0, 8)?;
+    assert!(rt; !is_whole);
+    Ok(())
+}
+
+#[test]
+fn the_log_stops_from_8(rt: HostRuntime) -> Result<(), Fail> {
+    let is_whole = log_stops(&rt, rt.alloc(), 8, 16)?;
+    assert!(rt; !is_whole);
+    Ok(())
+}
+
+#[test]
+fn the_log_stops_from_16(rt: HostRuntime) -> Result<(), Fail> {
+    let is_whole = log_stops(&rt, rt.alloc(), 16, 24)?;
+    assert!(rt; !is_whole);
+    Ok(())
+}
+
+#[test]
+fn the_log_stops_from_24(rt: HostRuntime) -> Result<(), Fail> {
+    let is_whole = log_stops(&rt, rt.alloc(), 24, 32)?;
+    assert!(rt; !is_whole);
+    Ok(())
+}
+
+#[test]
+fn the_log_stops_from_32(rt: HostRuntime) -> Result<(), Fail> {
+    let is_whole = log_stops(&rt, rt.alloc(), 32, 40)?;
+    assert!(rt; !is_whole);
+    Ok(())
+}
+
+#[test]
+fn the_log_stops_from_40(rt: HostRuntime) -> Result<(), Fail> {
+    let is_whole = log_stops(&rt, rt.alloc(), 40, 48)?;
+    assert!(rt; !is_whole);
+    Ok(())
+}
+
+#[test]
+fn the_log_stops_from_48(rt: HostRuntime) -> Result<(), Fail> {
+    let is_whole = log_stops(&rt, rt.alloc(), 48, 56)?;
+    assert!(rt; !is_whole);
+    Ok(())
+}
+
+#[test]
+fn the_log_stops_from_56(rt: HostRuntime) -> Result<(), Fail> {
+    let is_whole = log_stops(&rt, rt.alloc(), 56, 64)?;
+    assert!(rt; !is_whole);
+    Ok(())
+}
+
+#[test]
+fn the_log_stops_from_64(rt: HostRuntime) -> Result<(), Fail> {
+    let is_whole = log_stops(&rt, rt.alloc(), 64, 72)?;
+    assert!(rt; !is_whole);
+    Ok(())
+}
+
+#[test]
+fn the_log_stops_from_72(rt: HostRuntime) -> Result<(), Fail> {
+    let is_whole = log_stops(&rt, rt.alloc(), 72, 80)?;
+    assert!(rt; !is_whole);
+    Ok(())
+}
+
+#[test]
+fn the_log_stops_no_more(rt: HostRuntime) -> Result<(), Fail> {
+    let is_whole = log_stops(&rt, rt.alloc(), 80, 88)?;
+    assert!(rt; is_whole);
     Ok(())
 }
 
 #[test]
 fn the_file_stops_from_0(rt: HostRuntime) -> Result<(), Fail> {
-    let whole = file_stops(&rt, rt.alloc(), 0, 4)?;
-    assert!(rt; !whole);
+    let is_whole = file_stops(&rt, rt.alloc(), 0, 8)?;
+    assert!(rt; !is_whole);
+    Ok(())
+}
+
+#[test]
+fn the_file_stops_from_8(rt: HostRuntime) -> Result<(), Fail> {
+    let is_whole = file_stops(&rt, rt.alloc(), 8, 16)?;
+    assert!(rt; !is_whole);
+    Ok(())
+}
+
+#[test]
+fn the_file_stops_from_16(rt: HostRuntime) -> Result<(), Fail> {
+    let is_whole = file_stops(&rt, rt.alloc(), 16, 24)?;
+    assert!(rt; !is_whole);
+    Ok(())
+}
+
+#[test]
+fn the_file_stops_from_24(rt: HostRuntime) -> Result<(), Fail> {
+    let is_whole = file_stops(&rt, rt.alloc(), 24, 32)?;
+    assert!(rt; !is_whole);
+    Ok(())
+}
+
+#[test]
+fn the_file_stops_no_more(rt: HostRuntime) -> Result<(), Fail> {
+    let is_whole = file_stops(&rt, rt.alloc(), 32, 40)?;
+    assert!(rt; is_whole);
     Ok(())
 }
