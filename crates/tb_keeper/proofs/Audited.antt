@@ -67,12 +67,15 @@ module _ (c : Content) (w : World) (same : HaveSameRows c (world_rows w)) where
       → AllByRecursion (λ (b : Board). filter (is_link_on b.number) (world_rows w).links ≡ board_links b) bs
       → AllByRecursion (λ (b : Board). filter (is_instance_on b.number) (world_rows w).instances ≡ board_instances b) bs → AllByRecursion (HasItsRows c) bs
   each_has [] rows tasks links instances = tt
-  each_has (b ∷ bs) rows tasks links instances = (record {
-    row_is = subst (IsPermutation _) rows.0 (IsPermutation-filter (is_board b.number) _ _ same.boards);
-    tasks_are = subst (IsPermutation _) tasks.0 (IsPermutation-filter (λ (r : TaskRow). r.board == b.number) _ _ same.tasks);
-    links_are = subst (IsPermutation _) links.0 (IsPermutation-filter (is_link_on b.number) _ _ same.links);
-    instances_are = subst (IsPermutation _) instances.0 (IsPermutation-filter (is_instance_on b.number) _ _ same.instances);
-  }, each_has bs rows.1 tasks.1 links.1 instances.1)
+  each_has (b ∷ bs) rows tasks links instances = (
+    record {
+      row_is = subst (IsPermutation _) rows.0 (IsPermutation-filter (is_board b.number) _ _ same.boards);
+      tasks_are = subst (IsPermutation _) tasks.0 (IsPermutation-filter (λ (r : TaskRow). r.board == b.number) _ _ same.tasks);
+      links_are = subst (IsPermutation _) links.0 (IsPermutation-filter (is_link_on b.number) _ _ same.links);
+      instances_are = subst (IsPermutation _) instances.0 (IsPermutation-filter (is_instance_on b.number) _ _ same.instances);
+    },
+    each_has bs rows.1 tasks.1 links.1 instances.1,
+  )
 
   all_have : IsGoodWorld w → AllByRecursion (HasItsRows c) w.boards
   all_have good =
@@ -98,8 +101,8 @@ audit_sound old new audit counted clean s stored =
     let tells = counted clean stored.content stored.stands s.world stored.rows.good stored.rows.form (has_boards stored.content s.world same) in
     let none = no_faults stored.content s.world.boards audit.faults (all_have stored.content s.world same stored.rows.good) tells.faults_are in
     λ i.
-        let is : Audit = record { boards = tells.boards_are i; tasks = tells.tasks_are i; faults = none i } in
-        is
+    let is : Audit = record { boards = tells.boards_are i; tasks = tells.tasks_are i; faults = none i } in
+    is
 
 -- ---- what a look leaves
 

@@ -17,6 +17,6 @@ loop-row-preserved g c =
       tasks = omega (arith, c.with_board-audit.ensures.tasks, was.tasks, c.in_ok-checked.ensures.few);
       faults = grind (arith, c.with_board-audit.ensures.faults, was.faults);
       counted = one_counted start before after c.args.rows.now c.loop-row.row-index c.row-item.result c.loop-row.audit c.with_board-audit.result c.in_ok-checked.checked c.loop-row-test.true c.row-item.is was.same
-      c.in_ok-checked.ensures.same c.in_ok-checked.ensures.checked
-      (record { boards = c.with_board-audit.ensures.boards; tasks = c.with_board-audit.ensures.tasks; faults = c.with_board-audit.ensures.faults }) was.counted;
+          c.in_ok-checked.ensures.same c.in_ok-checked.ensures.checked
+          (record { boards = c.with_board-audit.ensures.boards; tasks = c.with_board-audit.ensures.tasks; faults = c.with_board-audit.ensures.faults }) was.counted;
     }
