@@ -1,3 +1,4 @@
+pub mod Audited
 pub mod BoardsRead
 pub mod ChangedForms
 pub mod Commits

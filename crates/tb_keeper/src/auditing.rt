@@ -83,10 +83,7 @@ impl<S: Alter> SqlKeep<S> {
 }
 
 /// The links of a board, in order of place and target.
-fn link_rows<S: Alter>(
-    conn: &mut Connection<S>,
-    board: u32,
-) -> Result<Items<LinkRow>, StoreFault>
+fn link_rows<S: Alter>(conn: &mut Connection<S>, board: u32) -> Result<Items<LinkRow>, StoreFault>
     requires { conn.old.in_transaction ≡ false }
     ensures idle { conn.new.in_transaction ≡ false }
     ensures found { IfOk result (λ rows. HasCleanDisk (state S.Store conn.new) → (content : Content) → Stands content (state S.Store conn.old)
