@@ -10,5 +10,5 @@ returns-in-Ok-Call-clause-front g c s held call asks =
     let read = c.in-Ok-Call.ensures in
     let same : c.in-Ok-Call.call ≡ call = cc in
     let P : Call → Type 0 = λ made. OnErr c.make_call.result
-        (AppendsFront (g.W.Write.contents c.args.writer.now) (g.W.Write.contents c.make_call.new.writer) (line_text (reply s [] made))) in
+    (AppendsFront (g.W.Write.contents c.args.writer.now) (g.W.Write.contents c.make_call.new.writer) (line_text (reply s [] made))) in
     subst P same (c.make_call.ensures.front s held)
