@@ -70,8 +70,8 @@ class Client:
 
     def add(self, number):
         """Sends a task until it is answered, and gives the time of the last try."""
-        for _ in range(1000):
-            begun = time.monotonic()
+        first = time.monotonic()
+        while (begun := time.monotonic()) < first + 60:
             answer = self.send(number)
             if answer is not None:
                 if answer[0] != 200:

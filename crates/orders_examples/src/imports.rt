@@ -11,7 +11,8 @@ use tb_program::Fault;
 
 const TASK: &str = r#"[{"uuid":"11111111-1111-4111-8111-111111111111","description":"Sand"}]"#;
 
-const IMPORTED: &str = "{\"added\":0,\"board\":1,\"dropped\":0,\"known\":0,\"more\":false,\"new\":1,\"orphans\":0,\"unlinked\":0}\n";
+const IMPORTED: &str =
+    "{\"added\":0,\"board\":1,\"dropped\":0,\"known\":0,\"more\":false,\"new\":1,\"orphans\":0,\"unlinked\":0}\n";
 
 #[test]
 fn a_json_import_prints_its_reply(rt: HostRuntime) -> Result<(), Fail> {

@@ -9,7 +9,8 @@ use tb_orders::{Ending, print_view};
 use tb_program::Fault;
 use tb_values::Text;
 
-const TASK: &str = r#"[{"uuid":"11111111-1111-4111-8111-111111111111","description":"Sand","entry":"20260101T000000Z"}]"#;
+const TASK: &str =
+    r#"[{"uuid":"11111111-1111-4111-8111-111111111111","description":"Sand","entry":"20260101T000000Z"}]"#;
 
 // A board with one task.
 fn desk_with_task(alloc: Global) -> Result<Desk<ListKeep>, Fail> {
@@ -54,7 +55,8 @@ fn a_listing_is_printed(rt: HostRuntime) -> Result<(), Fail> {
 #[test]
 fn an_export_is_printed(rt: HostRuntime) -> Result<(), Fail> {
     let printed = view(rt.alloc(), ViewKind::Export, "root-key-1")?;
-    let text = "[\n{\"description\":\"Sand\",\"entry\":\"20260101T000000Z\",\"status\":\"pending\",\"uuid\":\"11111111-1111-4111-8111-111111111111\"}\n]\n";
+    let text =
+        "[\n{\"description\":\"Sand\",\"entry\":\"20260101T000000Z\",\"status\":\"pending\",\"uuid\":\"11111111-1111-4111-8111-111111111111\"}\n]\n";
     assert!(rt; printed.is(text, Ok(Ending::Accepted)));
     Ok(())
 }

@@ -1,5 +1,5 @@
 //! Imports of standard input.
-ghost use Rattle.std.specs.Prelude.{◌≡◌, ◌⊎◌, ◌∷◌, [], ⊥, IfErr, IfOk, IsErrOf, OnErr, OnOk, true};
+ghost use Rattle.std.specs.Prelude.{◌≡◌, ◌⊎◌, ◌∷◌, [], IfErr, IfOk, IsErrOf, OnErr, OnOk, true};
 ghost use Rattle.std.specs.Io.KnownBytes.{Appends};
 ghost use Rattle.tb_desk.specs.Calls.{State, once, plain, reply};
 ghost use Rattle.tb_desk.specs.declared.call.Call.{Call};
