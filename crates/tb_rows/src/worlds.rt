@@ -28,8 +28,9 @@ pub fn row_changes(
     after: &World,
     changes: &[Change],
 ) -> Result<Items<RowChange>, AllocError>
-    ensures { IfOk result (λ rows. IsGoodWorld before.now → IsGoodWorld after.now → Extends before.now after.now → after.now ≡ changed before.now changes.now
+    ensures leads { IfOk result (λ rows. IsGoodWorld before.now → IsGoodWorld after.now → Extends before.now after.now → after.now ≡ changed before.now changes.now
         → Leads rows before.now after.now) }
+    ensures steps { IfOk result (λ rows. IsGoodWorld after.now → rows ≡ world_changes before.now after.now changes.now) }
 {
     if is_small(after) {
         return small_changes(alloc, before, after, changes);
