@@ -4,6 +4,7 @@
 ghost use Rattle.std.specs.Prelude.{◌≡◌, IfErr, true};
 ghost use Rattle.taskboard.specs.Telling.{fault_of_script, is_of_scripts, status_at};
 
+mod check;
 mod clock;
 mod file;
 mod import;
@@ -11,6 +12,7 @@ mod init;
 mod serve;
 mod view;
 
+use crate::check::check_file;
 use crate::import::import_input;
 use crate::init::make_file;
 use crate::serve::serve_file;
@@ -47,7 +49,7 @@ fn run(rt: &HostRuntime) -> Result<Ending, Fault> {
         Order::Run => run_script(rt),
         Order::Import(order) => import_input(rt, &order),
         Order::View(order) => print_board(rt, &order),
-        Order::Check(_) => Err(Fault::Bad),
+        Order::Check(file) => check_file(rt, &file),
     }
 }
 
