@@ -5,6 +5,8 @@
 #![tactic(auto)]
 
 #[cfg(test)]
+mod audited;
+#[cfg(test)]
 mod calls;
 #[cfg(test)]
 mod changes;

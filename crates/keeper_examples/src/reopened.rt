@@ -18,7 +18,8 @@ pub fn desk_in_memory(alloc: Global) -> Result<Desk<SqlKeep<MemStore>>, Fail> {
     }
 }
 
-fn opened_again(
+/// The same store, closed and opened again.
+pub fn opened_again(
     alloc: Global,
     desk: Desk<SqlKeep<MemStore>>,
 ) -> Result<Desk<SqlKeep<MemStore>>, Fail> {

@@ -11,7 +11,7 @@ use std::process::Abort;
 use std::test::Fail;
 use tb_board::{Key, Name};
 use tb_desk::{Call, Desk, Keep};
-use tb_keeper::SqlKeep;
+use tb_keeper::{Audit, SqlKeep};
 use tb_reply::Reply;
 use tb_sql::opening::is_empty;
 use tb_values::{Items, Text};
@@ -123,6 +123,9 @@ pub fn found<D: Crash + Drop>(alloc: Global, files: Files<D>) -> Result<Left<D>,
         return Err(Fail::from("no store"));
     };
     let count = standing(alloc, &mut keep)?;
+    let Ok(Audit { faults: 0, .. }) = keep.audit(alloc) else {
+        return Err(Fail::from("faults"));
+    };
     let mut desk = Desk::new(keep);
     let board = exported(alloc, &mut desk)?;
     Ok(Left {
