@@ -28,7 +28,9 @@ pub(crate) fn check_file(rt: &HostRuntime, file: &Text) -> Result<Ending, Fault>
     }
 }
 
-fn print_audit(rt: &HostRuntime, audit: &Audit) -> Result<(), Fault> {
+fn print_audit(rt: &HostRuntime, audit: &Audit) -> Result<(), Fault>
+    ensures { IfErr result (λ fault. is_of_checking fault ≡ true) }
+{
     let mut line = String::new(rt.alloc());
     write!(
         line,

@@ -1,5 +1,6 @@
 //! The file of boards.
-ghost use Rattle.std.specs.Prelude.{◌≡◌, IfErr, true};
+ghost use Rattle.std.specs.Prelude.{◌≡◌, false, IfErr, IfOk, true};
+ghost use Rattle.tb_program.specs.declared.fault.Fault.TheVariants.{Store};
 ghost use Rattle.taskboard.specs.Telling.{fault_of_opening, is_of_files, is_of_opening};
 
 use sqlite::{Connection, Error, ErrorCode, File, FileStore};
@@ -13,10 +14,12 @@ pub(crate) type RealFile = FileStore<File>;
 
 /// Opens the file at a path, or makes an empty one where none is.
 pub(crate) fn open_file(rt: &HostRuntime, path: &str) -> Result<Connection<RealFile>, Fault>
-    ensures { IfErr result (λ fault. is_of_files fault ≡ true) }
+    ensures fault { IfErr result (λ fault. is_of_files fault ≡ true) }
+    ensures idle { IfOk result (λ conn. conn.in_transaction ≡ false) }
 {
     match Connection::open(rt, path) {
-        Ok(conn) => Ok(conn),
+        Ok(conn) if conn.is_autocommit() => Ok(conn),
+        Ok(_) => Err(Fault::Store), // Never: no transaction is open in a new connection.
         Err(Error::SqliteFailure(ErrorCode::OutOfMemory)) => Err(Fault::Memory),
         Err(_) => Err(Fault::Store),
     }
@@ -53,7 +56,7 @@ fn fault_of(fault: OpenFault) -> Fault
 
 /// Copies what was committed into the database file, and closes it.
 pub(crate) fn close_file(conn: Connection<RealFile>) -> Result<(), Fault>
-    ensures { IfErr result (λ fault. is_of_files fault ≡ true) }
+    ensures { IfErr result (λ fault. fault ≡ Store) }
 {
     match conn.close() {
         Ok(()) => Ok(()),
