@@ -12,25 +12,34 @@ fn decided(alloc: Global, world: &World, call: &Call) -> Result<Decision, Fail> 
     Ok(decide(alloc, &seen, &call.command, call.moment)?)
 }
 
+/// The world of root after the `add` of a monthly template, which is told by three changes.
+fn after_rent(alloc: Global) -> Result<World, Fail> {
+    let (name, key) = root(alloc)?;
+    let world = World::opening(alloc, &name, &key)?;
+    let added = decided(alloc, &world, &add_rent(alloc)?)?;
+    if added.changes.len() != 3 {
+        return Err(Fail::from("not three changes"));
+    }
+    Ok(world.changed(alloc, added.changes.as_slice())?)
+}
+
+fn is_one_task(changes: &[Change]) -> bool {
+    matches!(
+        changes,
+        [Change::PutTask {
+            board: 1,
+            place: 1,
+            ..
+        }]
+    )
+}
+
 /// Completing an instance lists that one task, at its place: the template stays as it is, though its mask is another.
 #[test]
 fn done_lists_one_task(rt: HostRuntime) -> Result<(), Fail> {
     let alloc = rt.alloc();
-    let (name, key) = root(alloc)?;
-    let world = World::opening(alloc, &name, &key)?;
-    let added = decided(alloc, &world, &add_rent(alloc)?)?;
-    assert_eq!(rt; added.changes.len(), 3);
-    let world = world.changed(alloc, added.changes.as_slice())?;
+    let world = after_rent(alloc)?;
     let completed = decided(alloc, &world, &done(alloc)?)?;
-    assert!(rt;
-        matches!(
-            completed.changes.as_slice(),
-            [Change::PutTask {
-                board: 1,
-                place: 1,
-                ..
-            }]
-        )
-    );
+    assert!(rt; is_one_task(completed.changes.as_slice()));
     Ok(())
 }
