@@ -1,15 +1,15 @@
-//! The three calls of the examples, what a desk answers to them, and what a board then shows.
+//! The calls of the examples, and what a desk answers to them.
 
 use serde_json::Value;
 use std::alloc::Global;
 use std::test::Fail;
 use tb_board::{Key, Name};
 use tb_core::{Action, Command};
-use tb_desk::{Call, Desk, Keep, View};
+use tb_desk::{Call, Desk, Keep};
 use tb_json::read_task;
 use tb_reply::Reply;
 use tb_task::{Moment, TaskId};
-use tb_values::{Items, Text};
+use tb_values::Items;
 
 const RENT: &str = r#"{"description":"Rent","due":"20260131T090000Z","recur":"monthly"}"#;
 
@@ -61,43 +61,9 @@ pub fn done(alloc: Global) -> Result<Call, Fail> {
     call(alloc, 2, b"done", command)
 }
 
-pub fn sweep(alloc: Global) -> Result<Call, Fail> {
-    call(alloc, 3, b"sweep", Command::Sweep { board: 1 })
-}
-
-pub fn three_calls(alloc: Global) -> Result<[Call; 3], Fail> {
-    Ok([add_rent(alloc)?, done(alloc)?, sweep(alloc)?])
-}
-
 pub fn handled<K: Keep>(alloc: Global, desk: &mut Desk<K>, call: &Call) -> Result<Reply, Fail> {
     match desk.handle(alloc, call) {
         Ok(reply) => Ok(reply),
         Err(_) => Err(Fail::from("a fault")),
     }
-}
-
-/// Board 1 as JSON.
-pub fn exported<K: Keep>(alloc: Global, desk: &mut Desk<K>) -> Result<Text, Fail> {
-    let (name, key) = root(alloc)?;
-    match desk.view(alloc, &name, &key, &View::Export(1), first_of_february()?) {
-        Ok(reply) => Ok(reply.body),
-        Err(_) => Err(Fail::from("a fault")),
-    }
-}
-
-pub fn is_same_reply(one: &Reply, other: &Reply) -> bool {
-    one.number == other.number && one.status == other.status && one.body.is(&other.body)
-}
-
-/// Whether these replies are the first of the others.
-pub fn are_first(replies: &[Reply], others: &[Reply]) -> bool {
-    if replies.len() > others.len() {
-        return false;
-    }
-    for (one, other) in replies.iter().zip(others) {
-        if !is_same_reply(one, other) {
-            return false;
-        }
-    }
-    true
 }
