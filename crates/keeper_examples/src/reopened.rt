@@ -53,7 +53,8 @@ fn is_answered(
     Ok(handled(alloc, desk, call)?.body.as_str() == body)
 }
 
-const ADDED: &str = r#"{"added":2,"board":1,"dropped":0,"more":false,"uuid":"00000001-0000-8000-8000-000000000001"}"#;
+const ADDED: &str =
+    r#"{"added":2,"board":1,"dropped":0,"more":false,"uuid":"00000001-0000-8000-8000-000000000001"}"#;
 
 const COMPLETED: &str =
     r#"{"added":0,"board":1,"more":false,"uuid":"00000001-0000-8000-8000-000000000002"}"#;
