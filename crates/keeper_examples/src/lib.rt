@@ -1,0 +1,18 @@
+//! Worked examples of the keeper over SQLite tables: tests alone.
+//!
+//! They open stores again, look at their rows, and audit them. They stand on `tb_keeper`, on `tb_desk` for calls, and on `tb_sql` for
+//! the rows.
+#![tactic(auto)]
+
+#[cfg(test)]
+mod audited;
+#[cfg(test)]
+mod calls;
+#[cfg(test)]
+mod changes;
+#[cfg(test)]
+mod reopened;
+#[cfg(test)]
+mod strange;
+#[cfg(test)]
+mod tables;
