@@ -8,9 +8,11 @@ mod concerned;
 mod gone;
 mod opening;
 mod people;
+mod places;
 mod roles;
 mod tasks;
 mod worlds;
 
 pub use opening::opening_rows;
+pub use places::{instance_row, link_row, place_number};
 pub use worlds::row_changes;
