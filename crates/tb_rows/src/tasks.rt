@@ -8,7 +8,7 @@ ghost use Rattle.tb_rows.specs.Rows.{instance_rows, link_rows, mask_cell, rows_f
 ghost use Rattle.tb_rows.specs.Steps.{new_mask, new_task, put_task, task_changes};
 
 use crate::concerned::PlaceList;
-use crate::places::{instance_row, link_row};
+use crate::linking::{instance_row, link_row};
 use std::alloc::{AllocError, Global};
 use std::collections::BTreeMap;
 use tb_board::{Board, is_template_task};
