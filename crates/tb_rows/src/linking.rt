@@ -49,7 +49,7 @@ pub fn instance_row(
 ) -> Option<InstanceRow>
     requires places { ArePlaces (ids board.now.tasks) places.now }
     requires few { length board.now.tasks ≤ 10000 }
-    ensures { MatchOption result (λ row. instance_rows board.now place task.now ≡ row ∷ []) (instance_rows board.now place task.now ≡ []) }
+    ensures { MatchOption result (instance_rows board.now place task.now ≡ []) (λ row. instance_rows board.now place task.now ≡ row ∷ []) }
 {
     let parent = task.parent?;
     let imask = task.imask?;
