@@ -9,7 +9,7 @@ use Rattle.std.proofs.lemmas.List.{take_more}
 use Rattle.tb_board.proofs.Linking.{same_number}
 use Rattle.tb_good.specs.Taken.{AreCounts, count_in, is_below, IsBelowCount, places_among}
 use Rattle.tb_good.proofs.TakenPlaces.{among-append}
-use Rattle.tb_good.proofs.Tests.{answer_tells}
+use Rattle.tb_good.proofs.EachItem.{answer_tells}
 
 pub few_among : (id : ℕ) (ps : List (ℕ × ℕ)) → length (places_among id ps) ≤ length ps
 few_among id [] = omega arith

@@ -1,4 +1,5 @@
 pub mod Counting
+pub mod EachItem
 pub mod Numbering
 pub mod Ordering
 pub mod Parts
@@ -7,4 +8,3 @@ pub mod Repeats
 pub mod TakenPlaces
 pub mod Telling
 pub mod TemplateSets
-pub mod Tests

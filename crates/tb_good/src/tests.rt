@@ -5,7 +5,7 @@ use std::alloc::Global;
 use std::test::Fail;
 use tb_board::{Key, Name, World};
 use tb_task::{Moment, Task, TaskId};
-use tb_values::{Duplicate, Shared, Text};
+use tb_values::{Duplicate, Items, Shared, Text};
 
 fn opened(alloc: Global) -> Result<World, Fail> {
     let name = Name::read(alloc, "ann")?.ok_or("a name")?;
@@ -33,10 +33,13 @@ fn linked(alloc: Global, number: u64, on: u64) -> Result<Task, Fail> {
 /// The opened world, with two tasks on its board.
 fn with_tasks(alloc: Global, one: Task, other: Task) -> Result<World, Fail> {
     let mut world = opened(alloc)?;
-    let mut board = world.boards.as_slice()[0].get().copy()?;
+    let first = world.boards.get(0).ok_or("a board")?;
+    let mut board = first.get().copy()?;
     board.tasks.push(Shared::new(alloc, one)?)?;
     board.tasks.push(Shared::new(alloc, other)?)?;
-    world.boards.set(0, Shared::new(alloc, board)?);
+    let mut boards = Items::new(alloc);
+    boards.push(Shared::new(alloc, board)?)?;
+    world.boards = boards;
     Ok(world)
 }
 
@@ -86,7 +89,7 @@ fn one_identifier_twice(rt: HostRuntime) -> Result<(), Fail> {
 fn board_without_owner(rt: HostRuntime) -> Result<(), Fail> {
     let alloc = rt.alloc();
     let mut world = opened(alloc)?;
-    world.roles.remove(0);
+    world.roles = Items::new(alloc);
     assert!(rt; !is_good_world(alloc, &world)?);
     Ok(())
 }
@@ -95,7 +98,7 @@ fn board_without_owner(rt: HostRuntime) -> Result<(), Fail> {
 fn one_name_twice(rt: HostRuntime) -> Result<(), Fail> {
     let alloc = rt.alloc();
     let mut world = opened(alloc)?;
-    let twin = world.people.as_slice()[0].duplicate()?;
+    let twin = world.people.get(0).ok_or("a person")?.duplicate()?;
     world.people.push(twin)?;
     assert!(rt; !is_good_world(alloc, &world)?);
     Ok(())

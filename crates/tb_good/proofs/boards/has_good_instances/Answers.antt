@@ -6,7 +6,7 @@ use Rattle.tb_board.specs.declared.board.Board.{Board}
 use Rattle.tb_board.specs.declared.gone.Gone.{Gone}
 use Rattle.tb_board.specs.Instances.{has_template, HasTemplateOn, is_template_with, IsGoneOn}
 use Rattle.tb_good.proofs.Telling.{last_tells, part_fails}
-use Rattle.tb_good.proofs.Tests.{answer_tells, itself}
+use Rattle.tb_good.proofs.EachItem.{answer_tells, itself}
 use Rattle.tb_good.proofs.boards.has_good_instances.Goals as goal
 
 parents : (b : Board) (r : Bool) → r ≡ list_all (λ (t : Task). has_template b t.parent) b.tasks → Decides r (AllByRecursion (HasTemplateOn b) b.tasks)

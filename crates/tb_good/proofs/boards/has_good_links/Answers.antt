@@ -13,7 +13,7 @@ use Rattle.tb_board.specs.Links.{ArePlaces, links}
 use Rattle.tb_good.specs.Parts.{HasGoodLinks, lacks_place}
 use Rattle.tb_good.proofs.Parts.{linked_tells}
 use Rattle.tb_good.proofs.Telling.{part_fails}
-use Rattle.tb_good.proofs.Tests.{answer_tells}
+use Rattle.tb_good.proofs.EachItem.{answer_tells}
 use Rattle.tb_good.proofs.boards.has_good_links.Goals as goal
 
 linked : (b : Board) (places : BTreeMap ℕ ℕ) (r : Bool) → ArePlaces (ids b.tasks) places → r ≡ list_all (λ (t : Task). not (lacks_place places t.depends)) b.tasks → Decides r (AllByRecursion (IsLinkedOn b) b.tasks)

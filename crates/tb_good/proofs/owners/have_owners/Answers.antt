@@ -5,7 +5,7 @@ use Rattle.std.specs.List.{list_any}
 use Rattle.tb_board.specs.declared.board.Board.{Board}
 use Rattle.tb_board.specs.World.{owns}
 use Rattle.tb_core.specs.GoodWorld.{HasOwner}
-use Rattle.tb_good.proofs.Tests.{answer_tells, itself}
+use Rattle.tb_good.proofs.EachItem.{answer_tells, itself}
 use Rattle.tb_good.proofs.owners.have_owners.Goals as goal
 
 pub returns : goal.returns

@@ -7,7 +7,7 @@ use Rattle.tb_core.specs.GoodWorld.{IsRoleIn}
 use Rattle.tb_good.specs.Parts.{is_role_in}
 use Rattle.tb_good.proofs.Parts.{role_tells}
 use Rattle.tb_good.proofs.Telling.{part_fails}
-use Rattle.tb_good.proofs.Tests.{answer_tells}
+use Rattle.tb_good.proofs.EachItem.{answer_tells}
 use Rattle.tb_good.proofs.roles.has_good_roles.Goals as goal
 
 known : (w : World) (r : Bool) → r ≡ list_all (is_role_in w) w.roles → Decides r (AllByRecursion (IsRoleIn w) w.roles)

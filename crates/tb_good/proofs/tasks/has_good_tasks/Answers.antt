@@ -10,7 +10,7 @@ use Rattle.tb_good.specs.Parts.{is_sound}
 use Rattle.tb_good.proofs.Repeats.{numbers_tell}
 use Rattle.tb_good.proofs.Parts.{sound_tells}
 use Rattle.tb_good.proofs.Telling.{last_tells, part_fails}
-use Rattle.tb_good.proofs.Tests.{answer_tells}
+use Rattle.tb_good.proofs.EachItem.{answer_tells}
 use Rattle.tb_good.proofs.tasks.has_good_tasks.Goals as goal
 
 sound : (ts : List Task) (r : Bool) → r ≡ list_all is_sound ts → Decides r (AllByRecursion IsSound ts)
