@@ -1,5 +1,5 @@
 -- The faults as they are told.
-use Rattle.std.specs.Prelude.{ℕ, List, codes}
+use Rattle.std.specs.Prelude.{ℕ, Bool, true, false, List, codes}
 use Rattle.tb_program.specs.declared.fault.Fault.{Fault}
 use Rattle.tb_program.specs.declared.fault.Fault.TheVariants.{Bad, BadBody, Memory, NoClock, NoListen, NotEmpty, NotOurs, ReadFailed, Store, WriteFailed, WrongVersion}
 
@@ -20,3 +20,10 @@ name_of WrongVersion = codes "WrongVersion"
 abbrev pub status_of : Fault → ℕ
 status_of Bad = 2
 status_of _ = 1
+
+-- of reading a text
+abbrev pub is_of_reading : Fault → Bool
+is_of_reading BadBody = true
+is_of_reading Memory = true
+is_of_reading ReadFailed = true
+is_of_reading _ = false

@@ -1,6 +1,7 @@
 //! Standard input, whole.
-ghost use Rattle.std.specs.Prelude.{◌≡◌, ◌≤◌, ◌<◌, length, IfOk, IfSome, IsErrOf};
+ghost use Rattle.std.specs.Prelude.{◌≡◌, ◌≤◌, ◌<◌, length, IfErr, IfOk, IfSome, IsErrOf, true};
 ghost use Rattle.tb_program.specs.declared.fault.Fault.TheVariants.{BadBody};
+ghost use Rattle.tb_program.specs.Faults.{is_of_reading};
 
 use crate::fault::Fault;
 use std::alloc::Global;
@@ -13,6 +14,7 @@ const LONGEST_TEXT: usize = 1_048_576;
 pub fn read_text<R: Read + Drop>(alloc: Global, reader: R) -> Result<Items<u8>, Fault>
     ensures whole { IfSome (R.remaining reader) (λ text. IfOk result (λ read. (read ≡ text) × (length text ≤ 1048576))) }
     ensures long { IfSome (R.remaining reader) (λ text. IsErrOf result BadBody → 1048576 < length text) }
+    ensures fault { IfErr result (λ fault. is_of_reading fault ≡ true) }
 {
     let mut bytes = Vec::new(alloc);
     match reader.take(LONGEST_TEXT as u64 + 1).read_to_end(&mut bytes) {

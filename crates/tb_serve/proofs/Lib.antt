@@ -1,3 +1,4 @@
 pub mod Connection
+pub mod Faults
 pub mod Lists
 pub mod Standing

@@ -206,9 +206,10 @@ fn handle_message<W: Write, K: Keep>(
     at: Option<Moment>,
     is_last: bool,
 ) -> Exchange
-    ensures { (s : State) → K.holds desk.old s → Only s (K.after_stop desk.old)
+    ensures handles { (s : State) → K.holds desk.old s → Only s (K.after_stop desk.old)
         → HandlesMessage s at is_last message.now (W.contents writer.old) (W.contents writer.new) result.turn result.is_whole
         (K.holds desk.new) (K.after_stop desk.new) }
+    ensures failed { result.turn ≡ Turn.Failed KeepFault.Store → K.has_failed desk.new ≡ true }
 {
     match tell(alloc, routes, desk, message, at) {
         Ok(told) => {
@@ -240,6 +241,7 @@ fn serve_message<R: Read + Drop, W: Write, K: Keep, C: Clock>(
         → IfSome reader.old.bytes (λ bytes. IfSome (C.answers clock.old) (λ moments.
         Exchanges s moments reader.old.messages bytes (W.contents writer.old) (W.contents writer.new) result
         (K.holds desk.new) (K.after_stop desk.new) reader.new.bytes reader.new.is_closing)) }
+    ensures failed { result.turn ≡ Turn.Failed KeepFault.Store → K.has_failed desk.new ≡ true }
     ensures clock { result.turn ≡ Turn.Told → IfSome (C.answers clock.old) (λ moments. C.answers clock.new ≡ Some (later moments)) }
     ensures counted { result.turn ≡ Turn.Told → reader.new.messages ≡ reader.old.messages + 1 }
     ensures limit { result.turn ≡ Turn.Told → message_limit ≤ reader.new.messages → reader.new.is_closing ≡ true }
@@ -269,9 +271,10 @@ fn serve_all<R: Read + Drop, W: Write, K: Keep, C: Clock>(
 ) -> ServeEnd
     requires goes_on { reader.old.is_closing ≡ false }
     requires first { reader.old.messages ≡ 0 }
-    ensures { (s : State) → K.holds desk.old s → Only s (K.after_stop desk.old)
+    ensures served { (s : State) → K.holds desk.old s → Only s (K.after_stop desk.old)
         → IfSome reader.old.bytes (λ bytes. IfSome (C.answers clock.old) (λ moments.
         IsServed s moments bytes (W.contents writer.old) (W.contents writer.new) (K.holds desk.new) (K.after_stop desk.new) result)) }
+    ensures failed { result.fault ≡ Some ServeFault.Store → K.has_failed desk.new ≡ true }
 {
     let mut answered = 0;
     'messages: while !reader.closing() {
@@ -297,9 +300,10 @@ pub fn serve<R: Read + Drop, W: Write, K: Keep, C: Clock>(
     desk: &mut Desk<K>,
     clock: &mut C,
 ) -> ServeEnd
-    ensures { (s : State) → K.holds desk.old s → Only s (K.after_stop desk.old)
+    ensures served { (s : State) → K.holds desk.old s → Only s (K.after_stop desk.old)
         → IfSome (R.remaining source) (λ bytes. IfSome (C.answers clock.old) (λ moments.
         IsServed s moments bytes (W.contents writer.old) (W.contents writer.new) (K.holds desk.new) (K.after_stop desk.new) result)) }
+    ensures failed { result.fault ≡ Some ServeFault.Store → K.has_failed desk.new ≡ true }
 {
     let Ok(routes) = Routes::new(alloc) else {
         return UNSTARTED;

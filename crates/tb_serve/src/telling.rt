@@ -1,5 +1,5 @@
 //! What a message that was read is told: the desk handles its call, or shows its view.
-ghost use Rattle.std.specs.Prelude.{◌≡◌, ◌∷◌, [], IfOk, None, Ok};
+ghost use Rattle.std.specs.Prelude.{◌≡◌, ◌∷◌, [], IfOk, IsErrOf, None, Ok, true};
 ghost use Rattle.tb_desk.specs.Calls.{State, reply, unknown_caller};
 ghost use Rattle.tb_desk.specs.Keeping.{Only};
 ghost use Rattle.tb_desk.specs.Views.{shown_in};
@@ -30,6 +30,7 @@ pub(crate) fn tell<K: Keep>(
     ensures told { (s : State) → K.holds desk.old s → IfOk result (λ told. told ≡ told_at s message.now at) }
     ensures stands { (s : State) → K.holds desk.old s → Only s (K.after_stop desk.old)
         → ReachesAt result s (calls_in message.now at) (K.holds desk.new) (K.after_stop desk.new) }
+    ensures failed { IsErrOf result KeepFault.Store → K.has_failed desk.new ≡ true }
 {
     match at {
         Some(at) => tell_at(alloc, routes, desk, message, at),
@@ -54,6 +55,7 @@ fn tell_at<K: Keep>(
     ensures told { (s : State) → K.holds desk.old s → IfOk result (λ told. told ≡ told_by s at (asked_of message.now at)) }
     ensures stands { (s : State) → K.holds desk.old s → Only s (K.after_stop desk.old)
         → ReachesAt result s (called_by (asked_of message.now at)) (K.holds desk.new) (K.after_stop desk.new) }
+    ensures failed { IsErrOf result KeepFault.Store → K.has_failed desk.new ≡ true }
 {
     match ask(alloc, routes, message, at) {
         Ok(asked) => tell_asked(alloc, desk, &asked, at),
@@ -71,6 +73,7 @@ fn tell_asked<K: Keep>(
     ensures told { (s : State) → K.holds desk.old s → IfOk result (λ told. told ≡ told_asked s at asked.now) }
     ensures stands { (s : State) → K.holds desk.old s → Only s (K.after_stop desk.old)
         → ReachesAt result s (called_by (Ok asked.now)) (K.holds desk.new) (K.after_stop desk.new) }
+    ensures failed { IsErrOf result KeepFault.Store → K.has_failed desk.new ≡ true }
 {
     match asked {
         Asked::Call(call) => tell_call(alloc, desk, call),
@@ -90,6 +93,7 @@ fn tell_call<K: Keep>(alloc: Global, desk: &mut Desk<K>, call: &Call) -> Result<
     ensures told { (s : State) → K.holds desk.old s → IfOk result (λ told. told ≡ told_reply ContentType.Json (reply s [] call.now)) }
     ensures stands { (s : State) → K.holds desk.old s → Only s (K.after_stop desk.old)
         → ReachesAt result s (call.now ∷ []) (K.holds desk.new) (K.after_stop desk.new) }
+    ensures failed { IsErrOf result KeepFault.Store → K.has_failed desk.new ≡ true }
 {
     let reply = desk.handle(alloc, call)?;
     Ok(Told::reply(ContentType::Json, reply))
@@ -106,6 +110,7 @@ fn tell_view<K: Keep>(
         ≡ told_view view.now (shown_in s sender.now.name sender.now.key view.now at)) }
     ensures stands { (s : State) → K.holds desk.old s → Only s (K.after_stop desk.old)
         → ReachesAt result s [] (K.holds desk.new) (K.after_stop desk.new) }
+    ensures failed { IsErrOf result KeepFault.Store → K.has_failed desk.new ≡ true }
 {
     match desk.view(alloc, &sender.name, &sender.key, view, at) {
         Ok(reply) => Ok(Told::view(view, reply)),

@@ -1,6 +1,8 @@
-use Rattle.std.proofs.Common.{◌+◌, arith, sym, ap, ◌∙◌}
+use Rattle.std.proofs.Common.{◌≡◌, ◌+◌, arith, sym, ap, ◌∙◌}
 use Rattle.tb_serve.proofs.Connection.{has_room, run_closed, run_ends, run_more, run_none, told_on}
-use Rattle.tb_serve.specs.Serving.{ended_by, ended_well}
+use Rattle.tb_serve.proofs.Faults.{store_failed}
+use Rattle.tb_serve.specs.Serving.{ended_by, ended_well, exchange_fault}
+use Rattle.tb_serve.specs.declared.serving.ServeEnd.{ServeEnd}
 use Rattle.tb_serve.proofs.serving.serve_all.Goals as goal
 
 pub messages-init : goal.messages-init
@@ -28,8 +30,8 @@ messages-preserved g c =
           (c.serve_message-exchange.ensures.counted told);
     }
 
-pub returns-then-not-goes_on : goal.returns-then-not-goes_on
-returns-then-not-goes_on g c s held only =
+pub returns-then-not-goes_on-clause-served : goal.returns-then-not-goes_on-clause-served
+returns-then-not-goes_on-clause-served g c s held only =
     let exchange = c.serve_message-exchange.result in
     let cut = sym c.goes_on.ensures ∙ c.if-not-goes_on.true in
     let counts = c.ends.ensures ∙ ap (λ k. ended_by k exchange) (sym c.messages.invariant.counted) in
@@ -39,11 +41,17 @@ returns-then-not-goes_on g c s held only =
     c.messages.reader.messages c.messages.reader.is_closing c.serve_message-exchange.new.reader.is_closing exchange c.serve_message-exchange.new.reader.bytes c.ends.result
     (c.messages.invariant.runs s held only) c.serve_message-exchange.ensures.exchanges cut counts
 
-pub returns : goal.returns
-returns g c s held only =
+pub returns-clause-served : goal.returns-clause-served
+returns-clause-served g c s held only =
     let closed = sym c.closing.ensures ∙ c.messages-test.false in
     run_closed s c.args.reader.now.bytes (g.C.Clock.answers c.args.clock.now) c.messages.reader.bytes (g.C.Clock.answers c.messages.clock)
     (g.W.Write.contents c.args.writer.now) (g.W.Write.contents c.messages.writer)
     (g.K.Keep.holds c.messages.desk) (g.K.Keep.after_stop c.messages.desk)
     c.messages.reader.messages c.messages.reader.is_closing _
     (c.messages.invariant.runs s held only) closed (ap ended_well (sym c.messages.invariant.counted))
+
+pub returns-then-not-goes_on-clause-failed : goal.returns-then-not-goes_on-clause-failed
+returns-then-not-goes_on-clause-failed g c is =
+    let exchange = c.serve_message-exchange.result in
+    let told : c.ends.result.fault ≡ exchange_fault exchange = ap (λ (end : ServeEnd). end.fault) c.ends.ensures in
+    c.serve_message-exchange.ensures.failed (store_failed exchange.turn exchange.is_whole (sym told ∙ is))
