@@ -15,7 +15,7 @@ use tb_program::{Fault, Service, serve_connections};
 use tb_serve::{ServeFault, serve};
 
 /// How long a read or a write of a connection may wait.
-const PATIENCE: Duration = Duration::from_secs(30);
+const SECONDS_OF_SILENCE: u64 = 30;
 
 /// Answers the messages of connections over the boards of a file.
 #[derive(Drop)]
@@ -36,8 +36,9 @@ impl<'a> Service<TcpStream> for Server<'a> {
         // An answer is written as a head and a body, and neither is to wait for the other.
         let _ = stream.set_nodelay(true);
         // A client that neither sends nor takes anything doesn't keep the others waiting for ever.
-        let _ = stream.set_read_timeout(Some(PATIENCE));
-        let _ = stream.set_write_timeout(Some(PATIENCE));
+        let patience = Duration::from_secs(SECONDS_OF_SILENCE);
+        let _ = stream.set_read_timeout(Some(patience));
+        let _ = stream.set_write_timeout(Some(patience));
         let end = serve(
             self.alloc,
             &stream,
