@@ -4,7 +4,7 @@ use crate::calls::{first_of_february, root};
 use std::alloc::{AllocError, Global};
 use std::test::Fail;
 use tb_board::{Key, Name};
-use tb_desk::{Call, Desk, Keep, ListKeep, View};
+use tb_desk::{Call, Desk, Keep, ListKeep, RunEnd, View};
 use tb_reply::Reply;
 use tb_values::{Items, Text};
 
@@ -30,7 +30,8 @@ pub fn exported<K: Keep>(alloc: Global, desk: &mut Desk<K>) -> Result<Text, Fail
 
 /// The replies to the first calls, in order.
 pub fn replies_of<K: Keep>(alloc: Global, desk: &mut Desk<K>, calls: &[Call]) -> Items<Reply> {
-    desk.run(alloc, calls).replies
+    let RunEnd { replies, fault: _ } = desk.run(alloc, calls);
+    replies
 }
 
 /// Whether this is the board after the calls.

@@ -16,9 +16,10 @@ pub fn new_files(alloc: Global) -> Files<Memory> {
 
 /// The files, on disks that let so many calls through.
 pub fn fused<D: Disk>(files: Files<D>, log_calls: u64, file_calls: u64) -> Files<Fuse<D>> {
+    let Files { log, db } = files;
     Files {
-        log: Fuse::new(files.log, log_calls),
-        db: Fuse::new(files.db, file_calls),
+        log: Fuse::new(log, log_calls),
+        db: Fuse::new(db, file_calls),
     }
 }
 

@@ -2,7 +2,7 @@
 
 use crate::calls::{Sent, THREE_SENT, calls_of};
 use crate::files::{fused, new_files, stopped, usable};
-use crate::session::session;
+use crate::session::{Ending, session};
 use crate::stops::{answered_from, stop_once, with_standing};
 use sqlite::Files;
 use sqlite_disk::{Fuse, Memory};
@@ -17,9 +17,13 @@ const LOG_CALLS: u64 = 30;
 fn stopped_in_second_call(alloc: Global) -> Result<Files<Fuse<Memory>>, Fail> {
     let calls = calls_of(alloc, &THREE_SENT)?;
     let files = usable(fused(new_files(alloc), LOG_CALLS, u64::MAX))?;
-    let first = session(alloc, files, calls.as_slice());
-    if first.replies.len() == 1 {
-        Ok(first.files)
+    let Ending {
+        replies,
+        files,
+        is_closed: _,
+    } = session(alloc, files, calls.as_slice());
+    if replies.len() == 1 {
+        Ok(files)
     } else {
         Err(Fail::from("not one reply"))
     }

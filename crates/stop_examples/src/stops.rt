@@ -41,7 +41,12 @@ pub fn with_standing<D: Crash + Drop>(
 {
     let left = found(alloc, files, calls)?;
     assert!(rt; stand(alloc, &left, calls, answered)?);
-    Ok(left.files)
+    let Left {
+        count: _,
+        board: _,
+        files,
+    } = left;
+    Ok(files)
 }
 
 /// The files of a session that sent the calls from this place on, and was answered each of them as lists answer it after those before.
@@ -57,10 +62,14 @@ pub fn answered_from<D: Crash + Drop>(
     let Some(rest) = calls.get(from..) else {
         return Err(Fail::from("no such place"));
     };
-    let ending = session(alloc, files, rest);
-    assert_eq!(rt; ending.replies.len(), rest.len());
-    assert!(rt; are_replies(alloc, calls, from, ending.replies.as_slice())?);
-    Ok(ending.files)
+    let Ending {
+        replies,
+        files,
+        is_closed: _,
+    } = session(alloc, files, rest);
+    assert_eq!(rt; replies.len(), rest.len());
+    assert!(rt; are_replies(alloc, calls, from, replies.as_slice())?);
+    Ok(files)
 }
 
 /// What a stopped session answered is what lists answer, and stands after the stop. So many calls stood before it.
@@ -71,9 +80,14 @@ fn after_stop<D: Crash + Drop>(
     calls: &[Call],
     stood: usize,
 ) -> Result<Files<D>, Fail> {
-    assert!(rt; are_replies(alloc, calls, 0, ending.replies.as_slice())?);
-    let answered = ending.replies.len().max(stood);
-    with_standing(rt, alloc, stopped(ending.files), calls, answered)
+    let Ending {
+        replies,
+        files,
+        is_closed: _,
+    } = ending;
+    assert!(rt; are_replies(alloc, calls, 0, replies.as_slice())?);
+    let answered = replies.len().max(stood);
+    with_standing(rt, alloc, stopped(files), calls, answered)
 }
 
 /// A session that the disk may stop, and another that sends all calls again. True where nothing stopped the first.
