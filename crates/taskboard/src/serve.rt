@@ -6,12 +6,16 @@ use crate::clock::MachineClock;
 use crate::file::{RealFile, close_file, open_desk};
 use std::alloc::Global;
 use std::net::{SocketAddr, TcpListener, TcpStream};
+use std::time::Duration;
 use tb_command_line::ServeOrder;
 use tb_desk::Desk;
 use tb_keeper::SqlKeep;
 use tb_orders::Ending;
 use tb_program::{Fault, Service, serve_connections};
 use tb_serve::{ServeFault, serve};
+
+/// How long a read or a write of a connection may wait.
+const PATIENCE: Duration = Duration::from_secs(30);
 
 /// Answers the messages of connections over the boards of a file.
 #[derive(Drop)]
@@ -31,6 +35,9 @@ impl<'a> Service<TcpStream> for Server<'a> {
     fn answer(&mut self, stream: TcpStream) -> Result<(), Fault> {
         // An answer is written as a head and a body, and neither is to wait for the other.
         let _ = stream.set_nodelay(true);
+        // A client that neither sends nor takes anything doesn't keep the others waiting for ever.
+        let _ = stream.set_read_timeout(Some(PATIENCE));
+        let _ = stream.set_write_timeout(Some(PATIENCE));
         let end = serve(
             self.alloc,
             &stream,

@@ -6,10 +6,10 @@ ghost use Rattle.tb_board.specs.Board.{ids};
 ghost use Rattle.tb_board.specs.Links.{ArePlaces};
 ghost use Rattle.tb_rows.specs.Rows.{board_instances, instance_rows};
 
-use crate::places::place_number;
 use std::alloc::{AllocError, Global};
 use std::collections::BTreeMap;
 use tb_board::Board;
+use tb_rows::instance_row;
 use tb_sql_tables::rows::InstanceRow;
 use tb_task::{Task, TaskId};
 use tb_values::Items;
@@ -75,15 +75,8 @@ fn push_instance(
     requires few { length board.now.tasks ≤ 10000 }
     ensures { OnOk result (instances.new ≡ instances.old ++ instance_rows board.now place task.now) }
 {
-    if let Some(parent) = task.parent {
-        if let Some(imask) = task.imask {
-            instances.push(InstanceRow {
-                board: board.number,
-                template: place_number(board, places, parent),
-                imask,
-                place,
-            })?;
-        }
+    if let Some(row) = instance_row(board, places, place, task) {
+        instances.push(row)?;
     }
     Ok(())
 }

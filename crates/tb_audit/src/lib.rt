@@ -8,6 +8,5 @@ mod boards;
 mod instances;
 mod links;
 mod masks;
-mod places;
 
 pub use boards::is_as_stored;

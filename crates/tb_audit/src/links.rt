@@ -4,12 +4,12 @@ ghost use Rattle.std.specs.Prelude.{◌≡◌, ◌≤◌, ◌↔◌, ◌++◌, I
 ghost use Rattle.tb_audit.specs.Orders.{link_order};
 ghost use Rattle.tb_board.specs.Board.{ids};
 ghost use Rattle.tb_board.specs.Links.{ArePlaces};
-ghost use Rattle.tb_rows.specs.Rows.{board_links, link_row, link_rows};
+ghost use Rattle.tb_rows.specs.Rows.{board_links, link_rows};
 
-use crate::places::place_number;
 use std::alloc::{AllocError, Global};
 use std::collections::BTreeMap;
 use tb_board::Board;
+use tb_rows::link_row;
 use tb_sql_tables::rows::LinkRow;
 use tb_task::{Task, TaskId};
 use tb_values::Items;
@@ -72,16 +72,4 @@ fn push_links(
         links.push(link_row(board, places, place, *id))?;
     }
     Ok(())
-}
-
-fn link_row(board: &Board, places: &BTreeMap<TaskId, usize>, place: u32, id: TaskId) -> LinkRow
-    requires places { ArePlaces (ids board.now.tasks) places.now }
-    requires few { length board.now.tasks ≤ 10000 }
-    ensures { result ≡ link_row board.now place id }
-{
-    LinkRow {
-        board: board.number,
-        place,
-        target: place_number(board, places, id),
-    }
 }

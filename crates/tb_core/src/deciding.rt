@@ -1,4 +1,4 @@
-ghost use Rattle.std.specs.Prelude.{◌≡◌, ℕ, [], List, IfOk, Ok, Err, MatchOption};
+ghost use Rattle.std.specs.Prelude.{◌≡◌, ℕ, [], List, IfErr, IfOk, Ok, Err, MatchOption};
 ghost use Rattle.tb_core.specs.Apply.{apply, judged, on_board, outcome, role_given, seen_of, IsDecision};
 ghost use Rattle.tb_board.specs.Changes.{Follows, IsDraft};
 ghost use Rattle.tb_core.specs.Refusals.{Gives};
@@ -58,7 +58,8 @@ pub fn decide(
     command: &Command,
     at: Moment,
 ) -> Result<Decision, AllocError>
-    ensures { IfOk result (λ d. (w : World) (name : List ℕ) → seen.now ≡ seen_of w name command.now → IsDecision w d (apply w name command.now at)) }
+    ensures decided { IfOk result (λ d. (w : World) (name : List ℕ) → seen.now ≡ seen_of w name command.now → IsDecision w d (apply w name command.now at)) }
+    ensures unchanged { IfOk result (λ d. IfErr d.answer (λ refusal. d.changes ≡ [])) }
 {
     match command {
         Command::NewPerson { name, key } => decide_person(alloc, seen, name, key),
@@ -81,7 +82,8 @@ fn decide_on_board(
     command: &Command,
     at: Moment,
 ) -> Result<Decision, AllocError>
-    ensures { IfOk result (λ d. (w : World) (name : List ℕ) → seen.now ≡ seen_of w name command.now → IsDecision w d (on_board w seen.now command.now at)) }
+    ensures decided { IfOk result (λ d. (w : World) (name : List ℕ) → seen.now ≡ seen_of w name command.now → IsDecision w d (on_board w seen.now command.now at)) }
+    ensures unchanged { IfOk result (λ d. IfErr d.answer (λ refusal. d.changes ≡ [])) }
 {
     if seen.caller.is_none() {
         return Ok(refused(alloc, Refusal::UnknownCaller));
@@ -102,7 +104,8 @@ fn decide_role(
     role: Option<Role>,
     at: Moment,
 ) -> Result<Decision, AllocError>
-    ensures { IfOk result (λ d. (w : World) (name : List ℕ) (n : ℕ) (other : List ℕ) → seen.now ≡ seen_of w name (SetRole n other role) → IsDecision w d (role_given w seen.now seen.now.caller seen.now.board role at)) }
+    ensures decided { IfOk result (λ d. (w : World) (name : List ℕ) (n : ℕ) (other : List ℕ) → seen.now ≡ seen_of w name (SetRole n other role) → IsDecision w d (role_given w seen.now seen.now.caller seen.now.board role at)) }
+    ensures unchanged { IfOk result (λ d. IfErr d.answer (λ refusal. d.changes ≡ [])) }
 {
     if seen.caller.is_none() {
         return Ok(refused(alloc, Refusal::UnknownCaller));

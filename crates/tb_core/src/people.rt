@@ -1,4 +1,4 @@
-ghost use Rattle.std.specs.Prelude.{◌≡◌, IfOk};
+ghost use Rattle.std.specs.Prelude.{◌≡◌, [], IfErr, IfOk};
 ghost use Rattle.tb_core.specs.People.{board_decision, person_decision};
 
 use crate::command::Answer;
@@ -20,7 +20,8 @@ pub fn decide_person(
     name: &Name,
     key: &Key,
 ) -> Result<Decision, AllocError>
-    ensures { IfOk result (λ d. d ≡ person_decision seen.now seen.now.caller name.now key.now) }
+    ensures decided { IfOk result (λ d. d ≡ person_decision seen.now seen.now.caller name.now key.now) }
+    ensures unchanged { IfOk result (λ d. IfErr d.answer (λ refusal. d.changes ≡ [])) }
 {
     let Some(caller) = seen.caller else {
         return Ok(refused(alloc, Refusal::UnknownCaller));
@@ -50,7 +51,8 @@ pub fn decide_person(
 
 /// Begins a board, which the caller owns.
 pub fn decide_board(alloc: Global, seen: &Seen, title: &Title) -> Result<Decision, AllocError>
-    ensures { IfOk result (λ d. d ≡ board_decision seen.now seen.now.caller title.now) }
+    ensures decided { IfOk result (λ d. d ≡ board_decision seen.now seen.now.caller title.now) }
+    ensures unchanged { IfOk result (λ d. IfErr d.answer (λ refusal. d.changes ≡ [])) }
 {
     let Some(caller) = seen.caller else {
         return Ok(refused(alloc, Refusal::UnknownCaller));

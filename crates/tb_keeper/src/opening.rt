@@ -1,6 +1,7 @@
-ghost use Rattle.std.specs.Prelude.{◌≡◌, ◌⊎◌, Err, IfErr, IfOk, MatchResult, false, true};
+ghost use Rattle.std.specs.Prelude.{◌≡◌, ◌⊎◌, Err, IfErr, IfOk, MatchResult, OnOk, false, true};
 ghost use Rattle.sqlite.specs.Held.{state};
 ghost use Rattle.sqlite.specs.State.{HasCleanDisk, Opens};
+ghost use Rattle.tb_core.specs.GoodWorld.{IsGoodWorld};
 ghost use Rattle.tb_desk.specs.Calls.{State};
 ghost use Rattle.tb_sql.specs.Opening.{has_meta, IsAnswered, IsAsBefore};
 ghost use Rattle.tb_sql_tables.specs.Content.{AreRows, Content};
@@ -15,12 +16,13 @@ use crate::world::read_world;
 use sqlite::{Alter, Connection};
 use std::alloc::Global;
 use tb_board::World;
+use tb_good::is_good_world;
 use tb_reopen::laws::rows_are_found_again;
 use tb_sql::opening::{OpenFault, accept};
 use tb_sql::store::StoreFault;
 
 impl<S: Alter> SqlKeep<S> {
-    /// Takes a database as the store that it is.
+    /// Takes a database as the store that it is. Rows that tell no good world are `Store`.
     pub fn open(
         alloc: Global,
         mut conn: Connection<S>,
@@ -36,6 +38,7 @@ impl<S: Alter> SqlKeep<S> {
         ensures unmarked { has_meta (state S.Store conn).now.schema.tables ≡ false → MatchResult result (λ keep. ⊥) (λ e. e.1 ≡ OpenFault.NotOurs) }
         ensures shown { IfErr result (λ e. (e.1 ≡ OpenFault.NotOurs) ⊎ (e.1 ≡ OpenFault.WrongVersion)
             → HasCleanDisk (state S.Store e.0) → has_meta (state S.Store conn).now.schema.tables ≡ true → IsAnswered S.Store conn (Err e.1)) }
+        ensures good { IfOk result (λ keep. IsGoodWorld keep.world) }
         ensures idle { IfErr result (λ e. e.0.in_transaction ≡ false) }
     {
         if let Err(fault) = accept(&mut conn) {
@@ -62,10 +65,23 @@ fn read_state<S: Alter>(
     requires { conn.old.in_transaction ≡ false }
     ensures idle { conn.new.in_transaction ≡ false }
     ensures read { IfOk result (λ found. OfState (state S.Store conn.old) (state S.Store conn.new) (λ s. (found.0 ≡ s.world) × (given found.1 ≡ s.kept))) }
+    ensures good { IfOk result (λ found. IsGoodWorld found.0) }
     ensures same { IsAsBefore (state S.Store conn.old) (state S.Store conn.new) }
 {
     rows_are_found_again();
     let world = read_world(alloc, conn)?;
+    hold_to_good(alloc, &world)?;
     let replies = read_kept(alloc, conn, world.people.as_slice())?;
     Ok((world, replies))
+}
+
+/// Rows that tell a world that isn't good are a failure of the store.
+fn hold_to_good(alloc: Global, world: &World) -> Result<(), StoreFault>
+    ensures { OnOk result (IsGoodWorld world.now) }
+{
+    match is_good_world(alloc, world) {
+        Ok(true) => Ok(()),
+        Ok(false) => Err(StoreFault::Store),
+        Err(_) => Err(StoreFault::Memory),
+    }
 }

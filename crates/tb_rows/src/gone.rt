@@ -8,7 +8,7 @@ ghost use Rattle.tb_sql.specs.declared.changes.RowChange.TheVariants.{AddGone};
 ghost use Rattle.tb_rows.specs.Rows.{board_gone, gone_row};
 ghost use Rattle.tb_rows.specs.Steps.{gone_added, gone_changes, gone_removed};
 
-use crate::tasks::place_number;
+use crate::linking::place_number;
 use std::alloc::{AllocError, Global};
 use std::collections::BTreeMap;
 use tb_board::{Board, Change, Gone};

@@ -6,11 +6,13 @@
 mod boards;
 mod concerned;
 mod gone;
+mod linking;
 mod opening;
 mod people;
 mod roles;
 mod tasks;
 mod worlds;
 
+pub use linking::{instance_row, link_row, place_number};
 pub use opening::opening_rows;
 pub use worlds::row_changes;

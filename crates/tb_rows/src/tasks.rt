@@ -4,16 +4,17 @@ ghost use Rattle.std.specs.Prelude.{◌≡◌, ◌≤◌, ◌<◌, ◌+◌, [], 
 ghost use Rattle.tb_board.specs.Board.{ids};
 ghost use Rattle.tb_board.specs.Links.{ArePlaces};
 ghost use Rattle.tb_sql.specs.declared.changes.RowChange.TheVariants.{AddInstance, AddLink};
-ghost use Rattle.tb_rows.specs.Rows.{instance_rows, link_row, link_rows, mask_cell, place_of, rows_from, task_row};
+ghost use Rattle.tb_rows.specs.Rows.{instance_rows, link_rows, mask_cell, rows_from, task_row};
 ghost use Rattle.tb_rows.specs.Steps.{new_mask, new_task, put_task, task_changes};
 
 use crate::concerned::PlaceList;
+use crate::linking::{instance_row, link_row};
 use std::alloc::{AllocError, Global};
 use std::collections::BTreeMap;
 use tb_board::{Board, is_template_task};
 use tb_json::write_stored;
 use tb_sql::changes::RowChange;
-use tb_sql_tables::rows::{InstanceRow, LinkRow, TaskRow};
+use tb_sql_tables::rows::TaskRow;
 use tb_sweep::mask_of;
 use tb_task::{Task, TaskId};
 use tb_values::{Items, Shared, Text};
@@ -25,18 +26,6 @@ pub(crate) struct Concerned {
     pub(crate) old: usize,
     pub(crate) put: PlaceList,
     pub(crate) templates: PlaceList,
-}
-
-/// The place of a task by its identifier, counted from 1, or 0 where there is none.
-pub(crate) fn place_number(board: &Board, places: &BTreeMap<TaskId, usize>, id: TaskId) -> u32
-    requires places { ArePlaces (ids board.now.tasks) places.now }
-    requires few { length board.now.tasks ≤ 10000 }
-    ensures { result ≡ place_of board.now.tasks id }
-{
-    match places.get(&id) {
-        Some(place) => *place as u32 + 1,
-        None => 0,
-    }
 }
 
 /// The mask of a template as it is stored.
@@ -210,18 +199,6 @@ fn push_links(
     Ok(())
 }
 
-fn link_row(board: &Board, places: &BTreeMap<TaskId, usize>, place: u32, id: TaskId) -> LinkRow
-    requires places { ArePlaces (ids board.now.tasks) places.now }
-    requires few { length board.now.tasks ≤ 10000 }
-    ensures { result ≡ link_row board.now place id }
-{
-    LinkRow {
-        board: board.number,
-        place,
-        target: place_number(board, places, id),
-    }
-}
-
 /// A row where the task is an instance.
 fn push_instance(
     rows: &mut Items<RowChange>,
@@ -234,15 +211,8 @@ fn push_instance(
     requires few { length board.now.tasks ≤ 10000 }
     ensures { OnOk result (rows.new ≡ rows.old ++ map AddInstance (instance_rows board.now place task.now)) }
 {
-    if let Some(parent) = task.parent {
-        if let Some(imask) = task.imask {
-            rows.push(RowChange::AddInstance(InstanceRow {
-                board: board.number,
-                template: place_number(board, places, parent),
-                imask,
-                place,
-            }))?;
-        }
+    if let Some(row) = instance_row(board, places, place, task) {
+        rows.push(RowChange::AddInstance(row))?;
     }
     Ok(())
 }

@@ -2,10 +2,10 @@ use Rattle.std.proofs.lemmas.Result.{IfOk-weaker}
 use Rattle.tb_core.proofs.Decided.{role_applies}
 use Rattle.tb_core.proofs.deciding.decide.Goals as goal
 
-pub returns-in-SetRole : goal.returns-in-SetRole
-returns-in-SetRole c =
+pub returns-in-SetRole-clause-decided : goal.returns-in-SetRole-clause-decided
+returns-in-SetRole-clause-decided c =
     IfOk-weaker c.decide_role.result _ _
     (λ d decides w name is.
     let here = rw c.in-SetRole.is at is in
     rw c.in-SetRole.is (role_applies w c.args.seen.now name c.in-SetRole.board c.in-SetRole.name c.in-SetRole.role c.args.at d here (decides w name _ _ here)))
-    c.decide_role.ensures
+    c.decide_role.ensures.decided

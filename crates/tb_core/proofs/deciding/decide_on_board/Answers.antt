@@ -2,8 +2,8 @@ use Rattle.std.proofs.Common.{ap, not, ◌∙◌}
 use Rattle.tb_core.proofs.Decided.{is_accepted}
 use Rattle.tb_core.proofs.deciding.decide_on_board.Goals as goal
 
-pub returns-in-Ok : goal.returns-in-Ok
-returns-in-Ok c = λ w name is.
+pub returns-in-Ok-clause-decided : goal.returns-in-Ok-clause-decided
+returns-in-Ok-clause-decided c = λ w name is.
     let gives = rw c.get.ensures at c.in-Ok.ensures.gives in
     let made = rw c.get.ensures at c.in-Ok.ensures.made in
     rw c.into_decision.ensures

@@ -8,14 +8,14 @@ pub returns-clause-told : goal.returns-clause-told
 returns-clause-told g c s held new =
     let call = c.args.call.now in
     let saw = c.in_ok-seen.ensures.answer s held (known_is_some s call new.known) in
-    let made = c.in_ok-decision.ensures s.world call.member saw in
+    let made = c.in_ok-decision.ensures.decided s.world call.member saw in
     told_new s call c.in_ok-decision.decision _ made c.in_ok-reply.ensures
 
 pub returns-clause-left : goal.returns-clause-left
 returns-clause-left g c s held new =
     let call = c.args.call.now in
     let saw = c.in_ok-seen.ensures.answer s held (known_is_some s call new.known) in
-    let made = c.in_ok-decision.ensures s.world call.member saw in
+    let made = c.in_ok-decision.ensures.decided s.world call.member saw in
     let decision = c.in_ok-decision.decision in
     let may = may_commit s call decision _ c.as_slice.ensures (g.met.K.Keep.good _ s held) new made in
     subst (g.K.Keep.holds c.commit.new.self) (with_reply-after_call s call decision _ _ c.as_slice.ensures made c.in_ok-reply.ensures)
@@ -25,7 +25,7 @@ pub returns-in_err-commit-clause-store : goal.returns-in_err-commit-clause-store
 returns-in_err-commit-clause-store g c s held new only failed =
     let call = c.args.call.now in
     let saw = c.in_ok-seen.ensures.answer s held (known_is_some s call new.known) in
-    let made = c.in_ok-decision.ensures s.world call.member saw in
+    let made = c.in_ok-decision.ensures.decided s.world call.member saw in
     let decision = c.in_ok-decision.decision in
     let may = may_commit s call decision _ c.as_slice.ensures (g.met.K.Keep.good _ s held) new made in
     either_of (after_call s call) (with_reply-after_call s call decision _ _ c.as_slice.ensures made c.in_ok-reply.ensures)
@@ -35,7 +35,7 @@ pub returns-in_err-commit-clause-memory : goal.returns-in_err-commit-clause-memo
 returns-in_err-commit-clause-memory g c s held new failed =
     let call = c.args.call.now in
     let saw = c.in_ok-seen.ensures.answer s held (known_is_some s call new.known) in
-    let made = c.in_ok-decision.ensures s.world call.member saw in
+    let made = c.in_ok-decision.ensures.decided s.world call.member saw in
     let may = may_commit s call c.in_ok-decision.decision _ c.as_slice.ensures (g.met.K.Keep.good _ s held) new made in
     c.in_err-commit.ensures.memory s (c.in_ok-seen.ensures.same.held s held) may (search rules)
 
@@ -49,7 +49,7 @@ pub returns-in_err-commit-clause-held : goal.returns-in_err-commit-clause-held
 returns-in_err-commit-clause-held g c s held new =
     let call = c.args.call.now in
     let saw = c.in_ok-seen.ensures.answer s held (known_is_some s call new.known) in
-    let made = c.in_ok-decision.ensures s.world call.member saw in
+    let made = c.in_ok-decision.ensures.decided s.world call.member saw in
     let decision = c.in_ok-decision.decision in
     let may = may_commit s call decision _ c.as_slice.ensures (g.met.K.Keep.good _ s held) new made in
     let either = either_of (after_call s call) (with_reply-after_call s call decision _ _ c.as_slice.ensures made c.in_ok-reply.ensures)

@@ -1,6 +1,6 @@
 use Rattle.std.proofs.Common.{arith, sym, ◌∙◌}
 use Rattle.tb_board.proofs.Linking.{place_within}
-use Rattle.tb_rows.proofs.tasks.place_number.Goals as goal
+use Rattle.tb_rows.proofs.linking.place_number.Goals as goal
 
 pub overflow_cast-result : goal.overflow_cast-result
 overflow_cast-result c =

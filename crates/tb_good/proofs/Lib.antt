@@ -1,0 +1,10 @@
+pub mod Counting
+pub mod Numbering
+pub mod Ordering
+pub mod Parts
+pub mod Places
+pub mod Repeats
+pub mod TakenPlaces
+pub mod Telling
+pub mod TemplateSets
+pub mod Tests
