@@ -1,31 +1,45 @@
 //! What lists answer to calls, and the board that they make: every store is compared with it.
 
-use crate::calls::{first_of_february, root};
+use crate::calls::{Owner, first_of_february, root};
 use std::alloc::{AllocError, Global};
 use std::test::Fail;
-use tb_board::{Key, Name};
 use tb_desk::{Call, Desk, Keep, ListKeep, RunEnd, View};
 use tb_reply::Reply;
+use tb_task::Moment;
 use tb_values::{Items, Text};
 
-fn lists(alloc: Global, name: &Name, key: &Key) -> Result<ListKeep, AllocError> {
-    ListKeep::new(alloc, name, key)
+fn lists(alloc: Global, root: &Owner) -> Result<ListKeep, AllocError> {
+    ListKeep::new(alloc, &root.name, &root.key)
 }
 
 fn desk_of_lists(alloc: Global) -> Result<Desk<ListKeep>, Fail> {
-    let (name, key) = root(alloc).ok_or("no root")?;
-    let keep = lists(alloc, &name, &key)?;
+    let root = root(alloc).ok_or("no root")?;
+    let keep = lists(alloc, &root)?;
     Ok(Desk::new(keep))
+}
+
+fn shown<K: Keep>(
+    alloc: Global,
+    desk: &mut Desk<K>,
+    root: &Owner,
+    at: Moment,
+) -> Result<Reply, Fail> {
+    match desk.view(alloc, &root.name, &root.key, &View::Export(1), at) {
+        Ok(reply) => Ok(reply),
+        Err(_) => Err(Fail::from("a fault")),
+    }
 }
 
 /// Board 1 as JSON.
 pub fn exported<K: Keep>(alloc: Global, desk: &mut Desk<K>) -> Result<Text, Fail> {
-    let (name, key) = root(alloc).ok_or("no root")?;
+    let root = root(alloc).ok_or("no root")?;
     let at = first_of_february()?;
-    match desk.view(alloc, &name, &key, &View::Export(1), at) {
-        Ok(reply) => Ok(reply.body),
-        Err(_) => Err(Fail::from("a fault")),
-    }
+    let Reply {
+        number: _,
+        status: _,
+        body,
+    } = shown(alloc, desk, &root, at)?;
+    Ok(body)
 }
 
 /// The replies to the first calls, in order.

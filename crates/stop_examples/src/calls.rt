@@ -24,53 +24,101 @@ pub enum Sent {
 
 pub const THREE_SENT: [Sent; 3] = [Sent::AddRent, Sent::DoneFirst, Sent::Sweep];
 
-pub fn root(alloc: Global) -> Option<(Name, Key)> {
-    let Ok(Some(name)) = Name::read(alloc, "root") else {
-        return None;
-    };
-    let Ok(Some(key)) = Key::read(alloc, "root-key-1") else {
-        return None;
-    };
-    Some((name, key))
+/// Who owns the first board of a new store, and sends the calls.
+#[derive(Drop)]
+pub struct Owner {
+    pub name: Name,
+    pub key: Key,
+}
+
+fn root_name(alloc: Global) -> Option<Name> {
+    match Name::read(alloc, "root") {
+        Ok(name) => name,
+        Err(_) => None,
+    }
+}
+
+fn root_key(alloc: Global) -> Option<Key> {
+    match Key::read(alloc, "root-key-1") {
+        Ok(key) => key,
+        Err(_) => None,
+    }
+}
+
+pub fn root(alloc: Global) -> Option<Owner> {
+    Some(Owner {
+        name: root_name(alloc)?,
+        key: root_key(alloc)?,
+    })
 }
 
 pub fn first_of_february() -> Result<Moment, Fail> {
     Ok(Moment::read(b"20260201T000000Z").ok_or("a moment")?)
 }
 
-/// A call of root under the identifier of this number.
-fn call(alloc: Global, number: u64, content: &[u8], command: Command) -> Result<Call, Fail> {
-    let (member, key) = root(alloc).ok_or("no root")?;
-    Ok(Call {
-        member,
-        key,
-        id: TaskId::made(9, number).ok_or("an identifier")?,
-        moment: first_of_february()?,
-        content: Items::from_slice(alloc, content)?,
-        command,
+/// All of a call but its command.
+#[derive(Drop)]
+struct Envelope {
+    owner: Owner,
+    id: TaskId,
+    at: Moment,
+    content: Items<u8>,
+}
+
+/// For a call of root under the identifier of this number.
+fn addressed(alloc: Global, number: u64, content: &[u8]) -> Result<Envelope, Fail> {
+    let id = TaskId::made(9, number).ok_or("an identifier")?;
+    let at = first_of_february()?;
+    let owner = root(alloc).ok_or("no root")?;
+    let content = Items::from_slice(alloc, content)?;
+    Ok(Envelope {
+        owner,
+        id,
+        at,
+        content,
     })
+}
+
+fn call(envelope: Envelope, command: Command) -> Call {
+    let Envelope {
+        owner: Owner { name, key },
+        id,
+        at,
+        content,
+    } = envelope;
+    Call {
+        member: name,
+        key,
+        id,
+        moment: at,
+        content,
+        command,
+    }
 }
 
 fn add_rent(alloc: Global) -> Result<Call, Fail> {
     let value = Value::from_str(alloc, RENT)?;
-    match read_task(alloc, &value, first_of_february()?) {
-        Ok(incoming) => call(alloc, 1, b"add", Command::Add { board: 1, incoming }),
+    let envelope = addressed(alloc, 1, b"add")?;
+    match read_task(alloc, &value, envelope.at) {
+        Ok(incoming) => Ok(call(envelope, Command::Add { board: 1, incoming })),
         Err(_) => Err(Fail::from("no task")),
     }
 }
 
 fn done_first(alloc: Global) -> Result<Call, Fail> {
     let id = TaskId::made(1, 2).ok_or("an identifier")?;
+    let envelope = addressed(alloc, 2, b"done")?;
     let command = Command::OnTask {
         board: 1,
         id,
         action: Action::Done,
     };
-    call(alloc, 2, b"done", command)
+    Ok(call(envelope, command))
 }
 
 fn sweep(alloc: Global) -> Result<Call, Fail> {
-    call(alloc, 3, b"sweep", Command::Sweep { board: 1 })
+    let envelope = addressed(alloc, 3, b"sweep")?;
+    Ok(call(envelope, Command::Sweep { board: 1 }))
 }
 
 fn call_of(alloc: Global, sent: Sent) -> Result<Call, Fail> {

@@ -3,7 +3,7 @@
 ghost use Rattle.std.specs.Prelude.{◌≡◌, IsTrue, false};
 
 use crate::by_lists::{exported, replies_of};
-use crate::calls::root;
+use crate::calls::{Owner, root};
 use sqlite::{Alter, Connection, FileStore, Files, Options};
 use sqlite_disk::{Crash, Disk};
 use std::alloc::Global;
@@ -14,15 +14,25 @@ use tb_reply::Reply;
 use tb_sql::opening::is_empty;
 use tb_values::{Items, Text};
 
+fn created_for<S: Alter + Drop>(
+    alloc: Global,
+    conn: Connection<S>,
+    root: &Owner,
+) -> Result<SqlKeep<S>, Connection<S>>
+    requires { conn.in_transaction ≡ false }
+{
+    match SqlKeep::create(alloc, conn, &root.name, &root.key) {
+        Ok(keep) => Ok(keep),
+        Err((conn, _)) => Err(conn),
+    }
+}
+
 fn created<S: Alter + Drop>(alloc: Global, conn: Connection<S>) -> Result<SqlKeep<S>, Connection<S>>
     requires { conn.in_transaction ≡ false }
 {
-    let Some((name, key)) = root(alloc) else {
-        return Err(conn);
-    };
-    match SqlKeep::create(alloc, conn, &name, &key) {
-        Ok(keep) => Ok(keep),
-        Err((conn, _)) => Err(conn),
+    match root(alloc) {
+        Some(root) => created_for(alloc, conn, &root),
+        None => Err(conn),
     }
 }
 
