@@ -1,0 +1,74 @@
+#!/bin/sh
+# Changes the rows of a file by another hand: what tells no good world is refused as Store, and masks and least free numbers are counted
+# by `check`. Run at the top of the repository. It needs python3 with its sqlite3, and takes seconds once the program is built.
+set -eu
+
+top=$(pwd)
+folder=$(mktemp -d)
+trap 'rm -rf "$folder"' EXIT
+
+# Builds the program where a source has changed since it was built.
+"$top/taskboard" run </dev/null
+cd "$folder"
+python3 - "$top/crates/taskboard/out/taskboard" <<'HANDS'
+import json
+import shutil
+import sqlite3
+import subprocess
+import sys
+
+program = sys.argv[1]
+ids = [f"10000000-0000-4000-8000-{number:012d}" for number in range(3)]
+template = "20000000-0000-4000-8000-000000000000"
+call = "00000000-0000-4000-8000-000000000001"
+
+
+def ran(words, text=""):
+    done = subprocess.run([program, *words], input=text.encode(), capture_output=True)
+    return done.returncode, (done.stdout + done.stderr).decode()
+
+
+def depends_on(place, identifier):
+    member = f'"depends":["{identifier}"],"description"'
+    return f"""UPDATE task SET body = replace(body, '"description"', '{member}') WHERE place = {place}"""
+
+
+def stored():
+    ran(["init", "good.db", "ann", "ann-key-1"])
+    entered = {"entry": "20260101T000000Z"}
+    tasks = [{"description": "Sand", "uuid": one, "status": "pending", **entered} for one in ids]
+    rent = {"description": "Rent", "uuid": template, "status": "recurring", "due": "20260131T090000Z", "recur": "monthly", **entered}
+    status, _ = ran(["import", "good.db", "ann", "ann-key-1", call, "1", "json"], json.dumps([*tasks, rent]))
+    assert status == 0
+
+
+def tried(name, changes, wanted):
+    shutil.copy("good.db", "other.db")
+    other = sqlite3.connect("other.db")
+    for change in changes:
+        assert other.execute(change).rowcount > 0, change
+    other.commit()
+    other.close()
+    status, said = ran(["check", "other.db"])
+    if not said.endswith(wanted) or status != (0 if wanted == "faults 0\n" else 1):
+        sys.exit(f"{name}: expected '{wanted}', but got {status} '{said}'")
+
+
+store = "taskboard: Store\n"
+stored()
+tried("nothing", [], "faults 0\n")
+tried("one link", [depends_on(1, ids[1])], "faults 1\n")
+tried("a circle", [depends_on(1, ids[1]), depends_on(2, ids[0])], store)
+tried("a link to itself", [depends_on(1, ids[0])], store)
+tried("a link to nowhere", [depends_on(1, call)], store)
+tried("no owner", ["DELETE FROM role"], store)
+tried("a task lost", ["DELETE FROM task WHERE place = 2"], store)
+tried("an instance lost", ["DELETE FROM task WHERE place = 5"], store)
+tried("another board", ["UPDATE board SET id = 3"], store)
+tried("an empty body", ["UPDATE task SET body = '{}' WHERE place = 1"], store)
+tried("no name", ["UPDATE person SET name = 'a b'"], store)
+tried("another mask", ["UPDATE task SET mask = '-' WHERE mask IS NOT NULL"], "faults 1\n")
+tried("another least number", ["UPDATE board SET low = 77"], "faults 1\n")
+tried("another version", ["UPDATE meta SET version = 7"], "taskboard: WrongVersion\n")
+print("refused and counted")
+HANDS
