@@ -1,10 +1,13 @@
 //! Databases that are no store, or have no room for one.
 
+ghost use Rattle.std.specs.Prelude.{◌≡◌, false};
+
 use crate::calls::{add, call, handled, root};
 use crate::reopened::desk_in_memory;
 use sqlite::{Connection, MemStore};
 use std::alloc::Global;
 use std::test::Fail;
+use tb_desk::Desk;
 use tb_keeper::{CreateFault, SqlKeep};
 use tb_sql::opening::OpenFault;
 
@@ -54,57 +57,61 @@ const FIRST_ON_SECOND: &str =
 const SECOND_ON_FIRST: &str =
     r#"UPDATE task SET body = '{"depends":["00000001-0000-8000-8000-000000000001"],"description":"Sand","entry":"20260101T000000Z","status":"pending","uuid":"00000001-0000-8000-8000-000000000002"}' WHERE place = 2"#;
 
+fn add_sand(alloc: Global, desk: &mut Desk<SqlKeep<MemStore>>, number: u64) -> Result<(), Fail> {
+    let command = add(alloc, r#"{"description":"Sand"}"#)?;
+    let added = call(alloc, number, b"add", command)?;
+    let _ = handled(alloc, desk, &added)?;
+    Ok(())
+}
+
 /// A store with two tasks.
 fn two_tasks(alloc: Global) -> Result<Connection<MemStore>, Fail> {
     let mut desk = desk_in_memory(alloc)?;
-    let first = call(alloc, 1, b"first", add(alloc, r#"{"description":"Sand"}"#)?)?;
-    let second = call(
-        alloc,
-        2,
-        b"second",
-        add(alloc, r#"{"description":"Sand"}"#)?,
-    )?;
-    let _ = handled(alloc, &mut desk, &first)?;
-    let _ = handled(alloc, &mut desk, &second)?;
+    add_sand(alloc, &mut desk, 1)?;
+    add_sand(alloc, &mut desk, 2)?;
     Ok(desk.into_keep().close())
 }
 
-/// The store, opened and closed again after a change by another hand.
-fn changed(
+fn opening_fault(alloc: Global, conn: Connection<MemStore>) -> Option<OpenFault>
+    requires { conn.in_transaction ≡ false }
+{
+    match SqlKeep::open(alloc, conn) {
+        Ok(_) => None,
+        Err((_, fault)) => Some(fault),
+    }
+}
+
+/// How a store is opened after changes by another hand.
+fn fault_after(
     alloc: Global,
     mut conn: Connection<MemStore>,
-    text: &str,
-) -> Result<Result<Connection<MemStore>, OpenFault>, Fail> {
-    conn.execute_batch(text)?;
+    texts: &[&str],
+) -> Result<Option<OpenFault>, Fail> {
+    for text in texts {
+        conn.execute_batch(text)?;
+    }
     if !conn.is_autocommit() {
         return Err(Fail::from("a transaction goes on"));
     }
-    match SqlKeep::open(alloc, conn) {
-        Ok(keep) => Ok(Ok(keep.close())),
-        Err((_, fault)) => Ok(Err(fault)),
-    }
+    Ok(opening_fault(alloc, conn))
 }
 
 /// A link is taken, and a second one that closes a circle isn't.
 #[test]
 fn circle_of_links(rt: HostRuntime) -> Result<(), Fail> {
     let alloc = rt.alloc();
-    let Ok(conn) = changed(alloc, two_tasks(alloc)?, FIRST_ON_SECOND)? else {
-        return Err(Fail::from("not opened"));
-    };
-    let Err(fault) = changed(alloc, conn, SECOND_ON_FIRST)? else {
-        return Err(Fail::from("taken"));
-    };
-    assert_eq!(rt; fault, OpenFault::Store);
+    let fault = fault_after(alloc, two_tasks(alloc)?, &[FIRST_ON_SECOND])?;
+    assert_eq!(rt; fault, None);
+    let circle = [FIRST_ON_SECOND, SECOND_ON_FIRST];
+    let fault = fault_after(alloc, two_tasks(alloc)?, &circle)?;
+    assert_eq!(rt; fault, Some(OpenFault::Store));
     Ok(())
 }
 
 #[test]
 fn board_without_owner(rt: HostRuntime) -> Result<(), Fail> {
     let alloc = rt.alloc();
-    let Err(fault) = changed(alloc, two_tasks(alloc)?, "DELETE FROM role")? else {
-        return Err(Fail::from("taken"));
-    };
-    assert_eq!(rt; fault, OpenFault::Store);
+    let fault = fault_after(alloc, two_tasks(alloc)?, &["DELETE FROM role"])?;
+    assert_eq!(rt; fault, Some(OpenFault::Store));
     Ok(())
 }
