@@ -3,7 +3,7 @@
 use crate::calls::{Sent, THREE_SENT, calls_of};
 use crate::files::{fused, new_files, stopped, usable};
 use crate::session::{Ending, session};
-use crate::stops::{answered_from, stop_once, with_standing};
+use crate::stops::{answered_from, with_standing};
 use sqlite::Files;
 use sqlite_disk::{Fuse, Memory};
 use std::alloc::Global;
@@ -77,29 +77,5 @@ fn replies_are_kept(rt: HostRuntime) -> Result<(), Fail> {
     let files = answered_from(&rt, alloc, usable(files)?, sent.as_slice(), 2)?;
     let two = calls_of(alloc, &TWO_SENT)?;
     let _ = with_standing(&rt, alloc, usable(files)?, two.as_slice(), 2)?;
-    Ok(())
-}
-
-/// A session after a stopped one, which the log stops after so many calls. True where nothing stops it.
-fn stop_again(rt: &impl Abort, alloc: Global, log_calls: u64) -> Result<bool, Fail> {
-    let files = stopped(stopped_in_second_call(alloc)?);
-    let files = usable(fused(files, log_calls, u64::MAX))?;
-    let calls = calls_of(alloc, &THREE_SENT)?;
-    stop_once(rt, alloc, files, calls.as_slice(), 1)
-}
-
-/// Stops the session after a stopped one at one call of the log after the other. True where it ended without a stop.
-fn second_stops(rt: &impl Abort, alloc: Global, end: u64) -> Result<bool, Fail> {
-    for log_calls in 0..end {
-        if stop_again(rt, alloc, log_calls)? {
-            return Ok(true);
-        }
-    }
-    Ok(false)
-}
-
-#[test]
-fn stop_twice(rt: HostRuntime) -> Result<(), Fail> {
-    assert!(rt; second_stops(&rt, rt.alloc(), 200)?);
     Ok(())
 }

@@ -72,13 +72,12 @@ pub fn answered_from<D: Crash + Drop>(
     Ok(files)
 }
 
-/// What a stopped session answered is what lists answer, and stands after the stop. So many calls stood before it.
+/// What a stopped session answered is what lists answer, and stands after the stop.
 fn after_stop<D: Crash + Drop>(
     rt: &impl Abort,
     alloc: Global,
     ending: Ending<D>,
     calls: &[Call],
-    stood: usize,
 ) -> Result<Files<D>, Fail> {
     let Ending {
         replies,
@@ -86,23 +85,22 @@ fn after_stop<D: Crash + Drop>(
         is_closed: _,
     } = ending;
     assert!(rt; are_replies(alloc, calls, 0, replies.as_slice())?);
-    let answered = replies.len().max(stood);
+    let answered = replies.len();
     with_standing(rt, alloc, stopped(files), calls, answered)
 }
 
 /// A session that the disk may stop, and another that sends all calls again. True where nothing stopped the first.
-pub fn stop_once<D: Crash + Drop>(
+fn stop_once<D: Crash + Drop>(
     rt: &impl Abort,
     alloc: Global,
     files: Files<D>,
     calls: &[Call],
-    stood: usize,
 ) -> Result<bool, Fail>
     requires { IsTrue (D.Disk.is_usable files.log) × IsTrue (D.Disk.is_usable files.db) }
 {
     let first = session(alloc, files, calls);
     let is_whole = first.is_closed && first.replies.len() == calls.len();
-    let files = after_stop(rt, alloc, first, calls, stood)?;
+    let files = after_stop(rt, alloc, first, calls)?;
     let files = answered_from(rt, alloc, stopped(files), calls, 0)?;
     let _ = with_standing(rt, alloc, stopped(files), calls, calls.len())?;
     Ok(is_whole)
@@ -112,7 +110,7 @@ pub fn stop_once<D: Crash + Drop>(
 fn stop_new(rt: &impl Abort, alloc: Global, log_calls: u64, file_calls: u64) -> Result<bool, Fail> {
     let calls = calls_of(alloc, &THREE_SENT)?;
     let files = usable(fused(new_files(alloc), log_calls, file_calls))?;
-    stop_once(rt, alloc, files, calls.as_slice(), 0)
+    stop_once(rt, alloc, files, calls.as_slice())
 }
 
 /// Stops at one call of the log after the other. True where a session ended without a stop.
