@@ -23,12 +23,7 @@ pub fn place_number(board: &Board, places: &BTreeMap<TaskId, usize>, id: TaskId)
 }
 
 /// The row of the link from the task at a place to the one of an identifier.
-pub fn link_row(
-    board: &Board,
-    places: &BTreeMap<TaskId, usize>,
-    place: u32,
-    id: TaskId,
-) -> LinkRow
+pub fn link_row(board: &Board, places: &BTreeMap<TaskId, usize>, place: u32, id: TaskId) -> LinkRow
     requires places { ArePlaces (ids board.now.tasks) places.now }
     requires few { length board.now.tasks ≤ 10000 }
     ensures { result ≡ link_row board.now place id }
