@@ -1,8 +1,9 @@
-use Rattle.std.proofs.Common.{◌≡◌, [], OnErr, subst}
+use Rattle.std.proofs.Common.{◌≡◌, [], IfOk, OnErr, subst}
 use Rattle.tb_desk.specs.Calls.{reply}
 use Rattle.tb_desk.specs.declared.call.Call.{Call}
-use Rattle.tb_orders.specs.Orders.{line_text}
+use Rattle.tb_orders.specs.Orders.{ending_of, line_text}
 use Rattle.tb_values.specs.Appends.{AppendsFront}
+use Rattle.tb_orders.proofs.Standing.{untouched}
 use Rattle.tb_orders.proofs.importing.import_text.Goals as goal
 
 pub returns-in-Ok-Call-clause-front : goal.returns-in-Ok-Call-clause-front
@@ -12,3 +13,13 @@ returns-in-Ok-Call-clause-front g c s held call asks =
     let P : Call → Type 0 = λ made. OnErr c.make_call.result
     (AppendsFront (g.W.Write.contents c.args.writer.now) (g.W.Write.contents c.make_call.new.writer) (line_text (reply s [] made))) in
     subst P same (c.make_call.ensures.front s held)
+
+pub returns-in-Ok-Call-clause-ending : goal.returns-in-Ok-Call-clause-ending
+returns-in-Ok-Call-clause-ending g c s held call asks =
+    let read = c.in-Ok-Call.ensures in
+    let same : c.in-Ok-Call.call ≡ call = cc in
+    let P : Call → Type 0 = λ made. IfOk c.make_call.result (λ ending. ending ≡ ending_of (reply s [] made)) in
+    subst P same (c.make_call.ensures.ending s held)
+
+pub returns-clause-stands : goal.returns-clause-stands
+returns-clause-stands g c s held only call asks = untouched s call _ _ held only

@@ -3,6 +3,7 @@ use Rattle.tb_desk.specs.Calls.{reply}
 use Rattle.tb_orders.specs.Orders.{line_text}
 use Rattle.tb_reply.specs.declared.reply.Reply.{Reply}
 use Rattle.tb_values.specs.Appends.{AppendsFront}
+use Rattle.tb_orders.proofs.Standing.{written_or_not}
 use Rattle.tb_orders.proofs.importing.make_call.Goals as goal
 
 pub returns-in-Ok-clause-front : goal.returns-in-Ok-clause-front
@@ -10,3 +11,6 @@ returns-in-Ok-clause-front g c s held =
     let P : Reply → Type 0 = λ told. OnErr c.print_reply.result
     (AppendsFront (g.W.Write.contents c.args.writer.now) (g.W.Write.contents c.print_reply.new.writer) (line_text told)) in
     subst P (c.in-Ok.ensures.told s held) c.print_reply.ensures.front
+
+pub returns-in-Ok-clause-stands : goal.returns-in-Ok-clause-stands
+returns-in-Ok-clause-stands g c s held only = written_or_not c.print_reply.result s c.args.call.now _ _ (c.in-Ok.ensures.stands s held only)
