@@ -8,7 +8,7 @@ use std::alloc::Global;
 use std::net::{SocketAddr, TcpListener, TcpStream};
 use std::time::Duration;
 use tb_command_line::ServeOrder;
-use tb_desk::Desk;
+use tb_desk::{Desk, Keep};
 use tb_keeper::SqlKeep;
 use tb_orders::Ending;
 use tb_program::{Fault, Service, serve_connections};
@@ -28,10 +28,13 @@ struct Server<'a> {
 impl<'a> Service<TcpStream> for Server<'a> {
     ghost follows = { λ _ _. Unit {0} };
 
+    ghost has_failed = { λ server. ⟦<SqlKeep<RealFile> as Keep>⟧.has_failed server.desk };
+
     ghost unchanged = { λ _. tt };
 
     ghost joined = { λ _ _ _ _ _. tt };
 
+    #[tactic(auto, using(crate::proofs::Serving::ends_by_store))]
     fn answer(&mut self, stream: TcpStream) -> Result<(), Fault> {
         // An answer is written as a head and a body, and neither is to wait for the other.
         let _ = stream.set_nodelay(true);
