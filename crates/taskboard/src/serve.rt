@@ -8,14 +8,14 @@ use std::alloc::Global;
 use std::net::{SocketAddr, TcpListener, TcpStream};
 use std::time::Duration;
 use tb_command_line::ServeOrder;
-use tb_desk::Desk;
+use tb_desk::{Desk, Keep};
 use tb_keeper::SqlKeep;
 use tb_orders::Ending;
 use tb_program::{Fault, Service, serve_connections};
 use tb_serve::{ServeFault, serve};
 
 /// How long a read or a write of a connection may wait.
-const SECONDS_OF_SILENCE: u64 = 30;
+const PATIENCE: Duration = Duration::from_secs(30);
 
 /// Answers the messages of connections over the boards of a file.
 #[derive(Drop)]
@@ -28,17 +28,19 @@ struct Server<'a> {
 impl<'a> Service<TcpStream> for Server<'a> {
     ghost follows = { λ _ _. Unit {0} };
 
+    ghost has_failed = { λ server. ⟦<SqlKeep<RealFile> as Keep>⟧.has_failed server.desk };
+
     ghost unchanged = { λ _. tt };
 
     ghost joined = { λ _ _ _ _ _. tt };
 
+    #[tactic(auto, using(crate::proofs::Serving::ends_by_store))]
     fn answer(&mut self, stream: TcpStream) -> Result<(), Fault> {
         // An answer is written as a head and a body, and neither is to wait for the other.
         let _ = stream.set_nodelay(true);
         // A client that neither sends nor takes anything doesn't keep the others waiting for ever.
-        let patience = Duration::from_secs(SECONDS_OF_SILENCE);
-        let _ = stream.set_read_timeout(Some(patience));
-        let _ = stream.set_write_timeout(Some(patience));
+        let _ = stream.set_read_timeout(Some(PATIENCE));
+        let _ = stream.set_write_timeout(Some(PATIENCE));
         let end = serve(
             self.alloc,
             &stream,

@@ -77,7 +77,8 @@ fn read_state<S: Alter>(
 
 /// Rows that tell a world that isn't good are a failure of the store.
 fn hold_to_good(alloc: Global, world: &World) -> Result<(), StoreFault>
-    ensures { OnOk result (IsGoodWorld world.now) }
+    ensures good { OnOk result (IsGoodWorld world.now) }
+    ensures refused { result ≡ Err StoreFault.Store → IsGoodWorld world.now → ⊥ }
 {
     match is_good_world(alloc, world) {
         Ok(true) => Ok(()),

@@ -17,7 +17,10 @@ use tb_sql_tables::rows::BoardRow;
 use tb_values::{Items, Shared};
 
 /// Rows that no state has are a failure of the store.
-pub(crate) fn fault_of(fault: ReopenFault) -> StoreFault {
+pub(crate) fn fault_of(fault: ReopenFault) -> StoreFault
+    ensures rows { fault ≡ ReopenFault.NotRows → result ≡ StoreFault.Store }
+    ensures memory { fault ≡ ReopenFault.Memory → result ≡ StoreFault.Memory }
+{
     match fault {
         ReopenFault::NotRows => StoreFault::Store,
         ReopenFault::Memory => StoreFault::Memory,

@@ -1,5 +1,5 @@
 //! Connections, served one after the other.
-ghost use Rattle.std.specs.Prelude.{◌≡◌, IfErr};
+ghost use Rattle.std.specs.Prelude.{◌≡◌, Bool, IfErr, IsErr, true};
 ghost use Rattle.tb_program.specs.declared.fault.Fault.TheVariants.{Store};
 
 use crate::fault::Fault;
@@ -11,6 +11,9 @@ pub trait Service<S> {
     /// One service comes of another by answering connections.
     ghost follows: { Self → Self → Type 0 };
 
+    /// The store has failed, so no further connection is answered.
+    ghost has_failed: { Self → Bool };
+
     ghost unchanged: { (s : Self) → follows s s };
 
     ghost joined: { (a b c : Self) → follows a b → follows b c → follows a c };
@@ -18,7 +21,8 @@ pub trait Service<S> {
     /// Answers one connection to its end. Where the store failed, no further one is answered.
     fn answer(&mut self, stream: S) -> Result<(), Fault>
         ensures after { follows self.old self.new }
-        ensures fault { IfErr result (λ fault. fault ≡ Store) };
+        ensures fault { IfErr result (λ fault. fault ≡ Store) }
+        ensures failed { IsErr result → has_failed self.new ≡ true };
 }
 
 /// Serves up to so many connections. One that can't be accepted counts as served.
@@ -29,6 +33,7 @@ pub fn serve_connections<L: OpenListener, V: Service<L::Stream>>(
 ) -> Result<(), Fault>
     ensures after { V.follows service.old service.new }
     ensures fault { IfErr result (λ fault. fault ≡ Store) }
+    ensures failed { IsErr result → V.has_failed service.new ≡ true }
 {
     for stream in listener.incoming().take(connections as usize) {
         answer_accepted(service, stream)?;
@@ -39,6 +44,7 @@ pub fn serve_connections<L: OpenListener, V: Service<L::Stream>>(
 fn answer_accepted<S, V: Service<S>>(service: &mut V, stream: io::Result<S>) -> Result<(), Fault>
     ensures after { V.follows service.old service.new }
     ensures fault { IfErr result (λ fault. fault ≡ Store) }
+    ensures failed { IsErr result → V.has_failed service.new ≡ true }
 {
     match stream {
         Ok(stream) => service.answer(stream),

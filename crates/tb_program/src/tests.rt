@@ -94,7 +94,11 @@ struct Counter {
 }
 
 impl Service<u8> for Counter {
+    ghost use Rattle.std.specs.Prelude.{nat_le};
+
     ghost follows = { λ _ _. Unit {0} };
+
+    ghost has_failed = { λ counter. nat_le counter.most counter.answered };
 
     ghost unchanged = { λ _. tt };
 
