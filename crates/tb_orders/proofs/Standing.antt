@@ -1,24 +1,26 @@
 -- What stands of one call.
-use Rattle.std.proofs.Common.{◌≡◌, ◌+◌, ◌≤◌, ◌∙◌, ℕ, zero, suc, [], ◌∷◌, List, Result, Ok, Err, take, ap, arith, if◌then◌else◌, is_ok, refl}
-use Rattle.std.proofs.Math.Seq.{take-nil}
-use Rattle.tb_desk.specs.Calls.{State, once, plain}
-use Rattle.tb_desk.specs.Keeping.{IsAfterSome, Only, StandsAfter}
+use Rattle.std.proofs.Common.{◌≡◌, ◌∷◌, [], Result, Ok, Err, IfErr, arith, refl, subst, sym}
+use Rattle.tb_desk.specs.Calls.{State}
+use Rattle.tb_desk.specs.Keeping.{Only, StandsAfter}
 use Rattle.tb_desk.specs.declared.call.Call.{Call}
+use Rattle.tb_desk.specs.declared.fault.KeepFault.{KeepFault}
+use Rattle.tb_desk.specs.declared.fault.KeepFault.TheVariants.{Memory, Store}
+use Rattle.tb_orders.specs.Orders.{calls_made, fault_of}
+use Rattle.tb_orders.specs.declared.ending.Ending.{Ending}
+use Rattle.tb_program.specs.declared.fault.Fault.{Fault}
+use Rattle.tb_program.specs.declared.fault.Fault.TheVariants.{WriteFailed}
 
--- what stands after a call stands after a call that wasn't answered
-unanswered : (s : State) (c : Call) (now stops : State → Type 0) → StandsAfter s (c ∷ []) 1 now stops → StandsAfter s (c ∷ []) 0 now stops
-unanswered s c now stops stood =
-    record { held = (stood.held.0, stood.held.1, fewer stood.held.0 stood.held.2); stops = λ t left. fewer t (stood.stops t left) }
-  where
-    fewer : (t : State) → IsAfterSome s (c ∷ []) 1 t → IsAfterSome s (c ∷ []) 0 t
-    fewer t (zero, low, high, same) = (0, omega arith, omega arith, same)
-    fewer t (suc j, low, high, same) = (1, omega arith, omega arith, same ∙ ap (λ rest. plain s (once s (c ∷ rest))) (take-nil j))
+-- a call that was answered, whether its reply could be written or not
+pub answered : (r : Result Ending Fault) (s : State) (c : Call) (now stops : State → Type 0) → IfErr r (λ fault. fault ≡ WriteFailed)
+    → StandsAfter s (c ∷ []) 1 now stops → StandsAfter s (c ∷ []) (calls_made r) now stops
+answered (Ok ending) s c now stops unwritten stood = stood
+answered (Err fault) s c now stops unwritten stood = subst (λ f. StandsAfter s (c ∷ []) (calls_made (Err f)) now stops) (sym unwritten) stood
 
--- the same, whether the answer was written or not
-pub written_or_not : {T E : Type 0} (r : Result T E) (s : State) (c : Call) (now stops : State → Type 0) → StandsAfter s (c ∷ []) 1 now stops
-    → StandsAfter s (c ∷ []) (if is_ok r then 1 else 0) now stops
-written_or_not (Ok x) s c now stops stood = stood
-written_or_not (Err e) s c now stops stood = unanswered s c now stops stood
+-- a call that the desk couldn't answer
+pub unanswered : (keep : KeepFault) (fault : Fault) (s : State) (c : Call) (now stops : State → Type 0) → fault ≡ fault_of keep
+    → StandsAfter s (c ∷ []) 0 now stops → StandsAfter s (c ∷ []) (calls_made (Err fault)) now stops
+unanswered Memory fault s c now stops is stood = subst (λ f. StandsAfter s (c ∷ []) (calls_made (Err f)) now stops) (sym is) stood
+unanswered Store fault s c now stops is stood = subst (λ f. StandsAfter s (c ∷ []) (calls_made (Err f)) now stops) (sym is) stood
 
 -- a call that wasn't handled
 pub untouched : (s : State) (c : Call) (now stops : State → Type 0) → now s → Only s stops → StandsAfter s (c ∷ []) 0 now stops

@@ -1,5 +1,5 @@
 -- What views ask for, and what replies come to on standard output.
-use Rattle.std.specs.Prelude.{◌≡◌, ℕ, ◌==◌, List, [], ◌∷◌, ◌++◌, Ok, if◌then◌else◌}
+use Rattle.std.specs.Prelude.{◌≡◌, ℕ, ◌==◌, List, [], ◌∷◌, ◌++◌, Result, Ok, Err, if◌then◌else◌}
 use Rattle.tb_command_line.specs.declared.order.ViewKind.TheVariants as shows
 use Rattle.tb_command_line.specs.declared.order.ViewOrder.{ViewOrder}
 use Rattle.tb_command_line.specs.declared.order.ViewKind.{ViewKind}
@@ -48,6 +48,12 @@ view_text reply = if reply.number == 0 then reply.body else reply.body ++ 10 ∷
 
 abbrev pub line_text : Reply → List ℕ
 line_text reply = reply.body ++ 10 ∷ []
+
+-- how many calls an import has made: the one that it asks for stands too where its reply couldn't be written
+abbrev pub calls_made : Result Ending Fault → ℕ
+calls_made (Ok ending) = 1
+calls_made (Err fault.WriteFailed) = 1
+calls_made (Err other) = 0
 
 abbrev pub fault_of : KeepFault → Fault
 fault_of keep.Memory = fault.Memory

@@ -1,10 +1,10 @@
 //! Imports of standard input.
-ghost use Rattle.std.specs.Prelude.{◌≡◌, ◌⊎◌, ◌∷◌, [], IfErr, IfOk, IsErrOf, OnErr, OnOk, if◌then◌else◌, is_ok, true};
+ghost use Rattle.std.specs.Prelude.{◌≡◌, ◌⊎◌, ◌∷◌, [], IfErr, IfOk, IsErrOf, OnErr, OnOk, true};
 ghost use Rattle.std.specs.Io.KnownBytes.{Appends};
 ghost use Rattle.tb_desk.specs.Calls.{State, once, plain, reply};
 ghost use Rattle.tb_desk.specs.Keeping.{Only, StandsAfter};
 ghost use Rattle.tb_desk.specs.declared.call.Call.{Call};
-ghost use Rattle.tb_orders.specs.Orders.{AsksFor, ending_of, line_text};
+ghost use Rattle.tb_orders.specs.Orders.{AsksFor, calls_made, ending_of, line_text};
 ghost use Rattle.tb_orders.specs.Telling.{is_of_answers, is_of_imports};
 ghost use Rattle.tb_program.specs.declared.fault.Fault.TheVariants.{BadBody, Memory, Store, WriteFailed};
 ghost use Rattle.tb_values.specs.Appends.{AppendsFront};
@@ -41,7 +41,7 @@ pub fn import_text<K: Keep, W: Write>(
     ensures written { (s : State) → K.holds desk.old s → (call : Call) → AsksFor message.now at call
         → IsErrOf result WriteFailed → K.holds desk.new (plain s (once s (call ∷ []))) }
     ensures stands { (s : State) → K.holds desk.old s → Only s (K.after_stop desk.old) → (call : Call) → AsksFor message.now at call
-        → StandsAfter s (call ∷ []) (if is_ok result then 1 else 0) (K.holds desk.new) (K.after_stop desk.new) }
+        → StandsAfter s (call ∷ []) (calls_made result) (K.holds desk.new) (K.after_stop desk.new) }
     ensures unread { IsErrOf result BadBody → (call : Call) → AsksFor message.now at call → ⊥ }
     ensures same { IsErrOf result BadBody → desk.new ≡ desk.old }
     ensures fault { IfErr result (λ fault. is_of_imports fault ≡ true) }
@@ -71,7 +71,7 @@ fn make_call<K: Keep, W: Write>(
     ensures memory { (s : State) → K.holds desk.old s → IsErrOf result Memory → K.holds desk.new s }
     ensures written { (s : State) → K.holds desk.old s → IsErrOf result WriteFailed → K.holds desk.new (plain s (once s (call.now ∷ []))) }
     ensures stands { (s : State) → K.holds desk.old s → Only s (K.after_stop desk.old)
-        → StandsAfter s (call.now ∷ []) (if is_ok result then 1 else 0) (K.holds desk.new) (K.after_stop desk.new) }
+        → StandsAfter s (call.now ∷ []) (calls_made result) (K.holds desk.new) (K.after_stop desk.new) }
     ensures fault { IfErr result (λ fault. is_of_answers fault ≡ true) }
     ensures store { IsErrOf result Store → K.has_failed desk.new ≡ true }
 {

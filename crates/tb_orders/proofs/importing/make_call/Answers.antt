@@ -3,7 +3,7 @@ use Rattle.tb_desk.specs.Calls.{reply}
 use Rattle.tb_orders.specs.Orders.{line_text}
 use Rattle.tb_reply.specs.declared.reply.Reply.{Reply}
 use Rattle.tb_values.specs.Appends.{AppendsFront}
-use Rattle.tb_orders.proofs.Standing.{written_or_not}
+use Rattle.tb_orders.proofs.Standing.{answered, unanswered}
 use Rattle.tb_orders.proofs.importing.make_call.Goals as goal
 
 pub returns-in-Ok-clause-front : goal.returns-in-Ok-clause-front
@@ -13,4 +13,9 @@ returns-in-Ok-clause-front g c s held =
     subst P (c.in-Ok.ensures.told s held) c.print_reply.ensures.front
 
 pub returns-in-Ok-clause-stands : goal.returns-in-Ok-clause-stands
-returns-in-Ok-clause-stands g c s held only = written_or_not c.print_reply.result s c.args.call.now _ _ (c.in-Ok.ensures.stands s held only)
+returns-in-Ok-clause-stands g c s held only =
+    answered c.print_reply.result s c.args.call.now _ _ c.print_reply.ensures.fault (c.in-Ok.ensures.stands s held only)
+
+pub returns-in-Err-clause-stands : goal.returns-in-Err-clause-stands
+returns-in-Err-clause-stands g c s held only =
+    unanswered c.in-Err.fault c.fault_of.result s c.args.call.now _ _ c.fault_of.ensures.value (c.in-Err.ensures.stands s held only)
