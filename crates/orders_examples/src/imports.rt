@@ -47,7 +47,7 @@ fn a_refused_import_prints_its_refusal(rt: HostRuntime) -> Result<(), Fail> {
 fn a_text_that_is_no_import_is_a_bad_body(rt: HostRuntime) -> Result<(), Fail> {
     let mut desk = new_desk(rt.alloc())?;
     let order = import_order(rt.alloc(), 1, ImportKind::Json)?;
-    let printed = import(rt.alloc(), &mut desk, &order, "[{")?;
+    let printed = import(rt.alloc(), &mut desk, &order, "[")?;
     assert!(rt; printed.is("", Err(Fault::BadBody)));
     let printed = import(rt.alloc(), &mut desk, &order, r#"[{"description":"a"}]"#)?;
     assert!(rt; printed.is("", Err(Fault::BadBody)));
