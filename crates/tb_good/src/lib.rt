@@ -14,8 +14,6 @@ mod people;
 mod roles;
 mod runs;
 mod tasks;
-#[cfg(test)]
-mod tests;
 mod worlds;
 
 pub use worlds::is_good_world;

@@ -11,6 +11,3 @@ mod search;
 
 pub use laws::{acyclic_is_decided, walks_are_decided};
 pub use links::Links;
-
-#[cfg(test)]
-mod tests;

@@ -15,8 +15,6 @@ mod news;
 mod parents;
 mod places;
 mod refusal;
-#[cfg(test)]
-mod tests;
 
 pub use import::import_tasks;
 pub use imported::{ImportCounts, Imported};

@@ -14,6 +14,3 @@ pub use fault::Fault;
 pub use input::read_text;
 pub use listening::{Service, serve_connections};
 pub use printing::{print_line, print_text};
-
-#[cfg(test)]
-mod tests;

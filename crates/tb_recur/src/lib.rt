@@ -16,6 +16,3 @@ pub use plan::{Plan, plan_of};
 pub use tb_task::Step;
 pub use wanting::{need_is_least, wanted};
 pub use weekdays::nth_weekdays_are_counted;
-
-#[cfg(test)]
-mod tests;

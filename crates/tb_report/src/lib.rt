@@ -18,6 +18,3 @@ pub use rank::{Rank, in_order};
 pub use row::{Row, URGENCY_UNIT, decimals, push_row, without_controls};
 pub use showing::{shown, shown_task};
 pub use urgencies::{urgency, urgency_of_task};
-
-#[cfg(test)]
-mod tests;

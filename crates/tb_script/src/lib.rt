@@ -111,6 +111,3 @@ fn write_answers<W: Write>(writer: &mut W, answers: &[u8]) -> Result<(), LinesFa
         Err(_) => Err(LinesFault::WriteFailed),
     }
 }
-
-#[cfg(test)]
-mod tests;

@@ -25,6 +25,3 @@ pub use making::to_task;
 pub use reading::{lines_are_read, lines_are_spelled, one_spelling, read_line, write_line};
 pub use showing::from_task;
 pub use writing::write_file;
-
-#[cfg(test)]
-mod tests;

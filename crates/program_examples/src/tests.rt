@@ -1,12 +1,12 @@
 //! Faults, the clock, input and listening, with fakes in place of the machine.
 
-use crate::{Fault, Service, machine_moment, print_line, read_text, serve_connections};
 use std::alloc::Global;
 use std::io;
 use std::io::{Cursor, ErrorKind};
 use std::net::{OpenListener, SocketAddr};
 use std::test::Fail;
 use std::time::{Clock, Duration};
+use tb_program::{Fault, Service, machine_moment, print_line, read_text, serve_connections};
 
 /// A clock that stands still, or can't be read.
 #[derive(Drop)]

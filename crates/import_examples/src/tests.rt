@@ -1,9 +1,9 @@
 //! Worked examples of imports.
 
-use crate::{ImportRefusal, ImportStop, Imported, import_tasks};
 use std::alloc::{AllocError, Global};
 use std::test::Fail;
 use tb_board::{Board, Draft, Title};
+use tb_import::{ImportRefusal, ImportStop, Imported, import_tasks};
 use tb_task::{Field, Incoming, Mask, Moment, Status, Task, TaskId};
 use tb_values::{Items, NonEmptyText, Text};
 

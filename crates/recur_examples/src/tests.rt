@@ -1,6 +1,6 @@
-use crate::{due, instance, plan_of, wanted};
 use std::alloc::Global;
 use std::test::Fail;
+use tb_recur::{due, instance, plan_of, wanted};
 use tb_task::{Moment, Status, Step, Task, TaskId};
 use tb_values::{NonEmptyText, Text};
 

@@ -1,7 +1,7 @@
-use crate::{LinesFault, run_lines};
 use std::alloc::Global;
 use std::io::{Error, ErrorKind, Read, Result};
 use std::test::Fail;
+use tb_script::{LinesFault, run_lines};
 
 /// Gives its bytes in pieces of this size, and then fails or ends.
 #[derive(Drop)]

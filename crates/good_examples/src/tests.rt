@@ -1,9 +1,9 @@
 //! A good world, and worlds that break one rule each.
 
-use crate::is_good_world;
 use std::alloc::Global;
 use std::test::Fail;
 use tb_board::{Key, Name, World};
+use tb_good::is_good_world;
 use tb_task::{Moment, Task, TaskId};
 use tb_values::{Duplicate, Items, Shared, Text};
 

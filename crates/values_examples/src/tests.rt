@@ -3,12 +3,12 @@ ghost use Rattle.std.specs.Cmp.Lexicographic.{slice_cmp};
 ghost use Rattle.std.specs.Ordering.{nat_cmp, on};
 ghost use Rattle.std.proofs.lemmas.Cmp.{nat_list_cmp_total, on_total};
 
-use super::*;
 use std::alloc::{AllocError, Global};
 use std::cmp::Ordering;
 use std::io;
 use std::io::Write;
 use std::test::Fail;
+use tb_values::{Duplicate, Items, Keyed, NonEmptyText, Ordered, Same, Shared, Text, write_whole};
 
 #[derive(Drop)]
 struct Entry {

@@ -2,12 +2,12 @@
 ghost use Rattle.std.specs.Prelude.{◌≡◌, true};
 ghost use Rattle.tb_todotxt.specs.Lines.{is_free_of};
 
-use crate::{
-    FileFault, LineFault, LineParts, from_task, read_file, read_line, to_task, write_line,
-};
 use std::alloc::{AllocError, Global};
 use std::test::Fail;
 use tb_task::{Moment, Priority, Shown, Status, Task, TaskId, check};
+use tb_todotxt::{
+    FileFault, LineFault, LineParts, from_task, read_file, read_line, to_task, write_line,
+};
 use tb_values::{NonEmptyText, Shared, Text};
 
 /// 20260101T000000Z.

@@ -1,7 +1,7 @@
-use crate::urgency;
 use std::alloc::Global;
 use std::test::Fail;
 use tb_board::{Board, Title};
+use tb_report::urgency;
 use tb_task::{Moment, Priority, Status, Task, TaskId};
 use tb_values::{Shared, Text};
 

@@ -1,6 +1,6 @@
-use crate::Links;
 use std::alloc::{AllocError, Global};
 use std::test::Fail;
+use tb_graph::Links;
 
 /// A graph of so many nodes with those of these links that lead between them.
 fn linked(alloc: Global, nodes: usize, pairs: &[(usize, usize)]) -> Result<Links, AllocError> {
