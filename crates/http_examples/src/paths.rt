@@ -3,7 +3,7 @@ use http::Method;
 use std::alloc::Global;
 use std::process::Abort;
 use std::test::Fail;
-use tb_http::{Resource, RouteFault, Routes, TaskAction, Verb, read_board};
+use tb_http::{Resource, RouteFault, Routes, TaskAction, Verb};
 use tb_task::TaskId;
 
 const TASK: &str = "00000001-0000-8000-8000-00000000000a";
@@ -169,15 +169,5 @@ fn other_paths_have_no_route(rt: HostRuntime) -> Result<(), Fail> {
         assert_eq!(rt; routes.resource(&get, path), Err(RouteFault::NoRoute));
         assert_eq!(rt; routes.resource(&put, path), Err(RouteFault::NoRoute));
     }
-    Ok(())
-}
-
-#[test]
-fn boards_have_numbers(rt: HostRuntime) -> Result<(), Fail> {
-    assert_eq!(rt; read_board("4294967295"), Some(4294967295));
-    assert_eq!(rt; read_board("4294967296"), None);
-    assert_eq!(rt; read_board("07"), None);
-    assert_eq!(rt; read_board("0"), None);
-    assert_eq!(rt; read_board(""), None);
     Ok(())
 }

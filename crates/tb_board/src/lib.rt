@@ -36,8 +36,8 @@ pub use links::{
 pub use name::Name;
 pub use numbers::{least_number, next_number, taken_numbers};
 pub use statuses::{
-    is_open_status, is_pending_or_waiting_status, is_pending_status, is_template_task,
-    settled_status,
+    has_template_form, is_open_status, is_pending_or_waiting_status, is_pending_status,
+    is_template_task, settled_status,
 };
 pub use title::Title;
 pub use viewing::woken_task;

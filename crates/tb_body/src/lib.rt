@@ -7,4 +7,4 @@ mod fault;
 mod reading;
 
 pub use fault::{BadBody, BodyFault};
-pub use reading::{read_edits, read_imported, read_incoming, read_text, read_todo, read_value};
+pub use reading::{read_edits, read_imported, read_incoming, read_text, read_todo};

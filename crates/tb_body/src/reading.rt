@@ -1,14 +1,13 @@
 //! Bodies that hold tasks.
-ghost use Rattle.std.specs.Prelude.{◌≡◌, Some, IfOk, option_map};
-ghost use Rattle.serde_json.specs.Read.{read};
+ghost use Rattle.std.specs.Prelude.{◌≡◌, Some, option_map};
 ghost use Rattle.serde_json.specs.View.{view};
 ghost use Rattle.tb_body.specs.Fault.{Reads};
 ghost use Rattle.tb_body.specs.Reading.{edits_in, edits_of, import_in, incoming_in, incoming_of, text_in, todo_in};
 
 use crate::fault::{BadBody, BodyFault};
 use serde_json::Value;
-use std::alloc::{AllocError, Global};
-use tb_json::{ImportFault, JsonFault, read_import, read_modify, read_task};
+use std::alloc::Global;
+use tb_json::{ImportFault, JsonFault, parse, read_import, read_modify, read_task};
 use tb_task::{Edit, Incoming, Moment, Task};
 use tb_todotxt::{FileFault, read_file};
 use tb_values::Items;
@@ -23,26 +22,11 @@ pub fn read_text(bytes: &[u8]) -> Option<&str>
     }
 }
 
-/// The value that a text is, if it is JSON.
-pub fn read_value(alloc: Global, text: &str) -> Result<Option<Value>, AllocError>
-    ensures { IfOk result (λ value. option_map view value ≡ read text.now) }
-{
-    match Value::from_str(alloc, text) {
-        Ok(value) => Ok(Some(value)),
-        Err(fault) => {
-            if fault.is_memory() {
-                return Err(AllocError);
-            }
-            Ok(None)
-        }
-    }
-}
-
 /// The task that a text is when it comes in at a moment.
 pub fn read_incoming(alloc: Global, text: &str, at: Moment) -> Result<Incoming, BodyFault>
     ensures { Reads result (incoming_in text.now at) }
 {
-    match read_value(alloc, text)? {
+    match parse(alloc, text)? {
         Some(value) => incoming_from(alloc, &value, at),
         None => Err(BodyFault::Refused(BadBody::Whole)),
     }
@@ -63,7 +47,7 @@ fn incoming_from(alloc: Global, value: &Value, at: Moment) -> Result<Incoming, B
 pub fn read_edits(alloc: Global, text: &str) -> Result<Items<Edit>, BodyFault>
     ensures { Reads result (edits_in text.now) }
 {
-    match read_value(alloc, text)? {
+    match parse(alloc, text)? {
         Some(value) => edits_from(alloc, &value),
         None => Err(BodyFault::Refused(BadBody::Whole)),
     }

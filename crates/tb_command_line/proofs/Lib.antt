@@ -1,4 +1,3 @@
 pub mod Entering
-pub mod NumeralLemmas
 pub mod Positionals
 pub mod Requests

@@ -11,7 +11,7 @@ use Rattle.tb_command_line.specs.declared.order.Order.TheVariants as order
 use Rattle.tb_command_line.specs.declared.order.ViewKind.{ViewKind}
 use Rattle.tb_command_line.specs.declared.order.ViewKind.TheVariants as view
 use Rattle.tb_command_line.specs.declared.order.WordsFault.{WordsFault}
-use Rattle.tb_command_line.specs.Numerals.{number_to}
+use Rattle.tb_values.specs.Numerals.{number_to}
 use Rattle.tb_command_line.specs.Outcome.{or_bad}
 
 abbrev pub Text : Type 0

@@ -2,7 +2,6 @@
 //! Stands on `clap` for the splitting of words, on `tb_board` for names and keys, and on `tb_task` for identifiers.
 #![tactic(auto)]
 
-mod numerals;
 mod order;
 mod reading;
 mod words;

@@ -9,7 +9,6 @@ ghost use Rattle.tb_command_line.specs.Orders.{board_in, connections_in, kind_in
 ghost use Rattle.tb_command_line.specs.Outcome.{Reads, or_bad};
 ghost use Rattle.tb_task.specs.TaskId.{read_id};
 
-use crate::numerals::read_number;
 use crate::order::{
     ImportKind, ImportOrder, InitOrder, Order, ServeOrder, ViewKind, ViewOrder, WordsFault,
 };

@@ -1,19 +1,17 @@
-ghost use Rattle.std.specs.Prelude.{◌≡◌, ◌<◌, ◌||◌, Some, None, length, is_some, IfOk};
+ghost use Rattle.std.specs.Prelude.{◌≡◌, ◌<◌, Some, None, length, is_some, IfOk};
 ghost use Rattle.std.specs.List.{list_any};
 ghost use Rattle.tb_core.specs.Add.{add_fault, add_refusals, entered_id, is_full, is_linked, judged_add, is_misread};
 ghost use Rattle.tb_board.specs.Board.{lacks_depends};
 ghost use Rattle.tb_board.specs.Changes.{Follows};
 ghost use Rattle.tb_core.specs.Refusals.{Gives, least};
-ghost use Rattle.tb_board.specs.Good.{has_template_form, is_deleted};
-ghost use Rattle.tb_task.specs.Check.{is_recurring, is_step};
 
 use crate::command::Told;
 use crate::judged::{Judged, Stop};
 use crate::refusal::Refusal;
 use std::alloc::{AllocError, Global};
-use tb_board::{Board, Draft, is_template_task, next_number, taken_numbers};
-use tb_task::{Field, Incoming, Moment, Status, Step, Task, TaskId, check};
-use tb_values::{Duplicate, NonEmptyText};
+use tb_board::{Board, Draft, has_template_form, next_number, taken_numbers};
+use tb_task::{Field, Incoming, Moment, Task, TaskId, check};
+use tb_values::Duplicate;
 
 /// How many tasks a board can have.
 pub const MOST_TASKS: usize = 10000;
@@ -82,37 +80,6 @@ fn is_misread(task: &Task) -> bool
     ensures { result ≡ is_misread task.now }
 {
     task.parent.is_some() || !has_template_form(task)
-}
-
-fn has_template_form(task: &Task) -> bool
-    ensures { result ≡ has_template_form task.now }
-{
-    if is_template_task(task) {
-        has_template_status(task.status) && task.due.is_some() && has_step(&task.recur)
-    } else {
-        !is_recurring_status(task.status)
-    }
-}
-
-fn has_template_status(status: Status) -> bool
-    ensures { result ≡ (is_recurring status || is_deleted status) }
-{
-    matches!(status, Status::Recurring | Status::Deleted)
-}
-
-fn is_recurring_status(status: Status) -> bool
-    ensures { result ≡ is_recurring status }
-{
-    matches!(status, Status::Recurring)
-}
-
-fn has_step(recur: &Option<NonEmptyText>) -> bool
-    ensures { result ≡ is_step recur.now }
-{
-    match recur {
-        Some(text) => Step::read(text.as_str()).is_some(),
-        None => false,
-    }
 }
 
 /// Whether the board has as many tasks as a board can have.

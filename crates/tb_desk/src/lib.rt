@@ -19,5 +19,5 @@ pub use call::{Call, KeptReply};
 pub use desk::{Desk, RunEnd};
 pub use fault::KeepFault;
 pub use keep::Keep;
-pub use list_keep::{ListKeep, key_in};
+pub use list_keep::{ListKeep, kept_reply, key_in};
 pub use view::View;

@@ -129,7 +129,8 @@ fn kept_in(
     }
 }
 
-fn kept_reply(call: &Call, reply: &Reply) -> Result<KeptReply, AllocError>
+/// What is kept of a call that was answered.
+pub fn kept_reply(call: &Call, reply: &Reply) -> Result<KeptReply, AllocError>
     ensures { IfOk result (λ kept. kept ≡ record { content = call.now.content; reply = reply.now }) }
 {
     let content = call.content.duplicate()?;

@@ -1,17 +1,15 @@
 //! The tasks of a board.
 
-ghost use Rattle.std.specs.Prelude.{◌≡◌, ◌↔◌, ◌||◌, IsTrue, IfOk};
+ghost use Rattle.std.specs.Prelude.{◌≡◌, ◌↔◌, IsTrue, IfOk};
 ghost use Rattle.std.specs.List.{list_all};
 ghost use Rattle.tb_board.specs.Board.{ids};
-ghost use Rattle.tb_board.specs.Good.{has_template_form, is_deleted};
 ghost use Rattle.tb_good.specs.Parts.{HasGoodTasks, is_sound};
-ghost use Rattle.tb_task.specs.Check.{is_recurring, is_step};
 
 use crate::distinct::are_distinct;
 use std::alloc::{AllocError, Global};
-use tb_board::{Board, is_template_task};
-use tb_task::{Status, Step, Task, TaskId, check};
-use tb_values::{NonEmptyText, Shared};
+use tb_board::{Board, has_template_form};
+use tb_task::{Task, TaskId, check};
+use tb_values::Shared;
 
 const MOST_TASKS: usize = 10000;
 
@@ -50,29 +48,4 @@ fn is_sound(task: &Task) -> bool
     ensures { result ≡ is_sound task.now }
 {
     check(task).is_ok() && has_template_form(task)
-}
-
-fn has_template_form(task: &Task) -> bool
-    ensures { result ≡ has_template_form task.now }
-{
-    if is_template_task(task) {
-        stays_template(task.status) && task.due.is_some() && has_step(&task.recur)
-    } else {
-        !matches!(task.status, Status::Recurring)
-    }
-}
-
-fn stays_template(status: Status) -> bool
-    ensures { result ≡ (is_recurring status || is_deleted status) }
-{
-    matches!(status, Status::Recurring | Status::Deleted)
-}
-
-fn has_step(recur: &Option<NonEmptyText>) -> bool
-    ensures { result ≡ is_step recur.now }
-{
-    match recur {
-        Some(text) => Step::read(text.as_str()).is_some(),
-        None => false,
-    }
 }

@@ -1,8 +1,7 @@
 -- Decimal numerals.
-use Rattle.std.specs.Prelude.{ℕ, ◌==◌, nat_lt, Bool, false, not, ◌&&◌, ◌||◌, if◌then◌else◌, List, [], ◌∷◌, length, Option, Some, None}
+use Rattle.std.specs.Prelude.{ℕ, ◌==◌, Bool, not, ◌&&◌, if◌then◌else◌, List, [], ◌∷◌, length}
 use Rattle.std.specs.List.{list_all}
 use Rattle.std.specs.Str.{bytes_eq}
-use Rattle.std.specs.Str.Parse.{digits_value}
 use Rattle.std.specs.Char.{is_ascii_digit}
 
 -- decimal digits, and at least one
@@ -17,14 +16,3 @@ significant (digit ∷ digits) = if digit == 48 then significant digits else dig
 -- two numerals of one number
 abbrev pub same_number : List ℕ → List ℕ → Bool
 same_number a b = bytes_eq (significant a) (significant b)
-
--- a zero stands first
-abbrev pub begins_with_zero : List ℕ → Bool
-begins_with_zero [] = false
-begins_with_zero (digit ∷ digits) = digit == 48
-
--- the number of a board: from 1 to 4294967295, with no zero in front
-unfoldable pub read_board : List ℕ → Option ℕ
-read_board text =
-    if not (is_number text) || (begins_with_zero text || nat_lt 4294967295 (digits_value 10 text)) then None
-    else Some (digits_value 10 text)

@@ -15,7 +15,7 @@ use Rattle.tb_http.specs.declared.resource.Resource.{Resource}
 use Rattle.tb_http.specs.declared.resource.Resource.TheVariants as resource
 use Rattle.tb_http.specs.declared.resource.RouteFault.{RouteFault}
 use Rattle.tb_http.specs.declared.resource.RouteFault.TheVariants.{NoRoute, NoMethod}
-use Rattle.tb_http.specs.Numerals.{read_board}
+use Rattle.tb_values.specs.Numerals.{number_to}
 use Rattle.tb_http.specs.Routes.{verb_of, verb_name, route_of}
 
 -- the part of a path behind so many slashes, up to the next one
@@ -36,9 +36,13 @@ action_named name =
     else (if bytes_eq name (codes "undepend") then Some action.Undepend
     else None)))))))))
 
+-- from 1 to 4294967295, with no zero in front
+unfoldable pub board_number : List ℕ → Option ℕ
+board_number text = number_to 4294967295 text
+
 -- `/boards/{b}`, then `/tasks/{uuid}`, then `/{action}`
 abbrev pub board_in : List ℕ → Option ℕ
-board_in path = read_board (segment path 2)
+board_in path = board_number (segment path 2)
 
 abbrev pub task_in : List ℕ → Option ℕ
 task_in path = read_id (segment path 4)

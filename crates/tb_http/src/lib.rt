@@ -28,7 +28,6 @@ pub use fault::WireFault;
 pub use framing::{BODY_LIMIT, FIELD_LIMIT};
 pub use head::HEAD_LIMIT;
 pub use message::{Field, Message, find_field};
-pub use numerals::read_board;
 pub use reader::Reader;
 pub use resource::{Resource, RouteFault, TaskAction};
 pub use route::{Route, Routes, Verb};

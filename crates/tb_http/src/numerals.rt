@@ -56,27 +56,3 @@ pub fn bounded_number(digits: &[u8], limit: u64) -> Option<u64>
     }
     if value > limit { None } else { Some(value) }
 }
-
-fn begins_with_zero(text: &[u8]) -> bool
-    ensures { result ≡ numerals.begins_with_zero text.now }
-{
-    match text.first() {
-        Some(digit) => *digit == b'0',
-        None => false,
-    }
-}
-
-/// The number of a board: from 1 to 4294967295, with no zero in front.
-#[tactic(auto, unfolding(crate::specs::Numerals::read_board))]
-pub fn read_board(text: &str) -> Option<u32>
-    ensures { result ≡ numerals.read_board text.now }
-{
-    let digits = text.as_bytes();
-    if !is_number(digits) || begins_with_zero(digits) {
-        return None;
-    }
-    match bounded_number(digits, u64::from(u32::MAX)) {
-        Some(number) => Some(number as u32),
-        None => None,
-    }
-}

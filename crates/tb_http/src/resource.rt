@@ -4,10 +4,10 @@ ghost use Rattle.std.specs.Str.{bytes_eq};
 ghost use Rattle.tb_http.specs.Resources as resources;
 
 use crate::fault::WireFault;
-use crate::numerals::read_board;
 use crate::route::{Route, Routes, Verb};
 use http::Method;
 use tb_task::TaskId;
+use tb_values::read_number;
 
 /// What a call does to one task.
 #[derive(Clone, Copy, Debug, PartialEq, Eq)]
@@ -104,10 +104,11 @@ fn segment(path: &str, slashes: usize) -> &str
     }
 }
 
+#[tactic(auto, unfolding(crate::specs::Resources::board_number))]
 fn board_in(path: &str) -> Option<u32>
     ensures { result ≡ resources.board_in path.now }
 {
-    read_board(segment(path, 2))
+    read_number(segment(path, 2), u32::MAX)
 }
 
 fn task_in(path: &str) -> Option<TaskId>

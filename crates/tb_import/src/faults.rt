@@ -1,13 +1,11 @@
 ghost use Rattle.std.specs.Prelude.{◌≡◌, ◌||◌, not, is_some, length, nat_lt, unwrap_or, []};
-ghost use Rattle.tb_board.specs.Good.{has_template_form, is_deleted};
+ghost use Rattle.tb_board.specs.Good.{has_template_form};
 ghost use Rattle.tb_import.specs.Entering.{is_linked};
 ghost use Rattle.tb_import.specs.Refusals.{bad_task, import_fault, is_misread};
-ghost use Rattle.tb_task.specs.Check.{is_recurring, is_step};
 
 use crate::refusal::ImportRefusal;
-use tb_board::is_template_task;
-use tb_task::{Field, Incoming, Mask, Status, Step, Task, check};
-use tb_values::NonEmptyText;
+use tb_board::has_template_form;
+use tb_task::{Field, Incoming, Mask, Task, check, is_recurring_status};
 
 const LONGEST_MASK: usize = 16384;
 
@@ -65,37 +63,6 @@ fn is_too_long(mask: &Option<Mask>) -> bool
 {
     match mask {
         Some(mask) => mask.len() > LONGEST_MASK,
-        None => false,
-    }
-}
-
-fn has_template_form(task: &Task) -> bool
-    ensures { result ≡ has_template_form task.now }
-{
-    if is_template_task(task) {
-        has_template_status(task.status) && task.due.is_some() && has_step(&task.recur)
-    } else {
-        !is_recurring_status(task.status)
-    }
-}
-
-fn has_template_status(status: Status) -> bool
-    ensures { result ≡ (is_recurring status || is_deleted status) }
-{
-    matches!(status, Status::Recurring | Status::Deleted)
-}
-
-fn is_recurring_status(status: Status) -> bool
-    ensures { result ≡ is_recurring status }
-{
-    matches!(status, Status::Recurring)
-}
-
-fn has_step(recur: &Option<NonEmptyText>) -> bool
-    ensures { result ≡ is_step recur.now }
-{
-    match recur {
-        Some(text) => Step::read(text.as_str()).is_some(),
         None => false,
     }
 }

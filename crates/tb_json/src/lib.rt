@@ -24,6 +24,7 @@ pub use fault::JsonFault;
 pub use import::read_import;
 pub use import_fault::ImportFault;
 pub use modify::read_modify;
+pub use parse::parse;
 pub use reading::read_task;
 pub use stored::{read_stored, write_stored};
 pub use writing::{write_task, write_tasks};

@@ -9,7 +9,7 @@ use serde_json::Value;
 use std::alloc::{AllocError, Global};
 
 /// The value that a text is, if it is JSON.
-pub(crate) fn parse(alloc: Global, text: &str) -> Result<Option<Value>, AllocError>
+pub fn parse(alloc: Global, text: &str) -> Result<Option<Value>, AllocError>
     ensures { IfOk result (λ value. option_map view value ≡ read text.now) }
 {
     match Value::from_str(alloc, text) {

@@ -2,7 +2,6 @@
 
 ghost use Rattle.std.specs.Prelude.{◌≡◌};
 ghost use Rattle.serde_json.specs.View.{view};
-ghost use Rattle.tb_task.specs.Check.{is_step};
 ghost use Rattle.tb_json.specs.Outcome.{Reads};
 ghost use Rattle.tb_json.specs.Reading.{drafted, default_status as status_by_default, counted as one_more_if, without_parent, without_imask, is_deleted_template as is_gone_template, with_fit_link, may_recur as recurs, with_fit_recur, is_template as is_one, with_fit_mask, with_fit_end, is_later as is_after, settled, incoming_of as all_rules, task_of};
 
@@ -10,8 +9,7 @@ use crate::fault::JsonFault;
 use crate::fields::{Fields, fields_of};
 use serde_json::Value;
 use std::alloc::Global;
-use tb_task::{Incoming, Moment, Status, Step, Task, TaskId};
-use tb_values::NonEmptyText;
+use tb_task::{Incoming, Moment, Status, Task, TaskId, is_step};
 
 fn default_status(fields: &Fields) -> Status
     ensures { result ≡ status_by_default fields.now }
@@ -113,15 +111,6 @@ fn fit_link(incoming: &mut Incoming)
     }
 }
 
-fn is_readable(recur: &Option<NonEmptyText>) -> bool
-    ensures { result ≡ is_step recur.now }
-{
-    match recur {
-        Some(text) => Step::read(text.as_str()).is_some(),
-        None => false,
-    }
-}
-
 fn may_recur(incoming: &Incoming) -> bool
     ensures { result ≡ recurs incoming.now }
 {
@@ -129,7 +118,7 @@ fn may_recur(incoming: &Incoming) -> bool
         Status::Recurring => true,
         Status::Deleted => {
             incoming.raw_parent.is_some()
-                || incoming.task.due.is_some() && is_readable(&incoming.task.recur)
+                || incoming.task.due.is_some() && is_step(&incoming.task.recur)
         }
         Status::Pending | Status::Waiting | Status::Completed => incoming.raw_parent.is_some(),
     }

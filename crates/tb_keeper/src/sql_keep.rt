@@ -13,7 +13,7 @@ use sqlite::{Alter, Connection};
 use std::alloc::{AllocError, Global};
 use tb_board::{Change, Key, Name, World};
 use tb_core::{Command, Seen, look_for};
-use tb_desk::{Call, Keep, KeepFault, KeptReply, key_in};
+use tb_desk::{Call, Keep, KeepFault, KeptReply, kept_reply, key_in};
 use tb_reply::Reply;
 use tb_rows::row_changes;
 use tb_sql::store::{StoreFault, write_rows};
@@ -101,7 +101,7 @@ impl<S: Alter> Keep for SqlKeep<S> {
         let world = self.world.changed(alloc, changes)?;
         let name = name_for(&call.member, call.id)?;
         self.replies
-            .insert(name_for(&call.member, call.id)?, kept_for(call, reply)?)?;
+            .insert(name_for(&call.member, call.id)?, kept_reply(call, reply)?)?;
         match write_call(
             alloc,
             &mut self.conn,
@@ -125,15 +125,6 @@ impl<S: Alter> Keep for SqlKeep<S> {
             }
         }
     }
-}
-
-/// What is kept of a call.
-fn kept_for(call: &Call, reply: &Reply) -> Result<KeptReply, AllocError>
-    ensures { IfOk result (λ kept. kept ≡ record { content = call.now.content; reply = reply.now }) }
-{
-    let content = call.content.duplicate()?;
-    let reply = reply.duplicate()?;
-    Ok(KeptReply { content, reply })
 }
 
 /// The row of a reply, under the number of the call's person.

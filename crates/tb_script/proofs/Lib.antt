@@ -2,6 +2,5 @@ pub mod Failures
 pub mod Feeding
 pub mod Joining
 pub mod LineLaws
-pub mod Numerals
 pub mod Readable
 pub mod Runs

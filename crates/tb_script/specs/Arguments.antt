@@ -1,15 +1,13 @@
 -- The arguments of a word.
-use Rattle.std.specs.Prelude.{ℕ, List, ◌&&◌, ◌^◌, Option, Some, None, if◌then◌else◌, codes, nat_lt, slice_index}
-use Rattle.std.specs.Str.{bytes_eq, all_ascii_digits}
-use Rattle.std.specs.Str.Parse.{digits_value}
+use Rattle.std.specs.Prelude.{ℕ, List, Option, Some, None, if◌then◌else◌, codes}
+use Rattle.std.specs.Str.{bytes_eq}
+use Rattle.tb_values.specs.Numerals.{number_to}
 use Rattle.tb_board.specs.declared.world.Role.{Role}
 use Rattle.tb_board.specs.declared.world.Role.TheVariants.{Owner, Member}
 
 -- a decimal number from 1 to 4294967295 without a leading zero
 unfoldable pub board_number : List ℕ → Option ℕ
-board_number text =
-    if nat_lt 48 (slice_index text 0) && all_ascii_digits text && nat_lt (digits_value 10 text) (2 ^ 32) then Some (digits_value 10 text)
-    else None
+board_number text = number_to 4294967295 text
 
 -- the role that is given, and `none` where it is taken
 abbrev pub role_named : List ℕ → Option (Option Role)

@@ -1,5 +1,5 @@
 //! The fields of a line, and the arguments of its word.
-ghost use Rattle.std.specs.Prelude.{◌≡◌, nat_lt, slice_index};
+ghost use Rattle.std.specs.Prelude.{◌≡◌};
 ghost use Rattle.tb_board.specs.Names.{read_name, read_key, read_title};
 ghost use Rattle.tb_task.specs.MomentText.{moment_of};
 ghost use Rattle.tb_task.specs.TaskId.{read_id};
@@ -10,6 +10,7 @@ use crate::line_fault::LineFault;
 use std::alloc::Global;
 use tb_board::{Key, Name, Role, Title};
 use tb_task::{Moment, TaskId};
+use tb_values::read_number;
 
 pub(crate) fn read_moment(text: &str) -> Result<Moment, LineFault>
     ensures { Reads result (or_bad_line (moment_of text.now)) }
@@ -67,30 +68,12 @@ pub(crate) fn read_role(text: &str) -> Result<Option<Role>, LineFault>
     }
 }
 
+#[tactic(auto, unfolding(crate::specs::Arguments::board_number))]
 pub(crate) fn read_board(text: &str) -> Result<u32, LineFault>
     ensures { Reads result (or_bad_line (board_number text.now)) }
 {
-    match board_of(text) {
+    match read_number(text, u32::MAX) {
         Some(board) => Ok(board),
         None => Err(LineFault::bad_line()),
-    }
-}
-
-/// A decimal number from 1 on, without a leading zero.
-fn board_of(text: &str) -> Option<u32>
-    ensures { result ≡ board_number text.now }
-{
-    if !begins_above_zero(text) {
-        return None;
-    }
-    text.parse::<u32>().ok()
-}
-
-fn begins_above_zero(text: &str) -> bool
-    ensures { result ≡ nat_lt 48 (slice_index text.now 0) }
-{
-    match text.as_bytes().first() {
-        Some(first) => *first > b'0',
-        None => false,
     }
 }

@@ -10,11 +10,10 @@ use crate::form::{Bare, Form, Small};
 use serde_json::Value;
 use std::alloc::{AllocError, Global};
 use tb_board::{Key, Name, Role, Title};
-use tb_body::{
-    BadBody, BodyFault, read_edits, read_imported, read_incoming, read_text, read_todo, read_value,
-};
+use tb_body::{BadBody, BodyFault, read_edits, read_imported, read_incoming, read_text, read_todo};
 use tb_core::{Action, Command};
 use tb_http::{is_empty_object, read_description, read_link, read_person, read_role, read_title};
+use tb_json::parse;
 use tb_task::{Moment, TaskId};
 use tb_values::Text;
 
@@ -54,7 +53,7 @@ fn is_bare(alloc: Global, text: &str) -> Result<bool, AllocError>
     if text.len() == 0 {
         return Ok(true);
     }
-    match read_value(alloc, text)? {
+    match parse(alloc, text)? {
         Some(value) => Ok(is_empty_object(&value)),
         None => Ok(false),
     }
@@ -92,7 +91,7 @@ fn read_bare(alloc: Global, asked: Bare, text: &str) -> Result<Command, BodyFaul
 fn read_small(alloc: Global, asked: Small, text: &str) -> Result<Command, BodyFault>
     ensures { Reads result (commands.small_of asked (read text.now)) }
 {
-    match read_value(alloc, text)? {
+    match parse(alloc, text)? {
         Some(value) => small_from(alloc, asked, &value),
         None => Err(BodyFault::Refused(BadBody::Whole)),
     }

@@ -8,7 +8,6 @@ ghost use Rattle.tb_recur.specs.Instance.{instance};
 ghost use Rattle.tb_recur.specs.Wanted.{need};
 ghost use Rattle.tb_sweep.specs.Growing.{IsGrowing};
 ghost use Rattle.tb_sweep.specs.Sweep.{batch, grown, with_instances, with_wanted};
-ghost use Rattle.tb_task.specs.Check.{is_recurring};
 ghost use Rattle.tb_task.specs.TaskId.{made};
 ghost use Rattle.tb_task.specs.declared.task.Task.{Task};
 
@@ -16,7 +15,7 @@ use crate::counts::Counts;
 use std::alloc::{AllocError, Global};
 use tb_board::{Board, Draft, next_number};
 use tb_recur::{Plan, instance, plan_of};
-use tb_task::{Moment, Status, Task, TaskId};
+use tb_task::{Moment, Task, TaskId, is_recurring_status};
 
 const MOST_TASKS: usize = 10000;
 
@@ -28,12 +27,6 @@ pub struct Growing {
     pub draft: Draft,
     pub counts: Counts,
     pub next: usize,
-}
-
-pub fn is_recurring_status(status: Status) -> bool
-    ensures { result ≡ is_recurring status }
-{
-    matches!(status, Status::Recurring)
 }
 
 /// The templates on the board get their instances, in order of place.

@@ -8,11 +8,11 @@ ghost use Rattle.tb_task.specs.Check.{is_recurring};
 ghost use Rattle.tb_task.specs.declared.task.Task.{Task};
 
 use crate::counts::Counts;
-use crate::growing::{Growing, grown_all, is_recurring_status};
+use crate::growing::{Growing, grown_all};
 use std::alloc::{AllocError, Global};
 use tb_board::{Board, Draft, taken_numbers, wake_draft};
 use tb_recur::plan_of;
-use tb_task::{Moment, Task};
+use tb_task::{Moment, Task, is_recurring_status};
 use tb_values::Shared;
 
 /// A board after the sweep, how many instances it got, and whether a template still has fewer than it needs.

@@ -188,3 +188,13 @@ fn a_cut_write_tells_how_far_it_came(rt: HostRuntime) -> Result<(), Fail> {
     }
     Ok(())
 }
+
+#[test]
+fn numbers_begin_above_zero(rt: HostRuntime) {
+    assert_eq!(rt; read_number("4294967295", u32::MAX), Some(4294967295));
+    assert_eq!(rt; read_number("4294967296", u32::MAX), None);
+    assert_eq!(rt; read_number("65536", 65535), None);
+    for text in ["", "0", "07", "+7", "7 ", "x"] {
+        assert_eq!(rt; read_number(text, u32::MAX), None);
+    }
+}

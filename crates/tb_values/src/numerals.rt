@@ -1,9 +1,9 @@
-//! Numbers in words.
+//! Decimal numbers in texts.
 ghost use Rattle.std.specs.Prelude.{◌≡◌, ◌≤◌, IfSome, nat_lt, slice_index};
-ghost use Rattle.tb_command_line.specs.Numerals.{number_to};
+ghost use Rattle.tb_values.specs.Numerals.{number_to};
 
 /// The decimal number from 1 to a limit that a text writes without a leading zero.
-pub(crate) fn read_number(text: &str, limit: u32) -> Option<u32>
+pub fn read_number(text: &str, limit: u32) -> Option<u32>
     ensures read { result ≡ number_to limit text.now }
     ensures limit { IfSome result (λ number. number ≤ limit) }
 {
