@@ -1,7 +1,8 @@
 //! The words that the program was started with.
-ghost use Rattle.std.specs.Prelude.{◌≡◌, IfErr, IfOk, map, true};
+ghost use Rattle.std.specs.Prelude.{◌≡◌, IfErr, IfOk, drop, map, true};
 ghost use Rattle.std.specs.List.{list_all};
 ghost use Rattle.std.specs.String.{string_bytes};
+ghost use Rattle.std.specs.Vec.Iter.{into_iter_items};
 ghost use Rattle.tb_command_line.specs.Orders.{Request, is_plain, order_of, texts_of, words_of};
 ghost use Rattle.tb_orders.specs.Telling.{Told, is_of_words};
 
@@ -15,13 +16,22 @@ use tb_program::Fault;
 pub fn read_order(rt: &HostRuntime) -> Result<Order, Fault>
     ensures { IfErr result (λ fault. is_of_words fault ≡ true) }
 {
-    let words = match env::args(rt) {
-        Ok(words) => after_first(rt.alloc(), words)?,
-        Err(error) if error.kind() == ErrorKind::OutOfMemory => return Err(Fault::Memory),
-        Err(_) => return Err(Fault::Bad),
-    };
-    let texts = texts_of(rt.alloc(), words.as_slice())?;
-    order_of(rt.alloc(), texts.as_slice())
+    match env::args(rt) {
+        Ok(words) => order_after_name(rt.alloc(), words),
+        Err(error) if error.kind() == ErrorKind::OutOfMemory => Err(Fault::Memory),
+        Err(_) => Err(Fault::Bad),
+    }
+}
+
+/// The order that the words after the first are, which names the program.
+fn order_after_name(alloc: Global, words: Args) -> Result<Order, Fault>
+    ensures order { (request : Request) → map string_bytes (drop 1 (into_iter_items words)) ≡ words_of request
+        → list_all is_plain (texts_of request) ≡ true → Told result (order_of request) }
+    ensures fault { IfErr result (λ fault. is_of_words fault ≡ true) }
+{
+    let words = after_first(alloc, words)?;
+    let texts = texts_of(alloc, words.as_slice())?;
+    order_of(alloc, texts.as_slice())
 }
 
 /// The order that words are, or the program's fault.
@@ -37,12 +47,24 @@ pub fn order_of(alloc: Global, words: &[&str]) -> Result<Order, Fault>
     }
 }
 
-fn after_first(alloc: Global, words: Args) -> Result<Vec<String>, AllocError> {
-    let mut rest = Vec::new(alloc);
-    for word in words.skip(1) {
-        rest.push(word)?;
+fn after_first(alloc: Global, words: Args) -> Result<Vec<String>, AllocError>
+    ensures { IfOk result (λ rest. rest.items ≡ drop 1 (into_iter_items words)) }
+{
+    let mut words = words;
+    match words.next() {
+        Some(_) => collected(alloc, words),
+        None => Ok(Vec::new(alloc)),
     }
-    Ok(rest)
+}
+
+fn collected(alloc: Global, words: Args) -> Result<Vec<String>, AllocError>
+    ensures { IfOk result (λ all. all.items ≡ into_iter_items words) }
+{
+    let mut all = Vec::new(alloc);
+    for word in words {
+        all.push(word)?;
+    }
+    Ok(all)
 }
 
 fn texts_of<'a>(alloc: Global, words: &'a [String]) -> Result<Vec<&'a str>, AllocError>
