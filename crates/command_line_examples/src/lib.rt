@@ -3,6 +3,4 @@
 #![tactic(auto)]
 
 #[cfg(test)]
-mod bad_words;
-#[cfg(test)]
-mod orders;
+mod tests;

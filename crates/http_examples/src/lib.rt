@@ -4,26 +4,4 @@
 #![tactic(auto)]
 
 #[cfg(test)]
-mod answers;
-#[cfg(test)]
-mod bodies;
-#[cfg(test)]
-mod closings;
-#[cfg(test)]
-mod connection;
-#[cfg(test)]
-mod failures;
-#[cfg(test)]
-mod faults;
-#[cfg(test)]
-mod hostile;
-#[cfg(test)]
-mod messages;
-#[cfg(test)]
-mod paths;
-#[cfg(test)]
-mod pieces;
-#[cfg(test)]
-mod senders;
-#[cfg(test)]
-mod speed;
+mod tests;

@@ -3,16 +3,4 @@
 #![tactic(auto)]
 
 #[cfg(test)]
-mod edits;
-#[cfg(test)]
-mod exports;
-#[cfg(test)]
-mod faults;
-#[cfg(test)]
-mod imports;
-#[cfg(test)]
-mod speed;
-#[cfg(test)]
-mod stored;
-#[cfg(test)]
-mod tasks;
+mod tests;

@@ -5,14 +5,4 @@
 #![tactic(auto)]
 
 #[cfg(test)]
-mod audited;
-#[cfg(test)]
-mod calls;
-#[cfg(test)]
-mod changes;
-#[cfg(test)]
-mod reopened;
-#[cfg(test)]
-mod strange;
-#[cfg(test)]
-mod tables;
+mod tests;

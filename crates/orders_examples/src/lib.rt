@@ -3,10 +3,4 @@
 #![tactic(auto)]
 
 #[cfg(test)]
-mod desk;
-#[cfg(test)]
-mod imports;
-#[cfg(test)]
-mod orders;
-#[cfg(test)]
-mod views;
+mod tests;

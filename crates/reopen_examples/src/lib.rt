@@ -3,6 +3,4 @@
 #![tactic(auto)]
 
 #[cfg(test)]
-mod boards;
-#[cfg(test)]
-mod people;
+mod tests;

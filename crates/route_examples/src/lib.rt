@@ -3,14 +3,4 @@
 #![tactic(auto)]
 
 #[cfg(test)]
-mod imports;
-#[cfg(test)]
-mod instances;
-#[cfg(test)]
-mod people;
-#[cfg(test)]
-mod routes;
-#[cfg(test)]
-mod script;
-#[cfg(test)]
-mod tasks;
+mod tests;

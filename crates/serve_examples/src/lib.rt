@@ -3,16 +3,4 @@
 #![tactic(auto)]
 
 #[cfg(test)]
-mod closings;
-#[cfg(test)]
-mod connection;
-#[cfg(test)]
-mod ends;
-#[cfg(test)]
-mod failures;
-#[cfg(test)]
-mod hostile;
-#[cfg(test)]
-mod loopback;
-#[cfg(test)]
-mod messages;
+mod tests;

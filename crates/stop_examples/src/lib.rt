@@ -5,14 +5,4 @@
 #![tactic(auto)]
 
 #[cfg(test)]
-mod by_lists;
-#[cfg(test)]
-mod calls;
-#[cfg(test)]
-mod files;
-#[cfg(test)]
-mod resent;
-#[cfg(test)]
-mod session;
-#[cfg(test)]
-mod stops;
+mod tests;

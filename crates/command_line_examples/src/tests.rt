@@ -1,0 +1,2 @@
+mod bad_words;
+mod orders;

@@ -1,0 +1,12 @@
+mod answers;
+mod bodies;
+mod closings;
+mod connection;
+mod failures;
+mod faults;
+mod hostile;
+mod messages;
+mod paths;
+mod pieces;
+mod senders;
+mod speed;

@@ -1,0 +1,4 @@
+mod desk;
+mod imports;
+mod orders;
+mod views;

@@ -1,0 +1,6 @@
+mod imports;
+mod instances;
+mod people;
+mod routes;
+mod script;
+mod tasks;
