@@ -10,7 +10,7 @@ ghost use Rattle.tb_json.specs.Reading.{task_of};
 use crate::fault::JsonFault;
 use crate::import_fault::ImportFault;
 use crate::lines::{line_text, lines_of};
-use crate::parse::parse_bytes;
+use crate::parsing::parse_bytes;
 use crate::reading::read_task;
 use serde_json::Value;
 use std::alloc::{AllocError, Global};

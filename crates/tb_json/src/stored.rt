@@ -9,7 +9,7 @@ ghost use Rattle.tb_json.specs.Stored.{stored_text, stored_task as task_in, stor
 
 use crate::fault::{JsonFault, bad_field};
 use crate::fields::{Fields, fields_of};
-use crate::parse::parse;
+use crate::parsing::parse;
 use crate::writing::text_of;
 use std::alloc::{AllocError, Global};
 use tb_task::{Task, ids_are_read};

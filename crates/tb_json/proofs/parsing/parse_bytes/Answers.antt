@@ -2,7 +2,7 @@ use Rattle.std.proofs.Common.{◌≡◌, IfOk, option_map, sym, ap, ◌∙◌, s
 use Rattle.serde_json.specs.Read.{read}
 use Rattle.serde_json.specs.View.{view}
 use Rattle.tb_json.proofs.Bytes.{json_of_text, json_of_no_text}
-use Rattle.tb_json.proofs.parse.parse_bytes.Goals as goal
+use Rattle.tb_json.proofs.parsing.parse_bytes.Goals as goal
 
 pub returns-in-Ok : goal.returns-in-Ok
 returns-in-Ok c =
