@@ -6,7 +6,9 @@ use std::io::{Cursor, ErrorKind};
 use std::net::{OpenListener, SocketAddr};
 use std::test::Fail;
 use std::time::{Clock, Duration};
-use tb_program::{Fault, Service, machine_moment, print_line, read_text, serve_connections};
+use tb_program::{
+    Fault, Service, loopback, machine_moment, print_line, read_text, serve_connections,
+};
 
 /// A clock that stands still, or can't be read.
 #[derive(Drop)]
@@ -124,4 +126,11 @@ fn connections_are_served_up_to_their_number(rt: HostRuntime) {
     assert_eq!(rt; answered(true, 9), (true, 3));
     assert_eq!(rt; answered(false, 9), (true, 0));
     assert_eq!(rt; answered(true, 2), (false, 2));
+}
+
+#[test]
+fn this_machine_alone_is_heard(rt: HostRuntime) {
+    let address = loopback(8080);
+    assert!(rt; address.ip().is_loopback());
+    assert_eq!(rt; address.port(), 8080);
 }

@@ -1,9 +1,11 @@
--- Faults of the orders below are faults of an import.
+-- Faults of the parts of an order are faults of it.
 use Rattle.std.proofs.Common.{◌≡◌, true, true≢false, refl, sym}
 use Rattle.tb_orders.specs.Telling as orders
+use Rattle.tb_outcome.specs.Faults.{is_of_printing}
 use Rattle.tb_program.specs.declared.fault.Fault.{Fault}
 use Rattle.tb_program.specs.declared.fault.Fault.TheVariants.{Bad, BadBody, Memory, NoClock, NoListen, NotEmpty, NotOurs, ReadFailed, Store, WriteFailed, WrongVersion}
-use Rattle.taskboard.specs.Telling.{is_of_imports}
+use Rattle.tb_program.specs.Faults.{is_of_reading}
+use Rattle.taskboard.specs.Telling.{is_of_checking, is_of_imports}
 
 pub of_import : (fault : Fault) → orders.is_of_imports fault ≡ true → is_of_imports fault ≡ true
 of_import Bad is = absurd (true≢false (sym is))
@@ -17,3 +19,42 @@ of_import ReadFailed is = refl
 of_import Store is = refl
 of_import WriteFailed is = refl
 of_import WrongVersion is = refl
+
+pub of_reading : (fault : Fault) → is_of_reading fault ≡ true → is_of_imports fault ≡ true
+of_reading Bad is = absurd (true≢false (sym is))
+of_reading BadBody is = refl
+of_reading Memory is = refl
+of_reading NoClock is = refl
+of_reading NoListen is = absurd (true≢false (sym is))
+of_reading NotEmpty is = absurd (true≢false (sym is))
+of_reading NotOurs is = refl
+of_reading ReadFailed is = refl
+of_reading Store is = refl
+of_reading WriteFailed is = refl
+of_reading WrongVersion is = refl
+
+pub of_audit : (fault : Fault) → is_of_printing fault ≡ true → is_of_checking fault ≡ true
+of_audit Bad is = absurd (true≢false (sym is))
+of_audit BadBody is = absurd (true≢false (sym is))
+of_audit Memory is = refl
+of_audit NoClock is = absurd (true≢false (sym is))
+of_audit NoListen is = absurd (true≢false (sym is))
+of_audit NotEmpty is = absurd (true≢false (sym is))
+of_audit NotOurs is = refl
+of_audit ReadFailed is = absurd (true≢false (sym is))
+of_audit Store is = refl
+of_audit WriteFailed is = refl
+of_audit WrongVersion is = refl
+
+pub of_keep : (fault : Fault) → orders.is_of_answers fault ≡ true → is_of_checking fault ≡ true
+of_keep Bad is = absurd (true≢false (sym is))
+of_keep BadBody is = absurd (true≢false (sym is))
+of_keep Memory is = refl
+of_keep NoClock is = absurd (true≢false (sym is))
+of_keep NoListen is = absurd (true≢false (sym is))
+of_keep NotEmpty is = absurd (true≢false (sym is))
+of_keep NotOurs is = refl
+of_keep ReadFailed is = absurd (true≢false (sym is))
+of_keep Store is = refl
+of_keep WriteFailed is = refl
+of_keep WrongVersion is = refl

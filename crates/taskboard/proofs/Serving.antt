@@ -2,7 +2,7 @@
 use Rattle.std.proofs.Common.{◌≡◌, true, true≢false, Option, Some, None, refl, sym}
 use Rattle.tb_serve.specs.declared.serving.ServeFault.{ServeFault}
 use Rattle.tb_serve.specs.declared.serving.ServeFault.TheVariants as serving
-use Rattle.taskboard.specs.Telling.{ends_serving}
+use Rattle.tb_outcome.specs.Faults.{ends_serving}
 
 pub ends_by_store : (fault : Option ServeFault) → ends_serving fault ≡ true → fault ≡ Some serving.Store
 ends_by_store None is = absurd (true≢false (sym is))

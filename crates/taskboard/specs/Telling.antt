@@ -1,75 +1,8 @@
--- Which faults the parts of the program tell.
-use Rattle.std.specs.Prelude.{ℕ, Bool, true, false, Option, Some, Result, Ok, Err}
-use Rattle.tb_keeper.specs.declared.creating.CreateFault.{CreateFault}
-use Rattle.tb_keeper.specs.declared.creating.CreateFault.TheVariants as making
-use Rattle.tb_orders.specs.declared.ending.Ending.{Ending}
-use Rattle.tb_orders.specs.declared.ending.Ending.TheVariants.{Accepted, Refused}
+-- Which faults come of an order over a file.
+use Rattle.std.specs.Prelude.{Bool, true}
+use Rattle.tb_outcome.specs.Faults.{is_of_opening}
 use Rattle.tb_program.specs.declared.fault.Fault.{Fault}
-use Rattle.tb_program.specs.declared.fault.Fault.TheVariants.{BadBody, Memory, NoClock, NoListen, NotEmpty, NotOurs, ReadFailed, Store, WriteFailed, WrongVersion}
-use Rattle.tb_program.specs.Faults.{status_of}
-use Rattle.tb_script.specs.declared.fault.LinesFault.{LinesFault}
-use Rattle.tb_script.specs.declared.fault.LinesFault.TheVariants as lines
-use Rattle.tb_serve.specs.declared.serving.ServeFault.{ServeFault}
-use Rattle.tb_serve.specs.declared.serving.ServeFault.TheVariants as serving
-use Rattle.tb_sql.specs.declared.opening.OpenFault.{OpenFault}
-use Rattle.tb_sql.specs.declared.opening.OpenFault.TheVariants as opening
-
--- the status with which the program ends
-abbrev pub status_at : Result Ending Fault → ℕ
-status_at (Ok Accepted) = 0
-status_at (Ok Refused) = 1
-status_at (Err fault) = status_of fault
-
--- ---- the faults of the crates below, as they are told
-
-abbrev pub fault_of_script : LinesFault → Fault
-fault_of_script lines.ReadFailed = ReadFailed
-fault_of_script lines.WriteFailed = WriteFailed
-fault_of_script lines.Memory = Memory
-fault_of_script lines.Store = Store
-
-abbrev pub fault_of_opening : OpenFault → Fault
-fault_of_opening opening.NotOurs = NotOurs
-fault_of_opening opening.WrongVersion = WrongVersion
-fault_of_opening opening.Store = Store
-fault_of_opening opening.Memory = Memory
-
-abbrev pub fault_of_making : CreateFault → Fault
-fault_of_making making.NotEmpty = NotEmpty
-fault_of_making making.Store = Store
-fault_of_making making.Memory = Memory
-
--- a failed store alone ends the serving of connections
-abbrev pub ends_serving : Option ServeFault → Bool
-ends_serving (Some serving.Store) = true
-ends_serving _ = false
-
--- ---- which faults come of an order
-
--- of a script
-abbrev pub is_of_scripts : Fault → Bool
-is_of_scripts ReadFailed = true
-is_of_scripts WriteFailed = true
-is_of_scripts Memory = true
-is_of_scripts Store = true
-is_of_scripts _ = false
-
--- of a file
-abbrev pub is_of_files : Fault → Bool
-is_of_files Store = true
-is_of_files Memory = true
-is_of_files _ = false
-
--- of making its tables
-abbrev pub is_of_making : Fault → Bool
-is_of_making NotEmpty = true
-is_of_making fault = is_of_files fault
-
--- of opening it with its tables
-abbrev pub is_of_opening : Fault → Bool
-is_of_opening NotOurs = true
-is_of_opening WrongVersion = true
-is_of_opening fault = is_of_files fault
+use Rattle.tb_program.specs.declared.fault.Fault.TheVariants.{BadBody, NoClock, NoListen, ReadFailed, WriteFailed}
 
 -- of serving it
 abbrev pub is_of_serving : Fault → Bool

@@ -1,13 +1,13 @@
 //! The file of boards.
 ghost use Rattle.std.specs.Prelude.{◌≡◌, false, IfErr, IfOk, true};
 ghost use Rattle.tb_program.specs.declared.fault.Fault.TheVariants.{Store};
-ghost use Rattle.taskboard.specs.Telling.{fault_of_opening, is_of_files, is_of_opening};
+ghost use Rattle.tb_outcome.specs.Faults.{is_of_files, is_of_opening};
 
 use sqlite::{Connection, Error, ErrorCode, File, FileStore};
 use tb_desk::Desk;
 use tb_keeper::SqlKeep;
+use tb_outcome::fault_of_opening;
 use tb_program::Fault;
-use tb_sql::opening::OpenFault;
 
 /// The store of a real file.
 pub(crate) type RealFile = FileStore<File>;
@@ -32,7 +32,7 @@ pub(crate) fn open_keep(rt: &HostRuntime, path: &str) -> Result<SqlKeep<RealFile
     let conn = open_file(rt, path)?;
     match SqlKeep::open(rt.alloc(), conn) {
         Ok(keep) => Ok(keep),
-        Err((_, fault)) => Err(fault_of(fault)),
+        Err((_, fault)) => Err(fault_of_opening(fault)),
     }
 }
 
@@ -40,18 +40,6 @@ pub(crate) fn open_desk(rt: &HostRuntime, path: &str) -> Result<Desk<SqlKeep<Rea
     ensures { IfErr result (λ fault. is_of_opening fault ≡ true) }
 {
     Ok(Desk::new(open_keep(rt, path)?))
-}
-
-fn fault_of(fault: OpenFault) -> Fault
-    ensures value { result ≡ fault_of_opening fault }
-    ensures kind { is_of_opening result ≡ true }
-{
-    match fault {
-        OpenFault::NotOurs => Fault::NotOurs,
-        OpenFault::WrongVersion => Fault::WrongVersion,
-        OpenFault::Store => Fault::Store,
-        OpenFault::Memory => Fault::Memory,
-    }
 }
 
 /// Copies what was committed into the database file, and closes it.

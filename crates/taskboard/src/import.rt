@@ -7,30 +7,17 @@ use crate::file::{close_file, open_desk};
 use tb_command_line::ImportOrder;
 use tb_orders::{Ending, import_message, import_text};
 use tb_program::{Fault, read_text};
-use tb_values::Items;
 
 /// Imports standard input, and prints the body of the reply on a line.
-#[tactic(auto, using(crate::proofs::Faults::of_import))]
+#[tactic(auto, using(crate::proofs::Faults::of_import, crate::proofs::Faults::of_reading))]
 pub(crate) fn import_input(rt: &HostRuntime, order: &ImportOrder) -> Result<Ending, Fault>
     ensures { IfErr result (λ fault. is_of_imports fault ≡ true) }
 {
     let mut desk = open_desk(rt, order.file.as_str())?;
-    let text = input_text(rt)?;
+    let text = read_text(rt.alloc(), rt.stdin())?;
     let at = moment_now(rt)?;
     let message = import_message(rt.alloc(), order, text)?;
     let ending = import_text(rt.alloc(), &mut desk, &message, at, &mut rt.stdout())?;
     close_file(desk.into_keep().close())?;
     Ok(ending)
-}
-
-/// Standard input, whole.
-fn input_text(rt: &HostRuntime) -> Result<Items<u8>, Fault>
-    ensures { IfErr result (λ fault. is_of_imports fault ≡ true) }
-{
-    match read_text(rt.alloc(), rt.stdin()) {
-        Ok(text) => Ok(text),
-        Err(Fault::BadBody) => Err(Fault::BadBody),
-        Err(Fault::Memory) => Err(Fault::Memory),
-        Err(_) => Err(Fault::ReadFailed),
-    }
 }

@@ -2,7 +2,7 @@
 #![tactic(auto)]
 
 ghost use Rattle.std.specs.Prelude.{◌≡◌, IfErr, true};
-ghost use Rattle.taskboard.specs.Telling.{fault_of_script, is_of_scripts, status_at};
+ghost use Rattle.tb_outcome.specs.Faults.{is_of_scripts};
 
 mod check;
 mod clock;
@@ -20,26 +20,16 @@ use crate::view::print_board;
 use std::process::ExitCode;
 use tb_command_line::Order;
 use tb_orders::{Ending, read_order};
+use tb_outcome::{fault_of_script, print_fault, status_of};
 use tb_program::Fault;
-use tb_script::{LinesFault, run_lines};
+use tb_script::run_lines;
 
 fn main(rt: HostRuntime) -> ExitCode {
     let end = run(&rt);
     if let Err(fault) = end {
-        let _ = eprintln!(rt; "taskboard: {}", fault.name());
+        let _ = print_fault(fault, &mut rt.stderr());
     }
     ExitCode::from(status_of(end))
-}
-
-/// 0 where the order was accepted, 2 where the words are none, and else 1.
-fn status_of(end: Result<Ending, Fault>) -> u8
-    ensures { result ≡ status_at end }
-{
-    match end {
-        Ok(Ending::Accepted) => 0,
-        Ok(Ending::Refused) => 1,
-        Err(fault) => fault.status(),
-    }
 }
 
 fn run(rt: &HostRuntime) -> Result<Ending, Fault> {
@@ -58,18 +48,6 @@ fn run_script(rt: &HostRuntime) -> Result<Ending, Fault>
 {
     match run_lines(rt.alloc(), rt.stdin(), &mut rt.stdout()) {
         Ok(()) => Ok(Ending::Accepted),
-        Err(fault) => Err(fault_of(fault)),
-    }
-}
-
-fn fault_of(fault: LinesFault) -> Fault
-    ensures value { result ≡ fault_of_script fault }
-    ensures kind { is_of_scripts result ≡ true }
-{
-    match fault {
-        LinesFault::ReadFailed => Fault::ReadFailed,
-        LinesFault::WriteFailed => Fault::WriteFailed,
-        LinesFault::Memory => Fault::Memory,
-        LinesFault::Store => Fault::Store,
+        Err(fault) => Err(fault_of_script(fault)),
     }
 }

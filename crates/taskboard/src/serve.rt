@@ -1,18 +1,19 @@
 //! The server of a file, on the loopback.
 ghost use Rattle.std.specs.Prelude.{◌≡◌, IfErr, true};
-ghost use Rattle.taskboard.specs.Telling.{ends_serving, is_of_serving};
+ghost use Rattle.taskboard.specs.Telling.{is_of_serving};
 
 use crate::clock::MachineClock;
 use crate::file::{RealFile, close_file, open_desk};
 use std::alloc::Global;
-use std::net::{SocketAddr, TcpListener, TcpStream};
+use std::net::{TcpListener, TcpStream};
 use std::time::Duration;
 use tb_command_line::ServeOrder;
 use tb_desk::{Desk, Keep};
 use tb_keeper::SqlKeep;
 use tb_orders::Ending;
-use tb_program::{Fault, Service, serve_connections};
-use tb_serve::{ServeFault, serve};
+use tb_outcome::ends_serving;
+use tb_program::{Fault, Service, loopback, serve_connections};
+use tb_serve::serve;
 
 /// How long a read or a write of a connection may wait.
 const SECONDS_OF_SILENCE: u64 = 30;
@@ -56,23 +57,12 @@ impl<'a> Service<TcpStream> for Server<'a> {
     }
 }
 
-/// Whether no further connection is served: after every other end the next one is.
-fn ends_serving(fault: Option<ServeFault>) -> bool
-    ensures { result ≡ ends_serving fault }
-{
-    match fault {
-        Some(ServeFault::Store) => true,
-        _ => false,
-    }
-}
-
 /// Serves a file on a port of the loopback, up to the number of connections.
 pub(crate) fn serve_file(rt: &HostRuntime, order: &ServeOrder) -> Result<Ending, Fault>
     ensures { IfErr result (λ fault. is_of_serving fault ≡ true) }
 {
     let desk = open_desk(rt, order.file.as_str())?;
-    let address = SocketAddr::from(([127, 0, 0, 1], order.port));
-    let Ok(listener) = TcpListener::bind(rt, address) else {
+    let Ok(listener) = TcpListener::bind(rt, loopback(order.port)) else {
         return Err(Fault::NoListen);
     };
     let mut server = Server {

@@ -5,7 +5,7 @@ use Rattle.tb_desk.specs.Keeping.{Only, StandsAfter}
 use Rattle.tb_desk.specs.declared.call.Call.{Call}
 use Rattle.tb_desk.specs.declared.fault.KeepFault.{KeepFault}
 use Rattle.tb_desk.specs.declared.fault.KeepFault.TheVariants.{Memory, Store}
-use Rattle.tb_orders.specs.Orders.{calls_made, fault_of}
+use Rattle.tb_orders.specs.Orders.{calls_made, fault_of_keep}
 use Rattle.tb_orders.specs.declared.ending.Ending.{Ending}
 use Rattle.tb_program.specs.declared.fault.Fault.{Fault}
 use Rattle.tb_program.specs.declared.fault.Fault.TheVariants.{WriteFailed}
@@ -17,7 +17,7 @@ answered (Ok ending) s c now stops unwritten stood = stood
 answered (Err fault) s c now stops unwritten stood = subst (λ f. StandsAfter s (c ∷ []) (calls_made (Err f)) now stops) (sym unwritten) stood
 
 -- a call that the desk couldn't answer
-pub unanswered : (keep : KeepFault) (fault : Fault) (s : State) (c : Call) (now stops : State → Type 0) → fault ≡ fault_of keep
+pub unanswered : (keep : KeepFault) (fault : Fault) (s : State) (c : Call) (now stops : State → Type 0) → fault ≡ fault_of_keep keep
     → StandsAfter s (c ∷ []) 0 now stops → StandsAfter s (c ∷ []) (calls_made (Err fault)) now stops
 unanswered Memory fault s c now stops is stood = subst (λ f. StandsAfter s (c ∷ []) (calls_made (Err f)) now stops) (sym is) stood
 unanswered Store fault s c now stops is stood = subst (λ f. StandsAfter s (c ∷ []) (calls_made (Err f)) now stops) (sym is) stood

@@ -55,6 +55,6 @@ calls_made (Ok ending) = 1
 calls_made (Err fault.WriteFailed) = 1
 calls_made (Err other) = 0
 
-abbrev pub fault_of : KeepFault → Fault
-fault_of keep.Memory = fault.Memory
-fault_of keep.Store = fault.Store
+abbrev pub fault_of_keep : KeepFault → Fault
+fault_of_keep keep.Memory = fault.Memory
+fault_of_keep keep.Store = fault.Store

@@ -1,6 +1,6 @@
 //! How an order ended.
 ghost use Rattle.std.specs.Prelude.{◌≡◌, true};
-ghost use Rattle.tb_orders.specs.Orders.{ending_of, fault_of};
+ghost use Rattle.tb_orders.specs.Orders.{ending_of, fault_of_keep};
 ghost use Rattle.tb_orders.specs.Telling.{is_of_answers};
 
 use tb_desk::KeepFault;
@@ -25,8 +25,9 @@ pub(crate) fn ending_of(reply: &Reply) -> Ending
     }
 }
 
-pub(crate) fn fault_of(fault: KeepFault) -> Fault
-    ensures value { result ≡ fault_of fault }
+/// What the program tells of a keeper that failed.
+pub fn fault_of_keep(fault: KeepFault) -> Fault
+    ensures value { result ≡ fault_of_keep fault }
     ensures kind { is_of_answers result ≡ true }
 {
     match fault {

@@ -9,7 +9,7 @@ ghost use Rattle.tb_orders.specs.Telling.{is_of_answers, is_of_imports};
 ghost use Rattle.tb_program.specs.declared.fault.Fault.TheVariants.{BadBody, Memory, Store, WriteFailed};
 ghost use Rattle.tb_values.specs.Appends.{AppendsFront};
 
-use crate::ending::{Ending, ending_of, fault_of};
+use crate::ending::{Ending, ending_of, fault_of_keep};
 use std::alloc::Global;
 use std::io::Write;
 use tb_desk::{Call, Desk, Keep};
@@ -77,7 +77,7 @@ fn make_call<K: Keep, W: Write>(
 {
     match desk.handle(alloc, call) {
         Ok(reply) => print_reply(writer, &reply),
-        Err(fault) => Err(fault_of(fault)),
+        Err(fault) => Err(fault_of_keep(fault)),
     }
 }
 

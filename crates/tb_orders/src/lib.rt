@@ -9,7 +9,7 @@ mod message;
 mod viewing;
 mod words;
 
-pub use ending::Ending;
+pub use ending::{Ending, fault_of_keep};
 pub use importing::import_text;
 pub use message::import_message;
 pub use viewing::print_view;

@@ -8,7 +8,7 @@ ghost use Rattle.tb_orders.specs.Telling.{is_of_answers};
 ghost use Rattle.tb_program.specs.declared.fault.Fault.TheVariants.{Store, WriteFailed};
 ghost use Rattle.tb_values.specs.Appends.{AppendsFront};
 
-use crate::ending::{Ending, ending_of, fault_of};
+use crate::ending::{Ending, ending_of, fault_of_keep};
 use std::alloc::Global;
 use std::io::Write;
 use tb_command_line::{ViewKind, ViewOrder};
@@ -36,7 +36,7 @@ pub fn print_view<K: Keep, W: Write>(
 {
     match desk.view(alloc, &order.member, &order.key, &view_of(order), at) {
         Ok(reply) => print_shown(writer, &reply),
-        Err(fault) => Err(fault_of(fault)),
+        Err(fault) => Err(fault_of_keep(fault)),
     }
 }
 

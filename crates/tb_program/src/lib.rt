@@ -12,5 +12,5 @@ mod printing;
 pub use clock::machine_moment;
 pub use fault::Fault;
 pub use input::read_text;
-pub use listening::{Service, serve_connections};
+pub use listening::{Service, loopback, serve_connections};
 pub use printing::{print_line, print_text};

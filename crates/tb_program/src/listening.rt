@@ -1,10 +1,12 @@
 //! Connections, served one after the other.
-ghost use Rattle.std.specs.Prelude.{◌≡◌, Bool, IfErr, IsErr, true};
+ghost use Rattle.std.specs.Net.Socket.{socket_port};
+ghost use Rattle.std.specs.Prelude.{◌≡◌, ◌∷◌, [], Bool, IfErr, IsErr, Some, true};
+ghost use Rattle.tb_program.specs.Listening.{ipv4_octets_of};
 ghost use Rattle.tb_program.specs.declared.fault.Fault.TheVariants.{Store};
 
 use crate::fault::Fault;
 use std::io;
-use std::net::OpenListener;
+use std::net::{Ipv4Addr, OpenListener, SocketAddr, SocketAddrV4};
 
 /// What answers the messages of connections.
 pub trait Service<S> {
@@ -23,6 +25,14 @@ pub trait Service<S> {
         ensures after { follows self.old self.new }
         ensures fault { IfErr result (λ fault. fault ≡ Store) }
         ensures failed { IsErr result → has_failed self.new ≡ true };
+}
+
+/// The address of a port on which this machine alone is heard.
+pub fn loopback(port: u16) -> SocketAddr
+    ensures ip { ipv4_octets_of result ≡ Some (127 ∷ 0 ∷ 0 ∷ 1 ∷ []) }
+    ensures port { socket_port result ≡ port }
+{
+    SocketAddr::V4(SocketAddrV4::new(Ipv4Addr::new(127, 0, 0, 1), port))
 }
 
 /// Serves up to so many connections. One that can't be accepted counts as served.

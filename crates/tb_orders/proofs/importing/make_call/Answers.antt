@@ -18,4 +18,4 @@ returns-in-Ok-clause-stands g c s held only =
 
 pub returns-in-Err-clause-stands : goal.returns-in-Err-clause-stands
 returns-in-Err-clause-stands g c s held only =
-    unanswered c.in-Err.fault c.fault_of.result s c.args.call.now _ _ c.fault_of.ensures.value (c.in-Err.ensures.stands s held only)
+    unanswered c.in-Err.fault c.fault_of_keep.result s c.args.call.now _ _ c.fault_of_keep.ensures.value (c.in-Err.ensures.stands s held only)
