@@ -56,7 +56,10 @@ fn an_order_ends_with_a_status(rt: HostRuntime) {
 #[test]
 fn faults_are_told_by_their_names(rt: HostRuntime) {
     assert_eq!(rt; fault_of_script(LinesFault::ReadFailed), Fault::ReadFailed);
-    assert_eq!(rt; fault_of_opening(OpenFault::WrongVersion), Fault::WrongVersion);
+    assert_eq!(rt;
+        fault_of_opening(OpenFault::WrongVersion),
+        Fault::WrongVersion
+    );
     assert_eq!(rt; fault_of_making(CreateFault::NotEmpty), Fault::NotEmpty);
 }
 

@@ -9,13 +9,7 @@ use tb_task::Moment;
 /// The machine's clock. What it will tell isn't known.
 #[derive(Drop)]
 pub(crate) struct MachineClock<'a> {
-    rt: &'a HostRuntime,
-}
-
-impl<'a> MachineClock<'a> {
-    pub(crate) fn new(rt: &'a HostRuntime) -> MachineClock<'a> {
-        MachineClock { rt }
-    }
+    pub(crate) rt: &'a HostRuntime,
 }
 
 impl<'a> Clock for MachineClock<'a> {

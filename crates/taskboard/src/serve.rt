@@ -68,7 +68,7 @@ pub(crate) fn serve_file(rt: &HostRuntime, order: &ServeOrder) -> Result<Ending,
     let mut server = Server {
         alloc: rt.alloc(),
         desk,
-        clock: MachineClock::new(rt),
+        clock: MachineClock { rt },
     };
     serve_connections(&listener, order.connections, &mut server)?;
     let Server {
