@@ -16,7 +16,7 @@ use clap::ArgMatches;
 use std::alloc::Global;
 use tb_board::{Key, Name};
 use tb_task::TaskId;
-use tb_values::Text;
+use tb_values::{Text, read_number};
 
 const LAST_PORT: u32 = 65_535;
 
