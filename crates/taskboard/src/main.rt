@@ -10,6 +10,8 @@ mod file;
 mod import;
 mod init;
 mod serve;
+#[cfg(test)]
+mod tests;
 mod view;
 
 use crate::check::check_file;
@@ -33,7 +35,11 @@ fn main(rt: HostRuntime) -> ExitCode {
 }
 
 fn run(rt: &HostRuntime) -> Result<Ending, Fault> {
-    match read_order(rt)? {
+    carry_out(rt, read_order(rt)?)
+}
+
+fn carry_out(rt: &HostRuntime, order: Order) -> Result<Ending, Fault> {
+    match order {
         Order::Init(order) => make_file(rt, &order),
         Order::Serve(order) => serve_file(rt, &order),
         Order::Run => run_script(rt),

@@ -20,10 +20,10 @@ const SECONDS_OF_SILENCE: u64 = 30;
 
 /// Answers the messages of connections over the boards of a file.
 #[derive(Drop)]
-struct Server<'a> {
-    alloc: Global,
-    desk: Desk<SqlKeep<RealFile>>,
-    clock: MachineClock<'a>,
+pub(crate) struct Server<'a> {
+    pub(crate) alloc: Global,
+    pub(crate) desk: Desk<SqlKeep<RealFile>>,
+    pub(crate) clock: MachineClock<'a>,
 }
 
 impl<'a> Service<TcpStream> for Server<'a> {
