@@ -8,7 +8,9 @@ use std::cmp::Ordering;
 use std::io;
 use std::io::Write;
 use std::test::Fail;
-use tb_values::{Duplicate, Items, Keyed, NonEmptyText, Ordered, Same, Shared, Text, write_whole};
+use tb_values::{
+    Duplicate, Items, Keyed, NonEmptyText, Ordered, Same, Shared, Text, read_number, write_whole,
+};
 
 #[derive(Drop)]
 struct Entry {
