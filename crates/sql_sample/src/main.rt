@@ -1,5 +1,5 @@
 //! Makes a small store in the file `sample.db`, for other programs to read.
-//! Its tests run every statement, and stop transactions at each of their writes.
+//! Its tests run every statement, and stop transactions at each of their writes. It stands on `tb_sql`.
 #![tactic(auto)]
 
 mod rows;

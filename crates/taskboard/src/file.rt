@@ -36,6 +36,7 @@ pub(crate) fn open_keep(rt: &HostRuntime, path: &str) -> Result<SqlKeep<RealFile
     }
 }
 
+/// The desk over the boards in the file at a path.
 pub(crate) fn open_desk(rt: &HostRuntime, path: &str) -> Result<Desk<SqlKeep<RealFile>>, Fault>
     ensures { IfErr result (λ fault. is_of_opening fault ≡ true) }
 {

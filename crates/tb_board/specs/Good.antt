@@ -25,6 +25,7 @@ abbrev pub has_template_form : Task → Bool
 has_template_form t =
     if is_template t then (is_recurring t.status || is_deleted t.status) && (is_some t.due && is_step t.recur) else not (is_recurring t.status)
 
+-- a task that a board takes, and that has the form of a template or of a plain task
 pub record IsSound (t : Task) : Type 0 where
   pub taken : fault_of t ≡ None
   pub template : has_template_form t ≡ true
@@ -33,6 +34,8 @@ pub record IsSound (t : Task) : Type 0 where
 abbrev pub IsLinkedOn : Board → Task → Type 0
 IsLinkedOn b t = lacks_depends b t.depends ≡ false
 
+-- a good board: distinct identifiers, 10,000 tasks at most, each sound and linked to tasks of the board alone, no cycles; the places of each
+-- template's instances are 0 up to their number; parents and gone places are of templates of the board
 pub record IsGood (b : Board) : Type 0 where
   pub distinct : IsDistinct nat_eq (ids b.tasks)
   pub few : length b.tasks ≤ 10000

@@ -46,6 +46,7 @@ lacks Stop t = false
 lacks (Annotate text) t = false
 lacks (Denotate text) t = not (has_note text t)
 
+-- the task after the action at a moment
 abbrev pub acted : ℕ → Action → Task → Task
 acted m Done t = completed m t
 acted m Delete t = deleted m t

@@ -35,6 +35,7 @@ add_fault i = first_fault (fault_of i.task) (is_linked i || is_misread i.task)
 abbrev pub is_full : Board → Bool
 is_full b = nat_le 10000 (length b.tasks)
 
+-- in the order of their numbers
 abbrev pub add_refusals : Board → Incoming → List (Option Refusal)
 add_refusals b i =
     where_holds NoTask (lacks_depends b i.task.depends)

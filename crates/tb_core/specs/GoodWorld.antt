@@ -27,9 +27,11 @@ pub record IsRoleIn (w : World) (r : RoleOn) : Type 0 where
   pub from_person : 1 ≤ r.person
   pub to_person : r.person ≤ length w.people
 
+-- someone owns the board
 abbrev pub HasOwner : World → Board → Type 0
 HasOwner w b = list_any (owns b.number) w.roles ≡ true
 
+-- a good world: distinct names, boards numbered from 1, each good and owned, roles of its own people and boards in order
 pub record IsGoodWorld (w : World) : Type 0 where
   pub apart : IsDistinct bytes_eq (names w)
   pub people : length w.people ≤ 10000

@@ -29,6 +29,7 @@ modify_fault m edits t = if is_misplaced edits t then Some BadPair else fault_of
 abbrev pub is_fixed : List Edit → Task → Bool
 is_fixed edits t = is_template t && (names (codes "due") edits || names (codes "recur") edits)
 
+-- in the order of their numbers
 abbrev pub modify_refusals : Board → ℕ → List Edit → ℕ → List (Option Refusal)
 modify_refusals b id edits m =
     where_holds NoTask (not (is_on b id))

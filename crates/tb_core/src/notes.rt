@@ -7,6 +7,7 @@ use std::alloc::AllocError;
 use tb_task::{Annotation, Field, Moment, Task, is_unfit};
 use tb_values::{Duplicate, Items, Text};
 
+/// What is wrong with a text as an annotation.
 pub fn fault_in_note(text: &Text) -> Option<Field>
     ensures { result ≡ note_fault text.now }
 {
@@ -29,6 +30,7 @@ pub fn has_note_of(task: &Task, text: &Text) -> bool
         .any(|note| note.description.is(text))
 }
 
+/// The task with one annotation more, the last, made at a moment.
 pub fn annotated_task(task: &Task, text: &Text, at: Moment) -> Result<Task, AllocError>
     ensures { IfOk result (λ t. t ≡ annotated at text.now task.now) }
 {
@@ -42,6 +44,7 @@ pub fn annotated_task(task: &Task, text: &Text, at: Moment) -> Result<Task, Allo
     Ok(task)
 }
 
+/// The task without the first annotation that says this.
 pub fn denotated_task(task: &Task, text: &Text, at: Moment) -> Result<Task, AllocError>
     ensures { IfOk result (λ t. t ≡ denotated at text.now task.now) }
 {

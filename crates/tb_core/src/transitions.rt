@@ -6,6 +6,7 @@ use tb_board::{is_template_task, settled_status};
 use tb_task::{Moment, Status, Task};
 use tb_values::Duplicate;
 
+/// The task completed at a moment: it ends then, and isn't started any more.
 pub fn completed_task(task: &Task, at: Moment) -> Result<Task, AllocError>
     ensures { IfOk result (λ t. t ≡ completed at task.now) }
 {
@@ -17,6 +18,7 @@ pub fn completed_task(task: &Task, at: Moment) -> Result<Task, AllocError>
     Ok(task)
 }
 
+/// The task deleted at a moment: it ends then, and isn't started any more.
 pub fn deleted_task(task: &Task, at: Moment) -> Result<Task, AllocError>
     ensures { IfOk result (λ t. t ≡ deleted at task.now) }
 {
@@ -38,6 +40,7 @@ fn status_reopened(task: &Task, at: Moment) -> Status
     }
 }
 
+/// The task opened again at a moment: a template recurs, any other task is pending or waiting, and it has no end.
 pub fn reopened_task(task: &Task, at: Moment) -> Result<Task, AllocError>
     ensures { IfOk result (λ t. t ≡ reopened at task.now) }
 {
@@ -49,6 +52,7 @@ pub fn reopened_task(task: &Task, at: Moment) -> Result<Task, AllocError>
     Ok(task)
 }
 
+/// The task whose work begins at a moment.
 pub fn started_task(task: &Task, at: Moment) -> Result<Task, AllocError>
     ensures { IfOk result (λ t. t ≡ started at task.now) }
 {
@@ -58,6 +62,7 @@ pub fn started_task(task: &Task, at: Moment) -> Result<Task, AllocError>
     Ok(task)
 }
 
+/// The task whose work ends. The moment is that of the change.
 pub fn stopped_task(task: &Task, at: Moment) -> Result<Task, AllocError>
     ensures { IfOk result (λ t. t ≡ stopped at task.now) }
 {

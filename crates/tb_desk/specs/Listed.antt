@@ -8,12 +8,14 @@ use Rattle.tb_desk.specs.declared.call.KeptReply.{KeptReply}
 use Rattle.tb_desk.specs.declared.list_keep.KeptUnder.{KeptUnder}
 use Rattle.tb_desk.specs.Calls.{CallName, State}
 
+-- the name of a call, as its key in the list says it
 abbrev pub call_name : KeptUnder → CallName
 call_name n = (string_bytes n.member, n.id)
 
 abbrev pub named : KeptUnder × KeptReply → CallName × KeptReply
 named e = (call_name e.0, e.1)
 
+-- the state that a world and kept replies stand for
 abbrev pub listed : World → List (KeptUnder × KeptReply) → State
 listed w entries = record { world = w; kept = from_entries (map named entries) }
 

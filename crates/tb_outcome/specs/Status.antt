@@ -5,7 +5,7 @@ use Rattle.tb_orders.specs.declared.ending.Ending.TheVariants.{Accepted, Refused
 use Rattle.tb_program.specs.declared.fault.Fault.{Fault}
 use Rattle.tb_program.specs.Faults.{name_of, status_of}
 
--- 0 where an order was accepted, and 1 where it was refused
+-- 0 where an order was accepted, 1 where it was refused, and else the fault's status
 abbrev pub status_at : Result Ending Fault → ℕ
 status_at (Ok Accepted) = 0
 status_at (Ok Refused) = 1

@@ -9,7 +9,7 @@ use std::io::Write;
 use tb_orders::Ending;
 use tb_program::{Fault, print_line, print_text};
 
-/// 0 where the order was accepted, 2 where the words are none, and else 1.
+/// 0 where the order was accepted, 2 where the words are no order, and else 1.
 pub fn status_of(end: Result<Ending, Fault>) -> u8
     ensures { result ≡ status_at end }
 {

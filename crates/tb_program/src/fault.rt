@@ -17,7 +17,7 @@ pub enum Fault {
     NoClock,
     /// The port can't be listened on.
     NoListen,
-    /// The file has tables of ours already.
+    /// The file has a table, an index or a view already.
     NotEmpty,
     /// The file doesn't have our tables.
     NotOurs,

@@ -1,4 +1,4 @@
--- How much a task presses at a moment, in parts of which 110376000 make one unit.
+-- The urgency of a task at a moment, in parts of which 110376000 make one unit: then each term is a whole number of parts.
 use Rattle.std.specs.Prelude.{ℕ, ℤ, pos, ◌-ℤ◌, Bool, true, false, List, ◌+◌, ◌-◌, ◌*◌, min, Option, Some, None, codes, length, nat_lt, slice_get, if◌then◌else◌}
 use Rattle.std.specs.List.{list_any}
 use Rattle.std.specs.Option.{option_map}
@@ -30,11 +30,12 @@ is_next tag = bytes_eq tag (codes "next")
 abbrev pub next_parts : List (List ℕ) → ℕ
 next_parts tags = parts_if (list_any is_next tags) (15 * unit)
 
--- a due date counts from 14 days before it to 7 days after it, by the seconds
+-- 2.4 units until 14 days before the due date, then 584 parts a second more, up to 12 units 7 days after it
 abbrev pub due_parts : ℕ → Option ℕ → ℕ
 due_parts m None = 0
 due_parts m (Some due) = min 1814400 ((m + 1209600) - due) * 584 + 264902400
 
+-- 6, 3.9 or 1.8 units
 abbrev pub priority_parts : Option Priority → ℕ
 priority_parts None = 0
 priority_parts (Some High) = 6 * unit
@@ -45,11 +46,11 @@ abbrev pub scheduled_parts : ℕ → Option ℕ → ℕ
 scheduled_parts m None = 0
 scheduled_parts m (Some scheduled) = parts_if (nat_lt scheduled m) (5 * unit)
 
--- 7 parts for each second since its entry, to 2 units at most
+-- 7 parts for each second since its entry: 2 units, the most, after 365 days
 abbrev pub age_parts : ℕ → ℕ → ℕ
 age_parts m entry = min (2 * unit) (7 * (m - entry))
 
--- of annotations, and of tags: most for the first, a little more for the second and the third
+-- of annotations, and of tags: 0.8 units for one, 0.9 for two, 1 for more
 abbrev pub count_parts : ℕ → ℕ
 count_parts n = if nat_lt n 1 then 0 else if nat_lt n 2 then 88300800 else if nat_lt n 3 then 99338400 else unit
 

@@ -1,6 +1,6 @@
 //! What a board shows at a moment: its tasks, and their listing.
 //!
-//! It owns how much a task presses, the order of the listing and the form of its lines. It stands on `tb_board` for boards and what
+//! It owns the urgency of tasks, the order of the listing and the form of its lines. It stands on `tb_board` for boards and what
 //! blocks what, on `tb_sweep` for masks, and on `tb_task`.
 #![tactic(auto)]
 

@@ -15,7 +15,7 @@ const SECONDS_BEFORE_DUE: u64 = 1_209_600;
 /// It counts most from a week after it on.
 const MOST_SECONDS: u64 = 1_814_400;
 
-/// How much the task at a place of the board presses at a moment, in parts. Places of a board count from 1. It takes no memory.
+/// The urgency of the task at a place of the board at a moment, in parts. Places of a board count from 1. It takes no memory.
 pub fn urgency(board: &Board, place: usize, at: Moment) -> i64
     requires from_one { 1 ≤ place }
     requires on_board { place ≤ length board.now.tasks }
@@ -27,7 +27,7 @@ pub fn urgency(board: &Board, place: usize, at: Moment) -> i64
     urgency_of_woken(board.task_at(index), is_blocked, is_blocking, at)
 }
 
-/// How much a task presses at a moment, in parts: the sum of all terms. It is the task of the board that is awake.
+/// The urgency of a task at a moment, in parts: the sum of all terms. It is the task of the board that is awake.
 #[tactic(auto, unfolding(crate::specs::Urgency::urgency_of))]
 pub fn urgency_of_task(task: &Task, is_blocked: bool, is_blocking: bool, at: Moment) -> i64
     ensures { result ≡ urgency_of is_blocked is_blocking at task.now }
@@ -36,7 +36,7 @@ pub fn urgency_of_task(task: &Task, is_blocked: bool, is_blocking: bool, at: Mom
     sum_of(own_parts_of(task, at), is_waiting, is_blocked, is_blocking)
 }
 
-/// How much a task presses at a moment, in parts: it waits no more where its wait is over.
+/// The urgency of a task at a moment, in parts: it waits no more where its wait is over.
 pub(crate) fn urgency_of_woken(task: &Task, is_blocked: bool, is_blocking: bool, at: Moment) -> i64
     ensures { result ≡ urgency_of is_blocked is_blocking at (woken at task.now) }
 {
