@@ -5,7 +5,8 @@ ghost use Rattle.taskboard.specs.Telling.{is_of_serving};
 use crate::clock::MachineClock;
 use crate::file::{RealFile, close_file, open_desk};
 use std::alloc::Global;
-use std::net::{TcpListener, TcpStream};
+use std::io::Read;
+use std::net::{Shutdown, TcpListener, TcpStream};
 use std::time::Duration;
 use tb_command_line::ServeOrder;
 use tb_desk::{Desk, Keep};
@@ -17,6 +18,14 @@ use tb_serve::serve;
 
 /// How long a read or a write of a connection may wait.
 const SECONDS_OF_SILENCE: u64 = 30;
+
+/// How long a read may wait once the last answer is written.
+const SECONDS_OF_CLOSING: u64 = 1;
+
+/// How many reads there are then, of up to so many bytes.
+const READS_OF_CLOSING: usize = 4_096;
+
+const BYTES_OF_CLOSING: usize = 16_384;
 
 /// Answers the messages of connections over the boards of a file.
 #[derive(Drop)]
@@ -50,10 +59,25 @@ impl<'a> Service<TcpStream> for Server<'a> {
             &mut self.desk,
             &mut self.clock,
         );
+        close_in_stages(&stream);
         if ends_serving(end.fault) {
             return Err(Fault::Store);
         }
         Ok(())
+    }
+}
+
+/// Ends the answers, and drops what the client still sends, so that it can read the last one (RFC 9112, section 9.6).
+fn close_in_stages(mut stream: &TcpStream) {
+    let patience = Duration::from_secs(SECONDS_OF_CLOSING);
+    let _ = stream.set_read_timeout(Some(patience));
+    let _ = stream.shutdown(Shutdown::Write);
+    let mut bytes = [0; BYTES_OF_CLOSING];
+    for _ in 0..READS_OF_CLOSING {
+        match stream.read(&mut bytes) {
+            Ok(0) | Err(_) => return,
+            Ok(_) => (),
+        }
     }
 }
 

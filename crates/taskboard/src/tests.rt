@@ -121,7 +121,8 @@ fn a_port_is_listened_on_once(rt: HostRuntime) -> Result<(), Fail> {
     clear(&rt, "served.db")
 }
 
-/// The client writes its message before its connection is accepted, and reads the answer when it was served.
+/// The client writes its message before its connection is accepted, and reads the answer when it was served. What it sends behind the
+/// message isn't read as one, and doesn't cost it the answer.
 #[test]
 fn a_connection_is_answered(rt: HostRuntime) -> Result<(), Fail> {
     clear(&rt, "answered.db")?;
@@ -138,6 +139,8 @@ fn a_connection_is_answered(rt: HostRuntime) -> Result<(), Fail> {
     let listener = TcpListener::bind(&rt, loopback(0))?;
     let mut client = TcpStream::connect(&rt, listener.local_addr()?)?;
     client.write_all(LIST_MESSAGE)?;
+    let more = Vec::from_elem(rt.alloc(), b'a', 100_000)?;
+    client.write_all(&more)?;
     let (stream, _) = listener.accept()?;
     assert!(rt; server.answer(stream).is_ok());
     let mut answer = Vec::new(rt.alloc());
