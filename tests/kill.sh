@@ -1,17 +1,16 @@
 #!/bin/sh
 # Kills the server 20 times at random moments while a client adds 500 tasks, and sends again what got no answer.
-# Each task has to be there once. Run at the top of the repository. It needs python3, and takes seconds once the program is built.
+# Each task has to be there once. It needs python3, and takes seconds once the program is there.
 set -eu
 
-top=$(pwd)
+top=$(cd "$(dirname "$0")/.." && pwd)
 folder=$(mktemp -d)
 trap 'rm -rf "$folder"' EXIT
 
-# Builds the program where a source has changed since it was built.
-"$top/taskboard" run </dev/null
+program=$("$top/taskboard" --where)
 cd "$folder"
-"$top/taskboard" init b.db ann ann-key-1
-python3 - "$top/crates/taskboard/out/taskboard" "${PORT:-8081}" "${TASKS:-500}" "${KILLS:-20}" <<'CLIENT'
+"$program" init b.db ann ann-key-1
+python3 - "$program" "${PORT:-8081}" "${TASKS:-500}" "${KILLS:-20}" <<'CLIENT'
 import http.client
 import random
 import subprocess
@@ -99,7 +98,7 @@ finally:
 print(f"killed {server.killed} times; {client.sent_again} tries got no answer")
 CLIENT
 
-"$top/taskboard" export b.db ann ann-key-1 1 >exported
+"$program" export b.db ann ann-key-1 1 >exported
 for number in $(seq 1 "${TASKS:-500}"); do
     count=$(grep -c "\"description\":\"Task $number of many\"" exported || true)
     if [ "$count" != 1 ]; then
@@ -107,7 +106,7 @@ for number in $(seq 1 "${TASKS:-500}"); do
         exit 1
     fi
 done
-checked=$("$top/taskboard" check b.db)
+checked=$("$program" check b.db)
 if [ "$checked" != "boards 1 tasks ${TASKS:-500} faults 0" ]; then
     echo "check: $checked"
     exit 1

@@ -1,16 +1,15 @@
 #!/bin/sh
 # Makes a board in a real file, adds a task over HTTP twice under one identifier, and lists it over HTTP and by the program;
-# imports tasks, and tries what is refused. Run at the top of the repository. It needs curl, and takes seconds once the program is built.
+# imports tasks, and tries what is refused. It needs python3, and takes seconds once the program is there.
 set -eu
 
-top=$(pwd)
+top=$(cd "$(dirname "$0")/.." && pwd)
 port=${PORT:-8080}
 folder=$(mktemp -d)
 server=
 trap 'if [ -n "$server" ]; then kill "$server" 2>/dev/null || true; fi; rm -rf "$folder"' EXIT
 
-# Builds the program where a source has changed since it was built.
-"$top/taskboard" run </dev/null
+program=$("$top/taskboard" --where)
 cd "$folder"
 
 expect() {
@@ -26,24 +25,30 @@ ends() {
     wanted=$2
     shift 2
     status=0
-    printed=$("$top/taskboard" "$@" 2>&1) || status=$?
+    printed=$("$program" "$@" 2>&1) || status=$?
     expect "$*" "$wanted" "$printed"
     expect "status of $*" "$wanted_status" "$status"
 }
 
-# Sends one message as ann; the server may still be starting.
+# Sends one message as ann.
 send() {
-    curl --silent --show-error --max-time 10 --retry 30 --retry-delay 1 --retry-connrefused \
-        --header 'x-member: ann' --header 'x-key: ann-key-1' "$@"
+    method=$1
+    target=$2
+    body=$3
+    shift 3
+    python3 "$top/tests/send.py" "$port" "$method" "$target" "$body" x-member:ann x-key:ann-key-1 "$@"
 }
 
 add() {
-    send --header 'x-request-id: 00000000-0000-4000-8000-000000000001' \
-        --data '{"description":"Buy milk"}' "http://127.0.0.1:$port/boards/1/tasks"
+    send POST /boards/1/tasks '{"description":"Buy milk"}' x-request-id:00000000-0000-4000-8000-000000000001
 }
 
+ends 0 "" run </dev/null
 ends 0 "" init b.db ann ann-key-1
-timeout 120 "$top/taskboard" serve b.db --port "$port" --connections 3 &
+# The order copies its log into the file, so that the file is whole without it.
+rm -f b.db-wal
+ends 1 "taskboard: NotEmpty" init b.db ann ann-key-1
+timeout 120 "$program" serve b.db --port "$port" --connections 3 &
 server=$!
 
 added='{"added":0,"board":1,"dropped":0,"more":false,"uuid":"00000001-0000-8000-8000-000000000001"}'
@@ -52,9 +57,9 @@ listed='place  urgency flg due              project      description
 1 of 1 tasks'
 expect "add" "$added" "$(add)"
 expect "the same add again" "$added" "$(add)"
-"$top/taskboard" init other.db ann ann-key-1
+"$program" init other.db ann ann-key-1
 ends 1 "taskboard: NoListen" serve other.db --port "$port"
-expect "list" "$listed" "$(send "http://127.0.0.1:$port/boards/1/list")"
+expect "list" "$listed" "$(send GET /boards/1/list '')"
 
 status=0
 wait "$server" || status=$?
@@ -73,16 +78,21 @@ import() {
 
 first=00000000-0000-4000-8000-000000000002
 second=00000000-0000-4000-8000-000000000003
+third=00000000-0000-4000-8000-000000000004
 imported='{"added":0,"board":1,"known":0,"more":false,"new":1}'
 import '(A) Call Mom' 0 "$imported" import b.db ann ann-key-1 "$first" 1 todo
 import '(A) Call Mom' 0 "$imported" import b.db ann ann-key-1 "$first" 1 todo
 import '(B) Call Mom' 1 '{"name":"IdReused","refused":2}' import b.db ann ann-key-1 "$first" 1 todo
+# Without lines, another kind under the same identifier is another import.
+import '' 0 '{"added":0,"board":1,"known":0,"more":false,"new":0}' import b.db ann ann-key-1 "$third" 1 todo
+import '' 1 '{"name":"IdReused","refused":2}' import b.db ann ann-key-1 "$third" 1 json
 import '[{' 1 "taskboard: BadBody" import b.db ann ann-key-1 "$second" 1 json
 head -c 1048577 /dev/zero | tr '\0' ' ' >text
 ends 1 "taskboard: BadBody" import b.db ann ann-key-1 "$second" 1 json <text
 ends 0 "boards 1 tasks 2 faults 0" check b.db
 
-ends 1 "taskboard: NotEmpty" init b.db ann ann-key-1
+ends 1 "taskboard: Store" init no/such/folder.db ann ann-key-1
+ends 1 "taskboard: NotOurs" check other-file.db
 ends 1 "taskboard: NotOurs" list missing.db ann ann-key-1 1
 ends 1 "taskboard: Store" list . ann ann-key-1 1
 echo 'no database' >letter.txt

@@ -1,19 +1,18 @@
 #!/bin/sh
 # Opens a connection that says nothing, and then one that adds a task: the server ends the first one after 30 seconds, and answers the
-# second. Run at the top of the repository. It needs python3, and takes half a minute once the program is built.
+# second. It needs python3, and takes half a minute once the program is there.
 set -eu
 
-top=$(pwd)
+top=$(cd "$(dirname "$0")/.." && pwd)
 port=${PORT:-8082}
 folder=$(mktemp -d)
 server=
 trap 'if [ -n "$server" ]; then kill "$server" 2>/dev/null || true; fi; rm -rf "$folder"' EXIT
 
-# Builds the program where a source has changed since it was built.
-"$top/taskboard" run </dev/null
+program=$("$top/taskboard" --where)
 cd "$folder"
-"$top/taskboard" init b.db ann ann-key-1
-timeout 120 "$top/taskboard" serve b.db --port "$port" --connections 2 &
+"$program" init b.db ann ann-key-1
+timeout 120 "$program" serve b.db --port "$port" --connections 2 &
 server=$!
 
 python3 - "$port" <<'CLIENTS'

@@ -1,16 +1,15 @@
 #!/bin/sh
 # Changes the rows of a file by another hand: what tells no good world is refused as Store, and masks and least free numbers are counted
-# by `check`. Run at the top of the repository. It needs python3 with its sqlite3, and takes seconds once the program is built.
+# by `check`. It needs python3 with its sqlite3, and takes seconds once the program is there.
 set -eu
 
-top=$(pwd)
+top=$(cd "$(dirname "$0")/.." && pwd)
 folder=$(mktemp -d)
 trap 'rm -rf "$folder"' EXIT
 
-# Builds the program where a source has changed since it was built.
-"$top/taskboard" run </dev/null
+program=$("$top/taskboard" --where)
 cd "$folder"
-python3 - "$top/crates/taskboard/out/taskboard" <<'HANDS'
+python3 - "$program" <<'HANDS'
 import json
 import shutil
 import sqlite3

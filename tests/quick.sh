@@ -1,0 +1,37 @@
+#!/bin/sh
+# What the program shows by itself, in under three minutes and without a prover: the worked scripts, the bytes of connections, orders over
+# real files, a server that is killed, a silent client, and files that another hand changed. What a machine lacks is skipped by name.
+set -u
+cd "$(dirname "$0")/.."
+failed=
+
+# Runs a test where the programs that it needs are there: attempt NAME NEEDED..
+attempt() {
+    name=$1
+    shift
+    for needed in "$@"; do
+        if ! command -v "$needed" >/dev/null 2>&1; then
+            echo "$name: skipped, since $needed isn't there"
+            return
+        fi
+    done
+    echo "$name:"
+    case $name in
+    *.py) python3 "tests/$name" "$(./taskboard --where)" ;;
+    *) sh "tests/$name" ;;
+    esac || failed="$failed $name"
+}
+
+attempt scripts.py python3
+attempt wire.py python3
+attempt serve.sh python3
+attempt kill.sh python3
+attempt strange_rows.sh python3
+attempt curl.sh python3 curl
+attempt silent.sh python3
+
+if [ -n "$failed" ]; then
+    echo "FAILED:$failed"
+    exit 1
+fi
+echo "the quick tests passed"

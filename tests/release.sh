@@ -1,0 +1,15 @@
+#!/bin/sh
+# Makes dist/ anew: the program of these sources, compressed, and a manifest that says what it is made of. Builds it where it isn't built.
+set -eu
+cd "$(dirname "$0")/.."
+
+program=$(./taskboard --where)
+mkdir -p dist
+gzip -9nc "$program" >dist/taskboard.gz
+{
+    echo "program $(sha256sum "$program" | cut -d ' ' -f 1)"
+    echo "sources $(./taskboard --sources)"
+    echo "kit $(rt version)"
+    echo "glibc $(grep -ao 'GLIBC_[0-9.]*' "$program" | cut -d _ -f 2 | sort -Vu | tail -n 1)"
+} >dist/manifest
+cat dist/manifest

@@ -1,0 +1,108 @@
+"""Plays the connections of the wire examples against a real server, and compares the bytes that it answers: wire.py PROGRAM
+
+What a real socket and clock can't be told to do is left out: scenes with moments of their own, readers and writers that fail. Moments in
+answers are those of the machine's clock, so they are only compared as moments. `crates/wire_examples/data/README.md` says what the lines mean."""
+import pathlib
+import re
+import socket
+import subprocess
+import sys
+import tempfile
+import time
+
+program, port = sys.argv[1], 8084
+folder = pathlib.Path(__file__).resolve().parent.parent / "crates/wire_examples/data"
+BEHIND = b"GET /boards/1/list HTTP/1.1\r\nHost: a\r\nx-member: root\r\nx-key: root-key-1\r\nConnection: close\r\n\r\n"
+
+
+def bytes_of(word, rest):
+    """The bytes of a line: its mark says how often they stand, and whether the end of a line stands behind each."""
+    mark = re.fullmatch(r"[<>]([<>]?)(?:\*(\d+))?", word)
+    text = re.sub(rb"\\(x..|.)", lambda it: {b"r": b"\r", b"n": b"\n", b"t": b"\t", b"\\": b"\\"}.get(it[1]) or bytes.fromhex(it[1][1:].decode()), rest.encode())
+    return (text + (b"" if mark[1] else b"\r\n")) * int(mark[2] or 1)
+
+
+def scenes_of(path):
+    """The scenes of a file: each is the connections that one file of boards is sent, as bytes sent and wanted, and whether a real server can play it."""
+    scenes, sent, wanted, plays, again = [], b"", b"", True, False
+    for line in path.read_text(newline="\n").split("\n"):
+        word, _, rest = line.partition(" ")
+        if word.startswith(">"):
+            sent += bytes_of(word, rest)
+        elif word.startswith("<"):
+            wanted += bytes_of(word, rest)
+        elif word in ("moments", "reader", "writer"):
+            plays = False
+        elif word == "again":
+            again = True
+        elif word == "end":
+            if not again:
+                scenes.append([])
+            scenes[-1].append((sent, wanted, plays))
+            sent, wanted, plays, again = b"", b"", True, False
+    return [[(sent, wanted) for sent, wanted, _ in scene] for scene in scenes if all(plays for _, _, plays in scene)]
+
+
+def connected():
+    for _ in range(300):
+        try:
+            return socket.create_connection(("127.0.0.1", port), timeout=60)
+        except ConnectionRefusedError:
+            time.sleep(0.02)
+    sys.exit("the server doesn't listen")
+
+
+def answered(sent):
+    """What is answered to these bytes, up to the end of the connection."""
+    with connected() as client:
+        try:
+            client.sendall(sent)
+            client.shutdown(socket.SHUT_WR)
+        except (BrokenPipeError, ConnectionResetError):
+            pass
+        got = b""
+        while piece := client.recv(65536):
+            got += piece
+    return got
+
+
+def without_moments(text):
+    return re.sub(rb"\d{8}T\d{6}Z", b"MOMENT", text)
+
+
+def is_played(name, scene):
+    with tempfile.TemporaryDirectory() as room:
+        subprocess.run([program, "init", "b.db", "root", "root-key-1"], cwd=room, check=True)
+        server = subprocess.Popen([program, "serve", "b.db", "--port", str(port), "--connections", str(len(scene))], cwd=room)
+        try:
+            for sent, wanted in scene:
+                got = answered(sent)
+                if without_moments(got) != without_moments(wanted):
+                    print(f"{name}: wanted {wanted[:600]!r}, got {got[:600]!r}")
+                    return False
+            return server.wait(timeout=30) == 0
+        finally:
+            server.kill()
+            server.wait()
+
+
+def bytes_behind_are_dropped():
+    """A client that sends more behind its last message can still read the answer."""
+    with tempfile.TemporaryDirectory() as room:
+        subprocess.run([program, "init", "b.db", "root", "root-key-1"], cwd=room, check=True)
+        server = subprocess.Popen([program, "serve", "b.db", "--port", str(port), "--connections", "1"], cwd=room)
+        try:
+            return answered(BEHIND + b"a" * 100_000).startswith(b"HTTP/1.1 200 OK\r\n")
+        finally:
+            server.kill()
+            server.wait()
+
+
+played, left = [], 0
+for path in sorted(folder.glob("*.wire")):
+    scenes = scenes_of(path)
+    left += not scenes
+    played += [is_played(path.stem, scene) for scene in scenes]
+if not played or not all(played) or not bytes_behind_are_dropped():
+    sys.exit(1)
+print(f"{len(played)} scenes are answered as written; {left} files are of ends or moments that a real server can't be given")
