@@ -12,8 +12,6 @@ mod file;
 mod import;
 mod init;
 mod serve;
-#[cfg(test)]
-mod tests;
 mod view;
 
 use crate::check::check_file;
