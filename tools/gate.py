@@ -36,7 +36,8 @@ def main():
     os.makedirs(f"{TOP}/out", exist_ok=True)
     wanted = build.sources()
     status, lines = proving.prove(TOP, f"{TOP}/out/times.txt", f"{TOP}/out/gate.log")
-    print("\n".join(proving.failures(lines)))
+    for line in proving.failures(lines):
+        print(line)
     is_well = status == 0
     if os.path.exists(BUILT):
         is_well = is_as_shipped(wanted) and is_well

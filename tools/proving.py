@@ -4,6 +4,7 @@
 What each crate costs is read from /proc while its provers run, so it may miss the last half second of each."""
 import os
 import re
+import signal
 import subprocess
 import sys
 import threading
@@ -139,9 +140,16 @@ def table_of(sums, wall):
     return "\n".join(lines) + "\n"
 
 
+def end_by_signals():
+    """Has a signal that ends this program end its provers too."""
+    for number in (signal.SIGTERM, signal.SIGHUP, signal.SIGINT):
+        signal.signal(number, lambda number, _: sys.exit(128 + number))
+
+
 def prove(top, times, log):
     """Runs `rt ci` at the top of a repository. Writes what it says into one file and the processor minutes into another; returns its status and its lines."""
     progress, began, lines = Progress(top), time.time(), []
+    end_by_signals()
     child = subprocess.Popen(
         ["rt", "ci"], cwd=top, stdin=subprocess.DEVNULL, stdout=subprocess.PIPE, stderr=subprocess.STDOUT,
         text=True, errors="replace", start_new_session=True,
