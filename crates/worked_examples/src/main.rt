@@ -1,42 +1,37 @@
-//! Runs the worked examples: each script of the folder `data`, of which the answers have to be those that stand beside it.
-//! It stands on `tb_script`. `names` lists the examples, a name a line.
+//! Answers scripts. With no word it answers each script of the folder that it runs in, in every way, and tells whether the answers are
+//! those that stand beside it. `worked_examples FILE` answers standard input over a store in the file, `--memory` over one in memory.
+//! It owns the ways to answer a script. It stands on `tb_script` for scripts, and on `tb_desk` and `tb_keeper` for what keeps boards.
 #![tactic(auto)]
 
-use std::alloc::{AllocError, Global};
-use std::{fs, io};
-use tb_script::run_lines;
+mod breaking;
+mod case;
+mod cases;
+mod failure;
+mod stops;
+mod store;
 
-fn main(rt: HostRuntime) -> io::Result<()> {
-    let names = fs::read_to_string(&rt, "names")?;
-    for name in names.as_str().lines() {
-        tell(&rt, name)?;
+use failure::Failure;
+use std::env;
+use std::process::ExitCode;
+
+fn main(rt: HostRuntime) -> ExitCode {
+    match run(&rt) {
+        Ok(()) => ExitCode::SUCCESS,
+        Err(failure) => {
+            let _ = eprintln!(rt; "worked_examples: {}", failure.name());
+            ExitCode::FAILURE
+        }
     }
-    Ok(())
 }
 
-fn tell(rt: &HostRuntime, name: &str) -> io::Result<()> {
-    if is_answered(rt, name)? {
-        println!(rt; "{name}: as written")
-    } else {
-        println!(rt; "{name}: OTHERWISE")
+fn run(rt: &HostRuntime) -> Result<(), Failure> {
+    let Ok(mut words) = env::args(rt) else {
+        return Err(Failure::Bad);
+    };
+    let _program = words.next();
+    match (words.next(), words.next()) {
+        (None, _) => cases::tell_all(rt),
+        (Some(place), None) => store::answer_input(rt, place.as_str()),
+        (Some(_), Some(_)) => Err(Failure::Bad),
     }
 }
-
-/// Whether the script of that name is answered as written.
-fn is_answered(rt: &HostRuntime, name: &str) -> io::Result<bool> {
-    let script = fs::read_to_string(rt, file_name(rt.alloc(), name, ".script")?)?;
-    let wanted = fs::read_to_string(rt, file_name(rt.alloc(), name, ".answers")?)?;
-    let mut answers = Vec::new(rt.alloc());
-    let ended = run_lines(rt.alloc(), script.as_bytes(), &mut answers);
-    Ok(ended.is_ok() && answers.as_slice() == wanted.as_bytes())
-}
-
-fn file_name(alloc: Global, name: &str, ending: &str) -> Result<String, AllocError> {
-    let mut path = String::new(alloc);
-    path.push_str(name)?;
-    path.push_str(ending)?;
-    Ok(path)
-}
-
-#[cfg(test)]
-mod tests;

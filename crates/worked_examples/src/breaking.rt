@@ -10,11 +10,11 @@ use tb_task::TaskId;
 
 /// A keeper whose store fails after some calls. If the call that fails is a commit, the commit may stand.
 #[derive(Drop)]
-pub struct Breaking<K> {
-    pub keep: K,
-    pub calls_left: u64,
-    pub has_failed: bool,
-    pub commit_stands: bool,
+pub(crate) struct Breaking<K> {
+    pub(crate) keep: K,
+    pub(crate) calls_left: u64,
+    pub(crate) has_failed: bool,
+    pub(crate) commit_stands: bool,
 }
 
 impl<K: Keep> Breaking<K> {
@@ -35,7 +35,7 @@ impl<K: Keep> Breaking<K> {
 
 impl<K: Keep> Keep for Breaking<K> {
     ghost use Rattle.std.specs.Prelude.{◌||◌};
-    ghost use Rattle.desk_examples.specs.Breaking.{neither};
+    ghost use Rattle.worked_examples.specs.Breaking.{neither};
 
     ghost holds = { λ b s. K.holds b.keep s };
 
