@@ -1,16 +1,16 @@
 #!/bin/sh
-# Runs each script of the worked examples over a store in memory, and over one in a real file that is opened anew for each line.
-# The answers have to be those that stand beside the script. Run at the top of the repository.
+# Runs each script of the worked examples over a store in memory, and over one in a real file that a new process opens for each line.
+# The answers have to be those that stand beside the script. It needs the Rattle kit.
 set -eu
 
-top=$(pwd)
+top=$(cd "$(dirname "$0")/.." && pwd)
 data=$top/crates/worked_examples/data
 folder=$(mktemp -d)
 trap 'rm -rf "$folder"' EXIT
 
 # Builds the program where it is proved.
-(cd "$top/crates/run_over_file" && rt run -- --memory </dev/null)
-program=$top/crates/run_over_file/out/run_over_file
+(cd "$top/crates/worked_examples" && rt run -- --memory </dev/null)
+program=$top/crates/worked_examples/out/worked_examples
 cd "$folder"
 
 run_line_by_line() {
@@ -26,10 +26,13 @@ compare() {
     fi
 }
 
-while read -r name; do
-    "$program" --memory <"$data/$name.script" >answers
+count=0
+for script in "$data"/*.script; do
+    name=$(basename "$script" .script)
+    "$program" --memory <"$script" >answers
     compare "$name" "memory"
-    run_line_by_line "$name.db" <"$data/$name.script" >answers
+    run_line_by_line "$name.db" <"$script" >answers
     compare "$name" "a file"
-done <"$data/names"
-echo "all $(wc -l <"$data/names") scripts are answered as written"
+    count=$((count + 1))
+done
+echo "all $count scripts are answered as written"

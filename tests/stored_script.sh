@@ -1,15 +1,16 @@
 #!/bin/sh
 # Runs a script of 500 lines over a store in a real file, in two runs, and lets Debian's sqlite3 judge the file.
-# The answers have to be those of a run over memory. Run at the top of the repository. It needs the package sqlite3.
+# The answers have to be those of `taskboard run`, over lists. It needs the package sqlite3, and the Rattle kit.
 set -eu
 
-top=$(pwd)
+top=$(cd "$(dirname "$0")/.." && pwd)
 folder=$(mktemp -d)
 trap 'rm -rf "$folder"' EXIT
 
 # Builds the program where it is proved.
-(cd "$top/crates/run_over_file" && rt run -- --memory </dev/null)
-program=$top/crates/run_over_file/out/run_over_file
+(cd "$top/crates/worked_examples" && rt run -- --memory </dev/null)
+program=$top/crates/worked_examples/out/worked_examples
+taskboard=$("$top/taskboard" --where)
 cd "$folder"
 
 expect() {
@@ -60,7 +61,8 @@ line_count() {
 }
 
 make_script >script
-"$program" --memory <script >expected
+"$taskboard" run <script >expected
+"$program" --memory <script | cmp expected -
 head -n 250 script | "$program" boards.db >answers
 tail -n 250 script | "$program" boards.db >>answers
 cmp expected answers

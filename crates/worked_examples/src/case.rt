@@ -84,11 +84,18 @@ impl Case {
     fn over_file(&self, rt: &HostRuntime) -> Result<Vec<u8>, Failure> {
         let mut answers = Vec::new(rt.alloc());
         remove_store(rt);
-        for line in self.script.split(|byte| *byte == b'\n') {
-            answer_in_file(rt, STORE, line, &mut answers)?;
+        for line in self.lines(rt.alloc())?.as_slice() {
+            answer_in_file(rt, STORE, *line, &mut answers)?;
         }
         remove_store(rt);
         Ok(answers)
+    }
+
+    fn lines(&self, alloc: Global) -> Result<Vec<&[u8]>, AllocError> {
+        self.script
+            .as_slice()
+            .split(|byte| *byte == b'\n')
+            .collect(alloc)
     }
 
     fn expect(&self, way: &'static str, told: Result<Vec<u8>, Failure>) -> Result<(), Wrong> {
@@ -104,9 +111,13 @@ impl Case {
 
     /// Answers the script over stores that fail, each at another call.
     fn expect_stops(&self, alloc: Global) -> Result<(), Wrong> {
+        let lines = match self.lines(alloc) {
+            Ok(lines) => lines,
+            Err(_) => return Err(failing(Difference::Ended(Failure::Memory))),
+        };
         for calls in 0..u64::MAX {
-            let fails = self.expect_stop(alloc, calls, false)?;
-            let fails_late = self.expect_stop(alloc, calls, true)?;
+            let fails = self.expect_stop(alloc, lines.as_slice(), calls, false)?;
+            let fails_late = self.expect_stop(alloc, lines.as_slice(), calls, true)?;
             if !fails || !fails_late {
                 return self.expect_calls(alloc, calls);
             }
@@ -114,18 +125,16 @@ impl Case {
         Ok(())
     }
 
-    /// Answers the script over a store that fails at one call, and tells whether it came to that call.
+    /// Answers the lines over a store that fails at one call, and tells whether they came to that call.
     fn expect_stop(
         &self,
         alloc: Global,
+        lines: &[&[u8]],
         calls_left: u64,
         commit_stands: bool,
     ) -> Result<bool, Wrong> {
-        match answer_through_stop(alloc, self.script.as_slice(), calls_left, commit_stands) {
-            Err(failure) => Err(Wrong {
-                way: FAILING,
-                difference: Difference::Ended(failure),
-            }),
+        match answer_through_stop(alloc, lines, calls_left, commit_stands) {
+            Err(failure) => Err(failing(Difference::Ended(failure))),
             Ok(told) => {
                 self.expect(FAILING, Ok(told.answers))?;
                 Ok(told.has_failed)
@@ -139,15 +148,16 @@ impl Case {
         };
         match is_number(alloc, wanted.as_slice(), calls) {
             Ok(true) => Ok(()),
-            Ok(false) => Err(Wrong {
-                way: FAILING,
-                difference: Difference::Calls(calls),
-            }),
-            Err(_) => Err(Wrong {
-                way: FAILING,
-                difference: Difference::Ended(Failure::Memory),
-            }),
+            Ok(false) => Err(failing(Difference::Calls(calls))),
+            Err(_) => Err(failing(Difference::Ended(Failure::Memory))),
         }
+    }
+}
+
+fn failing(difference: Difference) -> Wrong {
+    Wrong {
+        way: FAILING,
+        difference,
     }
 }
 

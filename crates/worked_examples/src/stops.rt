@@ -21,22 +21,22 @@ pub(crate) struct Told {
 /// opened again; then that line and those after it are sent once more.
 pub(crate) fn answer_through_stop(
     alloc: Global,
-    script: &[u8],
+    lines: &[&[u8]],
     calls_left: u64,
     commit_stands: bool,
 ) -> Result<Told, Failure> {
     let mut answers = Vec::new(alloc);
     let mut desk = breaking_desk(alloc, calls_left, commit_stands)?;
-    let answered = answer_until_stop(alloc, script, &mut desk, &mut answers)?;
-    let has_failed = answered.is_some();
-    let first = answered.unwrap_or(usize::MAX);
-    expect_nothing(alloc, script, first, &mut desk)?;
+    let answered = answer_until_stop(alloc, lines, &mut desk, &mut answers)?;
+    let rest = lines.get(answered..).unwrap_or(&[]);
+    let has_failed = !rest.is_empty();
+    expect_nothing(alloc, rest, &mut desk)?;
     let keep = desk.into_keep();
     if keep.failures() != u64::from(has_failed) {
         return Err(Failure::WronglyTold);
     }
     let mut again = Desk::new(opened_again(keep));
-    answer_from(alloc, script, first, &mut again, &mut answers)?;
+    answer_all(alloc, rest, &mut again, &mut answers)?;
     Ok(Told {
         answers,
         has_failed,
@@ -71,30 +71,30 @@ fn opened_again(breaking: Breaking<ListKeep>) -> ListKeep {
 /// Answers the lines before the one at which the store fails, and tells how many these are.
 fn answer_until_stop<K: Keep>(
     alloc: Global,
-    script: &[u8],
+    lines: &[&[u8]],
     desk: &mut Desk<K>,
     answers: &mut Vec<u8>,
-) -> Result<Option<usize>, Failure> {
-    for (at, line) in script.split(|byte| *byte == b'\n').enumerate() {
-        match run_lines_on(alloc, line, answers, desk) {
-            Ok(()) => {}
-            Err(LinesFault::Store) => return Ok(Some(at)),
+) -> Result<usize, Failure> {
+    let mut answered = 0usize;
+    for line in lines {
+        match run_lines_on(alloc, *line, answers, desk) {
+            Ok(()) => answered = answered.saturating_add(1),
+            Err(LinesFault::Store) => return Ok(answered),
             Err(fault) => return Err(Failure::from(fault)),
         }
     }
-    Ok(None)
+    Ok(answered)
 }
 
-/// Sends the lines from one on to a desk whose store has failed, each by itself: none that asks the store is answered.
+/// Sends lines to a desk whose store has failed, each by itself: none that asks the store is answered.
 fn expect_nothing<K: Keep>(
     alloc: Global,
-    script: &[u8],
-    first: usize,
+    lines: &[&[u8]],
     desk: &mut Desk<K>,
 ) -> Result<(), Failure> {
-    for line in script.split(|byte| *byte == b'\n').skip(first) {
+    for line in lines {
         let mut answers = Vec::new(alloc);
-        let ended = run_lines_on(alloc, line, &mut answers, desk);
+        let ended = run_lines_on(alloc, *line, &mut answers, desk);
         if !is_unanswered(ended, line, answers.as_slice()) {
             return Err(Failure::WronglyTold);
         }
@@ -110,15 +110,14 @@ fn is_unanswered(ended: Result<(), LinesFault>, line: &[u8], answers: &[u8]) -> 
     }
 }
 
-fn answer_from<K: Keep>(
+fn answer_all<K: Keep>(
     alloc: Global,
-    script: &[u8],
-    first: usize,
+    lines: &[&[u8]],
     desk: &mut Desk<K>,
     answers: &mut Vec<u8>,
 ) -> Result<(), Failure> {
-    for line in script.split(|byte| *byte == b'\n').skip(first) {
-        run_lines_on(alloc, line, answers, desk)?;
+    for line in lines {
+        run_lines_on(alloc, *line, answers, desk)?;
     }
     Ok(())
 }
