@@ -1,0 +1,7 @@
+mod good;
+mod graph;
+mod made;
+mod recurrence;
+mod report;
+mod tasks;
+mod values;
