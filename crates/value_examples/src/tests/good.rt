@@ -27,18 +27,22 @@ fn with_tasks(alloc: Global, tasks: &[(u64, &[Change])]) -> Result<World, Fail> 
     Ok(world)
 }
 
+const FIRST: (u64, &[Change]) = (1, &[]);
+
+const FIRST_LINKED: (u64, &[Change]) = (1, &[Change::Depends(2)]);
+
+const SECOND: (u64, &[Change]) = (2, &[]);
+
+const SECOND_LINKED: (u64, &[Change]) = (2, &[Change::Depends(1)]);
+
+const INSTANCE: (u64, &[Change]) = (2, &[Change::Parent(1), Change::Imask(0)]);
+
 /// Links in a row and in a circle, a parent that is no template, and one identifier twice.
 const TASKS: [(&[(u64, &[Change])], bool); 4] = [
-    (&[(1, &[Change::Depends(2)]), (2, &[])], true),
-    (
-        &[(1, &[Change::Depends(2)]), (2, &[Change::Depends(1)])],
-        false,
-    ),
-    (
-        &[(1, &[]), (2, &[Change::Parent(1), Change::Imask(0)])],
-        false,
-    ),
-    (&[(1, &[]), (1, &[])], false),
+    (&[FIRST_LINKED, SECOND], true),
+    (&[FIRST_LINKED, SECOND_LINKED], false),
+    (&[FIRST, INSTANCE], false),
+    (&[FIRST, FIRST], false),
 ];
 
 #[test]

@@ -11,11 +11,11 @@ use tb_values::Shared;
 /// So many parts make one unit of urgency.
 const UNIT: i64 = 110_376_000;
 
-/// A board with a task for each list of changes, numbered from one.
+/// A board with a task for each list of changes, of which there are up to three.
 fn board_of(alloc: Global, tasks: &[&[Change]]) -> Result<Board, Fail> {
     let title = Title::read(alloc, "board")?.ok_or("a title")?;
     let mut board = Board::new(alloc, 1, title);
-    for (number, changes) in (1..).zip(tasks) {
+    for (changes, number) in tasks.iter().zip([1, 2, 3]) {
         let task = changed(alloc, plain(alloc, number, 1000, "a")?, changes)?;
         board.tasks.push(Shared::new(alloc, task)?)?;
     }
@@ -34,6 +34,7 @@ fn urgency_there(board: &Board, place: usize, seconds: u64) -> Option<i64> {
 const CALL_BANK: [Change; 2] = [Change::Due(Some(1000)), Change::Priority(Priority::High)];
 
 const WAITING: [Change; 2] = [Change::Status(Status::Waiting), Change::Wait(1010)];
+
 /// Each task depends on the one of the next number.
 const CHAIN: [&[Change]; 3] = [
     &[Change::Depends(2)],
@@ -54,12 +55,8 @@ const URGENCIES: [(&[&[Change]], usize, u64, i64); 6] = [
 #[test]
 fn tasks_are_urgent(rt: HostRuntime) -> Result<(), Fail> {
     for (tasks, place, seconds, wanted) in URGENCIES {
-        let board = board_of(rt.alloc(), tasks)?;
-        assert_eq!(rt;
-            urgency_there(&board, place, seconds),
-            Some(wanted),
-            "{place} at {seconds}"
-        );
+        let found = urgency_there(&board_of(rt.alloc(), tasks)?, place, seconds);
+        assert_eq!(rt; found, Some(wanted), "{place} at {seconds}");
     }
     Ok(())
 }
