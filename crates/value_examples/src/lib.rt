@@ -1,5 +1,5 @@
-//! Worked examples of the crates below the boards and of those beside them, as tables of cases that tests loop over.
-//! They stand on each crate that they give examples of, and in a crate of their own, so that it is proved once.
+//! Worked examples of values, as tables that the tests go through.
+//! They stand on the libraries that they show, and in a crate of their own, so that those are proved once.
 //! They own nothing that others use.
 #![tactic(auto)]
 

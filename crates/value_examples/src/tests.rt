@@ -1,7 +1,4 @@
-mod good;
-mod graph;
-mod made;
-mod recurrence;
-mod report;
-mod tasks;
-mod values;
+mod imports;
+mod json;
+mod lines;
+mod todo_lines;
