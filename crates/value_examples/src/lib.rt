@@ -1,5 +1,5 @@
-//! Worked examples of values, as tables that the tests go through.
-//! They stand on the libraries that they show, and in a crate of their own, so that those are proved once.
+//! Worked examples as tables of cases that tests loop over.
+//! They stand on each crate that they give examples of.
 //! They own nothing that others use.
 #![tactic(auto)]
 

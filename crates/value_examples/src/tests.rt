@@ -1,4 +1,1 @@
-mod imports;
-mod json;
-mod lines;
-mod todo_lines;
+mod rows;
