@@ -25,7 +25,7 @@ def bytes_of(word, rest):
 def scenes_of(path):
     """The scenes of a file: each is the connections that one file of boards is sent, as bytes sent and wanted, and whether a real server can play it."""
     scenes, sent, wanted, plays, again = [], b"", b"", True, False
-    for line in path.read_text(newline="\n").split("\n"):
+    for line in path.read_bytes().decode().split("\n"):
         word, _, rest = line.partition(" ")
         if word.startswith(">"):
             sent += bytes_of(word, rest)
