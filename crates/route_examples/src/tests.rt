@@ -1,6 +1,0 @@
-mod imports;
-mod instances;
-mod people;
-mod routes;
-mod script;
-mod tasks;
