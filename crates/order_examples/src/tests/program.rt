@@ -35,15 +35,21 @@ fn seconds_at(seconds: Option<u64>) -> Option<u64> {
 
 #[test]
 fn a_clock_tells_its_moment(rt: HostRuntime) {
-    assert_eq!(rt; seconds_at(Some(1_767_225_600)), Some(1_767_225_600));
-    assert_eq!(rt; seconds_at(Some(253_402_300_800)), None);
-    assert_eq!(rt; seconds_at(None), None);
+    for (seconds, moment) in [
+        (Some(1_767_225_600), Some(1_767_225_600)),
+        (Some(253_402_300_800), None),
+        (None, None),
+    ] {
+        assert_eq!(rt; seconds_at(seconds), moment);
+    }
 }
 
 #[test]
 fn bad_words_alone_have_status_two(rt: HostRuntime) {
-    assert_eq!(rt; (Fault::Bad.name(), Fault::Bad.status()), ("Bad", 2));
-    assert_eq!(rt; (Fault::Store.name(), Fault::Store.status()), ("Store", 1));
+    for (fault, name, status) in [(Fault::Bad, "Bad", 2), (Fault::Store, "Store", 1)] {
+        assert_eq!(rt; fault.name(), name);
+        assert_eq!(rt; fault.status(), status);
+    }
 }
 
 fn length_read(alloc: Global, length: usize) -> Result<Option<usize>, Fail> {
@@ -57,17 +63,19 @@ fn length_read(alloc: Global, length: usize) -> Result<Option<usize>, Fail> {
 
 #[test]
 fn a_text_has_a_longest_length(rt: HostRuntime) -> Result<(), Fail> {
-    assert_eq!(rt; length_read(rt.alloc(), 1_048_576)?, Some(1_048_576));
-    assert_eq!(rt; length_read(rt.alloc(), 1_048_577)?, None);
+    for (length, read) in [(1_048_576, Some(1_048_576)), (1_048_577, None)] {
+        assert_eq!(rt; length_read(rt.alloc(), length)?, read);
+    }
     Ok(())
 }
 
 #[test]
-fn a_line_ends_in_a_line_feed(rt: HostRuntime) -> Result<(), Fail> {
-    let mut out = Vec::new(rt.alloc());
-    assert!(rt; print_line(&mut out, "{}").is_ok());
-    assert_eq!(rt; out.as_slice(), b"{}\n".as_slice());
-    Ok(())
+fn a_line_ends_in_a_line_feed(rt: HostRuntime) {
+    for (text, line) in [("{}", "{}\n")] {
+        let mut out = Vec::new(rt.alloc());
+        assert!(rt; print_line(&mut out, text).is_ok());
+        assert_eq!(rt; out.as_slice(), line.as_bytes());
+    }
 }
 
 /// A listener at which somebody always waits, or that accepts nobody.
@@ -123,9 +131,13 @@ fn answered(is_open: bool, most: u32) -> (bool, u32) {
 
 #[test]
 fn connections_are_served_up_to_their_number(rt: HostRuntime) {
-    assert_eq!(rt; answered(true, 9), (true, 3));
-    assert_eq!(rt; answered(false, 9), (true, 0));
-    assert_eq!(rt; answered(true, 2), (false, 2));
+    for (is_open, most, end) in [
+        (true, 9, (true, 3)),
+        (false, 9, (true, 0)),
+        (true, 2, (false, 2)),
+    ] {
+        assert_eq!(rt; answered(is_open, most), end);
+    }
 }
 
 #[test]

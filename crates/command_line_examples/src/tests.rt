@@ -1,2 +1,0 @@
-mod bad_words;
-mod orders;

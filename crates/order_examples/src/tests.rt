@@ -1,0 +1,5 @@
+mod command_line;
+mod desk;
+mod orders;
+mod outcomes;
+mod program;

@@ -1,4 +1,0 @@
-mod desk;
-mod imports;
-mod orders;
-mod views;
