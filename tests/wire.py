@@ -2,6 +2,7 @@
 
 What a real socket and clock can't be told to do is left out: scenes with moments of their own, readers and writers that fail. Moments in
 answers are those of the machine's clock, so they are only compared as moments. `crates/wire_examples/data/README.md` says what the lines mean."""
+import os
 import pathlib
 import re
 import socket
@@ -10,7 +11,7 @@ import sys
 import tempfile
 import time
 
-program, port = sys.argv[1], 8084
+program, port = os.path.abspath(sys.argv[1]), 8084
 folder = pathlib.Path(__file__).resolve().parent.parent / "crates/wire_examples/data"
 BEHIND = b"GET /boards/1/list HTTP/1.1\r\nHost: a\r\nx-member: root\r\nx-key: root-key-1\r\nConnection: close\r\n\r\n"
 

@@ -6,7 +6,7 @@ use std::io;
 use std::io::Write;
 use std::test::Fail;
 use tb_values::{
-    Duplicate, Items, NonEmptyText, Ordered, Same, Shared, Text, WriteFault, read_number,
+    Duplicate, Items, Keyed, NonEmptyText, Ordered, Same, Shared, Text, WriteFault, read_number,
     write_whole,
 };
 
