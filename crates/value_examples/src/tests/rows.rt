@@ -68,7 +68,7 @@ fn role_row(kind: u32) -> RoleRow {
 }
 
 /// The role of the last of these rows, where they are read.
-fn last_role(alloc: Global, kinds: [u32; 2]) -> Result<Option<(Role, u32)>, Fail> {
+fn last_role(alloc: Global, kinds: [u32; 2]) -> Result<Option<(Role, usize)>, Fail> {
     let rows = [role_row(kinds[0]), role_row(kinds[1])];
     let Some(roles) = unless_refused(add_roles(Items::new(alloc), &rows))? else {
         return Ok(None);
