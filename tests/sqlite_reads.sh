@@ -1,9 +1,9 @@
 #!/bin/sh
-# Makes a store in a real file and lets Debian's sqlite3 judge it. Run at the top of the repository.
+# Makes a store in a real file and lets Debian's sqlite3 judge it.
 # It needs the package sqlite3.
 set -eu
 
-top=$(pwd)
+top=$(cd "$(dirname "$0")/.." && pwd)
 folder=$(mktemp -d)
 trap 'rm -rf "$folder"' EXIT
 
