@@ -10,8 +10,6 @@ use tb_script::run_lines;
 /// A script of more bytes is answered over lists and over a store in memory alone.
 const MOST_BYTES: usize = 8192;
 
-const FAILING: &str = "over a store that fails";
-
 const STORE: &str = "boards.db";
 
 const LOG: &str = "boards.db-wal";
@@ -20,104 +18,70 @@ const LOG: &str = "boards.db-wal";
 pub(crate) struct Case {
     script: Vec<u8>,
     answers: Vec<u8>,
-    /// How often the script asks what keeps the boards, as a number and a line feed, where that is written.
+    /// How often the script asks its store, as a number and a line feed, where that is written.
     calls: Option<Vec<u8>>,
 }
 
-/// What differs from the files of a case.
+/// A way to answer a script.
 #[derive(Clone, Copy, Debug)]
-pub(crate) enum Difference {
-    /// This line of the answers, counted from 1.
-    Line(usize),
-    /// How often the script asks what keeps the boards.
-    Calls(u64),
-    Ended(Failure),
-}
-
-/// In which way of answering something differs.
-#[derive(Clone, Copy, Debug)]
-pub(crate) struct Wrong {
-    pub(crate) way: &'static str,
-    pub(crate) difference: Difference,
+pub(crate) enum Way {
+    OverLists,
+    OverMemory,
+    /// Over a file that is opened anew for each line.
+    OverFile,
+    /// Over stores that fail, each at another call.
+    OverStops,
 }
 
 impl Case {
     /// The case of that name in the folder.
     pub(crate) fn read(rt: &HostRuntime, name: &str) -> io::Result<Case> {
         let calls = file_name(rt.alloc(), name, ".calls")?;
-        let calls = if fs::exists(rt, calls.as_str())? {
-            Some(fs::read(rt, calls.as_str())?)
-        } else {
-            None
-        };
         Ok(Case {
             script: fs::read(rt, file_name(rt.alloc(), name, ".script")?)?,
             answers: fs::read(rt, file_name(rt.alloc(), name, ".answers")?)?,
-            calls,
+            calls: fs::read(rt, calls.as_str()).ok(),
         })
     }
 
-    /// Answers the script in each way.
-    pub(crate) fn judge(&self, rt: &HostRuntime) -> Result<(), Wrong> {
-        self.expect("over lists", self.over_lists(rt.alloc()))?;
-        self.expect("over a store in memory", self.over_memory(rt.alloc()))?;
-        if self.script.len() > MOST_BYTES {
-            return Ok(());
+    /// Answers the script in one way, or takes it as too large for that.
+    pub(crate) fn judge(&self, rt: &HostRuntime, way: Way) -> Result<(), Failure> {
+        let alloc = rt.alloc();
+        let is_large = self.script.len() > MOST_BYTES;
+        let mut answers = Vec::new(alloc);
+        match way {
+            Way::OverFile | Way::OverStops if is_large => return Ok(()),
+            Way::OverLists => run_lines(alloc, self.script.as_slice(), &mut answers)?,
+            Way::OverMemory => answer_in_memory(alloc, self.script.as_slice(), &mut answers)?,
+            Way::OverFile => self.answer_by_line(rt, &mut answers)?,
+            Way::OverStops => return self.judge_stops(alloc),
         }
-        self.expect("over a file", self.over_file(rt))?;
-        self.expect_stops(rt.alloc())
+        self.expect(answers.as_slice())
     }
 
-    fn over_lists(&self, alloc: Global) -> Result<Vec<u8>, Failure> {
-        let mut answers = Vec::new(alloc);
-        run_lines(alloc, self.script.as_slice(), &mut answers)?;
-        Ok(answers)
-    }
-
-    fn over_memory(&self, alloc: Global) -> Result<Vec<u8>, Failure> {
-        let mut answers = Vec::new(alloc);
-        answer_in_memory(alloc, self.script.as_slice(), &mut answers)?;
-        Ok(answers)
-    }
-
-    /// The answers over a file that is opened anew for each line.
-    fn over_file(&self, rt: &HostRuntime) -> Result<Vec<u8>, Failure> {
-        let mut answers = Vec::new(rt.alloc());
+    fn answer_by_line(&self, rt: &HostRuntime, answers: &mut Vec<u8>) -> Result<(), Failure> {
         remove_store(rt);
         for line in self.lines(rt.alloc())?.as_slice() {
-            answer_in_file(rt, STORE, *line, &mut answers)?;
+            answer_in_file(rt, STORE, *line, answers)?;
         }
         remove_store(rt);
-        Ok(answers)
+        Ok(())
     }
 
     fn lines(&self, alloc: Global) -> Result<Vec<&[u8]>, AllocError> {
         self.script
             .as_slice()
             .split(|byte| *byte == b'\n')
+            .filter(|line| !line.is_empty())
             .collect(alloc)
     }
 
-    fn expect(&self, way: &'static str, told: Result<Vec<u8>, Failure>) -> Result<(), Wrong> {
-        let difference = match told {
-            Err(failure) => Some(Difference::Ended(failure)),
-            Ok(answers) => differs(answers.as_slice(), self.answers.as_slice()),
-        };
-        match difference {
-            None => Ok(()),
-            Some(difference) => Err(Wrong { way, difference }),
-        }
-    }
-
-    /// Answers the script over stores that fail, each at another call.
-    fn expect_stops(&self, alloc: Global) -> Result<(), Wrong> {
-        let lines = match self.lines(alloc) {
-            Ok(lines) => lines,
-            Err(_) => return Err(failing(Difference::Ended(Failure::Memory))),
-        };
+    /// Lets the store fail at its first call, at its second, and so on, up to the first that the script doesn't come to.
+    fn judge_stops(&self, alloc: Global) -> Result<(), Failure> {
+        let lines = self.lines(alloc)?;
         for calls in 0..u64::MAX {
-            let fails = self.expect_stop(alloc, lines.as_slice(), calls, false)?;
-            let fails_late = self.expect_stop(alloc, lines.as_slice(), calls, true)?;
+            let fails = self.judge_stop(alloc, lines.as_slice(), calls, false)?;
+            let fails_late = self.judge_stop(alloc, lines.as_slice(), calls, true)?;
             if !fails || !fails_late {
                 return self.expect_calls(alloc, calls);
             }
@@ -125,70 +89,46 @@ impl Case {
         Ok(())
     }
 
-    /// Answers the lines over a store that fails at one call, and tells whether they came to that call.
-    fn expect_stop(
+    /// Whether the script comes to the call at which its store fails.
+    fn judge_stop(
         &self,
         alloc: Global,
         lines: &[&[u8]],
         calls_left: u64,
         commit_stands: bool,
-    ) -> Result<bool, Wrong> {
-        match answer_through_stop(alloc, lines, calls_left, commit_stands) {
-            Err(failure) => Err(failing(Difference::Ended(failure))),
-            Ok(told) => {
-                self.expect(FAILING, Ok(told.answers))?;
-                Ok(told.has_failed)
+    ) -> Result<bool, Failure> {
+        let (answers, fails) = answer_through_stop(alloc, lines, calls_left, commit_stands)?;
+        self.expect(answers.as_slice())?;
+        Ok(fails)
+    }
+
+    fn expect_calls(&self, alloc: Global, calls: u64) -> Result<(), Failure> {
+        let text = format!(in alloc; "{calls}\n")?;
+        match &self.calls {
+            Some(wanted) if wanted.as_slice() != text.as_bytes() => Err(Failure::Calls(calls)),
+            _ => Ok(()),
+        }
+    }
+
+    fn expect(&self, answers: &[u8]) -> Result<(), Failure> {
+        if answers == self.answers.as_slice() {
+            return Ok(());
+        }
+        let mut line = 1usize;
+        for (byte, wanted) in answers.iter().zip(self.answers.as_slice()) {
+            if *byte != *wanted {
+                break;
+            }
+            if *byte == b'\n' {
+                line = line.saturating_add(1);
             }
         }
+        Err(Failure::Line(line))
     }
-
-    fn expect_calls(&self, alloc: Global, calls: u64) -> Result<(), Wrong> {
-        let Some(wanted) = &self.calls else {
-            return Ok(());
-        };
-        match is_number(alloc, wanted.as_slice(), calls) {
-            Ok(true) => Ok(()),
-            Ok(false) => Err(failing(Difference::Calls(calls))),
-            Err(_) => Err(failing(Difference::Ended(Failure::Memory))),
-        }
-    }
-}
-
-fn failing(difference: Difference) -> Wrong {
-    Wrong {
-        way: FAILING,
-        difference,
-    }
-}
-
-/// The line in which the answers differ from those that are wanted.
-fn differs(answers: &[u8], wanted: &[u8]) -> Option<Difference> {
-    if answers == wanted {
-        return None;
-    }
-    let mut line = 1usize;
-    for (byte, other) in answers.iter().zip(wanted) {
-        if *byte != *other {
-            break;
-        }
-        if *byte == b'\n' {
-            line = line.saturating_add(1);
-        }
-    }
-    Some(Difference::Line(line))
-}
-
-/// Whether a file holds that number alone, with a line feed.
-fn is_number(alloc: Global, file: &[u8], number: u64) -> Result<bool, AllocError> {
-    let text = format!(in alloc; "{number}\n")?;
-    Ok(text.as_bytes() == file)
 }
 
 fn file_name(alloc: Global, name: &str, ending: &str) -> Result<String, AllocError> {
-    let mut path = String::new(alloc);
-    path.push_str(name)?;
-    path.push_str(ending)?;
-    Ok(path)
+    format!(in alloc; "{name}{ending}")
 }
 
 /// Removes the file of a store and its log, where they are there.

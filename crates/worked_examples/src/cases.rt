@@ -1,13 +1,13 @@
 //! The cases of the folder, in the order of their names.
 
-use crate::case::{Case, Difference, Wrong};
+use crate::case::{Case, Way};
 use crate::failure::Failure;
 use std::{fs, io};
 
 /// Tells of each case of the folder whether it is answered as written.
 pub(crate) fn tell_all(rt: &HostRuntime) -> Result<(), Failure> {
     for name in names(rt)?.as_slice() {
-        tell(rt, name.as_str())?;
+        tell(rt, name.as_str(), &Case::read(rt, name.as_str())?)?;
     }
     Ok(())
 }
@@ -25,21 +25,16 @@ fn names(rt: &HostRuntime) -> io::Result<Vec<String>> {
     Ok(names)
 }
 
-fn tell(rt: &HostRuntime, name: &str) -> io::Result<()> {
-    let Ok(case) = Case::read(rt, name) else {
-        return println!(rt; "{name}: a file can't be read");
-    };
-    match case.judge(rt) {
-        Ok(()) => println!(rt; "{name}: ok"),
-        Err(wrong) => tell_wrong(rt, name, wrong),
+fn tell(rt: &HostRuntime, name: &str, case: &Case) -> io::Result<()> {
+    for way in [
+        Way::OverLists,
+        Way::OverMemory,
+        Way::OverFile,
+        Way::OverStops,
+    ] {
+        if let Err(failure) = case.judge(rt, way) {
+            return println!(rt; "{name}: {way:?}: {failure:?}");
+        }
     }
-}
-
-fn tell_wrong(rt: &HostRuntime, name: &str, wrong: Wrong) -> io::Result<()> {
-    let way = wrong.way;
-    match wrong.difference {
-        Difference::Line(line) => println!(rt; "{name}: {way}: line {line} of the answers differs"),
-        Difference::Calls(calls) => println!(rt; "{name}: {way}: {calls} calls"),
-        Difference::Ended(failure) => println!(rt; "{name}: {way}: {}", failure.name()),
-    }
+    println!(rt; "{name}: ok")
 }

@@ -1,40 +1,30 @@
-//! Why a script isn't answered.
+//! Why a script isn't answered as written.
 
-use std::alloc::{AllocError, AllocFailed};
+use std::alloc::AllocError;
 use std::io;
 use tb_keeper::CreateFault;
 use tb_script::LinesFault;
 use tb_sql::opening::OpenFault;
 
-/// Why a script isn't answered to its end, or why there is none.
-#[derive(Clone, Copy, Debug, PartialEq, Eq)]
+/// Why a script isn't answered, or not as written.
+#[derive(Clone, Copy, Debug)]
 pub(crate) enum Failure {
     /// The words name no place for the boards.
     Bad,
-    /// The file has tables, and they are no store.
-    NotOurs,
-    WrongVersion,
-    Store,
     Memory,
-    ReadFailed,
-    WriteFailed,
-    /// A store that has failed answered, or one that has not failed told that it had.
-    WronglyTold,
-}
-
-impl Failure {
-    pub(crate) fn name(self) -> &'static str {
-        match self {
-            Failure::Bad => "Bad",
-            Failure::NotOurs => "NotOurs",
-            Failure::WrongVersion => "WrongVersion",
-            Failure::Store => "Store",
-            Failure::Memory => "Memory",
-            Failure::ReadFailed => "ReadFailed",
-            Failure::WriteFailed => "WriteFailed",
-            Failure::WronglyTold => "WronglyTold",
-        }
-    }
+    /// A file of a case can't be read, or nothing can be printed.
+    Io,
+    /// The file of a store can't be opened or closed.
+    File,
+    Opened(OpenFault),
+    Created(CreateFault),
+    Ended(LinesFault),
+    /// The answers differ in this line, counted from 1.
+    Line(usize),
+    /// A store that failed answered, or its failure isn't told.
+    Untold,
+    /// The script asks its store so often, and not as often as is written.
+    Calls(u64),
 }
 
 impl From<AllocError> for Failure {
@@ -43,46 +33,14 @@ impl From<AllocError> for Failure {
     }
 }
 
-impl<T: Drop> From<AllocFailed<T>> for Failure {
-    fn from(_: AllocFailed<T>) -> Self {
-        Failure::Memory
-    }
-}
-
 impl From<io::Error> for Failure {
     fn from(_: io::Error) -> Self {
-        Failure::ReadFailed
+        Failure::Io
     }
 }
 
 impl From<LinesFault> for Failure {
     fn from(fault: LinesFault) -> Self {
-        match fault {
-            LinesFault::ReadFailed => Failure::ReadFailed,
-            LinesFault::WriteFailed => Failure::WriteFailed,
-            LinesFault::Memory => Failure::Memory,
-            LinesFault::Store => Failure::Store,
-        }
-    }
-}
-
-impl From<OpenFault> for Failure {
-    fn from(fault: OpenFault) -> Self {
-        match fault {
-            OpenFault::NotOurs => Failure::NotOurs,
-            OpenFault::WrongVersion => Failure::WrongVersion,
-            OpenFault::Store => Failure::Store,
-            OpenFault::Memory => Failure::Memory,
-        }
-    }
-}
-
-impl From<CreateFault> for Failure {
-    fn from(fault: CreateFault) -> Self {
-        match fault {
-            CreateFault::NotEmpty => Failure::NotOurs,
-            CreateFault::Store => Failure::Store,
-            CreateFault::Memory => Failure::Memory,
-        }
+        Failure::Ended(fault)
     }
 }

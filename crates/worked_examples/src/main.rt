@@ -18,7 +18,7 @@ fn main(rt: HostRuntime) -> ExitCode {
     match run(&rt) {
         Ok(()) => ExitCode::SUCCESS,
         Err(failure) => {
-            let _ = eprintln!(rt; "worked_examples: {}", failure.name());
+            let _ = eprintln!(rt; "worked_examples: {failure:?}");
             ExitCode::FAILURE
         }
     }

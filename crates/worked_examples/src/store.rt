@@ -27,7 +27,7 @@ pub(crate) fn answer_in_memory<R: Read + Drop, W: Write>(
     writer: &mut W,
 ) -> Result<(), Failure> {
     let conn = Connection::open_in_memory(alloc)?;
-    let _conn = answer_lines(alloc, conn, reader, writer)?;
+    let _conn = answer_over(alloc, conn, reader, writer)?;
     Ok(())
 }
 
@@ -39,15 +39,15 @@ pub(crate) fn answer_in_file<R: Read + Drop, W: Write>(
     writer: &mut W,
 ) -> Result<(), Failure> {
     let Ok(conn) = Connection::open(rt, path) else {
-        return Err(Failure::Store);
+        return Err(Failure::File);
     };
-    match answer_lines(rt.alloc(), conn, reader, writer)?.close() {
+    match answer_over(rt.alloc(), conn, reader, writer)?.close() {
         Ok(()) => Ok(()),
-        Err(_) => Err(Failure::Store),
+        Err(_) => Err(Failure::File),
     }
 }
 
-fn answer_lines<S: Alter + Drop, R: Read + Drop, W: Write>(
+fn answer_over<S: Alter + Drop, R: Read + Drop, W: Write>(
     alloc: Global,
     conn: Connection<S>,
     reader: R,
@@ -58,11 +58,10 @@ fn answer_lines<S: Alter + Drop, R: Read + Drop, W: Write>(
     Ok(desk.into_keep().close())
 }
 
-/// The store that is there, or in an empty database a new one, which begins as every script does: with the person `root`, whose key is
-/// `root-key-1` and who owns board 1.
+/// The store that is there, or in an empty database a new one.
 fn keeper<S: Alter + Drop>(alloc: Global, conn: Connection<S>) -> Result<SqlKeep<S>, Failure> {
     if !conn.is_autocommit() {
-        return Err(Failure::Store);
+        return Err(Failure::File);
     }
     if is_empty(&conn) {
         create(alloc, conn)
@@ -76,30 +75,24 @@ fn open<S: Alter + Drop>(alloc: Global, conn: Connection<S>) -> Result<SqlKeep<S
 {
     match SqlKeep::open(alloc, conn) {
         Ok(keep) => Ok(keep),
-        Err((_, fault)) => Err(Failure::from(fault)),
+        Err((_, fault)) => Err(Failure::Opened(fault)),
     }
 }
 
 fn create<S: Alter + Drop>(alloc: Global, conn: Connection<S>) -> Result<SqlKeep<S>, Failure>
     requires { conn.in_transaction ≡ false }
 {
-    let first = first_person(alloc)?;
-    match SqlKeep::create(alloc, conn, &first.name, &first.key) {
+    let (name, key) = first_person(alloc)?;
+    match SqlKeep::create(alloc, conn, &name, &key) {
         Ok(keep) => Ok(keep),
-        Err((_, fault)) => Err(Failure::from(fault)),
+        Err((_, fault)) => Err(Failure::Created(fault)),
     }
 }
 
-/// The person with whom every script begins.
-#[derive(Drop)]
-pub(crate) struct First {
-    pub(crate) name: Name,
-    pub(crate) key: Key,
-}
-
-pub(crate) fn first_person(alloc: Global) -> Result<First, Failure> {
+/// The person with whom every script begins, and who owns board 1.
+pub(crate) fn first_person(alloc: Global) -> Result<(Name, Key), Failure> {
     match (Name::read(alloc, "root")?, Key::read(alloc, "root-key-1")?) {
-        (Some(name), Some(key)) => Ok(First { name, key }),
+        (Some(name), Some(key)) => Ok((name, key)),
         _ => Err(Failure::Bad),
     }
 }
