@@ -1,13 +1,1 @@
-mod good;
-mod graph;
-mod imports;
-mod json;
-mod lines;
-mod made;
-mod recurrence;
-mod report;
-mod rows;
-mod tasks;
-mod todo_lines;
-mod values;
 mod wire;

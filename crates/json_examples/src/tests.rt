@@ -1,0 +1,7 @@
+mod edits;
+mod exports;
+mod faults;
+mod imports;
+mod speed;
+mod stored;
+mod tasks;

@@ -1,0 +1,6 @@
+mod audited;
+mod calls;
+mod changes;
+mod reopened;
+mod strange;
+mod tables;
