@@ -2,17 +2,11 @@
 # Lets curl add a task, send it again under its identifier, and list it. It needs curl, and takes seconds once the program is there.
 set -eu
 
-top=$(cd "$(dirname "$0")/.." && pwd)
 port=${PORT:-8083}
-folder=$(mktemp -d)
-server=
-trap 'if [ -n "$server" ]; then kill "$server" 2>/dev/null || true; fi; rm -rf "$folder"' EXIT
+. "$(dirname "$0")/prepare.sh"
 
-program=$("$top/taskboard" --where)
-cd "$folder"
 "$program" init b.db ann ann-key-1
-timeout 120 "$program" serve b.db --port "$port" --connections 3 &
-server=$!
+start_server 3
 
 # Sends one message as ann; the server may still be starting.
 send() {

@@ -3,12 +3,8 @@
 # Each task has to be there once. It needs python3, and takes seconds once the program is there.
 set -eu
 
-top=$(cd "$(dirname "$0")/.." && pwd)
-folder=$(mktemp -d)
-trap 'rm -rf "$folder"' EXIT
+. "$(dirname "$0")/prepare.sh"
 
-program=$("$top/taskboard" --where)
-cd "$folder"
 "$program" init b.db ann ann-key-1
 python3 - "$program" "${PORT:-8081}" "${TASKS:-500}" "${KILLS:-20}" <<'CLIENT'
 import http.client

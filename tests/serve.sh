@@ -3,14 +3,8 @@
 # imports tasks, and tries what is refused. It needs python3, and takes seconds once the program is there.
 set -eu
 
-top=$(cd "$(dirname "$0")/.." && pwd)
 port=${PORT:-8080}
-folder=$(mktemp -d)
-server=
-trap 'if [ -n "$server" ]; then kill "$server" 2>/dev/null || true; fi; rm -rf "$folder"' EXIT
-
-program=$("$top/taskboard" --where)
-cd "$folder"
+. "$(dirname "$0")/prepare.sh"
 
 expect() {
     if [ "$2" != "$3" ]; then
@@ -48,8 +42,7 @@ ends 0 "" init b.db ann ann-key-1
 # The order copies its log into the file, so that the file is whole without it.
 rm -f b.db-wal
 ends 1 "taskboard: NotEmpty" init b.db ann ann-key-1
-timeout 120 "$program" serve b.db --port "$port" --connections 3 &
-server=$!
+start_server 3
 
 added='{"added":0,"board":1,"dropped":0,"more":false,"uuid":"00000001-0000-8000-8000-000000000001"}'
 listed='place  urgency flg due              project      description

@@ -3,37 +3,21 @@
 # second. It needs python3, and takes half a minute once the program is there.
 set -eu
 
-top=$(cd "$(dirname "$0")/.." && pwd)
 port=${PORT:-8082}
-folder=$(mktemp -d)
-server=
-trap 'if [ -n "$server" ]; then kill "$server" 2>/dev/null || true; fi; rm -rf "$folder"' EXIT
+. "$(dirname "$0")/prepare.sh"
 
-program=$("$top/taskboard" --where)
-cd "$folder"
 "$program" init b.db ann ann-key-1
-timeout 120 "$program" serve b.db --port "$port" --connections 2 &
-server=$!
+start_server 2
 
-python3 - "$port" <<'CLIENTS'
+PYTHONPATH=$top/tests python3 - "$port" <<'CLIENTS'
 import http.client
-import socket
 import sys
 import time
 
+from connecting import connected
+
 port = int(sys.argv[1])
-
-
-def connected():
-    for _ in range(300):
-        try:
-            return socket.create_connection(("127.0.0.1", port), timeout=90)
-        except ConnectionRefusedError:
-            time.sleep(0.1)
-    sys.exit("the server doesn't listen")
-
-
-silent = connected()
+silent = connected(port, 90)
 began = time.monotonic()
 client = http.client.HTTPConnection("127.0.0.1", port, timeout=90)
 fields = {

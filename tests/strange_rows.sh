@@ -3,12 +3,8 @@
 # by `check`. It needs python3 with its sqlite3, and takes seconds once the program is there.
 set -eu
 
-top=$(cd "$(dirname "$0")/.." && pwd)
-folder=$(mktemp -d)
-trap 'rm -rf "$folder"' EXIT
+. "$(dirname "$0")/prepare.sh"
 
-program=$("$top/taskboard" --where)
-cd "$folder"
 python3 - "$program" <<'HANDS'
 import json
 import shutil

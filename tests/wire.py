@@ -9,7 +9,8 @@ import socket
 import subprocess
 import sys
 import tempfile
-import time
+
+from connecting import connected
 
 program, port = os.path.abspath(sys.argv[1]), 8084
 folder = pathlib.Path(__file__).resolve().parent.parent / "crates/wire_examples/data"
@@ -44,18 +45,9 @@ def scenes_of(path):
     return [[(sent, wanted) for sent, wanted, _ in scene] for scene in scenes if all(plays for _, _, plays in scene)]
 
 
-def connected():
-    for _ in range(300):
-        try:
-            return socket.create_connection(("127.0.0.1", port), timeout=60)
-        except ConnectionRefusedError:
-            time.sleep(0.02)
-    sys.exit("the server doesn't listen")
-
-
 def answered(sent):
     """What is answered to these bytes, up to the end of the connection."""
-    with connected() as client:
+    with connected(port, 60) as client:
         try:
             client.sendall(sent)
             client.shutdown(socket.SHUT_WR)
