@@ -5,7 +5,6 @@ use std::alloc::Global;
 use std::io;
 use std::io::{Read, Write};
 use std::test::Fail;
-use std::time::{Clock, Instant};
 use tb_http::{
     Answer, ContentType, HeadRoom, Message, Reader, Resource, RouteFault, Routes, TaskAction, Verb,
     WireFault, find_field,
@@ -349,35 +348,13 @@ impl LongHead {
     }
 }
 
-/// The least number of microseconds that reading took, of five times: other programs may run beside the test.
-fn least_time(clock: &impl Clock, alloc: Global, bytes: &[u8], want: &str) -> Result<u128, Fail> {
-    let mut least = u128::MAX;
-    for _ in 0..5 {
-        let start = Instant::now(clock)?;
-        let (size, fails) = (100, false);
-        let mut reader = Reader::new(alloc, Pieces { bytes, size, fails })?;
-        let read = reader.read_message(alloc);
-        let took = start.elapsed(clock)?.as_micros();
-        if name_of(&read) != want {
-            return Err("something else was read".into());
-        }
-        least = least.min(took);
-    }
-    Ok(least)
-}
-
-/// The limit is meant for the optimised build of `rt test`.
 #[test]
-fn long_heads_in_small_pieces_take_little_time(rt: HostRuntime) -> Result<(), Fail> {
+fn long_heads_are_read_in_small_pieces(rt: HostRuntime) -> Result<(), Fail> {
     for head in &LONG_HEADS {
         let bytes = head.bytes(rt.alloc())?;
-        let took = least_time(&rt, rt.alloc(), &bytes, head.read)?;
-        println!(rt;
-            "a head of {} bytes and {} fields: {took} us",
-            bytes.len(),
-            head.lines
-        )?;
-        assert!(rt; took < 50_000);
+        let (bytes, size, fails) = (bytes.as_slice(), 100, false);
+        let mut reader = Reader::new(rt.alloc(), Pieces { bytes, size, fails })?;
+        assert_eq!(rt; name_of(&reader.read_message(rt.alloc())), head.read);
     }
     Ok(())
 }
