@@ -12,11 +12,11 @@ use Rattle.tb_core.specs.GoodWorld.{IsGoodWorld}
 use Rattle.tb_board.specs.World.{key_of}
 use Rattle.tb_core.proofs.Extending.{extends}
 use Rattle.tb_core.proofs.Stays.{stays_good}
-use Rattle.tb_desk.specs.declared.call.Call.{Call}
+use Rattle.tb_calls.specs.declared.call.Call.{Call}
 use Rattle.tb_reply.specs.declared.reply.Reply.{Reply}
-use Rattle.tb_desk.specs.Calls.{State, after_call, has_key, is_known, name_of, outcome}
+use Rattle.tb_calls.specs.Calls.{State, after_call, has_key, is_known, name_of, outcome}
 use Rattle.tb_reply.specs.Replies.{reply_of}
-use Rattle.tb_desk.specs.Keeping.{IsNew, MayCommit, with_reply}
+use Rattle.tb_calls.specs.Keeping.{IsNew, MayCommit, with_reply}
 
 someone : (key : Option (List ℕ)) (shown : List ℕ) → has_key key shown ≡ true → IsSome key
 someone None shown h = absurd (cc)

@@ -1,7 +1,6 @@
 pub mod Commits
 pub mod Lists
 pub mod Moves
-pub mod Names
 pub mod Repeats
 pub mod Resumed
 pub mod Runs

@@ -11,16 +11,16 @@ use Rattle.tb_board.specs.declared.world.World.{World}
 use Rattle.tb_board.specs.Changes.{changed}
 use Rattle.tb_board.specs.World.{opening as opening_world}
 use Rattle.tb_core.proofs.Opening.{opens}
-use Rattle.tb_desk.specs.declared.call.Call.{Call}
-use Rattle.tb_desk.specs.declared.call.KeptReply.{KeptReply}
+use Rattle.tb_calls.specs.declared.call.Call.{Call}
+use Rattle.tb_calls.specs.declared.call.KeptReply.{KeptReply}
 use Rattle.tb_desk.specs.contracts.list_keep.KeptUnderOrd.TheImpl as kept_under_ord
 use Rattle.tb_desk.specs.declared.list_keep.KeptUnder.{KeptUnder}
 use Rattle.tb_reply.specs.declared.reply.Reply.{Reply}
-use Rattle.tb_desk.specs.Calls.{CallName, State, name_cmp, name_of}
-use Rattle.tb_desk.specs.Keeping.{HoldsEither, MayCommit, with_reply}
+use Rattle.tb_calls.specs.Calls.{CallName, State, name_cmp, name_of}
+use Rattle.tb_calls.specs.Keeping.{HoldsEither, MayCommit, with_reply}
 use Rattle.tb_desk.specs.Listed.{IsListed, call_name, listed, named}
-use Rattle.tb_desk.specs.Opening.{opening}
-use Rattle.tb_desk.proofs.Names.{names_exact, names_total, tied}
+use Rattle.tb_calls.specs.Opening.{opening}
+use Rattle.tb_calls.proofs.Names.{names_exact, names_total, tied}
 
 -- the order of the keys is that of the names
 abbrev pub IsByName : (KeptUnder → KeptUnder → Ordering) → Type 0

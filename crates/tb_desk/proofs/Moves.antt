@@ -1,13 +1,13 @@
 -- Held states under other names.
 use Rattle.std.proofs.Common.{◌≡◌, ◌⊎◌, ℕ, ◌+◌, ◌≤◌, ◌<◌, zero, suc, get_or, Bool, true, false, if◌then◌else◌, List, [], ◌∷◌, length, take, Result, Ok, Err, refl, sym, ap, ◌∙◌, subst, inl, inr, ⊎_elim, arith}
 use Rattle.std.specs.Prelude.{OnOk, IsErrOf, is_ok}
-use Rattle.tb_desk.specs.declared.call.Call.{Call}
+use Rattle.tb_calls.specs.declared.call.Call.{Call}
 use Rattle.tb_reply.specs.declared.reply.Reply.{Reply}
-use Rattle.tb_desk.specs.declared.fault.KeepFault.{KeepFault}
-use Rattle.tb_desk.specs.declared.fault.KeepFault.TheVariants.{Memory, Store}
-use Rattle.tb_desk.specs.Calls.{State, plain, once}
+use Rattle.tb_calls.specs.declared.fault.KeepFault.{KeepFault}
+use Rattle.tb_calls.specs.declared.fault.KeepFault.TheVariants.{Memory, Store}
+use Rattle.tb_calls.specs.Calls.{State, plain, once}
 use Rattle.tb_desk.proofs.Runs.{after_all, after_all-more}
-use Rattle.tb_desk.specs.Keeping.{HoldsEither, IsAfterSome, IsStill, Only, StandsAfter, is_store}
+use Rattle.tb_calls.specs.Keeping.{HoldsEither, IsAfterSome, IsStill, Only, StandsAfter, is_store}
 
 pub either_of : {a b : State} {now : State → Type 0} {stops : State → Type 0} (c : State) → b ≡ c → HoldsEither a b now stops → HoldsEither a c now stops
 either_of {a = a} {now = now} {stops = stops} c second e = subst (λ x. HoldsEither a x now stops) second e

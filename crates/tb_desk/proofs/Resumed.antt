@@ -7,10 +7,10 @@ use Rattle.std.specs.Option.{option_map}
 use Rattle.std.proofs.lemmas.Slice.Eq.{bytes_eq-Decides}
 use Rattle.std.proofs.lemmas.Bool.Decides.{nat_tests}
 use Rattle.std.proofs.lemmas.Bool.{cases_lt}
-use Rattle.tb_desk.specs.declared.call.Call.{Call}
+use Rattle.tb_calls.specs.declared.call.Call.{Call}
 use Rattle.tb_reply.specs.declared.reply.Reply.{Reply}
-use Rattle.tb_desk.specs.declared.call.KeptReply.{KeptReply}
-use Rattle.tb_desk.specs.Calls.{State, id_reused, is_known, kept_for, once, plain, replies_after, replies_to, reply, told_in}
+use Rattle.tb_calls.specs.declared.call.KeptReply.{KeptReply}
+use Rattle.tb_calls.specs.Calls.{State, id_reused, is_known, kept_for, once, plain, replies_after, replies_to, reply, told_in}
 use Rattle.tb_desk.specs.Sessions.{Session, Sending, IsSending, ComeInOrder, Resume, SessionsJoin, SessionsResume, ToldIsKept, WasKnown, calls_at, led_to, next_after, replies_at, reply_at, session_of, sessions_of, standing, told}
 use Rattle.tb_desk.proofs.Runs.{after_all, after_all-append}
 use Rattle.tb_desk.proofs.Repeats.{Holds, again, first_told, holds-all, same-holds, told-holds, told_kept}

@@ -4,9 +4,9 @@ use Rattle.std.specs.FinMap.{from_entries}
 use Rattle.std.proofs.Common.{◌∙◌, sym}
 use Rattle.tb_board.specs.declared.world.World.{World}
 use Rattle.tb_core.specs.GoodWorld.{IsGoodWorld}
-use Rattle.tb_desk.specs.declared.call.KeptReply.{KeptReply}
+use Rattle.tb_calls.specs.declared.call.KeptReply.{KeptReply}
 use Rattle.tb_desk.specs.declared.list_keep.KeptUnder.{KeptUnder}
-use Rattle.tb_desk.specs.Calls.{CallName, State}
+use Rattle.tb_calls.specs.Calls.{CallName, State}
 
 -- the name of a call, as its key in the list says it
 abbrev pub call_name : KeptUnder → CallName

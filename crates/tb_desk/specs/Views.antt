@@ -14,9 +14,9 @@ use Rattle.tb_report.specs.Listing.{listing}
 use Rattle.tb_report.specs.Shown.{shown, shown_task}
 use Rattle.tb_todotxt.specs.FileTexts.{file_text}
 use Rattle.tb_reply.specs.declared.reply.Reply.{Reply}
-use Rattle.tb_desk.specs.declared.view.View.{View}
-use Rattle.tb_desk.specs.declared.view.View.TheVariants.{Export, Listing, One, Todo}
-use Rattle.tb_desk.specs.Calls.{State, has_key, unknown_caller}
+use Rattle.tb_calls.specs.declared.view.View.{View}
+use Rattle.tb_calls.specs.declared.view.View.TheVariants.{Export, Listing, One, Todo}
+use Rattle.tb_calls.specs.Calls.{State, has_key, unknown_caller}
 use Rattle.tb_reply.specs.Replies.{reply_of}
 
 abbrev pub board_of : View → ℕ

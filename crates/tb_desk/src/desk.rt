@@ -1,18 +1,15 @@
 ghost use Rattle.std.specs.Prelude.{◌≡◌, ◌≢◌, ◌⊎◌, ◌+◌, ◌++◌, ◌∷◌, ◌<◌, ◌≤◌, [], Some, None, IfOk, IsErr, IsErrOf, IsSome, OnErr, OnOk, false, if◌then◌else◌, is_ok, length, take, true};
-ghost use Rattle.tb_desk.specs.declared.fault.KeepFault.TheVariants.{Memory, Store};
-ghost use Rattle.tb_desk.specs.Calls.{State, once, plain, replies_to, reply};
-ghost use Rattle.tb_desk.specs.Keeping.{IsStill, Only, StandsAfter, is_store};
+ghost use Rattle.tb_calls.specs.declared.fault.KeepFault.TheVariants.{Memory, Store};
+ghost use Rattle.tb_calls.specs.Calls.{State, once, plain, replies_to, reply};
+ghost use Rattle.tb_calls.specs.Keeping.{IsStill, Only, StandsAfter, is_store};
 ghost use Rattle.tb_desk.specs.Views.{shown_in};
 
-use crate::call::Call;
-use crate::fault::KeepFault;
-use crate::keep::Keep;
 use crate::serve::serve;
-use crate::view::View;
 use crate::viewing::show;
 use std::alloc::Global;
 use std::marker::Model;
 use tb_board::{Key, Name};
+use tb_calls::{Call, Keep, KeepFault, View};
 use tb_reply::Reply;
 use tb_task::Moment;
 use tb_values::Items;

@@ -1,16 +1,14 @@
 ghost use Rattle.std.specs.Prelude.{◌≡◌, IfOk, map};
 ghost use Rattle.std.specs.FinMap.{find};
 ghost use Rattle.tb_board.specs.World.{key_of};
-ghost use Rattle.tb_desk.specs.Calls.{name_cmp};
+ghost use Rattle.tb_calls.specs.Calls.{name_cmp};
 ghost use Rattle.tb_desk.specs.Listed.{call_name, named};
-ghost use Rattle.tb_desk.specs.Opening.{opening};
+ghost use Rattle.tb_calls.specs.Opening.{opening};
 
-use crate::call::{Call, KeptReply};
-use crate::fault::KeepFault;
-use crate::keep::Keep;
 use std::alloc::{AllocError, Global};
 use std::collections::BTreeMap;
 use tb_board::{Change, Key, Name, World};
+use tb_calls::{Call, Keep, KeepFault, KeptReply, kept_reply, key_in};
 use tb_core::{Command, Seen, look_for};
 use tb_reply::Reply;
 use tb_task::TaskId;
@@ -95,21 +93,6 @@ impl Keep for ListKeep {
     }
 }
 
-/// The key of the person of that name.
-pub fn key_in(world: &World, name: &Name) -> Result<Option<Key>, AllocError>
-    ensures { IfOk result (λ key. key ≡ key_of world.now name.now) }
-{
-    match world
-        .people
-        .as_slice()
-        .iter()
-        .find(|person| person.name.as_str() == name.as_str())
-    {
-        Some(person) => Ok(Some(person.key.duplicate()?)),
-        None => Ok(None),
-    }
-}
-
 fn kept_under(alloc: Global, member: &Name, id: TaskId) -> Result<KeptUnder, AllocError>
     ensures { IfOk result (λ name. call_name name ≡ (member.now, id)) }
 {
@@ -127,13 +110,4 @@ fn kept_in(
         Some(reply) => Ok(Some(reply.duplicate()?)),
         None => Ok(None),
     }
-}
-
-/// What is kept of a call that was answered.
-pub fn kept_reply(call: &Call, reply: &Reply) -> Result<KeptReply, AllocError>
-    ensures { IfOk result (λ kept. kept ≡ record { content = call.now.content; reply = reply.now }) }
-{
-    let content = call.content.duplicate()?;
-    let reply = reply.duplicate()?;
-    Ok(KeptReply { content, reply })
 }

@@ -1,14 +1,12 @@
 //! How one call is handled, over any keeper.
 ghost use Rattle.std.specs.Prelude.{◌≡◌, ◌⊎◌, ◌∷◌, [], true, IfOk, OnOk, IsErrOf, MatchOption};
-ghost use Rattle.tb_desk.specs.declared.fault.KeepFault.TheVariants.{Memory, Store};
-ghost use Rattle.tb_desk.specs.Calls.{State, after_call, once, outcome, plain, reply};
+ghost use Rattle.tb_calls.specs.declared.fault.KeepFault.TheVariants.{Memory, Store};
+ghost use Rattle.tb_calls.specs.Calls.{State, after_call, once, outcome, plain, reply};
 ghost use Rattle.tb_reply.specs.Replies.{reply_of};
-ghost use Rattle.tb_desk.specs.Keeping.{HoldsEither, IsNew, IsSettled, IsStill, Only, is_store};
+ghost use Rattle.tb_calls.specs.Keeping.{HoldsEither, IsNew, IsSettled, IsStill, Only, is_store};
 
-use crate::call::Call;
-use crate::fault::KeepFault;
-use crate::keep::Keep;
 use std::alloc::Global;
+use tb_calls::{Call, Keep, KeepFault};
 use tb_core::{Refusal, decide};
 use tb_reply::{Reply, reply_to, reply_to_refused};
 

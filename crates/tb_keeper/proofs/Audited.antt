@@ -9,8 +9,8 @@ use Rattle.tb_task.specs.TaskId.{IsRead}
 use Rattle.tb_board.specs.declared.board.Board.{Board}
 use Rattle.tb_board.specs.declared.world.World.{World}
 use Rattle.tb_core.specs.GoodWorld.{IsGoodWorld}
-use Rattle.tb_desk.specs.Calls.{State}
-use Rattle.tb_desk.specs.Keeping.{IsStill}
+use Rattle.tb_calls.specs.Calls.{State}
+use Rattle.tb_calls.specs.Keeping.{IsStill}
 use Rattle.tb_reopen.specs.Forms.{HasForm}
 use Rattle.tb_reopen.proofs.Joined.{AreNumberedFrom, numbered_from, own_rows}
 use Rattle.tb_reopen.proofs.ReadBoards.{own_tasks}

@@ -4,17 +4,17 @@ use Rattle.std.specs.List.{AllByRecursion}
 use Rattle.std.specs.FinMap.{FinMap, entries, get, get-insert, get-remove, insert, remove, same_map}
 use Rattle.std.specs.Ordering.{eq_by_cmp, is_eq}
 use Rattle.std.specs.declared.cmp.Ordering.TheVariants.{Less, Equal, Greater}
-use Rattle.tb_desk.proofs.Names.{names_exact, names_total}
+use Rattle.tb_calls.proofs.Names.{names_exact, names_total}
 use Rattle.sqlite.specs.State.{State as Database}
 use Rattle.tb_board.specs.declared.change.Change.{Change}
 use Rattle.tb_board.specs.declared.world.World.{World}
 use Rattle.tb_board.specs.Changes.{changed}
 use Rattle.tb_board.specs.Extends.{Extends}
 use Rattle.tb_core.specs.GoodWorld.{IsGoodWorld}
-use Rattle.tb_desk.specs.declared.call.Call.{Call}
-use Rattle.tb_desk.specs.declared.call.KeptReply.{KeptReply}
-use Rattle.tb_desk.specs.Calls.{CallName, State, name_cmp, name_of}
-use Rattle.tb_desk.specs.Keeping.{HoldsEither, MayCommit, with_reply}
+use Rattle.tb_calls.specs.declared.call.Call.{Call}
+use Rattle.tb_calls.specs.declared.call.KeptReply.{KeptReply}
+use Rattle.tb_calls.specs.Calls.{CallName, State, name_cmp, name_of}
+use Rattle.tb_calls.specs.Keeping.{HoldsEither, MayCommit, with_reply}
 use Rattle.tb_reply.specs.declared.reply.Reply.{Reply}
 use Rattle.tb_rows.specs.Rows.{world_rows, HaveSameRows, IsSameContent}
 use Rattle.tb_sql.specs.declared.changes.RowChange.{RowChange}

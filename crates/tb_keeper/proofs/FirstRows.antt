@@ -6,9 +6,9 @@ use Rattle.std.specs.FinMap.{FinMap, empty, entries, len-empty, len-entries}
 use Rattle.tb_board.specs.Names.{is_key, is_name, is_title}
 use Rattle.tb_board.specs.World.{opening as opening_world}
 use Rattle.tb_core.proofs.Opening.{opens}
-use Rattle.tb_desk.specs.declared.call.KeptReply.{KeptReply}
-use Rattle.tb_desk.specs.Calls.{CallName, name_cmp}
-use Rattle.tb_desk.specs.Opening.{opening}
+use Rattle.tb_calls.specs.declared.call.KeptReply.{KeptReply}
+use Rattle.tb_calls.specs.Calls.{CallName, name_cmp}
+use Rattle.tb_calls.specs.Opening.{opening}
 use Rattle.tb_reopen.specs.Laws.{AreApart}
 use Rattle.tb_rows.specs.Rows.{world_rows, HaveSameRows, IsSameContent}
 use Rattle.tb_sql.specs.declared.changes.RowChange.{RowChange}

@@ -5,9 +5,9 @@ use Rattle.std.specs.Cmp.{eq_by_cmp_equiv}
 use Rattle.std.specs.Cmp.Lexicographic.{slice_cmp}
 use Rattle.std.specs.FinMap.{FinMap, find, from_entries, get, get-from_entries, get-insert, get-remove, insert, remove, same_map}
 use Rattle.std.specs.Map.{lookup}
-use Rattle.tb_desk.specs.declared.call.KeptReply.{KeptReply}
-use Rattle.tb_desk.specs.Calls.{CallName, name_cmp}
-use Rattle.tb_desk.proofs.Names.{names_exact, names_total}
+use Rattle.tb_calls.specs.declared.call.KeptReply.{KeptReply}
+use Rattle.tb_calls.specs.Calls.{CallName, name_cmp}
+use Rattle.tb_calls.proofs.Names.{names_exact, names_total}
 use Rattle.tb_keeper.specs.declared.replies.Member.{Member}
 use Rattle.tb_keeper.specs.declared.replies.Replies.{Replies}
 use Rattle.tb_keeper.specs.Replies.{given, reply_named}

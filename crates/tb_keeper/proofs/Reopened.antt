@@ -4,8 +4,8 @@ use Rattle.std.specs.FinMap.{FinMap}
 use Rattle.sqlite.specs.State.{State as Database}
 use Rattle.tb_board.specs.declared.world.Person.{Person}
 use Rattle.tb_board.specs.declared.world.World.{World}
-use Rattle.tb_desk.specs.declared.call.KeptReply.{KeptReply}
-use Rattle.tb_desk.specs.Calls.{State, name_cmp}
+use Rattle.tb_calls.specs.declared.call.KeptReply.{KeptReply}
+use Rattle.tb_calls.specs.Calls.{State, name_cmp}
 use Rattle.tb_reopen.specs.Laws.{AreFoundAgain, IsWorldRead}
 use Rattle.tb_rows.specs.Rows.{world_rows, HaveSameRows}
 use Rattle.std.proofs.lemmas.List.Sorted.{IsPermutation-sym}

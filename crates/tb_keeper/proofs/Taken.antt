@@ -7,9 +7,9 @@ use Rattle.std.proofs.lemmas.List.Sorted.{IsPermutation-middle, IsPermutation-re
 use Rattle.sqlite.specs.State.{HasCleanDisk, State as Database}
 use Rattle.tb_board.specs.declared.world.Person.{Person}
 use Rattle.tb_board.specs.declared.world.World.{World}
-use Rattle.tb_desk.specs.declared.call.KeptReply.{KeptReply}
-use Rattle.tb_desk.specs.Calls.{CallName, State, name_cmp}
-use Rattle.tb_desk.proofs.Names.{names_exact, names_total}
+use Rattle.tb_calls.specs.declared.call.KeptReply.{KeptReply}
+use Rattle.tb_calls.specs.Calls.{CallName, State, name_cmp}
+use Rattle.tb_calls.proofs.Names.{names_exact, names_total}
 use Rattle.tb_sql_tables.specs.declared.rows.KeptRow.{KeptRow}
 use Rattle.tb_sql_tables.specs.Content.{Content, Stands}
 use Rattle.tb_keeper.specs.Entries.{map_of_entries}

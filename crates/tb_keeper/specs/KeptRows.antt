@@ -9,9 +9,9 @@ use Rattle.sqlite_trees.proofs.ListLemmas.{map-map}
 use Rattle.tb_board.specs.declared.world.Person.{Person}
 use Rattle.tb_board.specs.declared.world.World.{World}
 use Rattle.tb_board.specs.World.{key_of, number_of}
-use Rattle.tb_desk.specs.declared.call.KeptReply.{KeptReply}
-use Rattle.tb_desk.specs.Calls.{CallName, State, name_cmp}
-use Rattle.tb_desk.proofs.Names.{names_exact, names_total}
+use Rattle.tb_calls.specs.declared.call.KeptReply.{KeptReply}
+use Rattle.tb_calls.specs.Calls.{CallName, State, name_cmp}
+use Rattle.tb_calls.proofs.Names.{names_exact, names_total}
 use Rattle.tb_sql_tables.specs.declared.rows.KeptRow.{KeptRow}
 use Rattle.tb_keeper.specs.Stored.{entry_of, kept_row, IsKnown}
 use Rattle.tb_keeper.specs.Entries.{insert_permutes, same_entries}

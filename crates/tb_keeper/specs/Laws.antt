@@ -2,7 +2,7 @@
 use Rattle.std.specs.Prelude.{◌≡◌, Bool, false}
 use Rattle.sqlite.specs.State.{State as Database}
 use Rattle.tb_core.specs.GoodWorld.{IsGoodWorld}
-use Rattle.tb_desk.specs.Calls.{State}
+use Rattle.tb_calls.specs.Calls.{State}
 use Rattle.tb_keeper.specs.Stored.{Holds, MayLeave}
 use Rattle.tb_keeper.specs.States as states
 

@@ -1,8 +1,8 @@
 -- The replies that a map holds.
 use Rattle.std.specs.Prelude.{ℕ, List, [], ◌∷◌, map}
 use Rattle.std.specs.FinMap.{FinMap, from_entries, insert}
-use Rattle.tb_desk.specs.declared.call.KeptReply.{KeptReply}
-use Rattle.tb_desk.specs.Calls.{CallName, name_cmp}
+use Rattle.tb_calls.specs.declared.call.KeptReply.{KeptReply}
+use Rattle.tb_calls.specs.Calls.{CallName, name_cmp}
 use Rattle.tb_keeper.specs.declared.replies.Member.{Member}
 use Rattle.tb_keeper.specs.declared.replies.Replies.{Replies}
 

@@ -7,7 +7,7 @@ use Rattle.std.proofs.lemmas.List.Sorted.{IsPermutation-sym, IsPermutation-trans
 use Rattle.sqlite_trees.specs.Tree.{Trees}
 use Rattle.sqlite.specs.State.{State as Database}
 use Rattle.tb_board.specs.declared.world.World.{World}
-use Rattle.tb_desk.specs.Calls.{State}
+use Rattle.tb_calls.specs.Calls.{State}
 use Rattle.tb_rows.specs.Rows.{world_rows, HaveSameRows, IsSameContent}
 use Rattle.tb_sql_tables.specs.Content.{AreRows, Content}
 use Rattle.tb_keeper.specs.Stored.{kept_row, state_rows, AreRowsOf, Holds, IsKnown, IsStored, IsStoredAsEither, MayLeave}

@@ -2,7 +2,7 @@ ghost use Rattle.std.specs.Prelude.{◌≡◌, false, IfErr, IfOk};
 ghost use Rattle.sqlite.specs.Held.{state};
 ghost use Rattle.sqlite.specs.State.{Opens};
 ghost use Rattle.tb_board.specs.World.{opening as opening_world};
-ghost use Rattle.tb_desk.specs.Opening.{opening};
+ghost use Rattle.tb_calls.specs.Opening.{opening};
 ghost use Rattle.tb_sql.specs.Writing.{opening as content_of};
 ghost use Rattle.tb_keeper.specs.Stored.{Holds, AreRowsOf, IsEmptyOrStored};
 ghost use Rattle.tb_keeper.specs.Replies.{given};

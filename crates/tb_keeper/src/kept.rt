@@ -14,7 +14,7 @@ use crate::world::fault_of;
 use sqlite::{Alter, Connection};
 use std::alloc::Global;
 use tb_board::Person;
-use tb_desk::KeptReply;
+use tb_calls::KeptReply;
 use tb_reopen::ReopenFault;
 use tb_reply::Reply;
 use tb_sql::store::StoreFault;

@@ -2,7 +2,7 @@ ghost use Rattle.std.specs.Prelude.{◌≡◌, ◌⊎◌, Err, IfErr, IfOk, Matc
 ghost use Rattle.sqlite.specs.Held.{state};
 ghost use Rattle.sqlite.specs.State.{HasCleanDisk, Opens};
 ghost use Rattle.tb_core.specs.GoodWorld.{IsGoodWorld};
-ghost use Rattle.tb_desk.specs.Calls.{State};
+ghost use Rattle.tb_calls.specs.Calls.{State};
 ghost use Rattle.tb_sql.specs.Opening.{has_meta, IsAnswered, IsAsBefore};
 ghost use Rattle.tb_sql_tables.specs.Content.{AreRows, Content};
 ghost use Rattle.tb_keeper.specs.Reopening.{OfState};

@@ -12,7 +12,7 @@ use std::alloc::{AllocError, Global};
 use std::cmp::Ordering;
 use std::collections::BTreeMap;
 use tb_board::Name;
-use tb_desk::KeptReply;
+use tb_calls::KeptReply;
 use tb_task::TaskId;
 use tb_values::Duplicate;
 

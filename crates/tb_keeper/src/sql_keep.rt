@@ -2,8 +2,8 @@ ghost use Rattle.std.specs.Prelude.{◌≡◌, ◌≤◌, Err, IfOk, IfSome, IsS
 ghost use Rattle.sqlite.specs.Held.{state};
 ghost use Rattle.tb_board.specs.Changes.{changed};
 ghost use Rattle.tb_board.specs.World.{key_of};
-ghost use Rattle.tb_desk.specs.Calls.{State, name_of};
-ghost use Rattle.tb_desk.specs.Keeping.{MayCommit, with_reply};
+ghost use Rattle.tb_calls.specs.Calls.{State, name_of};
+ghost use Rattle.tb_calls.specs.Keeping.{MayCommit, with_reply};
 ghost use Rattle.tb_keeper.specs.Replies.{given};
 ghost use Rattle.tb_keeper.specs.Stored.{kept_row, Holds, IsStored, IsStoredAsEither};
 
@@ -12,8 +12,8 @@ use crate::replies::{Replies, name_for};
 use sqlite::{Alter, Connection};
 use std::alloc::{AllocError, Global};
 use tb_board::{Change, Key, Name, World};
+use tb_calls::{Call, Keep, KeepFault, KeptReply, kept_reply, key_in};
 use tb_core::{Command, Seen, look_for};
-use tb_desk::{Call, Keep, KeepFault, KeptReply, kept_reply, key_in};
 use tb_reply::Reply;
 use tb_rows::row_changes;
 use tb_sql::store::{StoreFault, write_rows};

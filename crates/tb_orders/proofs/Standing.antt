@@ -1,10 +1,10 @@
 -- What stands of one call.
 use Rattle.std.proofs.Common.{◌≡◌, ◌∷◌, [], Result, Ok, Err, IfErr, arith, refl, subst, sym}
-use Rattle.tb_desk.specs.Calls.{State}
-use Rattle.tb_desk.specs.Keeping.{Only, StandsAfter}
-use Rattle.tb_desk.specs.declared.call.Call.{Call}
-use Rattle.tb_desk.specs.declared.fault.KeepFault.{KeepFault}
-use Rattle.tb_desk.specs.declared.fault.KeepFault.TheVariants.{Memory, Store}
+use Rattle.tb_calls.specs.Calls.{State}
+use Rattle.tb_calls.specs.Keeping.{Only, StandsAfter}
+use Rattle.tb_calls.specs.declared.call.Call.{Call}
+use Rattle.tb_calls.specs.declared.fault.KeepFault.{KeepFault}
+use Rattle.tb_calls.specs.declared.fault.KeepFault.TheVariants.{Memory, Store}
 use Rattle.tb_orders.specs.Orders.{calls_made, fault_of_keep}
 use Rattle.tb_orders.specs.declared.ending.Ending.{Ending}
 use Rattle.tb_program.specs.declared.fault.Fault.{Fault}

@@ -3,21 +3,21 @@ use Rattle.std.specs.Prelude.{◌≡◌, ℕ, ◌==◌, List, [], ◌∷◌, ◌
 use Rattle.tb_command_line.specs.declared.order.ViewKind.TheVariants as shows
 use Rattle.tb_command_line.specs.declared.order.ViewOrder.{ViewOrder}
 use Rattle.tb_command_line.specs.declared.order.ViewKind.{ViewKind}
-use Rattle.tb_desk.specs.Calls.{State}
+use Rattle.tb_calls.specs.Calls.{State}
 use Rattle.tb_desk.specs.Views.{shown_in}
-use Rattle.tb_desk.specs.declared.call.Call.{Call}
-use Rattle.tb_desk.specs.declared.fault.KeepFault.{KeepFault}
-use Rattle.tb_desk.specs.declared.fault.KeepFault.TheVariants as keep
-use Rattle.tb_desk.specs.declared.view.View.{View}
-use Rattle.tb_desk.specs.declared.view.View.TheVariants as view
+use Rattle.tb_calls.specs.declared.call.Call.{Call}
+use Rattle.tb_calls.specs.declared.fault.KeepFault.{KeepFault}
+use Rattle.tb_calls.specs.declared.fault.KeepFault.TheVariants as keep
+use Rattle.tb_calls.specs.declared.view.View.{View}
+use Rattle.tb_calls.specs.declared.view.View.TheVariants as view
 use Rattle.tb_http.specs.declared.message.Message.{Message}
 use Rattle.tb_orders.specs.declared.ending.Ending.{Ending}
 use Rattle.tb_orders.specs.declared.ending.Ending.TheVariants.{Accepted, Refused}
 use Rattle.tb_program.specs.declared.fault.Fault.{Fault}
 use Rattle.tb_program.specs.declared.fault.Fault.TheVariants as fault
 use Rattle.tb_reply.specs.declared.reply.Reply.{Reply}
-use Rattle.tb_serve.specs.Asking.{asked_of}
-use Rattle.tb_serve.specs.declared.asked.Asked.TheVariants as asked
+use Rattle.tb_asking.specs.Asking.{asked_of}
+use Rattle.tb_asking.specs.declared.asked.Asked.TheVariants as asked
 
 -- ---- what is asked for
 

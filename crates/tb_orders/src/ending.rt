@@ -3,7 +3,7 @@ ghost use Rattle.std.specs.Prelude.{◌≡◌, true};
 ghost use Rattle.tb_orders.specs.Orders.{ending_of, fault_of_keep};
 ghost use Rattle.tb_orders.specs.Telling.{is_of_answers};
 
-use tb_desk::KeepFault;
+use tb_calls::KeepFault;
 use tb_program::Fault;
 use tb_reply::Reply;
 

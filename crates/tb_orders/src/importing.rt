@@ -1,9 +1,9 @@
 //! Imports of standard input.
 ghost use Rattle.std.specs.Prelude.{◌≡◌, ◌⊎◌, ◌∷◌, [], IfErr, IfOk, IsErrOf, OnErr, OnOk, true};
 ghost use Rattle.std.specs.Io.KnownBytes.{Appends};
-ghost use Rattle.tb_desk.specs.Calls.{State, once, plain, reply};
-ghost use Rattle.tb_desk.specs.Keeping.{Only, StandsAfter};
-ghost use Rattle.tb_desk.specs.declared.call.Call.{Call};
+ghost use Rattle.tb_calls.specs.Calls.{State, once, plain, reply};
+ghost use Rattle.tb_calls.specs.Keeping.{Only, StandsAfter};
+ghost use Rattle.tb_calls.specs.declared.call.Call.{Call};
 ghost use Rattle.tb_orders.specs.Orders.{AsksFor, calls_made, ending_of, line_text};
 ghost use Rattle.tb_orders.specs.Telling.{is_of_answers, is_of_imports};
 ghost use Rattle.tb_program.specs.declared.fault.Fault.TheVariants.{BadBody, Memory, Store, WriteFailed};
@@ -12,11 +12,12 @@ ghost use Rattle.tb_values.specs.Appends.{AppendsFront};
 use crate::ending::{Ending, ending_of, fault_of_keep};
 use std::alloc::Global;
 use std::io::Write;
-use tb_desk::{Call, Desk, Keep};
+use tb_asking::{Asked, CallFault, call_of};
+use tb_calls::{Call, Keep};
+use tb_desk::Desk;
 use tb_http::Message;
 use tb_program::{Fault, print_line};
 use tb_reply::Reply;
-use tb_serve::{Asked, CallFault, call_of};
 use tb_task::Moment;
 
 /// Makes the call that the same import makes over HTTP, and prints the body of its reply on a line.

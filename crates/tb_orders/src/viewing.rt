@@ -1,8 +1,8 @@
 //! Views of a board.
 ghost use Rattle.std.specs.Prelude.{◌≡◌, IfErr, IfOk, IsErrOf, OnErr, OnOk, true};
 ghost use Rattle.std.specs.Io.KnownBytes.{Appends};
-ghost use Rattle.tb_desk.specs.Calls.{State};
-ghost use Rattle.tb_desk.specs.Keeping.{IsStill};
+ghost use Rattle.tb_calls.specs.Calls.{State};
+ghost use Rattle.tb_calls.specs.Keeping.{IsStill};
 ghost use Rattle.tb_orders.specs.Orders.{ending_of, shown_by, view_of, view_text};
 ghost use Rattle.tb_orders.specs.Telling.{is_of_answers};
 ghost use Rattle.tb_program.specs.declared.fault.Fault.TheVariants.{Store, WriteFailed};
@@ -11,8 +11,9 @@ ghost use Rattle.tb_values.specs.Appends.{AppendsFront};
 use crate::ending::{Ending, ending_of, fault_of_keep};
 use std::alloc::Global;
 use std::io::Write;
+use tb_calls::{Keep, View};
 use tb_command_line::{ViewKind, ViewOrder};
-use tb_desk::{Desk, Keep, View};
+use tb_desk::Desk;
 use tb_program::{Fault, print_line, print_text};
 use tb_reply::Reply;
 use tb_task::Moment;

@@ -1,9 +1,9 @@
 -- Whether the store has failed, after a call.
 use Rattle.std.proofs.Common.{◌≡◌, Bool, true, false, ◌||◌, Result, Ok, Err, refl, sym, ap, ◌∙◌}
 use Rattle.std.specs.Prelude.{IsErrOf}
-use Rattle.tb_desk.specs.declared.fault.KeepFault.{KeepFault}
-use Rattle.tb_desk.specs.declared.fault.KeepFault.TheVariants.{Memory, Store}
-use Rattle.tb_desk.specs.Keeping.{is_store as is_store_of_keep}
+use Rattle.tb_calls.specs.declared.fault.KeepFault.{KeepFault}
+use Rattle.tb_calls.specs.declared.fault.KeepFault.TheVariants.{Memory, Store}
+use Rattle.tb_calls.specs.Keeping.{is_store as is_store_of_keep}
 use Rattle.tb_script.specs.declared.fault.LinesFault.{LinesFault}
 use Rattle.tb_script.specs.Faults.{fault_of, is_store}
 

@@ -3,8 +3,8 @@ use Rattle.std.proofs.Common.{◌≡◌, ℕ, suc, zero, true, false, List, [], 
 use Rattle.std.specs.List.{cons_option}
 use Rattle.std.proofs.lemmas.Bool.{cases_Bool, leb-false, ne_eqb}
 use Rattle.std.proofs.lemmas.List.{append-nil, take_more}
-use Rattle.tb_desk.specs.declared.call.Call.{Call}
-use Rattle.tb_desk.specs.Calls.{State}
+use Rattle.tb_calls.specs.declared.call.Call.{Call}
+use Rattle.tb_calls.specs.Calls.{State}
 use Rattle.tb_desk.proofs.Runs.{after_all, after_all-append}
 use Rattle.tb_script.specs.declared.asked.Asked.{Asked}
 use Rattle.tb_script.specs.declared.asked.Asked.TheVariants as asks

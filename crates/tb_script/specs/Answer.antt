@@ -2,11 +2,11 @@
 use Rattle.std.specs.Prelude.{ℕ, Bool, List, [], ◌∷◌, ◌++◌, ◌&&◌, ◌==◌, Option, Some, None, Result, Ok, Err, if◌then◌else◌, length, codes, nat_le}
 use Rattle.std.specs.List.{filter_map}
 use Rattle.std.specs.Str.{is_utf8}
-use Rattle.tb_desk.specs.declared.call.Call.{Call}
-use Rattle.tb_desk.specs.declared.view.View.{View}
-use Rattle.tb_desk.specs.declared.view.View.TheVariants.{Listing, Export, Todo, One}
-use Rattle.tb_desk.specs.Calls.{State, once, plain, reply}
-use Rattle.tb_desk.specs.Opening.{opening}
+use Rattle.tb_calls.specs.declared.call.Call.{Call}
+use Rattle.tb_calls.specs.declared.view.View.{View}
+use Rattle.tb_calls.specs.declared.view.View.TheVariants.{Listing, Export, Todo, One}
+use Rattle.tb_calls.specs.Calls.{State, once, plain, reply}
+use Rattle.tb_calls.specs.Opening.{opening}
 use Rattle.tb_desk.specs.Views.{shown_in}
 use Rattle.tb_reply.specs.declared.reply.Reply.{Reply}
 use Rattle.tb_script.specs.declared.asked.Asked.{Asked}

@@ -1,7 +1,7 @@
 -- The faults of a script.
 use Rattle.std.specs.Prelude.{Bool, true, false, Result, Ok, Err}
-use Rattle.tb_desk.specs.declared.fault.KeepFault.{KeepFault}
-use Rattle.tb_desk.specs.declared.fault.KeepFault.TheVariants as keep
+use Rattle.tb_calls.specs.declared.fault.KeepFault.{KeepFault}
+use Rattle.tb_calls.specs.declared.fault.KeepFault.TheVariants as keep
 use Rattle.tb_script.specs.declared.fault.LinesFault.{LinesFault}
 use Rattle.tb_script.specs.declared.fault.LinesFault.TheVariants.{ReadFailed, WriteFailed, Memory, Store}
 

@@ -1,6 +1,6 @@
 -- What a run of lines leaves.
 use Rattle.std.specs.Prelude.{ℕ, List, [], ◌∷◌, ◌++◌, ◌==◌, Option, if◌then◌else◌, length, nat_le, take}
-use Rattle.tb_desk.specs.Calls.{State, once, plain}
+use Rattle.tb_calls.specs.Calls.{State, once, plain}
 use Rattle.tb_values.specs.Appends.{AppendsFront}
 use Rattle.tb_script.specs.Answer.{answer, calls_of}
 use Rattle.tb_script.specs.Lines.{answers}

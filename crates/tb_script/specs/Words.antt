@@ -9,7 +9,7 @@ use Rattle.tb_core.specs.declared.action.Action.TheVariants.{Done, Delete, Reope
 use Rattle.tb_core.specs.declared.command.Command.TheVariants.{Add, Depend, ImportJson, ImportTodo, Modify, NewBoard, NewPerson, OnTask, SetRole, Sweep, Undepend}
 use Rattle.tb_script.specs.declared.asked.Request.{Request}
 use Rattle.tb_script.specs.declared.asked.Request.TheVariants.{Call, View as ViewOf}
-use Rattle.tb_desk.specs.declared.view.View.TheVariants.{Listing, Export, Todo, One}
+use Rattle.tb_calls.specs.declared.view.View.TheVariants.{Listing, Export, Todo, One}
 use Rattle.tb_script.specs.declared.line_fault.Unreadable.{Unreadable}
 use Rattle.tb_script.specs.declared.line_fault.Unreadable.TheVariants.{BadLine}
 use Rattle.tb_script.specs.Arguments.{board_number, role_named}

@@ -1,6 +1,6 @@
 //! The answer to a line.
 ghost use Rattle.std.specs.Prelude.{◌≡◌, ◌⊎◌, ◌||◌, ◌∷◌, ◌++◌, [], true, false, IfOk, OnOk, MatchOption};
-ghost use Rattle.tb_desk.specs.Calls.{State, once, plain, reply};
+ghost use Rattle.tb_calls.specs.Calls.{State, once, plain, reply};
 ghost use Rattle.tb_desk.specs.Views.{shown_in};
 ghost use Rattle.tb_script.specs.Answer.{answered, carried_out, is_readable, request_of, view_text};
 ghost use Rattle.tb_script.specs.Faults.{is_store};
@@ -13,7 +13,8 @@ use crate::line_fault::LineFault;
 use crate::reading::read_line;
 use crate::replies::{write_reply, write_unreadable};
 use std::alloc::{AllocError, Global};
-use tb_desk::{Call, Desk, Keep, View};
+use tb_calls::{Call, Keep, View};
+use tb_desk::Desk;
 use tb_reply::Reply;
 use tb_values::Text;
 

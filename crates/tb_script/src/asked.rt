@@ -1,7 +1,7 @@
 //! What a line asks.
 use tb_board::{Key, Name};
+use tb_calls::{Call, View};
 use tb_core::Command;
-use tb_desk::{Call, View};
 use tb_task::Moment;
 
 /// What a word asks of its arguments.

@@ -1,10 +1,10 @@
 ghost use Rattle.std.specs.Prelude.{◌≡◌};
-ghost use Rattle.tb_desk.specs.declared.fault.KeepFault.{KeepFault};
+ghost use Rattle.tb_calls.specs.declared.fault.KeepFault.{KeepFault};
 ghost use Rattle.tb_script.specs.Faults.{fault_of};
 ghost use Rattle.tb_script.specs.declared.fault.LinesFault.TheVariants.{Memory};
 
 use std::alloc::{AllocError, AllocFailed};
-use tb_desk::KeepFault;
+use tb_calls::KeepFault;
 
 /// Why a script ended before its last line was answered.
 #[derive(Clone, Copy, Debug, PartialEq, Eq)]

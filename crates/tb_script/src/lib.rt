@@ -17,7 +17,7 @@ mod words;
 
 ghost use Rattle.std.specs.Prelude.{◌≡◌, ◌≢◌, ◌||◌, false, Err, IfOk, OnOk, OnErr, IfSome};
 ghost use Rattle.std.specs.Io.KnownBytes.{Appends};
-ghost use Rattle.tb_desk.specs.Calls.{State};
+ghost use Rattle.tb_calls.specs.Calls.{State};
 ghost use Rattle.tb_values.specs.Appends.{AppendsFront};
 ghost use Rattle.tb_script.specs.Answer.{answer, first_state};
 ghost use Rattle.tb_script.specs.Faults.{is_store};
@@ -30,7 +30,8 @@ use session::Session;
 use std::alloc::{AllocError, Global};
 use std::io::{Read, Write};
 use tb_board::{Key, Name};
-use tb_desk::{Desk, Keep, ListKeep};
+use tb_calls::Keep;
+use tb_desk::{Desk, ListKeep};
 use tb_values::write_whole;
 
 /// How many reads a script may take.

@@ -9,7 +9,7 @@ use crate::line_fault::LineFault;
 use crate::words::read_request;
 use std::alloc::{AllocError, Global};
 use tb_board::{Key, Name};
-use tb_desk::Call;
+use tb_calls::Call;
 use tb_task::{Moment, TaskId};
 use tb_values::Items;
 

@@ -1,6 +1,6 @@
 //! The line that has begun, and the answers to those before it.
 ghost use Rattle.std.specs.Prelude.{◌≡◌, ◌⊎◌, ◌||◌, ◌++◌, [], ℕ, true, IfOk, OnOk, OnErr, take};
-ghost use Rattle.tb_desk.specs.Calls.{State};
+ghost use Rattle.tb_calls.specs.Calls.{State};
 ghost use Rattle.tb_script.specs.Answer.{answer};
 ghost use Rattle.tb_script.specs.Faults.{is_store};
 ghost use Rattle.tb_script.specs.Runs.{fed, fed_byte, from};
@@ -8,7 +8,8 @@ ghost use Rattle.tb_script.specs.Runs.{fed, fed_byte, from};
 use crate::answering::{LINE_LIMIT, answer_line};
 use crate::fault::LinesFault;
 use std::alloc::Global;
-use tb_desk::{Desk, Keep};
+use tb_calls::Keep;
+use tb_desk::Desk;
 
 const LINE_FEED: u8 = b'\n';
 

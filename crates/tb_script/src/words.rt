@@ -9,8 +9,8 @@ use crate::asked::Request;
 use crate::body::{read_edits, read_imported, read_incoming, read_tasks};
 use crate::line_fault::LineFault;
 use std::alloc::Global;
+use tb_calls::View;
 use tb_core::{Action, Command};
-use tb_desk::View;
 use tb_task::{Moment, TaskId};
 use tb_values::Text;
 

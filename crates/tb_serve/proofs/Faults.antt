@@ -1,6 +1,6 @@
 -- When a failure of the store is told.
 use Rattle.std.proofs.Common.{◌≡◌, Bool, true, false, if◌then◌else◌, Some, refl}
-use Rattle.tb_desk.specs.declared.fault.KeepFault.TheVariants as keep
+use Rattle.tb_calls.specs.declared.fault.KeepFault.TheVariants as keep
 use Rattle.tb_http.specs.declared.fault.WireFault.{WireFault}
 use Rattle.tb_http.specs.declared.fault.WireFault.TheVariants as wire
 use Rattle.tb_serve.specs.declared.serving.ServeFault.TheVariants as fault

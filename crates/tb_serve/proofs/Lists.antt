@@ -1,7 +1,7 @@
 -- One message more.
 use Rattle.std.proofs.Common.{◌≡◌, ℕ, ◌+◌, List, [], ◌∷◌, ◌++◌, length, Option, refl, sym, ap, ◌∙◌, subst, append_assoc, arith}
 use Rattle.std.proofs.lemmas.List.{append-nil}
-use Rattle.tb_desk.specs.Calls.{State}
+use Rattle.tb_calls.specs.Calls.{State}
 use Rattle.tb_desk.proofs.Runs.{after_all-append}
 use Rattle.tb_http.specs.Wire.{BeginsWithMessage, is_last}
 use Rattle.tb_serve.specs.Serving.{Brings, Received, answer_to, answers, calls_of, ends_last, later, left_by, next}

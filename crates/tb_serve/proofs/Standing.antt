@@ -1,11 +1,11 @@
 -- What stands after a call or a view.
 use Rattle.std.proofs.Common.{◌≡◌, ℕ, Bool, true, false, List, [], ◌∷◌, Result, Err, refl}
 use Rattle.std.specs.Prelude.{IsErrOf}
-use Rattle.tb_desk.specs.declared.call.Call.{Call}
-use Rattle.tb_desk.specs.declared.fault.KeepFault.{KeepFault}
-use Rattle.tb_desk.specs.declared.fault.KeepFault.TheVariants.{Memory, Store}
-use Rattle.tb_desk.specs.Calls.{State}
-use Rattle.tb_desk.specs.Keeping.{IsStill, Only, StandsAfter, is_store}
+use Rattle.tb_calls.specs.declared.call.Call.{Call}
+use Rattle.tb_calls.specs.declared.fault.KeepFault.{KeepFault}
+use Rattle.tb_calls.specs.declared.fault.KeepFault.TheVariants.{Memory, Store}
+use Rattle.tb_calls.specs.Calls.{State}
+use Rattle.tb_calls.specs.Keeping.{IsStill, Only, StandsAfter, is_store}
 use Rattle.tb_desk.proofs.Moves.{stands_still}
 use Rattle.tb_serve.specs.Telling.{FailedAt, StandsAt, after}
 

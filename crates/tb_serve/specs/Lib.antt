@@ -1,6 +1,2 @@
-pub mod Rejections
-pub mod Forms
-pub mod Commands
-pub mod Asking
 pub mod Telling
 pub mod Serving

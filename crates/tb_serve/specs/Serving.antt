@@ -1,10 +1,10 @@
 -- A connection's messages, answered in turn.
 use Rattle.std.specs.Prelude.{◌≡◌, ◌⊎◌, ℕ, ◌+◌, ◌<◌, Bool, true, false, if◌then◌else◌, List, [], ◌∷◌, ◌++◌, length, take, Option, Some, None, is_some}
 use Rattle.std.specs.Io.KnownBytes.{Appends}
-use Rattle.tb_desk.specs.declared.call.Call.{Call}
-use Rattle.tb_desk.specs.declared.fault.KeepFault.{KeepFault}
-use Rattle.tb_desk.specs.declared.fault.KeepFault.TheVariants as keep
-use Rattle.tb_desk.specs.Calls.{State}
+use Rattle.tb_calls.specs.declared.call.Call.{Call}
+use Rattle.tb_calls.specs.declared.fault.KeepFault.{KeepFault}
+use Rattle.tb_calls.specs.declared.fault.KeepFault.TheVariants as keep
+use Rattle.tb_calls.specs.Calls.{State}
 use Rattle.tb_http.specs.declared.fault.WireFault.{WireFault}
 use Rattle.tb_http.specs.declared.fault.WireFault.TheVariants as wire
 use Rattle.tb_http.specs.declared.answer.Answer.{Answer}

@@ -1,13 +1,13 @@
 -- What a message that was read is told, in a state.
 use Rattle.std.specs.Prelude.{◌≡◌, ℕ, ◌==◌, Bool, true, if◌then◌else◌, List, [], ◌∷◌, codes, Option, Some, None, Result, Ok, Err, unwrap_or}
 use Rattle.tb_reply.specs.declared.reply.Reply.{Reply}
-use Rattle.tb_desk.specs.declared.call.Call.{Call}
-use Rattle.tb_desk.specs.declared.fault.KeepFault.{KeepFault}
-use Rattle.tb_desk.specs.declared.fault.KeepFault.TheVariants as keep
-use Rattle.tb_desk.specs.declared.view.View.{View}
-use Rattle.tb_desk.specs.declared.view.View.TheVariants as view
-use Rattle.tb_desk.specs.Calls.{State, plain, once, reply, unknown_caller}
-use Rattle.tb_desk.specs.Keeping.{Only, StandsAfter}
+use Rattle.tb_calls.specs.declared.call.Call.{Call}
+use Rattle.tb_calls.specs.declared.fault.KeepFault.{KeepFault}
+use Rattle.tb_calls.specs.declared.fault.KeepFault.TheVariants as keep
+use Rattle.tb_calls.specs.declared.view.View.{View}
+use Rattle.tb_calls.specs.declared.view.View.TheVariants as view
+use Rattle.tb_calls.specs.Calls.{State, plain, once, reply, unknown_caller}
+use Rattle.tb_calls.specs.Keeping.{Only, StandsAfter}
 use Rattle.tb_desk.specs.Views.{shown_in}
 use Rattle.tb_http.specs.declared.answer.Answer.{Answer}
 use Rattle.tb_http.specs.declared.answer.ContentType.{ContentType}
@@ -18,12 +18,12 @@ use Rattle.tb_http.specs.declared.message.Message.{Message}
 use Rattle.tb_http.specs.declared.route.Verb.{Verb}
 use Rattle.tb_http.specs.Answer.{answer_text}
 use Rattle.tb_http.specs.Fault.{status_of, body_of as fault_body}
-use Rattle.tb_serve.specs.declared.asked.Asked.{Asked}
-use Rattle.tb_serve.specs.declared.asked.Asked.TheVariants as asked
-use Rattle.tb_serve.specs.declared.rejection.Rejection.{Rejection}
+use Rattle.tb_asking.specs.declared.asked.Asked.{Asked}
+use Rattle.tb_asking.specs.declared.asked.Asked.TheVariants as asked
+use Rattle.tb_asking.specs.declared.rejection.Rejection.{Rejection}
 use Rattle.tb_serve.specs.declared.told.Told.{Told}
-use Rattle.tb_serve.specs.Asking.{asked_of}
-use Rattle.tb_serve.specs.Rejections.{allowed_by, body_of, fault_of}
+use Rattle.tb_asking.specs.Asking.{asked_of}
+use Rattle.tb_asking.specs.Rejections.{allowed_by, body_of, fault_of}
 
 -- ---- what is told
 

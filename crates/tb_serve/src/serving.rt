@@ -1,7 +1,7 @@
 //! A connection's messages, answered in turn.
 ghost use Rattle.std.specs.Prelude.{◌≡◌, ◌+◌, ◌≤◌, ◌<◌, [], IfSome, Some, false, true};
-ghost use Rattle.tb_desk.specs.Calls.{State};
-ghost use Rattle.tb_desk.specs.Keeping.{Only};
+ghost use Rattle.tb_calls.specs.Calls.{State};
+ghost use Rattle.tb_calls.specs.Keeping.{Only};
 ghost use Rattle.tb_http.specs.Answer.{answer_text};
 ghost use Rattle.tb_http.specs.Closing.{message_limit};
 ghost use Rattle.tb_serve.specs.Serving.{Exchanges, HandlesMessage, IsServed, Sends, answers_one, ended_by, exchange_fault, goes_on, later, owes_one, reads_one, turn_fault, unread_text};
@@ -11,7 +11,8 @@ use crate::clock::Clock;
 use crate::telling::tell;
 use std::alloc::Global;
 use std::io::{Read, Write};
-use tb_desk::{Desk, Keep, KeepFault};
+use tb_calls::{Keep, KeepFault};
+use tb_desk::Desk;
 use tb_http::{Answer, ContentType, HeadRoom, Message, Reader, Routes, WireFault};
 use tb_task::Moment;
 

@@ -1,19 +1,18 @@
 //! What a message that was read is told: the desk handles its call, or shows its view.
 ghost use Rattle.std.specs.Prelude.{◌≡◌, ◌∷◌, [], IfOk, IsErrOf, None, Ok, true};
-ghost use Rattle.tb_desk.specs.Calls.{State, reply, unknown_caller};
-ghost use Rattle.tb_desk.specs.Keeping.{Only};
+ghost use Rattle.tb_calls.specs.Calls.{State, reply, unknown_caller};
+ghost use Rattle.tb_calls.specs.Keeping.{Only};
 ghost use Rattle.tb_desk.specs.Views.{shown_in};
 ghost use Rattle.tb_http.specs.declared.message.Message.{Message};
-ghost use Rattle.tb_serve.specs.Asking.{asked_of};
+ghost use Rattle.tb_asking.specs.Asking.{asked_of};
 ghost use Rattle.tb_serve.specs.Telling.{ReachesAt, called_by, calls_in, told_asked, told_at, told_by, told_reply, told_view};
 
-use crate::asked::{Asked, Sender};
-use crate::asking::ask;
-use crate::rejection::CallFault;
 use crate::told::Told;
 use std::alloc::{AllocError, Global};
+use tb_asking::{Asked, CallFault, Sender, ask};
+use tb_calls::{Call, Keep, KeepFault, View};
 use tb_core::Refusal;
-use tb_desk::{Call, Desk, Keep, KeepFault, View};
+use tb_desk::Desk;
 use tb_http::{ContentType, Message, Routes, WireFault};
 use tb_reply::reply_to_refused;
 use tb_task::Moment;

@@ -2,9 +2,9 @@
 ghost use Rattle.std.specs.Prelude.{◌≡◌, IfOk};
 ghost use Rattle.tb_serve.specs.Telling.{answer_of, told_fault, told_rejection, told_reply, told_view};
 
-use crate::rejection::Rejection;
 use std::alloc::{AllocError, Global};
-use tb_desk::View;
+use tb_asking::Rejection;
+use tb_calls::View;
 use tb_http::{Answer, ContentType, Verb, WireFault};
 use tb_reply::Reply;
 use tb_values::Text;

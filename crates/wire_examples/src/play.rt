@@ -7,7 +7,8 @@ use std::alloc::Global;
 use std::io;
 use std::io::{Read, Write};
 use tb_board::{Key, Name};
-use tb_desk::{Desk, Keep, ListKeep};
+use tb_calls::Keep;
+use tb_desk::{Desk, ListKeep};
 use tb_serve::{ListClock, ServeEnd, serve};
 use tb_task::Moment;
 

@@ -4,7 +4,8 @@ use crate::breaking::Breaking;
 use crate::failure::Failure;
 use crate::store::first_person;
 use std::alloc::Global;
-use tb_desk::{Desk, Keep, ListKeep};
+use tb_calls::Keep;
+use tb_desk::{Desk, ListKeep};
 use tb_script::{LinesFault, run_lines_on};
 
 /// What begins the answer to a line that can't be read, which asks no store.

@@ -5,7 +5,7 @@ use std::alloc::Global;
 use std::test::Fail;
 use tb_board::{Change, World};
 use tb_core::{Decision, decide, look_for};
-use tb_desk::Call;
+use tb_calls::Call;
 
 fn decided(alloc: Global, world: &World, call: &Call) -> Result<Decision, Fail> {
     let seen = look_for(world, &call.member, &call.command)?;

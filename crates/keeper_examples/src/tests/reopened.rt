@@ -4,7 +4,8 @@ use super::calls::{add_rent, done, first_of_february, handled, root};
 use sqlite::{Connection, MemStore};
 use std::alloc::Global;
 use std::test::Fail;
-use tb_desk::{Call, Desk, Keep, View};
+use tb_calls::{Call, Keep, View};
+use tb_desk::Desk;
 use tb_keeper::SqlKeep;
 use tb_task::TaskId;
 

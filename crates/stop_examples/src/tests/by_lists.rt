@@ -3,7 +3,8 @@
 use super::calls::{Owner, first_of_february, root};
 use std::alloc::{AllocError, Global};
 use std::test::Fail;
-use tb_desk::{Call, Desk, Keep, ListKeep, RunEnd, View};
+use tb_calls::{Call, Keep, View};
+use tb_desk::{Desk, ListKeep, RunEnd};
 use tb_reply::Reply;
 use tb_task::Moment;
 use tb_values::{Items, Text};

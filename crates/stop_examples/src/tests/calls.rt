@@ -5,7 +5,7 @@ use std::alloc::Global;
 use std::test::Fail;
 use tb_board::{Key, Name};
 use tb_core::{Action, Command};
-use tb_desk::Call;
+use tb_calls::Call;
 use tb_json::read_task;
 use tb_task::{Moment, TaskId};
 use tb_values::Items;

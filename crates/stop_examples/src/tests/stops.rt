@@ -11,7 +11,7 @@ use sqlite_disk::{Crash, Disk};
 use std::alloc::Global;
 use std::process::Abort;
 use std::test::Fail;
-use tb_desk::Call;
+use tb_calls::Call;
 
 /// Whether so many of the calls stand, or one more, with the board that these make.
 fn stand<D: Disk>(

@@ -1,5 +1,5 @@
 use Rattle.std.proofs.Common.{rules, ◌≡◌, refl, sym, ap, ◌∙◌, subst, inr}
-use Rattle.tb_desk.specs.Calls.{State, after_call}
+use Rattle.tb_calls.specs.Calls.{State, after_call}
 use Rattle.tb_desk.proofs.Commits.{known_is_some, may_commit, told_new, with_reply-after_call}
 use Rattle.tb_desk.proofs.Moves.{either_of, still_either}
 use Rattle.tb_desk.proofs.serve.answer_new.Goals as goal

@@ -1,6 +1,6 @@
 use Rattle.std.proofs.Common.{◌≡◌, [], IfOk, OnErr, subst}
-use Rattle.tb_desk.specs.Calls.{reply}
-use Rattle.tb_desk.specs.declared.call.Call.{Call}
+use Rattle.tb_calls.specs.Calls.{reply}
+use Rattle.tb_calls.specs.declared.call.Call.{Call}
 use Rattle.tb_orders.specs.Orders.{ending_of, line_text}
 use Rattle.tb_values.specs.Appends.{AppendsFront}
 use Rattle.tb_orders.proofs.Standing.{untouched}

@@ -1,5 +1,5 @@
 use Rattle.std.proofs.Common.{◌≡◌, ◌<◌, ◌+◌, length, take, refl, true≢false, sym, ap, ◌∙◌, subst, arith}
-use Rattle.tb_desk.specs.Calls.{State}
+use Rattle.tb_calls.specs.Calls.{State}
 use Rattle.tb_desk.proofs.Runs.{told_more, after_all, after_all-more}
 use Rattle.tb_desk.proofs.Moves.{stands_all, stands_more, stands_counted}
 use Rattle.tb_desk.proofs.desk.Desk.run.Goals as goal

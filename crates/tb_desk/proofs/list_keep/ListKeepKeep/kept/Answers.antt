@@ -1,8 +1,8 @@
 use Rattle.std.proofs.Common.{◌≡◌, ◌∙◌, sym, ap, map}
 use Rattle.std.specs.FinMap.{find, get, get-from_entries}
-use Rattle.tb_desk.specs.Calls.{State, name_cmp}
+use Rattle.tb_calls.specs.Calls.{State, name_cmp}
 use Rattle.tb_desk.specs.Listed.{named}
-use Rattle.tb_desk.proofs.Names.{names_total}
+use Rattle.tb_calls.proofs.Names.{names_total}
 use Rattle.tb_desk.proofs.list_keep.ListKeepKeep.kept.Goals as goal
 
 pub returns-clause-answer : goal.returns-clause-answer

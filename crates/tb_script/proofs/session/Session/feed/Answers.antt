@@ -1,6 +1,6 @@
 use Rattle.std.proofs.Common.{◌≡◌, ◌∙◌, ◌<◌, ◌+◌, ◌⊎◌, length, take, inl, inr, ap, subst, arith}
 use Rattle.std.proofs.lemmas.List.{take_all}
-use Rattle.tb_desk.specs.Calls.{State}
+use Rattle.tb_calls.specs.Calls.{State}
 use Rattle.tb_script.specs.Runs.{Progress, fed, from}
 use Rattle.tb_script.proofs.Feeding.{next_byte, next_line}
 use Rattle.tb_script.proofs.session.Session.feed.Goals as goal

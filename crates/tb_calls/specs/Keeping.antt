@@ -6,11 +6,11 @@ use Rattle.tb_board.specs.Changes.{changed}
 use Rattle.tb_board.specs.Extends.{Extends}
 use Rattle.tb_core.specs.GoodWorld.{IsGoodWorld}
 use Rattle.tb_board.specs.World.{key_of}
-use Rattle.tb_desk.specs.declared.call.Call.{Call}
+use Rattle.tb_calls.specs.declared.call.Call.{Call}
 use Rattle.tb_reply.specs.declared.reply.Reply.{Reply}
-use Rattle.tb_desk.specs.declared.fault.KeepFault.{KeepFault}
-use Rattle.tb_desk.specs.declared.fault.KeepFault.TheVariants.{Memory, Store}
-use Rattle.tb_desk.specs.Calls.{State, name_of, kept_for, is_known, plain, once, reply}
+use Rattle.tb_calls.specs.declared.fault.KeepFault.{KeepFault}
+use Rattle.tb_calls.specs.declared.fault.KeepFault.TheVariants.{Memory, Store}
+use Rattle.tb_calls.specs.Calls.{State, name_of, kept_for, is_known, plain, once, reply}
 
 -- the answer is that the store has failed
 abbrev pub is_store : {T : Type 0} → Result T KeepFault → Bool

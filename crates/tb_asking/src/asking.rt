@@ -1,7 +1,7 @@
 //! What a message asks for, by its route, its fields and its body.
 ghost use Rattle.std.specs.Prelude.{◌≡◌, IfOk, option_map};
-ghost use Rattle.tb_serve.specs.Asking.{asked_at, asked_by, asked_of, call_from, key_in, name_in, sender_of, view_from};
-ghost use Rattle.tb_serve.specs.Rejections.{Asks};
+ghost use Rattle.tb_asking.specs.Asking.{asked_at, asked_by, asked_of, call_from, key_in, name_in, sender_of, view_from};
+ghost use Rattle.tb_asking.specs.Rejections.{Asks};
 
 use crate::asked::{Asked, Sender};
 use crate::command::read_command;
@@ -10,8 +10,8 @@ use crate::rejection::{CallFault, Rejection};
 use std::alloc::{AllocError, Global};
 use tb_board::{Key, Name};
 use tb_body::BodyFault;
+use tb_calls::{Call, View};
 use tb_core::Command;
-use tb_desk::{Call, View};
 use tb_http::{Message, Resource, Routes};
 use tb_task::{Moment, TaskId};
 
@@ -25,7 +25,7 @@ pub fn call_of(alloc: Global, message: &Message, at: Moment) -> Result<Asked, Ca
 
 /// The same, by a table of routes that is there.
 #[tactic(auto, unfolding(crate::specs::Asking::asked_of))]
-pub(crate) fn ask(
+pub fn ask(
     alloc: Global,
     routes: &Routes,
     message: &Message,

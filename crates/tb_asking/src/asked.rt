@@ -1,6 +1,6 @@
 //! What a message asks for.
 use tb_board::{Key, Name};
-use tb_desk::{Call, View};
+use tb_calls::{Call, View};
 
 /// Who sends a message.
 #[derive(Drop)]

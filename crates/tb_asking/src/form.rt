@@ -1,8 +1,8 @@
 //! What a message's path asks for: a view, or a call whose body has a form.
 ghost use Rattle.std.specs.Prelude.{◌≡◌};
-ghost use Rattle.tb_serve.specs.Forms.{action_form, target_of as target_of_so};
+ghost use Rattle.tb_asking.specs.Forms.{action_form, target_of as target_of_so};
 
-use tb_desk::View;
+use tb_calls::View;
 use tb_http::{Resource, TaskAction};
 use tb_task::TaskId;
 

@@ -10,9 +10,9 @@ use Rattle.std.specs.FinMap.{FinMap, get, insert, get-insert, IsAntisymmetric, s
 use Rattle.std.specs.declared.cmp.Ordering.TheVariants.{Less, Equal, Greater}
 use Rattle.std.proofs.lemmas.Cmp.{on_total, then_total, nat_cmp_total, nat_list_cmp_total}
 use Rattle.std.proofs.lemmas.Map.Lookups.{exact_pairs, exact_unsigned}
-use Rattle.tb_desk.specs.declared.call.Call.{Call}
-use Rattle.tb_desk.specs.declared.call.KeptReply.{KeptReply}
-use Rattle.tb_desk.specs.Calls.{State, CallName, name_cmp, after_call, kept_for, name_of, outcome, same_name}
+use Rattle.tb_calls.specs.declared.call.Call.{Call}
+use Rattle.tb_calls.specs.declared.call.KeptReply.{KeptReply}
+use Rattle.tb_calls.specs.Calls.{State, CallName, name_cmp, after_call, kept_for, name_of, outcome, same_name}
 use Rattle.tb_reply.specs.Replies.{reply_of}
 
 pub names_total : IsTotalOrder name_cmp

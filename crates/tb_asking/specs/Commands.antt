@@ -14,12 +14,12 @@ use Rattle.tb_body.specs.declared.fault.BadBody.{BadBody}
 use Rattle.tb_body.specs.declared.fault.BadBody.TheVariants.{Whole}
 use Rattle.tb_body.specs.Reading.{incoming_in, edits_in, import_in, todo_in}
 use Rattle.tb_http.specs.Bodies.{has_members, person_in, title_in, role_in, description_in, link_in}
-use Rattle.tb_serve.specs.declared.form.Bare.{Bare}
-use Rattle.tb_serve.specs.declared.form.Bare.TheVariants as bare
-use Rattle.tb_serve.specs.declared.form.Small.{Small}
-use Rattle.tb_serve.specs.declared.form.Small.TheVariants as small
-use Rattle.tb_serve.specs.declared.form.Form.{Form}
-use Rattle.tb_serve.specs.declared.form.Form.TheVariants as form
+use Rattle.tb_asking.specs.declared.form.Bare.{Bare}
+use Rattle.tb_asking.specs.declared.form.Bare.TheVariants as bare
+use Rattle.tb_asking.specs.declared.form.Small.{Small}
+use Rattle.tb_asking.specs.declared.form.Small.TheVariants as small
+use Rattle.tb_asking.specs.declared.form.Form.{Form}
+use Rattle.tb_asking.specs.declared.form.Form.TheVariants as form
 
 -- what isn't there is a bad body
 abbrev pub or_whole : {A : Type 0} → Option A → Result A BadBody

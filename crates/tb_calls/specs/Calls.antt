@@ -11,8 +11,8 @@ use Rattle.tb_board.specs.declared.world.World.{World}
 use Rattle.tb_core.specs.Apply.{apply}
 use Rattle.tb_core.specs.Outcomes.{Outcome}
 use Rattle.tb_board.specs.World.{key_of}
-use Rattle.tb_desk.specs.declared.call.Call.{Call}
-use Rattle.tb_desk.specs.declared.call.KeptReply.{KeptReply}
+use Rattle.tb_calls.specs.declared.call.Call.{Call}
+use Rattle.tb_calls.specs.declared.call.KeptReply.{KeptReply}
 use Rattle.tb_reply.specs.declared.reply.Reply.{Reply}
 use Rattle.tb_reply.specs.Replies.{reply_of}
 

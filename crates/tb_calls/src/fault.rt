@@ -1,5 +1,5 @@
 ghost use Rattle.std.specs.Prelude.{◌≡◌};
-ghost use Rattle.tb_desk.specs.declared.fault.KeepFault.TheVariants.{Memory};
+ghost use Rattle.tb_calls.specs.declared.fault.KeepFault.TheVariants.{Memory};
 
 use std::alloc::{AllocError, AllocFailed};
 

@@ -9,10 +9,10 @@ use Rattle.tb_http.specs.declared.resource.RouteFault.{RouteFault}
 use Rattle.tb_http.specs.declared.route.Verb.{Verb}
 use Rattle.tb_http.specs.Fault.{body_of as fault_body}
 use Rattle.tb_http.specs.Resources.{fault_of as route_fault, allowed_by as allowed_on}
-use Rattle.tb_serve.specs.declared.rejection.Rejection.{Rejection}
-use Rattle.tb_serve.specs.declared.rejection.Rejection.TheVariants.{Route, NoId, Body}
-use Rattle.tb_serve.specs.declared.rejection.CallFault.{CallFault}
-use Rattle.tb_serve.specs.declared.rejection.CallFault.TheVariants.{Rejected, Memory}
+use Rattle.tb_asking.specs.declared.rejection.Rejection.{Rejection}
+use Rattle.tb_asking.specs.declared.rejection.Rejection.TheVariants.{Route, NoId, Body}
+use Rattle.tb_asking.specs.declared.rejection.CallFault.{CallFault}
+use Rattle.tb_asking.specs.declared.rejection.CallFault.TheVariants.{Rejected, Memory}
 
 -- the rejection is the one that is expected, unless memory ran out
 abbrev pub Fails : {X : Type 0} → CallFault → Result X Rejection → Type 0

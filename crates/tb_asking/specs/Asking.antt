@@ -4,24 +4,24 @@ use Rattle.tb_values.specs.Outcome.{◌>>=◌}
 use Rattle.tb_board.specs.Names.{read_key, read_name}
 use Rattle.tb_core.specs.declared.command.Command.{Command}
 use Rattle.tb_body.specs.Reading.{text_in}
-use Rattle.tb_desk.specs.declared.view.View.{View}
+use Rattle.tb_calls.specs.declared.view.View.{View}
 use Rattle.tb_http.specs.declared.message.Message.{Message}
 use Rattle.tb_http.specs.declared.resource.Resource.{Resource}
 use Rattle.tb_http.specs.declared.resource.RouteFault.{RouteFault}
 use Rattle.tb_http.specs.Message.{content_of}
 use Rattle.tb_http.specs.Resources.{resource_asked}
 use Rattle.tb_http.specs.Sender.{key_of, member_of, request_id_of}
-use Rattle.tb_serve.specs.declared.asked.Asked.{Asked}
-use Rattle.tb_serve.specs.declared.asked.Asked.TheVariants as asked
-use Rattle.tb_serve.specs.declared.asked.Sender.{Sender}
-use Rattle.tb_serve.specs.declared.form.Form.{Form}
-use Rattle.tb_serve.specs.declared.form.Target.{Target}
-use Rattle.tb_serve.specs.declared.form.Target.TheVariants as target
-use Rattle.tb_serve.specs.declared.rejection.Rejection.{Rejection}
-use Rattle.tb_serve.specs.declared.rejection.Rejection.TheVariants.{Route, NoId}
-use Rattle.tb_serve.specs.Commands.{command_in}
-use Rattle.tb_serve.specs.Forms.{target_of}
-use Rattle.tb_serve.specs.Rejections.{or_rejected}
+use Rattle.tb_asking.specs.declared.asked.Asked.{Asked}
+use Rattle.tb_asking.specs.declared.asked.Asked.TheVariants as asked
+use Rattle.tb_asking.specs.declared.asked.Sender.{Sender}
+use Rattle.tb_asking.specs.declared.form.Form.{Form}
+use Rattle.tb_asking.specs.declared.form.Target.{Target}
+use Rattle.tb_asking.specs.declared.form.Target.TheVariants as target
+use Rattle.tb_asking.specs.declared.rejection.Rejection.{Rejection}
+use Rattle.tb_asking.specs.declared.rejection.Rejection.TheVariants.{Route, NoId}
+use Rattle.tb_asking.specs.Commands.{command_in}
+use Rattle.tb_asking.specs.Forms.{target_of}
+use Rattle.tb_asking.specs.Rejections.{or_rejected}
 
 -- ---- who sends it
 

@@ -3,9 +3,9 @@ ghost use Rattle.std.specs.FinMap.{get};
 ghost use Rattle.tb_core.specs.Apply.{seen_of};
 ghost use Rattle.tb_core.specs.GoodWorld.{IsGoodWorld};
 ghost use Rattle.tb_board.specs.World.{key_of};
-ghost use Rattle.tb_desk.specs.declared.fault.KeepFault.TheVariants.{Memory, Store};
-ghost use Rattle.tb_desk.specs.Calls.{State};
-ghost use Rattle.tb_desk.specs.Keeping.{HoldsEither, IsStill, MayCommit, Only, is_store, with_reply};
+ghost use Rattle.tb_calls.specs.declared.fault.KeepFault.TheVariants.{Memory, Store};
+ghost use Rattle.tb_calls.specs.Calls.{State};
+ghost use Rattle.tb_calls.specs.Keeping.{HoldsEither, IsStill, MayCommit, Only, is_store, with_reply};
 
 use crate::call::{Call, KeptReply};
 use crate::fault::KeepFault;

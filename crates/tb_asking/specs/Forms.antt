@@ -1,16 +1,16 @@
 -- What a resource is asked for: a view, or a call whose body has a form.
 use Rattle.std.specs.Prelude.{ℕ}
-use Rattle.tb_desk.specs.declared.view.View.TheVariants as view
+use Rattle.tb_calls.specs.declared.view.View.TheVariants as view
 use Rattle.tb_http.specs.declared.resource.Resource.{Resource}
 use Rattle.tb_http.specs.declared.resource.Resource.TheVariants as resource
 use Rattle.tb_http.specs.declared.resource.TaskAction.{TaskAction}
 use Rattle.tb_http.specs.declared.resource.TaskAction.TheVariants as action
-use Rattle.tb_serve.specs.declared.form.Bare.TheVariants as bare
-use Rattle.tb_serve.specs.declared.form.Small.TheVariants as small
-use Rattle.tb_serve.specs.declared.form.Form.{Form}
-use Rattle.tb_serve.specs.declared.form.Form.TheVariants.{Bare, Small, Task, Edits, Import, Lines}
-use Rattle.tb_serve.specs.declared.form.Target.{Target}
-use Rattle.tb_serve.specs.declared.form.Target.TheVariants.{View, Call}
+use Rattle.tb_asking.specs.declared.form.Bare.TheVariants as bare
+use Rattle.tb_asking.specs.declared.form.Small.TheVariants as small
+use Rattle.tb_asking.specs.declared.form.Form.{Form}
+use Rattle.tb_asking.specs.declared.form.Form.TheVariants.{Bare, Small, Task, Edits, Import, Lines}
+use Rattle.tb_asking.specs.declared.form.Target.{Target}
+use Rattle.tb_asking.specs.declared.form.Target.TheVariants.{View, Call}
 
 abbrev pub action_form : ℕ → ℕ → TaskAction → Form
 action_form board id action.Done = Bare (bare.Done board id)

@@ -1,0 +1,4 @@
+pub mod Rejections
+pub mod Forms
+pub mod Commands
+pub mod Asking

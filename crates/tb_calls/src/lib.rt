@@ -1,0 +1,16 @@
+//! Calls and views, what is kept of a call, and the trait of what keeps a world with the replies given.
+//!
+//! It owns what a call leads to and what a keeper promises. It stands on `tb_core` for commands and on `tb_reply` for replies.
+#![tactic(auto)]
+
+mod call;
+mod fault;
+mod keep;
+mod lookup;
+mod view;
+
+pub use call::{Call, KeptReply};
+pub use fault::KeepFault;
+pub use keep::Keep;
+pub use lookup::{kept_reply, key_in};
+pub use view::View;
