@@ -1,5 +1,5 @@
 //! The orders of the command line: the words as they come from the machine, what views and imports ask a desk, and what they print.
-//! Stands on `tb_command_line` for the orders, on `tb_serve` for what a message asks for, on `tb_desk` for its answer, and on
+//! Stands on `tb_command_line` for the orders, on `tb_asking` for what a message asks for, on `tb_desk` for its answer, and on
 //! `tb_program` for faults and printing.
 #![tactic(auto)]
 
