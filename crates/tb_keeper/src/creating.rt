@@ -1,4 +1,4 @@
-ghost use Rattle.std.specs.Prelude.{◌≡◌, false, IfErr, IfOk};
+ghost use Rattle.std.specs.Prelude.{◌≡◌, false, IfErr, IfOk, MatchResult};
 ghost use Rattle.sqlite.specs.Held.{state};
 ghost use Rattle.sqlite.specs.State.{Opens};
 ghost use Rattle.tb_board.specs.World.{opening as opening_world};
@@ -43,6 +43,8 @@ impl<S: Alter> SqlKeep<S> {
     ) -> Result<SqlKeep<S>, (Connection<S>, CreateFault)>
         requires { conn.in_transaction ≡ false }
         ensures created { IfOk result (λ keep. Opens (state S.Store conn) → Holds keep.failed (record { world = keep.world; kept = given keep.replies }) (state S.Store keep.conn) (opening name.now key.now)) }
+        ensures fresh { IfOk result (λ keep. keep.failed ≡ false) }
+        ensures empty { ((state S.Store conn).now.schema ≡ no_schema → ⊥) → MatchResult result (λ keep. ⊥) (λ e. (e.0 ≡ conn) × (e.1 ≡ CreateFault.NotEmpty)) }
         ensures taken { IfErr result (λ e. e.1 ≡ CreateFault.NotEmpty → (e.0 ≡ conn) × ((state S.Store conn).now.schema ≡ no_schema → ⊥)) }
         ensures memory { IfErr result (λ e. e.1 ≡ CreateFault.Memory → Opens (state S.Store conn) → StandsEmpty (state S.Store e.0)) }
         ensures store { IfErr result (λ e. e.1 ≡ CreateFault.Store → Opens (state S.Store conn) → IsEmptyOrStored (opening name.now key.now) (state S.Store e.0)) }

@@ -1,9 +1,9 @@
-ghost use Rattle.std.specs.Prelude.{◌≡◌, ◌⊎◌, Err, IfErr, IfOk, MatchResult, OnOk, false, true};
+ghost use Rattle.std.specs.Prelude.{◌≡◌, ◌⊎◌, Err, IfErr, IfOk, MatchResult, Ok, OnOk, false, true};
 ghost use Rattle.sqlite.specs.Held.{state};
 ghost use Rattle.sqlite.specs.State.{HasCleanDisk, Opens};
 ghost use Rattle.tb_core.specs.GoodWorld.{IsGoodWorld};
 ghost use Rattle.tb_calls.specs.Calls.{State};
-ghost use Rattle.tb_sql.specs.Opening.{has_meta, IsAnswered, IsAsBefore};
+ghost use Rattle.tb_sql.specs.Opening.{has_meta, is_ours, IsAnswered, IsAsBefore};
 ghost use Rattle.tb_sql_tables.specs.Content.{AreRows, Content};
 ghost use Rattle.tb_keeper.specs.Reopening.{OfState};
 ghost use Rattle.tb_keeper.specs.Replies.{given};
@@ -28,6 +28,9 @@ impl<S: Alter> SqlKeep<S> {
         mut conn: Connection<S>,
     ) -> Result<SqlKeep<S>, (Connection<S>, OpenFault)>
         requires { conn.in_transaction ≡ false }
+        ensures fresh { IfOk result (λ keep. keep.failed ≡ false) }
+        ensures ours { IfOk result (λ keep. is_ours (state S.Store conn).now.schema ≡ true) }
+        ensures version { has_meta (state S.Store conn).now.schema.tables ≡ true → IfOk result (λ keep. HasCleanDisk (state S.Store keep.conn) → IsAnswered S.Store conn (Ok tt)) }
         ensures holds { IfOk result (λ keep. OfState (state S.Store conn) (state S.Store keep.conn)
             (λ s. Holds keep.failed (record { world = keep.world; kept = given keep.replies }) (state S.Store keep.conn) s)) }
         ensures opened { IfOk result (λ keep. HasCleanDisk (state S.Store keep.conn) → Opens (state S.Store conn) → (s : State) → AreTreesOf s (state S.Store conn).now.trees

@@ -33,6 +33,7 @@ pub struct SqlKeep<S: Alter> {
 impl<S: Alter> SqlKeep<S> {
     /// The connection, with what is stored. It closes no file.
     pub fn close(self) -> Connection<S>
+        ensures conn { result ≡ self.conn }
         ensures stored { (s : State) → Holds self.failed (record { world = self.world; kept = given self.replies }) (state S.Store self.conn) s → self.failed ≡ false → IsStored s (state S.Store result) }
         ensures failed { (s : State) → Holds self.failed (record { world = self.world; kept = given self.replies }) (state S.Store self.conn) s → self.failed ≡ true
             → (t : State) × IsStoredAsEither s t (state S.Store result) }

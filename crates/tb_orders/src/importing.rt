@@ -1,5 +1,5 @@
 //! Imports of standard input.
-ghost use Rattle.std.specs.Prelude.{◌≡◌, ◌⊎◌, ◌∷◌, [], IfErr, IfOk, IsErrOf, OnErr, OnOk, true};
+ghost use Rattle.std.specs.Prelude.{◌≡◌, ◌⊎◌, ◌∷◌, [], Err, IfErr, IfOk, IsErrOf, OnErr, OnOk, true};
 ghost use Rattle.std.specs.Io.KnownBytes.{Appends};
 ghost use Rattle.tb_calls.specs.Calls.{State, once, plain, reply};
 ghost use Rattle.tb_calls.specs.Keeping.{Only, StandsAfter};
@@ -43,6 +43,8 @@ pub fn import_text<K: Keep, W: Write>(
         → IsErrOf result WriteFailed → K.holds desk.new (plain s (once s (call ∷ []))) }
     ensures stands { (s : State) → K.holds desk.old s → Only s (K.after_stop desk.old) → (call : Call) → AsksFor message.now at call
         → StandsAfter s (call ∷ []) (calls_made result) (K.holds desk.new) (K.after_stop desk.new) }
+    ensures unasked { ((call : Call) → AsksFor message.now at call → ⊥)
+        → ((result ≡ Err BadBody) ⊎ (result ≡ Err Memory)) × (desk.new ≡ desk.old) × (writer.new ≡ writer.old) }
     ensures unread { IsErrOf result BadBody → (call : Call) → AsksFor message.now at call → ⊥ }
     ensures same { IsErrOf result BadBody → desk.new ≡ desk.old }
     ensures fault { IfErr result (λ fault. is_of_imports fault ≡ true) }

@@ -1,7 +1,7 @@
 use Rattle.std.proofs.Common.{◌≡◌, [], IfOk, OnErr, subst}
 use Rattle.tb_calls.specs.Calls.{reply}
 use Rattle.tb_calls.specs.declared.call.Call.{Call}
-use Rattle.tb_orders.specs.Orders.{ending_of, line_text}
+use Rattle.tb_orders.specs.Orders.{AsksFor, ending_of, line_text}
 use Rattle.tb_values.specs.Appends.{AppendsFront}
 use Rattle.tb_orders.proofs.Standing.{untouched}
 use Rattle.tb_orders.proofs.importing.import_text.Goals as goal
@@ -20,6 +20,12 @@ returns-in-Ok-Call-clause-ending g c s held call asks =
     let same : c.in-Ok-Call.call ≡ call = cc in
     let P : Call → Type 0 = λ made. IfOk c.make_call.result (λ ending. ending ≡ ending_of (reply s [] made)) in
     subst P same (c.make_call.ensures.ending s held)
+
+pub returns-in-Ok-Call-clause-unasked : goal.returns-in-Ok-Call-clause-unasked
+returns-in-Ok-Call-clause-unasked g c none =
+    let read = c.in-Ok-Call.ensures in
+    let asks : AsksFor c.args.message.now c.args.at c.in-Ok-Call.call = cc in
+    absurd (none c.in-Ok-Call.call asks)
 
 pub returns-clause-stands : goal.returns-clause-stands
 returns-clause-stands g c s held only call asks = untouched s call _ _ held only
