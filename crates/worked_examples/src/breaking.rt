@@ -3,8 +3,8 @@ ghost use Rattle.std.specs.Prelude.{◌≡◌, not, true, false};
 
 use std::alloc::Global;
 use tb_board::{Change, Key, Name};
-use tb_core::{Command, Seen};
 use tb_calls::{Call, Keep, KeepFault, KeptReply};
+use tb_core::{Command, Seen};
 use tb_reply::Reply;
 use tb_task::TaskId;
 
