@@ -1,7 +1,0 @@
-mod edits;
-mod exports;
-mod faults;
-mod imports;
-mod speed;
-mod stored;
-mod tasks;

@@ -1,0 +1,129 @@
+//! Tasks as JSON: as they come in, as they are stored, and the edits of them.
+use crate::given::{now, read_count, text_of};
+use std::alloc::{AllocError, Global};
+use std::io;
+use tb_json::{
+    ImportFault, JsonFault, parse, read_import, read_modify, read_stored, read_task, write_stored,
+    write_task, write_tasks,
+};
+use tb_task::{Incoming, Shown, TaskId, check};
+use tb_values::Shared;
+
+pub(crate) fn answer(alloc: Global, word: &str, given: &str) -> io::Result<Option<String>> {
+    match word {
+        "task" => Ok(Some(task(alloc, given)?)),
+        "many_tags" => Ok(Some(many_tags(alloc, given)?)),
+        "edits" => Ok(Some(edits(alloc, given)?)),
+        "import" => Ok(Some(import(alloc, text_of(alloc, given)?.as_str())?)),
+        "stored" => Ok(Some(stored(alloc, given)?)),
+        "stored_list" => Ok(Some(stored_list(alloc, given)?)),
+        _ => Ok(None),
+    }
+}
+
+fn told(alloc: Global, fault: &JsonFault) -> Result<String, AllocError> {
+    match fault {
+        JsonFault::NotObject => String::from_str(alloc, "NotObject"),
+        JsonFault::BadField(name) => format!(in alloc; "BadField {}", name.as_str()),
+        JsonFault::Memory => Err(AllocError),
+    }
+}
+
+/// The task that comes in, or its fault.
+fn task(alloc: Global, text: &str) -> io::Result<String> {
+    let Some(value) = parse(alloc, text)? else {
+        return Ok(String::from_str(alloc, "no JSON")?);
+    };
+    match read_task(alloc, &value, now()?) {
+        Ok(incoming) => first_of_board(alloc, incoming),
+        Err(fault) => Ok(told(alloc, &fault)?),
+    }
+}
+
+/// How many members were dropped, and what is written of the task when it comes to board 1 as its first.
+fn first_of_board(alloc: Global, incoming: Incoming) -> io::Result<String> {
+    let dropped = incoming.dropped;
+    let mut task = incoming.task;
+    task.modified = Some(now()?);
+    task.id = TaskId::made(1, 1).unwrap_or(task.id);
+    let shown = Shown {
+        task: Shared::new(alloc, task)?,
+        mask: incoming.raw_mask,
+    };
+    let written = write_task(alloc, &shown)?;
+    Ok(format!(in alloc; "dropped {dropped}: {}", written.as_str())?)
+}
+
+/// How long the answer is of a task with so many tags in falling order, each of which goes before all that are there.
+fn many_tags(alloc: Global, count: &str) -> io::Result<String> {
+    let mut text = String::from_str(alloc, r#"{"description":"a","tags":["a""#)?;
+    for number in 0..read_count(count) {
+        let tag = format!(in alloc; ",\"{}\"", 999_999usize.saturating_sub(number))?;
+        text.push_str(tag.as_str())?;
+    }
+    text.push_str("]}")?;
+    let answer = task(alloc, text.as_str())?;
+    Ok(format!(in alloc; "{} bytes", answer.len())?)
+}
+
+/// The names of the attributes that are set or removed.
+fn edits(alloc: Global, text: &str) -> Result<String, AllocError> {
+    let Some(value) = parse(alloc, text)? else {
+        return String::from_str(alloc, "no JSON");
+    };
+    let edits = match read_modify(alloc, &value) {
+        Ok(edits) => edits,
+        Err(fault) => return told(alloc, &fault),
+    };
+    let mut all = String::new(alloc);
+    for edit in edits.as_slice() {
+        let end = if edit.value.is_some() {
+            " set\n"
+        } else {
+            " removed\n"
+        };
+        all.push_str(edit.name.as_str())?;
+        all.push_str(end)?;
+    }
+    Ok(all)
+}
+
+/// How many tasks an import has, or its fault.
+fn import(alloc: Global, text: &str) -> io::Result<String> {
+    match read_import(alloc, text.as_bytes(), now()?) {
+        Ok(tasks) => Ok(format!(in alloc; "{} tasks", tasks.len())?),
+        Err(ImportFault::BadTask(at, name)) => {
+            Ok(format!(in alloc; "BadTask {at} {}", name.as_str())?)
+        }
+        Err(ImportFault::NotJson) => Ok(String::from_str(alloc, "NotJson")?),
+        Err(ImportFault::TooMany) => Ok(String::from_str(alloc, "TooMany")?),
+        Err(ImportFault::Memory) => Err(AllocError.into()),
+    }
+}
+
+/// A stored task as it is stored again.
+fn stored(alloc: Global, text: &str) -> Result<String, AllocError> {
+    match read_stored(alloc, text) {
+        Ok(task) => match check(&task) {
+            Ok(()) => Ok(write_stored(alloc, &task)?.into_string()),
+            Err(field) => format!(in alloc; "{field:?}"),
+        },
+        Err(fault) => told(alloc, &fault),
+    }
+}
+
+/// The list of a stored task a number of times.
+fn stored_list(alloc: Global, given: &str) -> Result<String, AllocError> {
+    let (count, text) = given.split_once(' ').unwrap_or((given, ""));
+    let mut tasks = Vec::new(alloc);
+    for _ in 0..read_count(count) {
+        match read_stored(alloc, text) {
+            Ok(task) => {
+                let task = Shared::new(alloc, task)?;
+                tasks.push(Shown { task, mask: None })?;
+            }
+            Err(fault) => return told(alloc, &fault),
+        }
+    }
+    Ok(write_tasks(alloc, &tasks)?.into_string())
+}
