@@ -1,6 +1,0 @@
-mod audited;
-mod calls;
-mod changes;
-mod reopened;
-mod strange;
-mod tables;

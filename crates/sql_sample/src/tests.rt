@@ -1,2 +1,0 @@
-mod statements;
-mod stops;
