@@ -1,6 +1,6 @@
 //! A case: each line that isn't an answer is a question, and is told again with its answer. What is told has to be the text of the case.
 
-use crate::{imports, json, messages, todo_lines};
+use crate::{imports, json, messages, scripts, todo_lines};
 use std::alloc::Global;
 use std::io;
 
@@ -51,6 +51,9 @@ fn answer(alloc: Global, word: &str, given: &str) -> io::Result<String> {
         return Ok(answer);
     }
     if let Some(answer) = messages::answer(alloc, word, given)? {
+        return Ok(answer);
+    }
+    if let Some(answer) = scripts::answer(alloc, word, given)? {
         return Ok(answer);
     }
     Ok(format!(in alloc; "no such word: {word}")?)

@@ -9,6 +9,7 @@ mod given;
 mod imports;
 mod json;
 mod messages;
+mod scripts;
 mod todo_lines;
 
 use std::{fs, io};
