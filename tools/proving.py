@@ -13,6 +13,13 @@ import time
 TICKS = os.sysconf("SC_CLK_TCK")
 BETWEEN_LOOKS = 0.5
 
+# What a crate costs in lines beside its own: the loading of what lies below it, and for a program its two compilers.
+LINES_OF_LOADING = 500
+LINES_OF_COMPILING = 10_000
+
+# The share of the work that has to be done before what is left can be reckoned from it.
+LEAST_SHARE = 0.1
+
 
 def crates_of(top):
     """Each crate of crates.txt, with those of the repository that it stands on."""
@@ -32,7 +39,10 @@ def all_below(name, below):
 
 
 def lines_of(folder):
-    count = 0
+    """What a crate costs, in lines."""
+    count = LINES_OF_LOADING
+    if os.path.exists(f"{folder}/src/main.rt"):
+        count += LINES_OF_COMPILING
     for at, folders, files in os.walk(folder):
         folders[:] = [it for it in folders if it not in ("out", "must-fail")]
         for name in files:
@@ -71,7 +81,7 @@ class Progress:
         shares = [left / whole for left, whole in zip(self.left(), self.whole) if whole]
         share = max(shares, default=0)
         text = f"{len(self.done)} of {len(self.below)} crates are proved"
-        if 0 < share < 1:
+        if 0 < share < 1 - LEAST_SHARE:
             text += f", about {max(1, round(elapsed * share / (1 - share) / 60))} minutes left"
         print(text, file=sys.stderr, flush=True)
 
