@@ -1,7 +1,8 @@
 //! A case: each line that isn't an answer is a question, and is told again with its answer. What is told has to be the text of the case.
 
 use crate::{
-    boards, changes, graphs, identifiers, lists, moments, recurrences, rows, statuses, tasks, texts,
+    boards, changes, graphs, identifiers, imports, json, lists, messages, moments, recurrences,
+    rows, scripts, statuses, tasks, texts, todo_lines,
 };
 use std::alloc::Global;
 use std::io;
@@ -76,7 +77,27 @@ fn answer(alloc: Global, word: &str, given: &str) -> io::Result<String> {
     if let Some(answer) = texts::answer(alloc, word, given)? {
         return Ok(answer);
     }
+    if let Some(answer) = text_answer(alloc, word, given)? {
+        return Ok(answer);
+    }
     Ok(format!(in alloc; "no such word: {word}")?)
+}
+
+/// The same, where the function is one over texts as they come in and go out.
+fn text_answer(alloc: Global, word: &str, given: &str) -> io::Result<Option<String>> {
+    if let Some(answer) = todo_lines::answer(alloc, word, given)? {
+        return Ok(Some(answer));
+    }
+    if let Some(answer) = json::answer(alloc, word, given)? {
+        return Ok(Some(answer));
+    }
+    if let Some(answer) = imports::answer(alloc, word, given)? {
+        return Ok(Some(answer));
+    }
+    if let Some(answer) = messages::answer(alloc, word, given)? {
+        return Ok(Some(answer));
+    }
+    scripts::answer(alloc, word, given)
 }
 
 fn first_difference(alloc: Global, text: &str, told: &str) -> io::Result<String> {

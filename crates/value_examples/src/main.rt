@@ -6,15 +6,22 @@
 mod boards;
 mod case;
 mod changes;
+mod ends;
+mod given;
 mod graphs;
 mod identifiers;
+mod imports;
+mod json;
 mod lists;
+mod messages;
 mod moments;
 mod recurrences;
 mod rows;
+mod scripts;
 mod statuses;
 mod tasks;
 mod texts;
+mod todo_lines;
 mod told;
 
 use std::{fs, io};
