@@ -1,0 +1,3 @@
+mod ImportedAgain
+mod Lives
+mod Left

@@ -1,0 +1,27 @@
+-- An import of the task format that comes twice.
+use Rattle.std.specs.Prelude.{◌≡◌, ℕ, false, List, Ok, length}
+use Rattle.tb_task.specs.declared.incoming.Incoming.{Incoming}
+use Rattle.tb_board.specs.declared.world.World.{World}
+use Rattle.tb_core.specs.declared.command.Answer.TheVariants.{OnBoard}
+use Rattle.tb_core.specs.declared.command.BoardAnswer.{BoardAnswer}
+use Rattle.tb_core.specs.declared.command.Command.TheVariants.{ImportJson}
+use Rattle.tb_core.specs.declared.command.Told.TheVariants.{Imported}
+use Rattle.tb_core.specs.Apply.{apply}
+use Rattle.tb_core.specs.GoodWorld.{IsGoodWorld}
+
+-- each task is known, and no instance came
+abbrev pub known_answer : ℕ → List Incoming → BoardAnswer
+known_answer board is = record {
+  board = board;
+  added = 0;
+  more = false;
+  told = Imported (record { known = length is; new = 0; dropped = 0; orphans = 0; unlinked = 0 });
+}
+
+-- Where nothing more was wanted after an import into a good world, the same import right after it, at the same moment, is accepted,
+-- knows each of its tasks, and leaves the world as it is.
+abbrev pub ImportJsonAgain : Type 0
+ImportJsonAgain = (w : World) (name : List ℕ) (n : ℕ) (is : List Incoming) (m : ℕ) (a : BoardAnswer) → IsGoodWorld w
+    → (apply w name (ImportJson n is) m).answer ≡ Ok (OnBoard a) → a.more ≡ false
+    → apply (apply w name (ImportJson n is) m).world name (ImportJson n is) m
+    ≡ record { world = (apply w name (ImportJson n is) m).world; answer = Ok (OnBoard (known_answer a.board is)) }

@@ -1,0 +1,63 @@
+//! A session over a file: it begins with an empty database or with a store that stands, and handles calls until it stops.
+ghost use Rattle.std.specs.Prelude.{◌≡◌, ◌≢◌, false, length, take, true, IfOk, None, Some};
+ghost use Rattle.sqlite.specs.Held.{state};
+ghost use Rattle.sqlite.specs.State.{HasCleanDisk, Opens};
+ghost use Rattle.tb_calls.specs.declared.fault.KeepFault.TheVariants.{Store};
+ghost use Rattle.tb_calls.specs.Calls.{State, once, plain};
+ghost use Rattle.tb_calls.specs.Opening.{opening};
+ghost use Rattle.tb_headline.specs.Sessions.{IsAt, IsSession};
+ghost use Rattle.tb_keeper.specs.Stored.{AreTreesOf};
+
+use sqlite::{Alter, Connection};
+use std::alloc::Global;
+use tb_board::{Key, Name};
+use tb_calls::{Call, Keep};
+use tb_desk::{Desk, RunEnd};
+use tb_keeper::{CreateFault, SqlKeep};
+use tb_sql::opening::OpenFault;
+
+/// Makes a store in an empty database, for one person, who owns the one board, and begins a session over it.
+pub fn make<S: Alter>(
+    alloc: Global,
+    conn: Connection<S>,
+    name: &Name,
+    key: &Key,
+) -> Result<Desk<SqlKeep<S>>, (Connection<S>, CreateFault)>
+    requires { conn.in_transaction ≡ false }
+    ensures begun { IfOk result (λ desk. Opens (state S.Store conn)
+        → IsAt (opening name.now key.now) (⟦<SqlKeep<S> as Keep>⟧.holds desk) (⟦<SqlKeep<S> as Keep>⟧.after_stop desk)) }
+{
+    match SqlKeep::create(alloc, conn, name, key) {
+        Ok(keep) => Ok(Desk::new(keep)),
+        Err(refused) => Err(refused),
+    }
+}
+
+/// Begins a session over the store that a database is.
+pub fn resume<S: Alter>(
+    alloc: Global,
+    conn: Connection<S>,
+) -> Result<Desk<SqlKeep<S>>, (Connection<S>, OpenFault)>
+    requires { conn.in_transaction ≡ false }
+    ensures begun { IfOk result (λ desk. HasCleanDisk (state S.Store desk.conn) → Opens (state S.Store conn)
+        → (s : State) → AreTreesOf s (state S.Store conn).now.trees
+        → IsAt s (⟦<SqlKeep<S> as Keep>⟧.holds desk) (⟦<SqlKeep<S> as Keep>⟧.after_stop desk)) }
+{
+    match SqlKeep::open(alloc, conn) {
+        Ok(keep) => Ok(Desk::new(keep)),
+        Err(refused) => Err(refused),
+    }
+}
+
+/// Handles calls in order, up to the first fault: whenever the session stops then, what is left is the rows of a state after some
+/// first calls, no fewer than were answered.
+pub fn run<S: Alter>(alloc: Global, desk: &mut Desk<SqlKeep<S>>, calls: &[Call]) -> RunEnd
+    ensures session { (s : State) → IsAt s (⟦<SqlKeep<S> as Keep>⟧.holds desk.old) (⟦<SqlKeep<S> as Keep>⟧.after_stop desk.old)
+        → IsSession s calls.now result.replies (⟦<SqlKeep<S> as Keep>⟧.holds desk.new) (state S.Store desk.new.conn) }
+    ensures all { result.fault ≡ None → length result.replies ≡ length calls.now }
+    ensures left { (s : State) → ⟦<SqlKeep<S> as Keep>⟧.holds desk.old s → result.fault ≢ Some Store
+        → ⟦<SqlKeep<S> as Keep>⟧.holds desk.new (plain s (once s (take (length result.replies) calls.now))) }
+    ensures failed { result.fault ≡ Some Store → ⟦<SqlKeep<S> as Keep>⟧.has_failed desk.new ≡ true }
+{
+    desk.run(alloc, calls)
+}
