@@ -25,7 +25,8 @@ pub fn make<S: Alter>(
 ) -> Result<Desk<SqlKeep<S>>, (Connection<S>, CreateFault)>
     requires { conn.in_transaction ≡ false }
     ensures begun { IfOk result (λ desk. Opens (state S.Store conn)
-        → IsAt (opening name.now key.now) (⟦<SqlKeep<S> as Keep>⟧.holds desk) (⟦<SqlKeep<S> as Keep>⟧.after_stop desk)) }
+        → IsAt (opening name.now key.now) (⟦<SqlKeep<S> as Keep>⟧.holds desk)
+        (⟦<SqlKeep<S> as Keep>⟧.after_stop desk)) }
 {
     match SqlKeep::create(alloc, conn, name, key) {
         Ok(keep) => Ok(Desk::new(keep)),
@@ -52,7 +53,8 @@ pub fn resume<S: Alter>(
 /// Handles calls in order, up to the first fault: whenever the session stops then, what is left is the rows of a state after some
 /// first calls, no fewer than were answered.
 pub fn run<S: Alter>(alloc: Global, desk: &mut Desk<SqlKeep<S>>, calls: &[Call]) -> RunEnd
-    ensures session { (s : State) → IsAt s (⟦<SqlKeep<S> as Keep>⟧.holds desk.old) (⟦<SqlKeep<S> as Keep>⟧.after_stop desk.old)
+    ensures session { (s : State)
+        → IsAt s (⟦<SqlKeep<S> as Keep>⟧.holds desk.old) (⟦<SqlKeep<S> as Keep>⟧.after_stop desk.old)
         → IsSession s calls.now result.replies (⟦<SqlKeep<S> as Keep>⟧.holds desk.new) (state S.Store desk.new.conn) }
     ensures all { result.fault ≡ None → length result.replies ≡ length calls.now }
     ensures left { (s : State) → ⟦<SqlKeep<S> as Keep>⟧.holds desk.old s → result.fault ≢ Some Store
