@@ -1,10 +1,14 @@
 pub mod BodyLemmas
 pub mod ClosingLemmas
 pub mod HeadLemmas
+pub mod InboxLemmas
 pub mod MessageLemmas
 pub mod NumeralLemmas
+pub mod OpenHeadLemmas
+pub mod ReaderLemmas
 pub mod ReadingLemmas
 pub mod RouteLemmas
 pub mod RouteTable
 pub mod SenderLemmas
+pub mod StreamLemmas
 pub mod WireLemmas

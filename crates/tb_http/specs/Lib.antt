@@ -6,6 +6,9 @@ pub mod Numerals
 pub mod Framing
 pub mod Closing
 pub mod Wire
+pub mod OpenHead
+pub mod Inbox
+pub mod Stream
 pub mod Reading
 pub mod Routes
 pub mod Resources

@@ -4,19 +4,21 @@
 #![tactic(auto)]
 
 mod answer;
+mod begun;
 mod body;
 mod closing;
 mod fault;
 mod framing;
 mod head;
+mod inbox;
 pub mod laws;
 mod message;
 mod numerals;
+mod open_head;
 mod reader;
 mod resource;
 mod route;
 mod sender;
-mod source;
 
 pub use answer::{Answer, ContentType, HeadRoom};
 pub use body::{
@@ -27,6 +29,7 @@ pub use closing::MESSAGE_LIMIT;
 pub use fault::WireFault;
 pub use framing::{BODY_LIMIT, FIELD_LIMIT};
 pub use head::HEAD_LIMIT;
+pub use inbox::{FieldRoom, Inbox};
 pub use message::{Field, Message, find_field};
 pub use reader::Reader;
 pub use resource::{Resource, RouteFault, TaskAction};

@@ -1,168 +1,107 @@
 //! Messages, one after the other, from any reader.
-ghost use Rattle.std.specs.Prelude.{◌≡◌, ◌<◌, ◌≤◌, ◌-◌, ◌+◌, ◌*◌, ◌++◌, ℕ, List, length, map, take, drop, All, IfOk, IfErr, IfSome, IsSomeAnd, OnOk, OnErr, Err, IsTrue, Some, Bool, true, false};
-ghost use Rattle.std.specs.Io.KnownBytes.{Keeps, prepend_known};
-ghost use Rattle.tb_http.specs.Message.{message_from};
-ghost use Rattle.tb_http.specs.Framing.{body_length as body_length_of};
-ghost use Rattle.tb_http.specs.Closing.{message_limit, asks_to_close as asks_to_close_so};
-ghost use Rattle.tb_http.specs.Wire.{BeginsWithHead, BeginsWithMessage, Faults, is_last};
+ghost use Rattle.std.specs.Prelude.{◌≡◌, ◌<◌, ◌≤◌, ◌+◌, ◌⊎◌, ℕ, List, length, IfOk, IfErr, IfSome, IsSomeAnd, OnOk, OnErr, Ok, Err, Some, Bool, true, false};
+ghost use Rattle.std.specs.Io.KnownBytes.{IsAtEnd, Keeps, prepend_known};
+ghost use Rattle.tb_http.specs.Closing.{message_limit};
+ghost use Rattle.tb_http.specs.Inbox.{IsUnfinished};
+ghost use Rattle.tb_http.specs.Wire.{BeginsWithMessage, Faults, is_last};
 
-use crate::closing::{MESSAGE_LIMIT, asks_to_close};
 use crate::fault::WireFault;
-use crate::framing::body_length;
-use crate::head::{FIELD_ROOM, HEAD_LIMIT, Judgement, judge};
-use crate::message::{Head, Message, head_at};
-use crate::source::{fill_to, read_more};
-use httparse::spans::{EMPTY_HEADER_SPAN, HeaderSpan};
+use crate::inbox::{FieldRoom, Inbox};
+use crate::message::Message;
 use std::alloc::{AllocError, Global};
 use std::io::Read;
 use std::marker::Model;
-use tb_values::Items;
 
-// The bytes that a head may take.
-#[tactic(auto, using(std::proofs::lemmas::List::take_min))]
-fn window(held: &[u8]) -> &[u8]
-    ensures value { result.now ≡ take HEAD_LIMIT held.now }
-    ensures short { length result.now ≤ HEAD_LIMIT }
+/// How many bytes are asked for at a time.
+const READ_SIZE: usize = 4096;
+
+// Reads once, and says whether any bytes came.
+fn read_more<R: Read>(source: &mut R, inbox: &mut Inbox) -> Result<bool, WireFault>
+    ensures kept { OnOk result (Keeps (prepend_known inbox.old.bytes (R.remaining source.old))
+        (prepend_known inbox.new.bytes (R.remaining source.new))) }
+    ensures rest { (inbox.new.messages ≡ inbox.old.messages) × (inbox.new.is_closing ≡ inbox.old.is_closing) }
+    ensures more { result ≡ Ok true → length inbox.old.bytes < length inbox.new.bytes }
+    ensures end { result ≡ Ok false → (inbox.new.bytes ≡ inbox.old.bytes) × IsAtEnd (R.remaining source.new) }
+    ensures fault { IfErr result (λ fault. (fault ≡ WireFault.Memory) ⊎ (fault ≡ WireFault.ReadFailed)) }
 {
-    &held[..HEAD_LIMIT.min(held.len())]
+    let mut piece = [0u8; READ_SIZE];
+    let Ok(count) = source.read(&mut piece) else {
+        return Err(WireFault::ReadFailed);
+    };
+    if inbox.push(&piece[..count]).is_err() {
+        return Err(WireFault::Memory);
+    }
+    Ok(count > 0)
 }
 
-/// A head that was read, and how many bytes it takes.
-#[derive(Drop)]
-pub struct Start {
-    pub head: Head,
-    pub len: usize,
-}
-
-// Reads on until a whole head is held.
-fn read_head<R: Read>(
-    alloc: Global,
-    source: &mut R,
-    held: &mut Vec<u8>,
-    room: &mut [HeaderSpan],
-) -> Result<Start, WireFault>
-    requires { length room.old ≡ FIELD_ROOM }
-    ensures kept { Keeps (prepend_known held.old.items (R.remaining source.old))
-        (prepend_known held.new.items (R.remaining source.new)) }
-    ensures head { IfOk result (λ start. (start.len ≤ length held.new.items) × (start.len ≤ HEAD_LIMIT)
-        × BeginsWithHead held.new.items start.head (drop start.len held.new.items)) }
-    ensures fault { IfErr result (λ fault. IfSome (prepend_known held.old.items (R.remaining source.old))
+// Reads on where more bytes are needed, so that their end is a fault.
+fn read_on<R: Read>(source: &mut R, inbox: &mut Inbox) -> Result<(), WireFault>
+    requires { IsUnfinished inbox.old.bytes }
+    ensures kept { OnOk result (Keeps (prepend_known inbox.old.bytes (R.remaining source.old))
+        (prepend_known inbox.new.bytes (R.remaining source.new))) }
+    ensures rest { (inbox.new.messages ≡ inbox.old.messages) × (inbox.new.is_closing ≡ inbox.old.is_closing) }
+    ensures more { OnOk result (length inbox.old.bytes < length inbox.new.bytes) }
+    ensures fault { IfErr result (λ fault. IfSome (prepend_known inbox.old.bytes (R.remaining source.old))
         (λ bytes. Faults bytes fault)) }
 {
-    loop {
-        let front = window(held);
-        match judge(front, room) {
-            Judgement::Whole(spans) => {
-                let Ok(head) = head_at(alloc, front, room, spans) else {
-                    return Err(WireFault::Memory);
-                };
-                return Ok(Start {
-                    head,
-                    len: spans.len,
-                });
-            }
-            Judgement::Bad => return Err(WireFault::BadHead),
-            Judgement::Unfinished => {}
-        }
-        if held.len() > HEAD_LIMIT {
-            return Err(WireFault::HeadTooLong);
-        }
-        if !read_more(source, held)? {
-            if held.is_empty() {
-                return Err(WireFault::Ended);
-            }
-            return Err(WireFault::Torn);
-        }
+    if read_more(source, inbox)? {
+        return Ok(());
     }
-}
-
-// Takes a whole message from the front of what is held.
-fn take_message(
-    alloc: Global,
-    start: Start,
-    size: usize,
-    held: &mut Vec<u8>,
-) -> Result<Message, WireFault>
-    requires whole { start.len + size ≤ length held.old.items }
-    ensures message { IfOk result (λ message. message
-        ≡ message_from start.head (take size (drop start.len held.old.items))) }
-    ensures rest { OnOk result (held.new.items ≡ drop size (drop start.len held.old.items)) }
-    ensures memory { IfErr result (λ fault. fault ≡ WireFault.Memory) }
-{
-    let end = start.len + size;
-    let Ok(body) = Vec::from_slice(alloc, &held[start.len..end]) else {
-        return Err(WireFault::Memory);
-    };
-    held.rotate_left(end);
-    let left = held.len() - end;
-    held.truncate(left);
-    let Head {
-        method,
-        target,
-        minor: _,
-        fields,
-    } = start.head;
-    Ok(Message {
-        method,
-        target,
-        fields,
-        body: Items::from_vec(body),
-    })
-}
-
-/// A message, and whether its sender closes the connection after it.
-#[derive(Drop)]
-pub struct Taken {
-    pub message: Message,
-    pub closes: bool,
+    if inbox.is_empty() {
+        return Err(WireFault::Ended);
+    }
+    Err(WireFault::Torn)
 }
 
 // Reads the next message, whatever pieces it comes in.
-fn next_message<R: Read>(
+fn read_next<R: Read>(
     alloc: Global,
     source: &mut R,
-    held: &mut Vec<u8>,
-    room: &mut [HeaderSpan],
-) -> Result<Taken, WireFault>
-    requires { length room.old ≡ FIELD_ROOM }
-    ensures message { IfOk result (λ taken. IfSome (prepend_known held.old.items (R.remaining source.old))
-        (λ bytes. IsSomeAnd (prepend_known held.new.items (R.remaining source.new))
-        (λ rest. BeginsWithMessage bytes taken.message taken.closes rest))) }
-    ensures fault { IfErr result (λ fault. IfSome (prepend_known held.old.items (R.remaining source.old))
+    inbox: &mut Inbox,
+    room: &mut FieldRoom,
+) -> Result<Message, WireFault>
+    requires { inbox.old.is_closing ≡ false }
+    ensures message { IfOk result (λ message. IfSome (prepend_known inbox.old.bytes (R.remaining source.old))
+        (λ bytes. IsSomeAnd (prepend_known inbox.new.bytes (R.remaining source.new)) (λ rest. (closes : Bool)
+        × BeginsWithMessage bytes message closes rest × (inbox.new.is_closing ≡ is_last closes inbox.old.messages)))) }
+    ensures fault { IfErr result (λ fault. IfSome (prepend_known inbox.old.bytes (R.remaining source.old))
         (λ bytes. Faults bytes fault)) }
+    ensures counted { OnOk result (inbox.new.messages ≡ inbox.old.messages + 1) }
+    ensures limit { OnOk result (message_limit ≤ inbox.new.messages → inbox.new.is_closing ≡ true) }
+    ensures closes { OnErr result ((inbox.new.is_closing ≡ true) × (inbox.new.messages ≡ inbox.old.messages)) }
 {
-    let start = read_head(alloc, source, held, room)?;
-    let size = body_length(&start.head)?;
-    let closes = asks_to_close(&start.head);
-    fill_to(source, held, start.len + size)?;
-    let message = take_message(alloc, start, size, held)?;
-    Ok(Taken { message, closes })
+    loop {
+        match inbox.next_message(alloc, room) {
+            Ok(Some(message)) => return Ok(message),
+            Ok(None) => {}
+            Err(fault) => return Err(fault),
+        }
+        if let Err(fault) = read_on(source, inbox) {
+            inbox.close();
+            return Err(fault);
+        }
+    }
 }
 
 /// Messages from a reader, one after the other.
 #[derive(Drop)]
 pub struct Reader<R: Read + Drop> {
     source: R,
-    held: Vec<u8>,
-    room: Vec<HeaderSpan>,
-    messages: usize,
-    is_closing: bool,
+    inbox: Inbox,
+    room: FieldRoom,
 }
 
 impl<R: Read + Drop> Model for Reader<R> {
-    ghost use Rattle.std.specs.Prelude.{◌≡◌, ◌<◌, length, false};
     ghost use Rattle.std.specs.Io.KnownBytes.{prepend_known};
     ghost use Rattle.tb_http.specs.Wire.{Incoming};
 
     ghost Value = { Incoming };
 
     ghost view = { λ r. record {
-      bytes = prepend_known r.held.items (R.remaining r.source);
-      messages = r.messages;
-      is_closing = r.is_closing;
+      bytes = prepend_known r.inbox.bytes (R.remaining r.source);
+      messages = r.inbox.messages;
+      is_closing = r.inbox.is_closing;
     } };
-
-    ghost invariant = { λ r. (length r.room.items ≡ 5463) × (r.is_closing ≡ false → r.messages < 1000) };
 }
 
 impl<R: Read + Drop> Reader<R> {
@@ -172,10 +111,8 @@ impl<R: Read + Drop> Reader<R> {
     {
         Ok(Reader {
             source,
-            held: Vec::new(alloc),
-            room: vec![in alloc; EMPTY_HEADER_SPAN; FIELD_ROOM]?,
-            messages: 0,
-            is_closing: false,
+            inbox: Inbox::new(alloc),
+            room: FieldRoom::new(alloc)?,
         })
     }
 
@@ -183,7 +120,7 @@ impl<R: Read + Drop> Reader<R> {
     pub fn closing(&self) -> bool
         ensures { result ≡ self.now.is_closing }
     {
-        self.is_closing
+        self.inbox.closing()
     }
 
     /// Reads the next message. It closes the connection where its sender says so, where it is the 1,000th, and
@@ -198,13 +135,9 @@ impl<R: Read + Drop> Reader<R> {
         ensures limit { OnOk result (message_limit ≤ self.new.messages → self.new.is_closing ≡ true) }
         ensures closes { OnErr result ((self.new.is_closing ≡ true) × (self.new.messages ≡ self.old.messages)) }
     {
-        if self.is_closing {
+        if self.inbox.closing() {
             return Err(WireFault::Ended);
         }
-        self.is_closing = true;
-        let taken = next_message(alloc, &mut self.source, &mut self.held, &mut self.room)?;
-        self.messages += 1;
-        self.is_closing = taken.closes || self.messages >= MESSAGE_LIMIT;
-        Ok(taken.message)
+        read_next(alloc, &mut self.source, &mut self.inbox, &mut self.room)
     }
 }

@@ -1,0 +1,8 @@
+use Rattle.std.proofs.Common.{◌≡◌, ◌≤◌, ◌<◌, ◌-◌, ℕ, length, get_or}
+use Rattle.tb_http.proofs.open_head.line_end.Given as goal
+
+abbrev pub invariant-loop-end : goal.invariant-loop-end
+invariant-loop-end l = (l.from ≤ l.end) × (l.end ≤ length l.bytes) × ((k : ℕ) → l.from ≤ k → k < l.end → get_or l.bytes k 0 ≡ 10 → ⊥)
+
+abbrev pub decreases-loop-end : goal.decreases-loop-end
+decreases-loop-end l = length l.bytes - l.end
