@@ -1,5 +1,5 @@
 -- Held states under other names.
-use Rattle.std.proofs.Common.{◌≡◌, ◌⊎◌, ℕ, ◌+◌, ◌≤◌, ◌<◌, zero, suc, get_or, Bool, true, false, if◌then◌else◌, List, [], ◌∷◌, length, take, Result, Ok, Err, refl, sym, ap, ◌∙◌, subst, inl, inr, ⊎_elim, arith}
+use Rattle.std.proofs.Common.{◌≡◌, ◌⊎◌, ℕ, ◌+◌, ◌≤◌, ◌<◌, zero, suc, get_or, Bool, true, false, if◌then◌else◌, List, [], ◌∷◌, length, take, Option, Some, ◌≢◌, Result, Ok, Err, refl, sym, ap, ◌∙◌, subst, inl, inr, ⊎_elim, arith}
 use Rattle.std.specs.Prelude.{OnOk, IsErrOf, is_ok}
 use Rattle.tb_calls.specs.declared.call.Call.{Call}
 use Rattle.tb_reply.specs.declared.reply.Reply.{Reply}
@@ -59,3 +59,29 @@ stands_counted s now stops calls n i same stood = subst (λ m. StandsAfter s cal
 -- what is still as it was is one of the two
 pub still_either : (s x : State) (old old_stops now stops : State → Type 0) → IsStill old old_stops now stops → old s → Only s old_stops → HoldsEither s x now stops
 still_either s x old old_stops now stops still held only = record { held = inl (still.held s held); stops = λ t left. inl (only t (still.stops s t held left)) }
+
+-- what is still as it was, and then still as it was
+pub still_then : (old old_stops mid mid_stops new new_stops : State → Type 0) → IsStill old old_stops mid mid_stops → IsStill mid mid_stops new new_stops → IsStill old old_stops new new_stops
+still_then old old_stops mid mid_stops new new_stops first later = record {
+  held = λ s held. later.held s (first.held s held);
+  stops = λ s t held left. first.stops s t held (later.stops s t (first.held s held) left);
+}
+
+-- ---- whether a keeper has failed
+
+pub unfailed : (b : Bool) → (b ≡ true → ⊥) → b ≡ false
+unfailed true not_so = absurd (not_so refl)
+unfailed false not_so = refl
+
+two_faults : {T : Type 0} (r : Result T KeepFault) → r ≡ Err Memory → r ≡ Err Store → ⊥
+two_faults r memory store = cc
+
+-- where memory was wanted, whether a keeper has failed stays as it was
+pub memory_alone : {T : Type 0} (r : Result T KeepFault) (old new : Bool) → new ≡ is_store r → (old ≡ true → IsErrOf r Store) → IsErrOf r Memory → new ≡ old
+memory_alone r true new failed closed memory = absurd (two_faults r memory (closed refl))
+memory_alone r false new failed closed memory = failed ∙ ap is_store memory
+
+-- a fault that isn't the store's is want of memory
+pub unless_store : (P : Type 0) (fault : KeepFault) → Some fault ≢ Some Store → (fault ≡ Memory → P) → P
+unless_store P Memory apart memory = memory refl
+unless_store P Store apart memory = absurd (apart refl)

@@ -1,6 +1,7 @@
 -- A call that came once, with its caller known, changes nothing when it comes again, and is told the same.
-use Rattle.std.proofs.Common.{◌≡◌, ◌⊎◌, ℕ, Bool, true, false, true≢false, not, ◌&&◌, cond, eqb, if◌then◌else◌, List, [], ◌∷◌, ◌++◌, Option, Some, None, refl, sym, ap, ◌∙◌, subst, inl, inr, rules, arith}
+use Rattle.std.proofs.Common.{◌≡◌, ℕ, Bool, true, false, true≢false, not, ◌&&◌, cond, if◌then◌else◌, List, [], ◌∷◌, Option, Some, None, refl, sym, ap, ◌∙◌, subst}
 use Rattle.std.specs.Prelude.{is_some}
+use Rattle.std.specs.FinMap.{get}
 use Rattle.std.specs.Str.{bytes_eq}
 use Rattle.std.proofs.lemmas.Slice.Eq.{bytes_eq-Decides}
 use Rattle.tb_core.specs.GoodWorld.{IsGoodWorld}
@@ -9,9 +10,9 @@ use Rattle.tb_core.proofs.Stays.{stays_good, stay_known}
 use Rattle.tb_calls.specs.declared.call.Call.{Call}
 use Rattle.tb_reply.specs.declared.reply.Reply.{Reply}
 use Rattle.tb_calls.specs.declared.call.KeptReply.{KeptReply}
-use Rattle.tb_calls.specs.Calls.{State, after_call, counts, has_key, id_reused, is_known, kept_for, kept_or_new, name_of, once, outcome, once_after, plain, same_name, told_in, unknown_caller}
-use Rattle.tb_reply.specs.Replies.{reply_of}
+use Rattle.tb_calls.specs.Calls.{State, after_call, counts, has_key, id_reused, is_known, kept_for, kept_or_new, outcome, plain, same_name, told_in, unknown_caller}
 use Rattle.tb_calls.proofs.Names.{kept_for-after_call, kept_for-same_name, kept_of, same_name_self}
+use Rattle.tb_desk.specs.Sessions.{IsAgain}
 use Rattle.tb_desk.proofs.Runs.{after_all, after_all-append}
 
 -- the call's caller is known, and this is kept for it
@@ -105,17 +106,49 @@ first_told s c known = by (kept_for s c) refl
           ),
         )
 
+-- ---- a call that comes again
+
+again_known : (s : State) (c d : Call) → IsAgain c d → is_known s d ≡ is_known s c
+again_known s c d a = ap (λ m. has_key (key_of s.world m) d.key) a.member ∙ ap (λ k. has_key (key_of s.world c.member) k) a.key
+
+again_kept : (s : State) (c d : Call) → IsAgain c d → kept_for s d ≡ kept_for s c
+again_kept s c d a = ap (λ m. get s.kept (m, d.id)) a.member ∙ ap (λ i. get s.kept (c.member, i)) a.id
+
+again_holds : (s : State) (c d : Call) (v : KeptReply) → IsAgain c d → Holds s c v → Holds s d v
+again_holds s c d v a h = record { known = again_known s c d a ∙ h.known; kept = again_kept s c d a ∙ h.kept }
+
+again_told : (v : KeptReply) (c d : Call) → IsAgain c d → told_kept v d ≡ told_kept v c
+again_told v c d a = ap (λ b. if bytes_eq v.content b then v.reply else id_reused) a.content
+
+-- where something is kept for a call, that call again is told what that says, and changes nothing
+pub again-holds : (s : State) (c d : Call) (v : KeptReply) → IsAgain c d → Holds s c v → (told_in s d ≡ told_kept v c) × (after_all s (d ∷ []) ≡ s)
+again-holds s c d v a h =
+    let held = again_holds s c d v a h in
+    (told-holds s d v held ∙ again_told v c d a, same-holds s d v held)
+
+-- a call whose caller isn't known
+unknown_told : (s : State) (c : Call) → is_known s c ≡ false → told_in s c ≡ unknown_caller
+unknown_told s c e = ap (λ b. if b then kept_or_new (kept_for s c) s c else unknown_caller) e
+
+unknown_same : (s : State) (c : Call) → is_known s c ≡ false → after_all s (c ∷ []) ≡ s
+unknown_same s c e = ap (λ b. plain s (if b && (not (is_some (kept_for s c)) && true) then c ∷ [] else [])) e
+
 -- a call that comes again at once is told the same, and changes nothing
-pub again : (s : State) (c : Call) → (told_in (after_all s (c ∷ [])) c ≡ told_in s c) × (after_all (after_all s (c ∷ [])) (c ∷ []) ≡ after_all s (c ∷ []))
-again s c = by (is_known s c) refl
+pub again : (s : State) (c d : Call) → IsAgain c d
+    → (told_in (after_all s (c ∷ [])) d ≡ told_in s c) × (after_all (after_all s (c ∷ [])) (d ∷ []) ≡ after_all s (c ∷ []))
+again s c d a = by (is_known s c) refl
   where
-    by : (b : Bool) → is_known s c ≡ b → (told_in (after_all s (c ∷ [])) c ≡ told_in s c) × (after_all (after_all s (c ∷ [])) (c ∷ []) ≡ after_all s (c ∷ []))
+    by : (b : Bool) → is_known s c ≡ b → (told_in (after_all s (c ∷ [])) d ≡ told_in s c) × (after_all (after_all s (c ∷ [])) (d ∷ []) ≡ after_all s (c ∷ []))
     by true e =
         let f = first_told s c e in
-        (told-holds _ c f.0 f.1.0 ∙ sym f.1.1, same-holds _ c f.0 f.1.0)
+        let r = again-holds _ c d f.0 a f.1.0 in
+        (r.0 ∙ sym f.1.1, r.1)
     by false e =
-        let same : after_all s (c ∷ []) ≡ s = ap (λ b. plain s (if b && (not (is_some (kept_for s c)) && true) then c ∷ [] else [])) e in
-        (ap (λ t. told_in t c) same, ap (λ t. after_all t (c ∷ [])) same)
+        let same = unknown_same s c e in
+        let unknown : is_known s d ≡ false = again_known s c d a ∙ e in (
+          ap (λ t. told_in t d) same ∙ unknown_told s d unknown ∙ sym (unknown_told s c e),
+          ap (λ t. after_all t (d ∷ [])) same ∙ unknown_same s d unknown ∙ sym same,
+        )
 
 -- a good world stays good after a call
 pub good_next : (s : State) (c : Call) → IsGoodWorld s.world → IsGoodWorld (after_call s c).world

@@ -55,6 +55,8 @@ impl<K: Keep> Desk<K> {
         ensures held { (s : State) → K.holds self.old s → K.holds self.new s ⊎ K.holds self.new (plain s (once s (call.now ∷ []))) }
         ensures stands { (s : State) → K.holds self.old s → Only s (K.after_stop self.old)
             → StandsAfter s (call.now ∷ []) (if is_ok result then 1 else 0) (K.holds self.new) (K.after_stop self.new) }
+        ensures still { K.has_failed self.old ≡ true
+            → IsStill (K.holds self.old) (K.after_stop self.old) (K.holds self.new) (K.after_stop self.new) }
         ensures failed { K.has_failed self.new ≡ is_store result }
         ensures closed { K.has_failed self.old ≡ true → IsErrOf result Store }
     {
@@ -62,7 +64,7 @@ impl<K: Keep> Desk<K> {
     }
 
     /// Handles calls in order, up to the first fault. The place of a reply is made before its call is handled, so a keeper that has
-    /// failed may still meet the want of memory first.
+    /// failed may still meet the want of memory first. It changes nothing then, as with Store.
     pub fn run(&mut self, alloc: Global, calls: &[Call]) -> RunEnd
         ensures count { length result.replies ≤ length calls.now }
         ensures all { result.fault ≡ None → length result.replies ≡ length calls.now }
@@ -72,7 +74,11 @@ impl<K: Keep> Desk<K> {
         ensures stands { (s : State) → K.holds self.old s → Only s (K.after_stop self.old)
             → StandsAfter s calls.now (length result.replies) (K.holds self.new) (K.after_stop self.new) }
         ensures failed { result.fault ≡ Some Store → K.has_failed self.new ≡ true }
+        ensures fine { result.fault ≢ Some Store → K.has_failed self.new ≡ K.has_failed self.old }
         ensures closed { K.has_failed self.old ≡ true → 0 < length calls.now → IsSome result.fault }
+        ensures none { K.has_failed self.old ≡ true → length result.replies ≡ 0 }
+        ensures still { K.has_failed self.old ≡ true
+            → IsStill (K.holds self.old) (K.after_stop self.old) (K.holds self.new) (K.after_stop self.new) }
     {
         let mut replies = Vec::new(alloc);
         for call in calls {
@@ -122,7 +128,10 @@ impl<K: Keep> Desk<K> {
             → StandsAfter s (call.now ∷ []) (if is_ok result then 1 else 0) (K.holds self.new) (K.after_stop self.new) }
         ensures failed { is_store result ≡ true → K.has_failed self.new ≡ true }
         ensures fine { OnOk result (K.has_failed self.new ≡ false) }
+        ensures unchanged { IsErrOf result Memory → K.has_failed self.new ≡ K.has_failed self.old }
         ensures closed { K.has_failed self.old ≡ true → IsErr result }
+        ensures still { K.has_failed self.old ≡ true
+            → IsStill (K.holds self.old) (K.after_stop self.old) (K.holds self.new) (K.after_stop self.new) }
     {
         if replies.reserve(1).is_err() {
             return Err(KeepFault::Memory);

@@ -18,6 +18,8 @@ pub(crate) fn serve<K: Keep>(keep: &mut K, alloc: Global, call: &Call) -> Result
     ensures held { (s : State) → K.holds keep.old s → K.holds keep.new s ⊎ K.holds keep.new (plain s (once s (call.now ∷ []))) }
     ensures store { (s : State) → K.holds keep.old s → Only s (K.after_stop keep.old) → IsErrOf result Store
         → HoldsEither s (plain s (once s (call.now ∷ []))) (K.holds keep.new) (K.after_stop keep.new) }
+    ensures still { K.has_failed keep.old ≡ true
+        → IsStill (K.holds keep.old) (K.after_stop keep.old) (K.holds keep.new) (K.after_stop keep.new) }
     ensures failed { K.has_failed keep.new ≡ is_store result }
     ensures closed { K.has_failed keep.old ≡ true → IsErrOf result Store }
 {

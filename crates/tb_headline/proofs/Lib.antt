@@ -1,3 +1,4 @@
 mod ImportedAgain
 mod Lives
 mod Left
+mod Came

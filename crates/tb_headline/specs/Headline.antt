@@ -1,47 +1,84 @@
 -- The life of a file: sessions in a row, each of which ends by a stop or by itself.
-use Rattle.std.specs.Prelude.{◌≡◌, ℕ, ◌≤◌, List, [], ◌∷◌, length, take}
-use Rattle.std.specs.List.{filter_map}
+use Rattle.std.specs.Prelude.{◌≡◌, ◌⊎◌, ℕ, ◌+◌, ◌<◌, ◌≤◌, ◌==◌, if◌then◌else◌, List, [], ◌∷◌, ◌++◌, Some, length, take, slice_get}
 use Rattle.tb_calls.specs.declared.call.Call.{Call}
 use Rattle.tb_calls.specs.Calls.{State, once, plain, replies_to}
-use Rattle.tb_calls.specs.Keeping.{IsAfterSome}
 use Rattle.tb_core.specs.GoodWorld.{IsGoodWorld}
-use Rattle.tb_desk.specs.Sessions.{ComeInOrder, calls_at, next_after, reply_at}
+use Rattle.tb_desk.specs.Sessions.{IsAgain, Sending, Sent, WasKnown, calls_of, next_after, replies_at, stands}
 use Rattle.tb_reply.specs.declared.reply.Reply.{Reply}
 
--- What is sent in one session: calls of a list by their numbers, and how many of them were answered.
-pub record Sent : Type 0 where
-  pub numbers : List ℕ
-  pub answered : ℕ
+-- Each session begins with the state that the one before left, tells the answers to the calls that were answered, and
+-- leaves the state after the calls that stand: all that were answered, and one more at most.
+abbrev pub Lives : State → List Sending → List (List Reply) → State → Type 0
+Lives s [] [] t = t ≡ s
+Lives s [] (r ∷ rs) t = ⊥
+Lives s (x ∷ xs) [] t = ⊥
+Lives s (x ∷ xs) (r ∷ rs) t =
+    (r ≡ take x.answered (replies_to s (calls_of x.sent))) × (x.answered ≤ x.stood) × (x.stood ≤ x.answered + 1)
+    × (mid : State) × (mid ≡ plain s (once s (take x.stood (calls_of x.sent)))) × Lives mid xs rs t
 
--- Each session begins with a state that the one before left, tells its answers, and leaves a state after some of its calls: all that
--- were answered, and one more at most.
-abbrev pub Lives : List Call → State → List Sent → List (List Reply) → State → Type 0
-Lives calls s [] [] t = t ≡ s
-Lives calls s [] (r ∷ rs) t = ⊥
-Lives calls s (x ∷ xs) [] t = ⊥
-Lives calls s (x ∷ xs) (r ∷ rs) t =
-    (r ≡ take x.answered (replies_to s (calls_at calls x.numbers)))
-    × (mid : State) × IsAfterSome s (calls_at calls x.numbers) x.answered mid × Lives calls mid xs rs t
+-- ---- how a list is sent
 
--- Each session goes on from the first call of the list that was not answered, until all are. In between come calls again that came before.
-abbrev pub SendsAll : State → List Call → ℕ → List Sent → Type 0
-SendsAll s calls next [] = next ≡ length calls
-SendsAll s calls next (x ∷ xs) =
-    (x.answered ≤ length x.numbers) × ComeInOrder s calls next x.numbers × SendsAll s calls (next_after next (take x.answered x.numbers)) xs
+-- What is sent is a call of the list again: equal but for its moment.
+pub record IsSentOf (calls : List Call) (x : Sent) : Type 0 where
+  pub first : Call
+  pub is_first : slice_get calls x.number ≡ Some first
+  pub again : IsAgain first x.call
 
--- what the list handled once, without a stop, tells of the calls that were answered
-abbrev pub answers_at : State → List Call → List Sent → List (List Reply)
-answers_at s calls [] = []
-answers_at s calls (x ∷ xs) = filter_map (reply_at s calls) (take x.answered x.numbers) ∷ answers_at s calls xs
+-- From the call of this number on, the calls of the list are sent in order. In between or behind, calls that were sent
+-- before are sent again. The list is of all calls, whoever sends them over whichever connection.
+abbrev pub AreSent : List Call → ℕ → List Sent → Type 0
+AreSent calls next [] = Unit {0}
+AreSent calls next (x ∷ xs) =
+    IsSentOf calls x × (((x.number ≡ next) × AreSent calls (next + 1) xs) ⊎ ((x.number < next) × AreSent calls next xs))
+
+-- Each session goes on from the first call of the list that was not answered, until all are.
+abbrev pub SendsAll : List Call → ℕ → List Sending → Type 0
+SendsAll calls next [] = next ≡ length calls
+SendsAll calls next (x ∷ xs) = AreSent calls next x.sent × SendsAll calls (next_after next (take x.answered x.sent)) xs
+
+-- ---- the list as it came
+
+-- the calls that stand, session after session
+abbrev pub all_standing : List Sending → List Sent
+all_standing [] = []
+all_standing (x ∷ xs) = stands x ++ all_standing xs
+
+-- the first call of each number from this one on
+abbrev pub first_of_each : ℕ → List Sent → List Call
+first_of_each next [] = []
+first_of_each next (x ∷ xs) = if x.number == next then x.call ∷ first_of_each (next + 1) xs else first_of_each next xs
+
+-- the list, with each call at the moment at which it stood first
+abbrev pub as_came : List Sending → List Call
+as_came xs = first_of_each 0 (all_standing xs)
+
+-- one list is the other again, call by call
+abbrev pub AreAgain : List Call → List Call → Type 0
+AreAgain [] [] = Unit {0}
+AreAgain [] (d ∷ ds) = ⊥
+AreAgain (c ∷ cs) [] = ⊥
+AreAgain (c ∷ cs) (d ∷ ds) = IsAgain c d × AreAgain cs ds
+
+-- where a call comes again behind the one after it in the list, its caller was known when it came first
+abbrev pub WereKnown : State → List Call → ℕ → List Sent → Type 0
+WereKnown s calls next [] = Unit {0}
+WereKnown s calls next (x ∷ xs) = (x.number + 1 < next → WasKnown s calls x.number) × WereKnown s calls (next_after next (x ∷ [])) xs
+
+-- ---- the headline
 
 -- a state after a list of calls that was sent so, and the answers that were given
-pub record IsAsUnstopped (s : State) (calls : List Call) (xs : List Sent) (replies : List (List Reply)) (t : State) : Type 0 where
-  pub state : t ≡ plain s (once s calls)
-  pub replies_are : replies ≡ answers_at s calls xs
+pub record IsAsUnstopped (s : State) (calls : List Call) (xs : List Sending) (replies : List (List Reply)) (t : State) : Type 0 where
+  -- the same calls, each at the moment at which it stood first
+  pub list : AreAgain calls (as_came xs)
+  -- handled once, without a stop, they lead to this state and are told the same
+  pub state : t ≡ plain s (once s (as_came xs))
+  pub replies_are : replies ≡ replies_at s (as_came xs) xs
   -- no cycles; each recurring task's instances are numbered from zero, none doubled or skipped
   pub good : IsGoodWorld t.world
 
--- Sessions that send a list of calls, whenever they stop and whatever comes again, lead where the list leads that is handled once.
+-- Sessions that send a list of calls, whenever they stop and whatever comes again at whatever moment, lead where the list
+-- leads that is handled once.
 abbrev pub Headline : Type 0
-Headline = (s : State) (calls : List Call) (xs : List Sent) (replies : List (List Reply)) (t : State)
-    → IsGoodWorld s.world → SendsAll s calls 0 xs → Lives calls s xs replies t → IsAsUnstopped s calls xs replies t
+Headline = (s : State) (calls : List Call) (xs : List Sending) (replies : List (List Reply)) (t : State)
+    → IsGoodWorld s.world → SendsAll calls 0 xs → WereKnown s (as_came xs) 0 (all_standing xs) → Lives s xs replies t
+    → IsAsUnstopped s calls xs replies t

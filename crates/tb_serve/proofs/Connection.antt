@@ -1,5 +1,5 @@
 -- A connection's messages, turn by turn.
-use Rattle.std.proofs.Common.{◌≡◌, ◌≢◌, ℕ, ◌+◌, ◌<◌, ◌≤◌, Bool, true, false, true≢false, List, [], ◌∷◌, ◌++◌, length, take, Option, Some, None, IfSome, refl, sym, ap, ◌∙◌, subst, append_assoc, arith, inl, inr, ⊎_elim}
+use Rattle.std.proofs.Common.{◌≡◌, ◌≢◌, ℕ, ◌+◌, ◌<◌, ◌≤◌, Bool, true, false, true≢false, List, [], ◌∷◌, ◌++◌, length, take, drop, drop-drop, Option, Some, None, IfSome, refl, sym, ap, ◌∙◌, subst, append_assoc, arith, inl, inr, ⊎_elim}
 use Rattle.std.specs.Prelude.{IsSomeAnd}
 use Rattle.std.proofs.lemmas.Bool.{cases_lt}
 use Rattle.std.proofs.lemmas.List.{length-append}
@@ -14,9 +14,9 @@ use Rattle.tb_serve.specs.declared.serving.Exchange.{Exchange}
 use Rattle.tb_serve.specs.declared.serving.ServeEnd.{ServeEnd}
 use Rattle.tb_serve.specs.declared.serving.Turn.{Turn}
 use Rattle.tb_serve.specs.declared.serving.Turn.TheVariants.{Told, Failed, Unread}
-use Rattle.tb_serve.specs.Serving.{Brings, Exchanges, Handles, HandlesMessage, IsServed, Received, Sends, Turns, answer_to, answers, calls_of, ended_by, ended_well, ends_last, goes_on, later, left_by, next, no_start}
+use Rattle.tb_serve.specs.Serving.{Brings, Exchanges, Handles, HandlesMessage, IsServed, Received, Sends, Turns, answer_to, answers, calls_of, ended_by, ended_well, ends_last, goes_on, later, left_by, next, no_start, none_closes}
 use Rattle.tb_serve.specs.Telling.{StandsAt, after, calls_in}
-use Rattle.tb_serve.proofs.Lists.{answers-push, brings-push, calls-push, ends-push, left-push, reached, reached-after}
+use Rattle.tb_serve.proofs.Lists.{answers-push, brings-push, calls-push, ends-push, left-push, none-push, reached, reached-after}
 
 -- ---- a message that was read and handled
 
@@ -60,7 +60,8 @@ pub record SoFar (s : State) (moments : List (Option ℕ)) (bytes : List ℕ) (k
   pub written : Appends old new (answers s moments 0 told)
   pub stands : StandsAt (after s (calls_of moments told)) now stops
   pub counted : count ≡ length told
-  pub closing : is_closing ≡ ends_last 0 told
+  pub unclosed : is_closing ≡ false → none_closes 0 told ≡ true
+  pub closing : is_closing ≡ true → ends_last 0 told ≡ true
 
 abbrev pub Runs : State → Option (List ℕ) → Option (List (Option ℕ)) → Option (List ℕ) → Option (List (Option ℕ)) → Option (List ℕ) → Option (List ℕ) → (State → Type 0) → (State → Type 0) → ℕ → Bool → Type 0
 Runs s source moments known clock old new now stops count is_closing =
@@ -79,7 +80,8 @@ run_none s (Some bytes) (Some all) old now stops count is_closing none opened he
   written = Appends-nil old;
   stands = record { held = held; stops = only };
   counted = none;
-  closing = opened;
+  unclosed = λ _. refl;
+  closing = λ closed. absurd (true≢false (sym closed ∙ opened));
 }
 
 at_some : {A : Type 0} (o : Option A) (x : A) (P : A → Type 0) → o ≡ Some x → IfSome o P → P x
@@ -103,15 +105,17 @@ more : (s : State) (all : List (Option ℕ)) (bytes : List ℕ) (known : Option 
     → (r : SoFar s all bytes known clock old new now stops count is_closing)
     → Appends new newer text
     → Turns (after s (calls_of all r.told)) (left_by all r.told) count r.left Told text next_now next_stops left closing
+    → is_closing ≡ false
     → later_clock ≡ Some (later (left_by all r.told))
     → SoFar s all bytes left later_clock old newer next_now next_stops (count + 1) closing
-more s all bytes known clock later_clock old new newer now stops next_now next_stops count is_closing closing left text r wrote turn passed =
+more s all bytes known clock later_clock old new newer now stops next_now next_stops count is_closing closing left text r wrote turn unclosed passed =
     let told = r.told in
     let t = after s (calls_of all told) in
     let at = next (left_by all told) in
     let m : Received = turn.0 in
     let calls = calls_in m.message at in
     let counted : count ≡ 0 + length told = omega (arith, r.counted) in
+    let last : closing ≡ is_last m.closes (0 + length told) = turn.4 ∙ ap (λ k. is_last m.closes k) counted in
     let text_is : text ≡ answer_to (reached s all told) at (0 + length told) m =
     turn.5.0 ∙ ap (λ u. answer_to u at count m) (sym (reached-after s all told)) ∙ ap (λ k. answer_to (reached s all told) at k m) counted in
     let whole : answers s all 0 told ++ text ≡ answers s all 0 (told ++ m ∷ []) =
@@ -127,7 +131,8 @@ more s all bytes known clock later_clock old new newer now stops next_now next_s
       written = subst (λ (x : List ℕ). Appends old newer x) whole (Appends-then old new newer _ text r.written wrote);
       stands = subst (λ (u : State). StandsAt u next_now next_stops) stood turn.5.1;
       counted = simp length-append (omega (arith, r.counted));
-      closing = turn.4 ∙ ap (λ k. is_last m.closes k) counted ∙ sym (ends-push 0 told m);
+      unclosed = λ goes. none-push 0 told m (r.unclosed unclosed) (sym last ∙ goes);
+      closing = λ closed. ends-push 0 told m (r.unclosed unclosed) ∙ sym last ∙ closed;
     }
 
 pub told_on : (turn : Turn) (is_whole : Bool) → goes_on turn is_whole ≡ true → (turn ≡ Told) × (is_whole ≡ true)
@@ -138,25 +143,58 @@ told_on (Unread fault) is_whole on = absurd (cc)
 pub run_more : (s : State) (source : Option (List ℕ)) (moments : Option (List (Option ℕ))) (known : Option (List ℕ)) (clock later_clock : Option (List (Option ℕ))) (old new newer : Option (List ℕ)) (now stops next_now next_stops : State → Type 0) (count next_count : ℕ) (is_closing closing : Bool) (exchange : Exchange) (left : Option (List ℕ))
     → Runs s source moments known clock old new now stops count is_closing
     → Goes known clock count new newer exchange now stops next_now next_stops left closing
+    → is_closing ≡ false
     → goes_on exchange.turn exchange.is_whole ≡ true
     → IfSome clock (λ c. later_clock ≡ Some (later c))
     → next_count ≡ count + 1
     → Runs s source moments left later_clock old newer next_now next_stops next_count closing
-run_more s None moments known clock later_clock old new newer now stops next_now next_stops count next_count is_closing closing exchange left run goes on passed counted = tt
-run_more s (Some bytes) None known clock later_clock old new newer now stops next_now next_stops count next_count is_closing closing exchange left run goes on passed counted = tt
-run_more s (Some bytes) (Some all) known clock later_clock old new newer now stops next_now next_stops count next_count is_closing closing exchange left run goes on passed counted =
+run_more s None moments known clock later_clock old new newer now stops next_now next_stops count next_count is_closing closing exchange left run goes unclosed on passed counted = tt
+run_more s (Some bytes) None known clock later_clock old new newer now stops next_now next_stops count next_count is_closing closing exchange left run goes unclosed on passed counted = tt
+run_more s (Some bytes) (Some all) known clock later_clock old new newer now stops next_now next_stops count next_count is_closing closing exchange left run goes unclosed on passed counted =
     let at = here s all bytes known clock old new newer now stops next_now next_stops count is_closing closing exchange left run goes in
     let t = after s (calls_of all run.told) in
     subst (λ (k : ℕ). SoFar s all bytes left later_clock old newer next_now next_stops k closing) (sym counted)
     (more s all bytes known clock later_clock old new newer now stops next_now next_stops count is_closing closing left at.0 run
     (subst (λ (b : Bool). Sends new newer [] at.0 b) (told_on exchange.turn exchange.is_whole on).1 at.1)
     (subst (λ (u : Turn). Turns t (left_by all run.told) count run.left u at.0 next_now next_stops left closing) (told_on exchange.turn exchange.is_whole on).0 at.2)
+    unclosed
     (at_some clock (left_by all run.told) (λ c. later_clock ≡ Some (later c)) run.clock_is passed))
 
 -- fewer messages than the limit were read where the connection goes on
 pub has_room : (count : ℕ) (is_closing : Bool) → (1000 ≤ count → is_closing ≡ true) → is_closing ≡ false → count < 1000
 has_room count is_closing full unclosed =
     ⊎_elim (λ (room : count < 1000). room) (λ (none : 1000 ≤ count). absurd (true≢false (sym (full none) ∙ unclosed))) (cases_lt count 1000)
+
+-- ---- the moments taken
+
+later-drop : (clock : List (Option ℕ)) → drop 1 clock ≡ later clock
+later-drop [] = refl
+later-drop (at ∷ more) = refl
+
+-- what the clock has left behind one message
+pub taken_one : (clock later_clock : Option (List (Option ℕ))) (count : ℕ) → count ≡ 1
+    → IfSome clock (λ all. later_clock ≡ Some (drop count all)) → IfSome clock (λ all. later_clock ≡ Some (later all))
+taken_one None later_clock count one taken = tt
+taken_one (Some all) later_clock count one taken = taken ∙ ap (λ k. Some (drop k all)) one ∙ ap (λ c. Some c) (later-drop all)
+
+pub takes_one : (clock later_clock : Option (List (Option ℕ))) (at : Option ℕ) (count : ℕ) → count ≡ 1
+    → IfSome clock (λ all. (at ≡ next all) × (later_clock ≡ Some (later all))) → IfSome clock (λ all. later_clock ≡ Some (drop count all))
+takes_one None later_clock at count one given = tt
+takes_one (Some all) later_clock at count one given =
+    given.1 ∙ ap (λ c. Some c) (sym (later-drop all)) ∙ ap (λ k. Some (drop k all)) (sym one)
+
+pub taken_none : (clock : Option (List (Option ℕ))) (count : ℕ) → count ≡ 0 → IfSome clock (λ all. clock ≡ Some (drop count all))
+taken_none None count none = tt
+taken_none (Some all) count none = ap (λ k. Some (drop k all)) (sym none)
+
+-- so many moments, and then so many more
+pub taken_more : (clock mid_clock later_clock : Option (List (Option ℕ))) (first more count : ℕ) → count ≡ first + more
+    → IfSome clock (λ all. mid_clock ≡ Some (drop first all)) → IfSome mid_clock (λ all. later_clock ≡ Some (drop more all))
+    → IfSome clock (λ all. later_clock ≡ Some (drop count all))
+taken_more None mid_clock later_clock first more count sum before behind = tt
+taken_more (Some all) mid_clock later_clock first more count sum before behind =
+    at_some mid_clock (drop first all) (λ c. later_clock ≡ Some (drop more c)) before behind
+    ∙ ap (λ c. Some c) (drop-drop more first all) ∙ ap (λ k. Some (drop k all)) (sym sum)
 
 -- ---- how it ends
 
@@ -172,17 +210,18 @@ Ends s source moments old new now stops end = IfSome source (λ bytes. IfSome mo
 pub run_ends : (s : State) (source : Option (List ℕ)) (moments : Option (List (Option ℕ))) (known : Option (List ℕ)) (clock : Option (List (Option ℕ))) (old new newer : Option (List ℕ)) (now stops next_now next_stops : State → Type 0) (count : ℕ) (is_closing closing : Bool) (exchange : Exchange) (left : Option (List ℕ)) (end : ServeEnd)
     → Runs s source moments known clock old new now stops count is_closing
     → Goes known clock count new newer exchange now stops next_now next_stops left closing
-    → goes_on exchange.turn exchange.is_whole ≡ false → end ≡ ended_by count exchange
+    → is_closing ≡ false → goes_on exchange.turn exchange.is_whole ≡ false → end ≡ ended_by count exchange
     → Ends s source moments old newer next_now next_stops end
-run_ends s None moments known clock old new newer now stops next_now next_stops count is_closing closing exchange left end run goes cut counts = tt
-run_ends s (Some bytes) None known clock old new newer now stops next_now next_stops count is_closing closing exchange left end run goes cut counts = tt
-run_ends s (Some bytes) (Some all) known clock old new newer now stops next_now next_stops count is_closing closing exchange left end run goes cut counts =
+run_ends s None moments known clock old new newer now stops next_now next_stops count is_closing closing exchange left end run goes unclosed cut counts = tt
+run_ends s (Some bytes) None known clock old new newer now stops next_now next_stops count is_closing closing exchange left end run goes unclosed cut counts = tt
+run_ends s (Some bytes) (Some all) known clock old new newer now stops next_now next_stops count is_closing closing exchange left end run goes unclosed cut counts =
     let at = here s all bytes known clock old new newer now stops next_now next_stops count is_closing closing exchange left run goes in
     let t = after s (calls_of all run.told) in
     inr (inl (record {
       told = run.told;
       left = run.left;
       brings = run.brings;
+      unclosed = run.unclosed unclosed;
       exchange = exchange;
       ends = cut;
       text = at.0;
@@ -202,7 +241,7 @@ run_closed s (Some bytes) (Some all) known clock old new now stops count is_clos
       told = run.told;
       left = run.left;
       brings = run.brings;
-      last = sym run.closing ∙ closed;
+      last = run.closing closed;
       written = run.written;
       stands = run.stands;
       counts = counts ∙ ap (λ k. ended_well k) run.counted;

@@ -1,10 +1,10 @@
 -- One message more.
-use Rattle.std.proofs.Common.{◌≡◌, ℕ, ◌+◌, List, [], ◌∷◌, ◌++◌, length, Option, refl, sym, ap, ◌∙◌, subst, append_assoc, arith}
+use Rattle.std.proofs.Common.{◌≡◌, ℕ, ◌+◌, ◌&&◌, Bool, true, false, true≢false, not, List, [], ◌∷◌, ◌++◌, length, Option, refl, sym, ap, ◌∙◌, subst, append_assoc, arith}
 use Rattle.std.proofs.lemmas.List.{append-nil}
 use Rattle.tb_calls.specs.Calls.{State}
 use Rattle.tb_desk.proofs.Runs.{after_all-append}
 use Rattle.tb_http.specs.Wire.{BeginsWithMessage, is_last}
-use Rattle.tb_serve.specs.Serving.{Brings, Received, answer_to, answers, calls_of, ends_last, later, left_by, next}
+use Rattle.tb_serve.specs.Serving.{Brings, Received, answer_to, answers, calls_of, ends_last, later, left_by, next, none_closes}
 use Rattle.tb_serve.specs.Telling.{after, calls_in}
 
 pub brings-push : (bytes : List ℕ) (ms : List Received) (left : List ℕ) (m : Received) (rest : List ℕ)
@@ -50,13 +50,38 @@ pub left-push : (clock : List (Option ℕ)) (ms : List Received) (m : Received) 
 left-push clock [] m = refl
 left-push clock (n ∷ ms) m = left-push (later clock) ms m
 
-pub ends-push : (before : ℕ) (ms : List Received) (m : Received) → ends_last before (ms ++ m ∷ []) ≡ is_last m.closes (before + length ms)
-ends-push before [] m =
+and_first : (a b : Bool) → (a && b) ≡ true → a ≡ true
+and_first true b both = refl
+and_first false b both = both
+
+and_second : (a b : Bool) → (a && b) ≡ true → b ≡ true
+and_second true b both = both
+and_second false b both = absurd (true≢false (sym both))
+
+-- behind messages none of which closes the connection, it ends with the last one where that one closes it
+pub ends-push : (before : ℕ) (ms : List Received) (m : Received) → none_closes before ms ≡ true
+    → ends_last before (ms ++ m ∷ []) ≡ is_last m.closes (before + length ms)
+ends-push before [] m unclosed =
     let count : before ≡ before + 0 = omega arith in
     ap (λ i. is_last m.closes i) count
-ends-push before (n ∷ []) m =
+ends-push before (n ∷ []) m unclosed =
     let count : before + 1 ≡ before + length (n ∷ []) = omega arith in
-    ap (λ i. is_last m.closes i) count
-ends-push before (n ∷ k ∷ ms) m =
+    ap (λ b. b && is_last m.closes (before + 1)) (and_first (not (is_last n.closes before)) true unclosed) ∙ ap (λ i. is_last m.closes i) count
+ends-push before (n ∷ k ∷ ms) m unclosed =
     let count : (before + 1) + length (k ∷ ms) ≡ before + length (n ∷ k ∷ ms) = omega arith in
-    ends-push (before + 1) (k ∷ ms) m ∙ ap (λ i. is_last m.closes i) count
+    let more = none_closes (before + 1) (k ∷ ms) in
+    ap (λ b. b && ends_last (before + 1) ((k ∷ ms) ++ m ∷ [])) (and_first (not (is_last n.closes before)) more unclosed)
+    ∙ ends-push (before + 1) (k ∷ ms) m (and_second (not (is_last n.closes before)) more unclosed)
+    ∙ ap (λ i. is_last m.closes i) count
+
+-- behind messages none of which closes the connection, one more that doesn't
+pub none-push : (before : ℕ) (ms : List Received) (m : Received) → none_closes before ms ≡ true → is_last m.closes (before + length ms) ≡ false
+    → none_closes before (ms ++ m ∷ []) ≡ true
+none-push before [] m unclosed goes =
+    let count : before ≡ before + 0 = omega arith in
+    ap (λ b. not b && true) (ap (λ i. is_last m.closes i) count ∙ goes)
+none-push before (n ∷ ms) m unclosed goes =
+    let count : (before + 1) + length ms ≡ before + length (n ∷ ms) = omega arith in
+    let more = none_closes (before + 1) ms in
+    ap (λ b. b && none_closes (before + 1) (ms ++ m ∷ [])) (and_first (not (is_last n.closes before)) more unclosed)
+    ∙ none-push (before + 1) ms m (and_second (not (is_last n.closes before)) more unclosed) (ap (λ i. is_last m.closes i) count ∙ goes)

@@ -1,5 +1,5 @@
 -- A connection's messages, answered in turn.
-use Rattle.std.specs.Prelude.{◌≡◌, ◌⊎◌, ℕ, ◌+◌, ◌<◌, Bool, true, false, if◌then◌else◌, List, [], ◌∷◌, ◌++◌, length, take, Option, Some, None, is_some}
+use Rattle.std.specs.Prelude.{◌≡◌, ◌⊎◌, ℕ, ◌+◌, ◌<◌, ◌&&◌, Bool, true, false, not, if◌then◌else◌, List, [], ◌∷◌, ◌++◌, length, take, Option, Some, None, is_some}
 use Rattle.std.specs.Io.KnownBytes.{Appends}
 use Rattle.tb_calls.specs.declared.call.Call.{Call}
 use Rattle.tb_calls.specs.declared.fault.KeepFault.{KeepFault}
@@ -64,11 +64,16 @@ answers s clock before [] = []
 answers s clock before (m ∷ ms) =
     answer_to s (next clock) before m ++ answers (after s (calls_in m.message (next clock))) (later clock) (before + 1) ms
 
--- the last of the messages closes the connection
+-- none of the messages closes the connection
+abbrev pub none_closes : ℕ → List Received → Bool
+none_closes before [] = true
+none_closes before (m ∷ ms) = not (is_last m.closes before) && none_closes (before + 1) ms
+
+-- the last of the messages closes the connection, and none before it
 abbrev pub ends_last : ℕ → List Received → Bool
 ends_last before [] = false
 ends_last before (m ∷ []) = is_last m.closes before
-ends_last before (m ∷ n ∷ ms) = ends_last (before + 1) (n ∷ ms)
+ends_last before (m ∷ n ∷ ms) = not (is_last m.closes before) && ends_last (before + 1) (n ∷ ms)
 
 -- ---- the answer to bytes that are no message
 
@@ -183,7 +188,7 @@ ended_well before = record { messages = before; answered = before; fault = None 
 abbrev pub no_start : ServeEnd
 no_start = record { messages = 0; answered = 0; fault = Some fault.Memory }
 
--- The connection ended behind messages that were all answered whole, the last of which closes it.
+-- The connection ended behind messages that were all answered whole, the last of which closes it, and none before.
 pub record IsClosed (s : State) (clock : List (Option ℕ)) (bytes : List ℕ) (old new : Option (List ℕ)) (now : State → Type 0) (may_leave : State → Type 0) (end : ServeEnd) : Type 0 where
   pub told : List Received
   pub left : List ℕ
@@ -193,11 +198,13 @@ pub record IsClosed (s : State) (clock : List (Option ℕ)) (bytes : List ℕ) (
   pub stands : StandsAt (after s (calls_of clock told)) now may_leave
   pub counts : end ≡ ended_well (length told)
 
--- The connection ended behind messages that were all answered whole, by an exchange that was no whole answer to a message.
+-- The connection ended behind messages that were all answered whole and none of which closes it, by an exchange that was
+-- no whole answer to a message.
 pub record IsEnded (s : State) (clock : List (Option ℕ)) (bytes : List ℕ) (old new : Option (List ℕ)) (now : State → Type 0) (may_leave : State → Type 0) (end : ServeEnd) : Type 0 where
   pub told : List Received
   pub left : List ℕ
   pub brings : Brings bytes told left
+  pub unclosed : none_closes 0 told ≡ true
   pub exchange : Exchange
   pub ends : goes_on exchange.turn exchange.is_whole ≡ false
   pub text : List ℕ

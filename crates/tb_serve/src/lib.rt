@@ -11,4 +11,4 @@ mod told;
 
 pub use clock::Clock;
 pub use list_clock::ListClock;
-pub use serving::{ServeEnd, ServeFault, serve};
+pub use serving::{Exchange, ServeEnd, ServeFault, Turn, handle_message, send_unread, serve};

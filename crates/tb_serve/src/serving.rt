@@ -1,10 +1,10 @@
 //! A connection's messages, answered in turn.
-ghost use Rattle.std.specs.Prelude.{◌≡◌, ◌+◌, ◌≤◌, ◌<◌, [], IfSome, Some, false, true};
+ghost use Rattle.std.specs.Prelude.{◌≡◌, ◌+◌, ◌≤◌, ◌<◌, [], IfSome, Some, drop, false, true};
 ghost use Rattle.tb_calls.specs.Calls.{State};
 ghost use Rattle.tb_calls.specs.Keeping.{Only};
 ghost use Rattle.tb_http.specs.Answer.{answer_text};
 ghost use Rattle.tb_http.specs.Closing.{message_limit};
-ghost use Rattle.tb_serve.specs.Serving.{Exchanges, HandlesMessage, IsServed, Sends, answers_one, ended_by, exchange_fault, goes_on, later, owes_one, reads_one, turn_fault, unread_text};
+ghost use Rattle.tb_serve.specs.Serving.{Exchanges, HandlesMessage, IsServed, Sends, answers_one, ended_by, exchange_fault, goes_on, owes_one, reads_one, turn_fault, unread_text};
 ghost use Rattle.tb_serve.specs.Telling as telling;
 
 use crate::clock::Clock;
@@ -139,9 +139,9 @@ impl Turn {
     }
 }
 
-// Answers what could not be read, if anything is answered.
+/// Answers what could not be read, if anything is answered, and says whether that went out whole.
 #[tactic(auto, unfolding(crate::specs::Serving::unread_text))]
-fn send_unread<W: Write>(room: &mut HeadRoom, writer: &mut W, fault: WireFault) -> bool
+pub fn send_unread<W: Write>(room: &mut HeadRoom, writer: &mut W, fault: WireFault) -> bool
     ensures { Sends (W.contents writer.old) (W.contents writer.new) [] (unread_text fault) result }
 {
     match fault.answer(None, true, true) {
@@ -196,8 +196,8 @@ fn send<W: Write>(room: &mut HeadRoom, writer: &mut W, answer: Answer, body: &[u
     room.send(writer, answer, body).is_ok()
 }
 
-// Handles a message that was read, and answers it. The answer is sent when the call stands.
-fn handle_message<W: Write, K: Keep>(
+/// Handles a message that was read, and answers it. The answer is sent when the call stands.
+pub fn handle_message<W: Write, K: Keep>(
     alloc: Global,
     routes: &Routes,
     room: &mut HeadRoom,
@@ -210,6 +210,7 @@ fn handle_message<W: Write, K: Keep>(
     ensures handles { (s : State) → K.holds desk.old s → Only s (K.after_stop desk.old)
         → HandlesMessage s at is_last message.now (W.contents writer.old) (W.contents writer.new) result.turn result.is_whole
         (K.holds desk.new) (K.after_stop desk.new) }
+    ensures read { reads_one result.turn ≡ 1 }
     ensures failed { result.turn ≡ Turn.Failed KeepFault.Store → K.has_failed desk.new ≡ true }
 {
     match tell(alloc, routes, desk, message, at) {
@@ -243,7 +244,7 @@ fn serve_message<R: Read + Drop, W: Write, K: Keep, C: Clock>(
         Exchanges s moments reader.old.messages bytes (W.contents writer.old) (W.contents writer.new) result
         (K.holds desk.new) (K.after_stop desk.new) reader.new.bytes reader.new.is_closing)) }
     ensures failed { result.turn ≡ Turn.Failed KeepFault.Store → K.has_failed desk.new ≡ true }
-    ensures clock { result.turn ≡ Turn.Told → IfSome (C.answers clock.old) (λ moments. C.answers clock.new ≡ Some (later moments)) }
+    ensures clock { IfSome (C.answers clock.old) (λ moments. C.answers clock.new ≡ Some (drop (reads_one result.turn) moments)) }
     ensures counted { result.turn ≡ Turn.Told → reader.new.messages ≡ reader.old.messages + 1 }
     ensures limit { result.turn ≡ Turn.Told → message_limit ≤ reader.new.messages → reader.new.is_closing ≡ true }
 {
@@ -276,6 +277,7 @@ fn serve_all<R: Read + Drop, W: Write, K: Keep, C: Clock>(
         → IfSome reader.old.bytes (λ bytes. IfSome (C.answers clock.old) (λ moments.
         IsServed s moments bytes (W.contents writer.old) (W.contents writer.new) (K.holds desk.new) (K.after_stop desk.new) result)) }
     ensures failed { result.fault ≡ Some ServeFault.Store → K.has_failed desk.new ≡ true }
+    ensures clock { IfSome (C.answers clock.old) (λ moments. C.answers clock.new ≡ Some (drop result.messages moments)) }
 {
     let mut answered = 0;
     'messages: while !reader.closing() {
@@ -292,8 +294,8 @@ fn serve_all<R: Read + Drop, W: Write, K: Keep, C: Clock>(
     }
 }
 
-/// Answers the messages of a connection in turn, each at the moment that the clock gives when it was read whole: at most 1,000, and
-/// none behind one that closes the connection. The desk handles a call before the first byte of its answer is written.
+/// Answers the messages of a connection in turn, each at the moment that the clock gives when it was read whole, which is the only one
+/// taken for it: at most 1,000, and none behind one that closes the connection. The desk handles a call before the first byte of its answer is written.
 pub fn serve<R: Read + Drop, W: Write, K: Keep, C: Clock>(
     alloc: Global,
     source: R,
@@ -305,6 +307,7 @@ pub fn serve<R: Read + Drop, W: Write, K: Keep, C: Clock>(
         → IfSome (R.remaining source) (λ bytes. IfSome (C.answers clock.old) (λ moments.
         IsServed s moments bytes (W.contents writer.old) (W.contents writer.new) (K.holds desk.new) (K.after_stop desk.new) result)) }
     ensures failed { result.fault ≡ Some ServeFault.Store → K.has_failed desk.new ≡ true }
+    ensures clock { IfSome (C.answers clock.old) (λ moments. C.answers clock.new ≡ Some (drop result.messages moments)) }
 {
     let Ok(routes) = Routes::new(alloc) else {
         return UNSTARTED;

@@ -15,5 +15,7 @@ invariant-loop-call g l =
       held : (s : State) → k.holds first s → k.holds l.self (plain s (once s handled));
       only : (s : State) → k.holds first s → Only s (k.after_stop first) → Only (plain s (once s handled)) (k.after_stop l.self);
       closed : k.has_failed first ≡ true → l.call-index ≡ 0;
-      still : k.has_failed first ≡ true → k.has_failed l.self ≡ true;
+      failing : k.has_failed l.self ≡ k.has_failed first;
+      still : k.has_failed first ≡ true → (s : State) → k.holds first s → k.holds l.self s;
+      stops : k.has_failed first ≡ true → (s t : State) → k.holds first s → k.after_stop l.self t → k.after_stop first t;
     }
