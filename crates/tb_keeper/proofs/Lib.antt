@@ -10,4 +10,6 @@ pub mod Images
 pub mod Reopened
 pub mod Standing
 pub mod Taken
+pub mod WholeCount
+pub mod WholeRead
 pub mod WorldRead

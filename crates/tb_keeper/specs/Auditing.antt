@@ -1,5 +1,5 @@
 -- What an audit counts.
-use Rattle.std.specs.Prelude.{◌≡◌, ◌⊎◌, ◌+◌, ◌==◌, ◌↔◌, ℕ, Bool, IsTrue, List, [], ◌∷◌, None, Ok, filter, length, map, IsPermutation}
+use Rattle.std.specs.Prelude.{◌≡◌, ◌⊎◌, ◌+◌, ◌==◌, ◌↔◌, ℕ, Bool, IsTrue, List, [], ◌∷◌, None, Ok, filter, length, map, not, sum_by, IsPermutation}
 use Rattle.sqlite.specs.State.{HasCleanDisk, State as Database}
 use Rattle.tb_board.specs.declared.board.Board.{Board}
 use Rattle.tb_board.specs.declared.world.World.{World}
@@ -10,7 +10,8 @@ use Rattle.tb_sql_tables.specs.declared.rows.InstanceRow.{InstanceRow}
 use Rattle.tb_sql_tables.specs.declared.rows.GoneRow.{GoneRow}
 use Rattle.tb_sql_tables.specs.Content.{Content, Stands}
 use Rattle.tb_sql_tables.specs.Found.{AreFound}
-use Rattle.tb_sql.specs.Changes.{is_board, IsGoneBefore, IsTaskBefore}
+use Rattle.tb_sql.specs.Changes.{is_board, IsBoardBefore, IsGoneBefore, IsInstanceBefore, IsLinkBefore, IsTaskBefore}
+use Rattle.tb_audit.specs.Stored.{AreAsStored}
 use Rattle.tb_rows.specs.Rows.{board_instances, board_links, board_row, board_tasks, world_rows}
 use Rattle.tb_reopen.specs.Reading.{board_of, is_gone_on, is_task_on}
 use Rattle.tb_keeper.specs.declared.auditing.Audit.{Audit}
@@ -87,6 +88,51 @@ StandFor c (row ∷ rows) (b ∷ bs) = StandsFor c row b × StandFor c rows bs
 pub record IsCheckOf (c : Content) (b : Board) (checked : Checked) : Type 0 where
   pub size : checked.tasks ≡ length b.tasks
   pub tells : IsTrue checked.as_stored ↔ HasItsRows c b
+
+-- ---- boards as they are found, whatever the rows are
+
+-- these rows are read as a board, whose tasks are so many, and which has its rows or not
+pub record IsCheckBy (row : BoardRow) (tasks : List TaskRow) (gone : List GoneRow) (links : List LinkRow) (instances : List InstanceRow) (checked : Checked) : Type 0 where
+  pub board : Board
+  pub read : board_of row tasks gone ≡ Ok board
+  pub size : checked.tasks ≡ length board.tasks
+  pub tells : IsTrue checked.as_stored ↔ AreAsStored board row tasks links instances
+
+-- so it is with what is found on the number of a row, each kind in the order of its keys
+pub record IsCheckOfRow (c : Content) (row : BoardRow) (checked : Checked) : Type 0 where
+  pub tasks : List TaskRow
+  pub gone : List GoneRow
+  pub links : List LinkRow
+  pub instances : List InstanceRow
+  pub tasks_found : AreFound IsTaskBefore (filter (is_task_on row.id) c.tasks) tasks
+  pub gone_found : AreFound IsGoneBefore (filter (is_gone_on row.id) c.gone) gone
+  pub links_found : AreFound IsLinkBefore (filter (is_link_on row.id) c.links) links
+  pub instances_found : AreFound IsInstanceBefore (filter (is_instance_on row.id) c.instances) instances
+  pub check : IsCheckBy row tasks gone links instances checked
+
+-- a check for each row
+abbrev pub AreChecksOf : Content → List BoardRow → List Checked → Type 0
+AreChecksOf c [] [] = Unit {0}
+AreChecksOf c [] (x ∷ xs) = ⊥
+AreChecksOf c (row ∷ rows) [] = ⊥
+AreChecksOf c (row ∷ rows) (x ∷ xs) = IsCheckOfRow c row x × AreChecksOf c rows xs
+
+abbrev pub differs : Checked → Bool
+differs checked = not checked.as_stored
+
+-- the audit has the numbers of these rows, of the tasks of their boards, and of the boards that have other rows than their own
+pub record CountsRows (c : Content) (rows : List BoardRow) (audit : Audit) : Type 0 where
+  pub checks : List Checked
+  pub each : AreChecksOf c rows checks
+  pub boards_are : audit.boards ≡ length rows
+  pub tasks_are : audit.tasks ≡ sum_by (λ (x : Checked). x.tasks) checks
+  pub faults_are : audit.faults ≡ length (filter differs checks)
+
+-- the audit counts all boards of the content
+pub record IsCountOf (c : Content) (audit : Audit) : Type 0 where
+  pub rows : List BoardRow
+  pub found : AreFound IsBoardBefore c.boards rows
+  pub counts : CountsRows c rows audit
 
 -- ---- while the disk returns what was written
 

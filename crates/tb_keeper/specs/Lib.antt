@@ -1,4 +1,5 @@
 pub mod Auditing
+pub mod Contents
 pub mod Entries
 pub mod Forms
 pub mod KeptRows

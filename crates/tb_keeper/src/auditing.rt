@@ -15,7 +15,7 @@ ghost use Rattle.tb_sql.specs.Changes.{IsInstanceBefore, IsLinkBefore};
 ghost use Rattle.tb_sql.specs.Opening.{IsAsBefore};
 ghost use Rattle.tb_sql_tables.specs.Content.{Content, Stands};
 ghost use Rattle.tb_sql_tables.specs.Found.{AreFound};
-ghost use Rattle.tb_keeper.specs.Auditing.{is_instance_on, is_link_on, sound, HasBoardsOf, IsCheckOf, OfContent, StandFor, StandsFor, Tells};
+ghost use Rattle.tb_keeper.specs.Auditing.{is_instance_on, is_link_on, sound, CountsRows, HasBoardsOf, IsCheckBy, IsCheckOf, IsCheckOfRow, IsCountOf, OfContent, StandFor, StandsFor, Tells};
 ghost use Rattle.tb_keeper.specs.Replies.{given};
 ghost use Rattle.tb_keeper.specs.Stored.{Holds, IsStored, MayLeave};
 
@@ -59,6 +59,8 @@ impl<S: Alter> SqlKeep<S> {
         ensures sound { IfOk result (λ audit. HasCleanDisk (state S.Store self.new.conn) → (s : State) → IsStored s (state S.Store self.old.conn) → audit ≡ sound s.world) }
         ensures counted { IfOk result (λ audit. HasCleanDisk (state S.Store self.new.conn) → (c : Content) → Stands c (state S.Store self.old.conn)
             → (w : World) → IsGoodWorld w → HasForm w → HasBoardsOf w c → Tells c w.boards audit) }
+        ensures whole { IfOk result (λ audit. OfContent (state S.Store self.old.conn) (state S.Store self.new.conn) (λ c. IsCountOf c audit)) }
+        ensures unchanged { IsAsBefore (state S.Store self.old.conn) (state S.Store self.new.conn) }
         ensures same { IsStill (λ s. Holds self.old.failed (record { world = self.old.world; kept = given self.old.replies }) (state S.Store self.old.conn) s) (λ t. MayLeave (state S.Store self.old.conn) t)
             (λ s. Holds self.new.failed (record { world = self.new.world; kept = given self.new.replies }) (state S.Store self.new.conn) s) (λ t. MayLeave (state S.Store self.new.conn) t) }
         ensures failed { self.new.failed ≡ is_store result }
@@ -124,6 +126,7 @@ fn audit_boards<S: Alter>(alloc: Global, conn: &mut Connection<S>) -> Result<Aud
     ensures idle { conn.new.in_transaction ≡ false }
     ensures counted { IfOk result (λ audit. OfContent (state S.Store conn.old) (state S.Store conn.new)
         (λ c. (w : World) → IsGoodWorld w → HasForm w → HasBoardsOf w c → Tells c w.boards audit)) }
+    ensures whole { IfOk result (λ audit. OfContent (state S.Store conn.old) (state S.Store conn.new) (λ c. IsCountOf c audit)) }
     ensures same { IsAsBefore (state S.Store conn.old) (state S.Store conn.new) }
 {
     ids_are_read();
@@ -144,6 +147,7 @@ fn audit_rows<S: Alter>(
     requires few { length rows.now ≤ 10000 }
     ensures idle { conn.new.in_transaction ≡ false }
     ensures counted { IfOk result (λ audit. OfContent (state S.Store conn.old) (state S.Store conn.new) (λ c. (bs : List Board) → StandFor c rows.now bs → Tells c bs audit)) }
+    ensures whole { IfOk result (λ audit. OfContent (state S.Store conn.old) (state S.Store conn.new) (λ c. CountsRows c rows.now audit)) }
     ensures same { IsAsBefore (state S.Store conn.old) (state S.Store conn.new) }
 {
     let mut audit = Audit {
@@ -189,6 +193,7 @@ fn check_board<S: Alter>(
     requires { conn.old.in_transaction ≡ false }
     ensures idle { conn.new.in_transaction ≡ false }
     ensures checked { IfOk result (λ checked. OfContent (state S.Store conn.old) (state S.Store conn.new) (λ c. (b : Board) → StandsFor c row.now b → IsCheckOf c b checked)) }
+    ensures whole { IfOk result (λ checked. OfContent (state S.Store conn.old) (state S.Store conn.new) (λ c. IsCheckOfRow c row.now checked)) }
     ensures few { IfOk result (λ checked. checked.tasks ≤ 10000) }
     ensures same { IsAsBefore (state S.Store conn.old) (state S.Store conn.new) }
 {
@@ -217,6 +222,7 @@ fn compare(
 ) -> Result<Checked, StoreFault>
     ensures size { IfOk result (λ checked. (b : Board) → board_of row.now tasks.now gone.now ≡ Ok b → checked.tasks ≡ length b.tasks) }
     ensures tells { IfOk result (λ checked. (b : Board) → board_of row.now tasks.now gone.now ≡ Ok b → IsTrue checked.as_stored ↔ AreAsStored b row.now tasks.now links.now instances.now) }
+    ensures whole { IfOk result (λ checked. IsCheckBy row.now tasks.now gone.now links.now instances.now checked) }
     ensures few { IfOk result (λ checked. checked.tasks ≤ 10000) }
 {
     let board = match read_board(alloc, row, tasks, gone) {

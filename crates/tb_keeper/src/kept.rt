@@ -2,8 +2,11 @@
 
 ghost use Rattle.std.specs.Prelude.{◌≡◌, IfOk, false, map};
 ghost use Rattle.std.specs.FinMap.{empty};
+ghost use Rattle.std.specs.List.{AllByRecursion};
 ghost use Rattle.sqlite.specs.Held.{state};
 ghost use Rattle.tb_sql.specs.Opening.{IsAsBefore};
+ghost use Rattle.tb_keeper.specs.Auditing.{OfContent};
+ghost use Rattle.tb_keeper.specs.Contents.{AreRepliesOf, IsOfPeople};
 ghost use Rattle.tb_keeper.specs.Reopening.{OfState};
 ghost use Rattle.tb_keeper.specs.Replies.{given, reply_named, taken_in};
 ghost use Rattle.tb_keeper.specs.Stored.{entry_of};
@@ -30,6 +33,7 @@ pub(crate) fn read_kept<S: Alter>(
     requires { conn.old.in_transaction ≡ false }
     ensures idle { conn.new.in_transaction ≡ false }
     ensures read { IfOk result (λ replies. OfState (state S.Store conn.old) (state S.Store conn.new) (λ s. people.now ≡ s.world.people → given replies ≡ s.kept)) }
+    ensures whole { IfOk result (λ replies. OfContent (state S.Store conn.old) (state S.Store conn.new) (λ c. AreRepliesOf c people.now (given replies))) }
     ensures same { IsAsBefore (state S.Store conn.old) (state S.Store conn.new) }
 {
     let rows = kept_rows(conn)?;
@@ -41,7 +45,8 @@ pub(crate) fn read_kept<S: Alter>(
 
 /// The kept replies of rows, which name these people by their numbers.
 fn read_replies(alloc: Global, people: &[Person], rows: &[KeptRow]) -> Result<Replies, ReopenFault>
-    ensures { IfOk result (λ replies. given replies ≡ taken_in (map (entry_of people.now) rows.now) empty) }
+    ensures taken { IfOk result (λ replies. given replies ≡ taken_in (map (entry_of people.now) rows.now) empty) }
+    ensures people { IfOk result (λ replies. AllByRecursion (IsOfPeople people.now) rows.now) }
 {
     let mut replies = Replies::new(alloc);
     for row in rows {
@@ -52,7 +57,8 @@ fn read_replies(alloc: Global, people: &[Person], rows: &[KeptRow]) -> Result<Re
 }
 
 fn read_reply(people: &[Person], row: &KeptRow) -> Result<(ReplyName, KeptReply), ReopenFault>
-    ensures { IfOk result (λ found. reply_named found ≡ entry_of people.now row.now) }
+    ensures entry { IfOk result (λ found. reply_named found ≡ entry_of people.now row.now) }
+    ensures person { IfOk result (λ found. IsOfPeople people.now row.now) }
 {
     if row.person == 0 {
         return Err(ReopenFault::NotRows);

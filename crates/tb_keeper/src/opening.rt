@@ -5,6 +5,8 @@ ghost use Rattle.tb_core.specs.GoodWorld.{IsGoodWorld};
 ghost use Rattle.tb_calls.specs.Calls.{State};
 ghost use Rattle.tb_sql.specs.Opening.{has_meta, is_ours, IsAnswered, IsAsBefore};
 ghost use Rattle.tb_sql_tables.specs.Content.{AreRows, Content};
+ghost use Rattle.tb_keeper.specs.Auditing.{OfContent};
+ghost use Rattle.tb_keeper.specs.Contents.{HoldsWhatIsThere, IsReadAs};
 ghost use Rattle.tb_keeper.specs.Reopening.{OfState};
 ghost use Rattle.tb_keeper.specs.Replies.{given};
 ghost use Rattle.tb_keeper.specs.Stored.{AreTreesOf, Holds};
@@ -35,6 +37,8 @@ impl<S: Alter> SqlKeep<S> {
             (λ s. Holds keep.failed (record { world = keep.world; kept = given keep.replies }) (state S.Store keep.conn) s)) }
         ensures opened { IfOk result (λ keep. HasCleanDisk (state S.Store keep.conn) → Opens (state S.Store conn) → (s : State) → AreTreesOf s (state S.Store conn).now.trees
             → Holds keep.failed (record { world = keep.world; kept = given keep.replies }) (state S.Store keep.conn) s) }
+        ensures reads { IfOk result (λ keep. HoldsWhatIsThere (state S.Store conn) (state S.Store keep.conn) (record { world = keep.world; kept = given keep.replies })) }
+        ensures same { IfOk result (λ keep. IsAsBefore (state S.Store conn) (state S.Store keep.conn)) }
         ensures refused { IfErr result (λ e. IsAsBefore (state S.Store conn) (state S.Store e.0)) }
         ensures foreign { IfErr result (λ e. (e.1 ≡ OpenFault.NotOurs) ⊎ (e.1 ≡ OpenFault.WrongVersion)
             → HasCleanDisk (state S.Store e.0) → Opens (state S.Store conn) → (content : Content) → AreRows content (state S.Store conn).now.trees → ⊥) }
@@ -42,6 +46,7 @@ impl<S: Alter> SqlKeep<S> {
         ensures shown { IfErr result (λ e. (e.1 ≡ OpenFault.NotOurs) ⊎ (e.1 ≡ OpenFault.WrongVersion)
             → HasCleanDisk (state S.Store e.0) → has_meta (state S.Store conn).now.schema.tables ≡ true → IsAnswered S.Store conn (Err e.1)) }
         ensures good { IfOk result (λ keep. IsGoodWorld keep.world) }
+        ensures ready { IfOk result (λ keep. keep.conn.in_transaction ≡ false) }
         ensures idle { IfErr result (λ e. e.0.in_transaction ≡ false) }
     {
         if let Err(fault) = accept(&mut conn) {
@@ -68,6 +73,7 @@ fn read_state<S: Alter>(
     requires { conn.old.in_transaction ≡ false }
     ensures idle { conn.new.in_transaction ≡ false }
     ensures read { IfOk result (λ found. OfState (state S.Store conn.old) (state S.Store conn.new) (λ s. (found.0 ≡ s.world) × (given found.1 ≡ s.kept))) }
+    ensures whole { IfOk result (λ found. OfContent (state S.Store conn.old) (state S.Store conn.new) (λ c. IsReadAs c (record { world = found.0; kept = given found.1 }))) }
     ensures good { IfOk result (λ found. IsGoodWorld found.0) }
     ensures same { IsAsBefore (state S.Store conn.old) (state S.Store conn.new) }
 {

@@ -1,10 +1,12 @@
 //! The world that the rows of a store tell.
 
-ghost use Rattle.std.specs.Prelude.{◌≡◌, ◌++◌, IfOk, false, map};
+ghost use Rattle.std.specs.Prelude.{◌≡◌, ◌++◌, [], IfOk, false, map};
 ghost use Rattle.sqlite.specs.Held.{state};
 ghost use Rattle.tb_reopen.specs.Laws.{roles_on};
 ghost use Rattle.tb_rows.specs.Rows.{board_row};
 ghost use Rattle.tb_sql.specs.Opening.{IsAsBefore};
+ghost use Rattle.tb_keeper.specs.Auditing.{OfContent};
+ghost use Rattle.tb_keeper.specs.Contents.{AreAllBoardsOf, AreBoardsOf, ArePeopleOf, AreRolesOf, IsBoardOf, IsWorldOf};
 ghost use Rattle.tb_keeper.specs.Reopening.{OfBoard, OfWorld};
 
 use crate::reading::{board_rows, gone_rows, people_rows, role_rows, task_rows};
@@ -35,6 +37,7 @@ pub(crate) fn read_world<S: Alter>(
     requires { conn.old.in_transaction ≡ false }
     ensures idle { conn.new.in_transaction ≡ false }
     ensures read { IfOk result (λ world. OfWorld (state S.Store conn.old) (state S.Store conn.new) (λ w. world ≡ w)) }
+    ensures whole { IfOk result (λ world. OfContent (state S.Store conn.old) (state S.Store conn.new) (λ c. IsWorldOf c world)) }
     ensures same { IsAsBefore (state S.Store conn.old) (state S.Store conn.new) }
 {
     let people = all_people(alloc, conn)?;
@@ -53,6 +56,7 @@ fn all_people<S: Alter>(
     requires { conn.old.in_transaction ≡ false }
     ensures idle { conn.new.in_transaction ≡ false }
     ensures read { IfOk result (λ people. OfWorld (state S.Store conn.old) (state S.Store conn.new) (λ w. people ≡ w.people)) }
+    ensures whole { IfOk result (λ people. OfContent (state S.Store conn.old) (state S.Store conn.new) (λ c. ArePeopleOf c people)) }
     ensures same { IsAsBefore (state S.Store conn.old) (state S.Store conn.new) }
 {
     let rows = people_rows(conn)?;
@@ -70,6 +74,7 @@ fn all_boards<S: Alter>(
     requires { conn.old.in_transaction ≡ false }
     ensures idle { conn.new.in_transaction ≡ false }
     ensures read { IfOk result (λ found. OfWorld (state S.Store conn.old) (state S.Store conn.new) (λ w. (found.0 ≡ w.boards) × (found.1 ≡ w.roles))) }
+    ensures whole { IfOk result (λ found. OfContent (state S.Store conn.old) (state S.Store conn.new) (λ c. AreAllBoardsOf c found.0 found.1)) }
     ensures same { IsAsBefore (state S.Store conn.old) (state S.Store conn.new) }
 {
     let rows = board_rows(conn)?;
@@ -86,6 +91,7 @@ fn read_boards<S: Alter>(
     ensures idle { conn.new.in_transaction ≡ false }
     ensures read { IfOk result (λ found. OfWorld (state S.Store conn.old) (state S.Store conn.new)
         (λ w. rows.now ≡ map board_row w.boards → (found.0 ≡ w.boards) × (found.1 ≡ w.roles))) }
+    ensures whole { IfOk result (λ found. OfContent (state S.Store conn.old) (state S.Store conn.new) (λ c. AreBoardsOf c [] [] rows.now found.0 found.1)) }
     ensures same { IsAsBefore (state S.Store conn.old) (state S.Store conn.new) }
 {
     let mut boards = Items::new(alloc);
@@ -109,6 +115,7 @@ fn read_one<S: Alter>(
     requires { conn.old.in_transaction ≡ false }
     ensures idle { conn.new.in_transaction ≡ false }
     ensures read { IfOk result (λ board. OfBoard (state S.Store conn.old) (state S.Store conn.new) (λ w b. row.now ≡ board_row b → board ≡ b)) }
+    ensures whole { IfOk result (λ board. OfContent (state S.Store conn.old) (state S.Store conn.new) (λ c. IsBoardOf c row.now board)) }
     ensures same { IsAsBefore (state S.Store conn.old) (state S.Store conn.new) }
 {
     let tasks = task_rows(conn, row.id)?;
@@ -132,6 +139,7 @@ fn with_roles<S: Alter>(
     requires { conn.old.in_transaction ≡ false }
     ensures idle { conn.new.in_transaction ≡ false }
     ensures read { IfOk result (λ found. OfBoard (state S.Store conn.old) (state S.Store conn.new) (λ w b. board ≡ b.number → found ≡ roles ++ roles_on w b)) }
+    ensures whole { IfOk result (λ found. OfContent (state S.Store conn.old) (state S.Store conn.new) (λ c. AreRolesOf c board roles found)) }
     ensures same { IsAsBefore (state S.Store conn.old) (state S.Store conn.new) }
 {
     let rows = role_rows(conn, board)?;

@@ -1,7 +1,8 @@
-use Rattle.std.proofs.Common.{◌≡◌, ◌≤◌, ◌*◌, drop, false}
+use Rattle.std.proofs.Common.{◌≡◌, ◌≤◌, ◌*◌, drop, take, false}
 use Rattle.sqlite.specs.Held.{state}
 use Rattle.tb_sql.specs.Opening.{IsAsBefore}
 use Rattle.tb_keeper.proofs.Counting.{CountsUpTo}
+use Rattle.tb_keeper.proofs.WholeCount.{CountsFirst}
 use Rattle.tb_keeper.proofs.auditing.audit_rows.Given as goal
 
 abbrev pub invariant-loop-row : goal.invariant-loop-row
@@ -12,4 +13,5 @@ invariant-loop-row g l = record {
   tasks : l.audit.tasks ≤ 10000 * l.row-index;
   faults : l.audit.faults ≤ l.row-index;
   counted : CountsUpTo (state g.S.Store l.fn.conn) (state g.S.Store l.conn) l.rows (drop l.row-index l.rows) l.audit;
+  first : CountsFirst (state g.S.Store l.fn.conn) (state g.S.Store l.conn) (take l.row-index l.rows) l.audit;
 }

@@ -1,0 +1,102 @@
+-- Boards that are counted one after the other, whatever their rows are.
+use Rattle.std.proofs.Common.{◌≡◌, ◌∙◌, ◌+◌, ◌<◌, ◌≤◌, ℕ, Bool, true, false, cond, List, [], ◌∷◌, ◌++◌, filter, length, length-append, get_or, take, refl, sym, ap, subst, arith}
+use Rattle.std.specs.Prelude.{not, sum_by}
+use Rattle.std.proofs.lemmas.List.{take_all, take_more}
+use Rattle.std.proofs.lemmas.List.Elements.{filter-append}
+use Rattle.std.proofs.lemmas.List.Sums.{sum_by-append}
+use Rattle.sqlite.specs.State.{HasCleanDisk, State as Database}
+use Rattle.tb_reopen.specs.Reading.{is_gone_on, is_task_on}
+use Rattle.tb_sql.specs.Changes.{IsBoardBefore, IsGoneBefore, IsInstanceBefore, IsLinkBefore, IsTaskBefore}
+use Rattle.tb_sql.specs.Opening.{IsAsBefore}
+use Rattle.tb_sql_tables.specs.declared.rows.BoardRow.{BoardRow}
+use Rattle.tb_sql_tables.specs.declared.rows.TaskRow.{TaskRow}
+use Rattle.tb_sql_tables.specs.declared.rows.LinkRow.{LinkRow}
+use Rattle.tb_sql_tables.specs.declared.rows.InstanceRow.{InstanceRow}
+use Rattle.tb_sql_tables.specs.declared.rows.GoneRow.{GoneRow}
+use Rattle.tb_sql_tables.specs.Content.{Content}
+use Rattle.tb_sql_tables.specs.Found.{AreFound}
+use Rattle.tb_keeper.specs.declared.auditing.Audit.{Audit}
+use Rattle.tb_keeper.specs.declared.auditing.Checked.{Checked}
+use Rattle.tb_keeper.specs.Auditing.{differs, is_instance_on, is_link_on, AreChecksOf, CountsRows, IsCheckBy, IsCheckOfRow, IsCountOf, OfContent}
+use Rattle.tb_keeper.proofs.Counting.{IsOneMore}
+use Rattle.tb_keeper.proofs.WholeRead.{stood}
+
+-- what is found of a board between looks that change nothing
+pub check_whole : (start second third fourth after : Database) (row : BoardRow) (tasks : List TaskRow) (gone : List GoneRow) (links : List LinkRow) (instances : List InstanceRow) (checked : Checked)
+    → IsAsBefore start second → IsAsBefore second third → IsAsBefore third fourth → IsAsBefore fourth after
+    → OfContent start second (λ c. AreFound IsTaskBefore (filter (is_task_on row.id) c.tasks) tasks)
+    → OfContent second third (λ c. AreFound IsGoneBefore (filter (is_gone_on row.id) c.gone) gone)
+    → OfContent third fourth (λ c. AreFound IsLinkBefore (filter (is_link_on row.id) c.links) links)
+    → OfContent fourth after (λ c. AreFound IsInstanceBefore (filter (is_instance_on row.id) c.instances) instances)
+    → IsCheckBy row tasks gone links instances checked → OfContent start after (λ c. IsCheckOfRow c row checked)
+check_whole start second third fourth after row tasks gone links instances checked one two three four of_tasks of_gone of_links of_instances check clean c stands =
+    let clean_fourth : HasCleanDisk fourth = four.clean clean in
+    let clean_third : HasCleanDisk third = three.clean clean_fourth in
+    let clean_second : HasCleanDisk second = two.clean clean_third in
+    let at_second = stood c start second stands one in
+    let at_third = stood c second third at_second two in
+    let at_fourth = stood c third fourth at_third three in
+    record {
+      tasks = tasks;
+      gone = gone;
+      links = links;
+      instances = instances;
+      tasks_found = of_tasks clean_second c stands;
+      gone_found = of_gone clean_third c at_second;
+      links_found = of_links clean_fourth c at_third;
+      instances_found = of_instances clean c at_fourth;
+      check = check;
+    }
+
+checks_more : (c : Content) (rows : List BoardRow) (checks : List Checked) (row : BoardRow) (checked : Checked) → AreChecksOf c rows checks → IsCheckOfRow c row checked → AreChecksOf c (rows ++ row ∷ []) (checks ++ checked ∷ [])
+checks_more c [] [] row checked each one = (one, tt)
+checks_more c [] (x ∷ xs) row checked each one = absurd each
+checks_more c (r ∷ rows) [] row checked each one = absurd each
+checks_more c (r ∷ rows) (x ∷ xs) row checked each one = (each.0, checks_more c rows xs row checked each.1 one)
+
+abbrev tasks_in : List Checked → ℕ
+tasks_in checks = sum_by (λ (x : Checked). x.tasks) checks
+
+tasks_more : (checks : List Checked) (checked : Checked) → tasks_in (checks ++ checked ∷ []) ≡ tasks_in checks + checked.tasks
+tasks_more checks checked =
+    let more : tasks_in (checks ++ checked ∷ []) ≡ tasks_in checks + (0 + checked.tasks) = sum_by-append (λ (x : Checked). x.tasks) checks (checked ∷ []) in
+    omega (arith, more)
+
+faults_more : (checks : List Checked) (checked : Checked) → length (filter differs (checks ++ checked ∷ [])) ≡ cond checked.as_stored (length (filter differs checks)) (length (filter differs checks) + 1)
+faults_more checks checked =
+    ap length (filter-append differs checks (checked ∷ [])) ∙ length-append (filter differs checks) (filter differs (checked ∷ [])) ∙ go checked.as_stored
+  where
+    go : (same : Bool) → length (filter differs checks) + length (cond (not same) (checked ∷ []) []) ≡ cond same (length (filter differs checks)) (length (filter differs checks) + 1)
+    go true = omega arith
+    go false = refl
+
+rows_more : (c : Content) (rows : List BoardRow) (row : BoardRow) (audit later : Audit) (checked : Checked) → IsCheckOfRow c row checked → IsOneMore audit later checked → CountsRows c rows audit → CountsRows c (rows ++ row ∷ []) later
+rows_more c rows row audit later checked one more counts = record {
+  checks = counts.checks ++ checked ∷ [];
+  each = checks_more c rows counts.checks row checked counts.each one;
+  boards_are = more.boards ∙ ap (λ n. n + 1) counts.boards_are ∙ sym (length-append rows (row ∷ []));
+  tasks_are = more.tasks ∙ ap (λ n. n + checked.tasks) counts.tasks_are ∙ sym (tasks_more counts.checks checked);
+  faults_are = more.faults ∙ ap (λ n. cond checked.as_stored n (n + 1)) counts.faults_are ∙ sym (faults_more counts.checks checked);
+}
+
+-- so it is with each content that stood at the start
+abbrev pub CountsFirst : Database → Database → List BoardRow → Audit → Type 0
+CountsFirst start now rows audit = OfContent start now (λ c. CountsRows c rows audit)
+
+pub none_first : (start now : Database) → CountsFirst start now [] (record { boards = 0; tasks = 0; faults = 0 })
+none_first start now clean c stands = record { checks = []; each = tt; boards_are = refl; tasks_are = refl; faults_are = refl }
+
+pub one_first : (start before after : Database) (all : List BoardRow) (n : ℕ) (row : BoardRow) (audit later : Audit) (checked : Checked) → n < length all → row ≡ get_or all n row → IsAsBefore start before → IsAsBefore before after
+    → OfContent before after (λ c. IsCheckOfRow c row checked) → IsOneMore audit later checked → CountsFirst start before (take n all) audit → CountsFirst start after (take (n + 1) all) later
+one_first start before after all n row audit later checked within here same one is more first clean c stands =
+    let whole : take (n + 1) all ≡ take n all ++ row ∷ [] = take_more all n row within ∙ ap (λ x. take n all ++ x ∷ []) (sym here) in
+    subst (λ rows. CountsRows c rows later) (sym whole) (rows_more c (take n all) row audit later checked (is clean c (stood c start before stands same)) more (first (one.clean clean) c stands))
+
+pub all_first : (start now : Database) (all : List BoardRow) (n : ℕ) (audit : Audit) → length all ≤ n → CountsFirst start now (take n all) audit → CountsFirst start now all audit
+all_first start now all n audit end first = subst (λ rows. CountsFirst start now rows audit) (take_all n all end) first
+
+-- the rows that are found are those of the content
+pub count_whole : (old mid new : Database) (rows : List BoardRow) → IsAsBefore old mid → OfContent old mid (λ c. AreFound IsBoardBefore c.boards rows) → IsAsBefore mid new → (audit : Audit)
+    → OfContent mid new (λ c. CountsRows c rows audit) → OfContent old new (λ c. IsCountOf c audit)
+count_whole old mid new rows one found two audit counts clean c stands =
+    record { rows = rows; found = found (two.clean clean) c stands; counts = counts clean c (stood c old mid stands one) }
