@@ -1,0 +1,4 @@
+pub mod Serving
+pub mod Exchanges
+pub mod Following
+pub mod Steps

@@ -1,0 +1,30 @@
+-- The server as one that takes turns.
+use Rattle.std.proofs.Common.{◌≡◌, ℕ, ◌+◌, List, [], ◌∷◌, ◌++◌, refl, sym, ap, ◌∙◌}
+use Rattle.tb_calls.specs.Calls.{State}
+use Rattle.tb_desk.proofs.Runs.{after_all-append}
+use Rattle.tb_http.proofs.StreamLemmas.{message_more}
+use Rattle.tb_peers.specs.Laws.{AnyTurns, OneAlone, moments_of, received_of}
+use Rattle.tb_peers.specs.Server.{Timed, calls_among, calls_at, server}
+use Rattle.tb_serve.specs.Serving.{answer_to, answers}
+use Rattle.tb_serve.specs.Telling.{after}
+use Rattle.tb_turns.specs.Told.{IsSteady, handled, led_to, taken_on, texts}
+use Rattle.tb_turns.proofs.Interleaved.{served, state_is}
+use Rattle.tb_turns.proofs.Alone.{alone}
+
+steady : IsSteady server
+steady bytes m rest piece begins = message_more bytes piece m.received.message m.received.closes rest begins
+
+pub led_is : (s : State) (ms : List Timed) → led_to server s ms ≡ after s (calls_among ms)
+led_is s [] = refl
+led_is s (m ∷ ms) = led_is (after s (calls_at m)) ms ∙ sym (after_all-append s (calls_at m) (calls_among ms))
+
+pub any_turns : AnyTurns
+any_turns s talks ks end later run =
+    (state_is server s talks ks end later run ∙ led_is s (handled ks), λ c same. served server steady c s talks ks end later run same)
+
+texts_are : (s : State) (before : ℕ) (ms : List Timed) → texts server s before ms ≡ answers s (moments_of ms) before (received_of ms)
+texts_are s before [] = refl
+texts_are s before (m ∷ ms) = ap (λ more. answer_to s m.at before m.received ++ more) (texts_are (after s (calls_at m)) (before + 1) ms)
+
+pub one_alone : OneAlone
+one_alone c s before ks at well = alone server c s before ks at well ∙ texts_are s before (taken_on c ks)
