@@ -10,6 +10,6 @@ cd "$folder"
 
 # Serves b.db, up to this number of connections.
 start_server() {
-    timeout 120 "$program" serve b.db --port "$port" --connections "$1" &
+    timeout 120 "$program" serve b.db --port "$port" --connections "$1" 2>/dev/null &
     server=$!
 }

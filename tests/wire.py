@@ -66,7 +66,7 @@ def without_moments(text):
 def is_played(name, scene):
     with tempfile.TemporaryDirectory() as room:
         subprocess.run([program, "init", "b.db", "root", "root-key-1"], cwd=room, check=True)
-        server = subprocess.Popen([program, "serve", "b.db", "--port", str(port), "--connections", str(len(scene))], cwd=room)
+        server = subprocess.Popen([program, "serve", "b.db", "--port", str(port), "--connections", str(len(scene))], cwd=room, stderr=subprocess.DEVNULL)
         try:
             for sent, wanted in scene:
                 got = answered(sent)
@@ -83,7 +83,7 @@ def bytes_behind_are_dropped():
     """A client that sends more behind its last message can still read the answer."""
     with tempfile.TemporaryDirectory() as room:
         subprocess.run([program, "init", "b.db", "root", "root-key-1"], cwd=room, check=True)
-        server = subprocess.Popen([program, "serve", "b.db", "--port", str(port), "--connections", "1"], cwd=room)
+        server = subprocess.Popen([program, "serve", "b.db", "--port", str(port), "--connections", "1"], cwd=room, stderr=subprocess.DEVNULL)
         try:
             return answered(BEHIND + b"a" * 100_000).startswith(b"HTTP/1.1 200 OK\r\n")
         finally:

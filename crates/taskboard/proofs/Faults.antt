@@ -4,34 +4,20 @@ use Rattle.tb_orders.specs.Telling as orders
 use Rattle.tb_outcome.specs.Faults.{is_of_printing}
 use Rattle.tb_program.specs.declared.fault.Fault.{Fault}
 use Rattle.tb_program.specs.declared.fault.Fault.TheVariants.{Bad, BadBody, Memory, NoClock, NoListen, NotEmpty, NotOurs, ReadFailed, Store, WriteFailed, WrongVersion}
-use Rattle.tb_program.specs.Faults.{is_of_reading}
 use Rattle.taskboard.specs.Telling.{is_of_checking, is_of_imports}
 
-pub of_import : (fault : Fault) → orders.is_of_imports fault ≡ true → is_of_imports fault ≡ true
-of_import Bad is = absurd (true≢false (sym is))
-of_import BadBody is = refl
-of_import Memory is = refl
-of_import NoClock is = refl
-of_import NoListen is = absurd (true≢false (sym is))
-of_import NotEmpty is = absurd (true≢false (sym is))
-of_import NotOurs is = refl
-of_import ReadFailed is = refl
-of_import Store is = refl
-of_import WriteFailed is = refl
-of_import WrongVersion is = refl
-
-pub of_reading : (fault : Fault) → is_of_reading fault ≡ true → is_of_imports fault ≡ true
-of_reading Bad is = absurd (true≢false (sym is))
-of_reading BadBody is = refl
-of_reading Memory is = refl
-of_reading NoClock is = refl
-of_reading NoListen is = absurd (true≢false (sym is))
-of_reading NotEmpty is = absurd (true≢false (sym is))
-of_reading NotOurs is = refl
-of_reading ReadFailed is = refl
-of_reading Store is = refl
-of_reading WriteFailed is = refl
-of_reading WrongVersion is = refl
+pub of_input : (fault : Fault) → orders.is_of_inputs fault ≡ true → is_of_imports fault ≡ true
+of_input Bad is = absurd (true≢false (sym is))
+of_input BadBody is = refl
+of_input Memory is = refl
+of_input NoClock is = refl
+of_input NoListen is = absurd (true≢false (sym is))
+of_input NotEmpty is = absurd (true≢false (sym is))
+of_input NotOurs is = refl
+of_input ReadFailed is = refl
+of_input Store is = refl
+of_input WriteFailed is = refl
+of_input WrongVersion is = refl
 
 pub of_audit : (fault : Fault) → is_of_printing fault ≡ true → is_of_checking fault ≡ true
 of_audit Bad is = absurd (true≢false (sym is))

@@ -2,7 +2,9 @@
 use Rattle.std.specs.Prelude.{Bool, true}
 use Rattle.tb_outcome.specs.Faults.{is_of_opening}
 use Rattle.tb_program.specs.declared.fault.Fault.{Fault}
-use Rattle.tb_program.specs.declared.fault.Fault.TheVariants.{BadBody, NoClock, NoListen, ReadFailed, WriteFailed}
+use Rattle.tb_event_loop.specs.declared.fault.LoopFault.{LoopFault}
+use Rattle.tb_event_loop.specs.declared.fault.LoopFault.TheVariants as ending
+use Rattle.tb_program.specs.declared.fault.Fault.TheVariants.{BadBody, Memory, NoClock, NoListen, ReadFailed, Store, WriteFailed}
 
 -- of serving it
 abbrev pub is_of_serving : Fault → Bool
@@ -24,3 +26,9 @@ abbrev pub is_of_imports : Fault → Bool
 is_of_imports ReadFailed = true
 is_of_imports BadBody = true
 is_of_imports fault = is_of_views fault
+
+-- of the loop, as the program tells it
+abbrev pub fault_of_loop : LoopFault → Fault
+fault_of_loop ending.Memory = Memory
+fault_of_loop ending.Sockets = NoListen
+fault_of_loop ending.Store = Store

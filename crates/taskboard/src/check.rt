@@ -2,7 +2,7 @@
 ghost use Rattle.std.specs.Prelude.{◌≡◌, IfErr, true};
 ghost use Rattle.taskboard.specs.Telling.{is_of_checking};
 
-use crate::file::{close_file, open_keep};
+use crate::file::{close_keep, open_desk};
 use tb_orders::{Ending, fault_of_keep};
 use tb_outcome::print_audit;
 use tb_program::Fault;
@@ -13,12 +13,12 @@ use tb_values::Text;
 pub(crate) fn check_file(rt: &HostRuntime, file: &Text) -> Result<Ending, Fault>
     ensures { IfErr result (λ fault. is_of_checking fault ≡ true) }
 {
-    let mut keep = open_keep(rt, file.as_str())?;
+    let mut keep = open_desk(rt, file.as_str())?.into_keep();
     let audit = match keep.audit(rt.alloc()) {
         Ok(audit) => audit,
         Err(fault) => return Err(fault_of_keep(fault)),
     };
     let ending = print_audit(rt.alloc(), &audit, &mut rt.stdout())?;
-    close_file(keep.close())?;
+    close_keep(keep)?;
     Ok(ending)
 }

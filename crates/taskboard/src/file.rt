@@ -5,6 +5,7 @@ ghost use Rattle.tb_outcome.specs.Faults.{is_of_files, is_of_opening};
 
 use sqlite::{Connection, Error, ErrorCode, File, FileStore};
 use tb_desk::Desk;
+use tb_headline::session::resume;
 use tb_keeper::SqlKeep;
 use tb_outcome::fault_of_opening;
 use tb_program::Fault;
@@ -25,29 +26,29 @@ pub(crate) fn open_file(rt: &HostRuntime, path: &str) -> Result<Connection<RealF
     }
 }
 
-/// The keeper of the boards in the file at a path.
-pub(crate) fn open_keep(rt: &HostRuntime, path: &str) -> Result<SqlKeep<RealFile>, Fault>
+/// Begins a session over the boards in the file at a path.
+pub(crate) fn open_desk(rt: &HostRuntime, path: &str) -> Result<Desk<SqlKeep<RealFile>>, Fault>
     ensures { IfErr result (λ fault. is_of_opening fault ≡ true) }
 {
     let conn = open_file(rt, path)?;
-    match SqlKeep::open(rt.alloc(), conn) {
-        Ok(keep) => Ok(keep),
+    match resume(rt.alloc(), conn) {
+        Ok(desk) => Ok(desk),
         Err((_, fault)) => Err(fault_of_opening(fault)),
     }
 }
 
-/// The desk over the boards in the file at a path.
-pub(crate) fn open_desk(rt: &HostRuntime, path: &str) -> Result<Desk<SqlKeep<RealFile>>, Fault>
-    ensures { IfErr result (λ fault. is_of_opening fault ≡ true) }
+/// Ends a session.
+pub(crate) fn close_desk(desk: Desk<SqlKeep<RealFile>>) -> Result<(), Fault>
+    ensures { IfErr result (λ fault. fault ≡ Store) }
 {
-    Ok(Desk::new(open_keep(rt, path)?))
+    close_keep(desk.into_keep())
 }
 
 /// Copies what was committed into the database file, and closes it.
-pub(crate) fn close_file(conn: Connection<RealFile>) -> Result<(), Fault>
+pub(crate) fn close_keep(keep: SqlKeep<RealFile>) -> Result<(), Fault>
     ensures { IfErr result (λ fault. fault ≡ Store) }
 {
-    match conn.close() {
+    match keep.close().close() {
         Ok(()) => Ok(()),
         Err(_) => Err(Fault::Store),
     }

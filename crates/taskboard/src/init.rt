@@ -2,9 +2,9 @@
 ghost use Rattle.std.specs.Prelude.{◌≡◌, IfErr, true};
 ghost use Rattle.tb_outcome.specs.Faults.{is_of_making};
 
-use crate::file::{close_file, open_file};
+use crate::file::{close_desk, open_file};
 use tb_command_line::InitOrder;
-use tb_keeper::SqlKeep;
+use tb_headline::session::make;
 use tb_orders::Ending;
 use tb_outcome::fault_of_making;
 use tb_program::Fault;
@@ -14,8 +14,8 @@ pub(crate) fn make_file(rt: &HostRuntime, order: &InitOrder) -> Result<Ending, F
     ensures { IfErr result (λ fault. is_of_making fault ≡ true) }
 {
     let conn = open_file(rt, order.file.as_str())?;
-    match SqlKeep::create(rt.alloc(), conn, &order.name, &order.key) {
-        Ok(keep) => close_file(keep.close())?,
+    match make(rt.alloc(), conn, &order.name, &order.key) {
+        Ok(desk) => close_desk(desk)?,
         Err((_, fault)) => return Err(fault_of_making(fault)),
     }
     Ok(Ending::Accepted)

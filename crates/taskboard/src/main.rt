@@ -12,10 +12,11 @@ mod file;
 mod import;
 mod init;
 mod serve;
+mod server;
 mod view;
 
 use crate::check::check_file;
-use crate::import::import_input;
+use crate::import::import_into_file;
 use crate::init::make_file;
 use crate::serve::serve_file;
 use crate::view::print_board;
@@ -43,7 +44,7 @@ fn carry_out(rt: &HostRuntime, order: Order) -> Result<Ending, Fault> {
         Order::Init(order) => make_file(rt, &order),
         Order::Serve(order) => serve_file(rt, &order),
         Order::Run => run_script(rt),
-        Order::Import(order) => import_input(rt, &order),
+        Order::Import(order) => import_into_file(rt, &order),
         Order::View(order) => print_board(rt, &order),
         Order::Check(file) => check_file(rt, &file),
     }

@@ -1,7 +1,7 @@
 -- The program's first word, after which the subcommand that it names reads the rest.
-use Rattle.std.proofs.Common.{◌≡◌, ◌∙◌, ℕ, Bool, true, false, ◌&&◌, List, [], ◌∷◌, ◌++◌, Option, Some, None, is_some, find, fold, refl, ap, sym, append_assoc, append-nil}
+use Rattle.std.proofs.Common.{◌≡◌, ◌∙◌, Bool, true, false, ◌&&◌, List, [], ◌∷◌, ◌++◌, Some, is_some, find, fold, refl, ap, sym, append_assoc, append-nil}
 use Rattle.std.specs.List.{list_all}
-use Rattle.clap.specs.Walk.{Names, Row, Rule, Text, Walk, answers_to, idle, finished, walked, walk, walk_from, nothing_held, rows_after}
+use Rattle.clap.specs.Walk.{Names, Rule, Text, Walk, answers_to, idle, finished, walked, walk, walk_from, nothing_held, rows_after}
 use Rattle.clap.specs.Simple.{App, Shape, built, built_leaf, entered, inherited, is_simple, label_of, marked_built, names_of, subcommand_of, with_leaf_noted}
 use Rattle.clap.specs.Takes.{default_passes, entered_passes, is_valid, level_passes, settle_passes, takes, turn_passes, walk_passes}
 use Rattle.clap.proofs.OnLiterals.{clap_on_literals}

@@ -1,3 +1,4 @@
 pub mod Entering
+pub mod Options
 pub mod Positionals
 pub mod Requests

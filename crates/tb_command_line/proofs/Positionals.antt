@@ -1,11 +1,11 @@
 -- The walk over plain words, each of which the next positional takes.
-use Rattle.std.proofs.Common.{◌≡◌, ◌∙◌, ℕ, Bool, true, false, not, ◌&&◌, ◌==◌, List, [], ◌∷◌, Option, Some, None, fold, refl, ap, sym, inl, inr, arith}
+use Rattle.std.proofs.Common.{◌≡◌, ◌∙◌, ℕ, Bool, true, false, not, ◌&&◌, ◌==◌, List, [], ◌∷◌, Option, Some, None, fold, refl, ap, sym}
 use Rattle.std.specs.List.{list_all}
 use Rattle.std.specs.Option.{option_map_or}
 use Rattle.std.specs.Str.{bytes_eq}
-use Rattle.std.proofs.lemmas.Bool.{and_parts, cases_Bool}
+use Rattle.std.proofs.lemmas.Bool.{and_parts}
 use Rattle.clap.specs.Lexer.{strip_byte}
-use Rattle.clap.specs.Walk.{Row, Rule, Text, Held, Walk, idle, walked, walk, walk_from, arg_by_index, is_multiple, positional_held, next_position, nothing_held, rows_after, finished}
+use Rattle.clap.specs.Walk.{Row, Rule, Text, Held, Walk, idle, walked, arg_by_index, is_multiple, positional_held, next_position, nothing_held, rows_after, finished}
 use Rattle.clap.specs.Simple.{Shape}
 use Rattle.clap.specs.Takes.{walk_passes, turn_passes, positional_passes, settle_passes, default_passes, is_valid, level_passes}
 use Rattle.tb_command_line.specs.Orders.{is_plain}
@@ -56,7 +56,7 @@ pub record Arrives (s : Shape) (words : List Text) (h : Held) (k : ℕ) : Type 0
   pub passes : walk_passes s [] (at h k) words ≡ true
 
 -- a further word passes where its turn does and the rest do after it
-passes_more : (s : Shape) (w v : Walk) (word : Text) (rest : List Text) → turn_passes s [] w word ≡ true → walked s.rules [] w word ≡ v → walk_passes s [] v rest ≡ true
+pub passes_more : (s : Shape) (w v : Walk) (word : Text) (rest : List Text) → turn_passes s [] w word ≡ true → walked s.rules [] w word ≡ v → walk_passes s [] v rest ≡ true
     → walk_passes s [] w (word ∷ rest) ≡ true
 unfolding walk_passes
 passes_more s w v word rest turns goes passes = rw (turns, goes, passes) (refl {a = true})

@@ -1,21 +1,20 @@
 -- What the words of a request come to.
-use Rattle.std.proofs.Common.{◌≡◌, ◌∙◌, ℕ, Bool, true, false, ◌&&◌, List, [], ◌∷◌, codes, Option, Some, None, Result, refl, ap}
+use Rattle.std.proofs.Common.{◌≡◌, ◌∙◌, Bool, true, false, List, [], ◌∷◌, codes, Option, Some, None, Result, refl, ap}
 use Rattle.std.specs.List.{list_all}
-use Rattle.std.proofs.lemmas.Bool.{and_parts}
-use Rattle.clap.specs.Walk.{Row, Text, nothing_held, reading_by, rows_after, walked}
-use Rattle.clap.specs.Simple.{Shape, filled, subcommand_of, with_index}
+use Rattle.clap.specs.Walk.{Text, nothing_held, rows_after}
+use Rattle.clap.specs.Simple.{Shape, subcommand_of}
 use Rattle.clap.specs.Takes.{level_passes, takes}
-use Rattle.clap.specs.declared.parser.matches.ValueSource.TheVariants.{CommandLine}
 use Rattle.clap.proofs.OnLiterals.{clap_on_literals}
 use Rattle.tb_command_line.specs.declared.order.Order.{Order}
 use Rattle.tb_command_line.specs.declared.order.ViewKind.{ViewKind}
 use Rattle.tb_command_line.specs.declared.order.ViewKind.TheVariants as view
 use Rattle.tb_command_line.specs.declared.order.WordsFault.{WordsFault}
-use Rattle.tb_command_line.specs.Grammar.{program_app, init_app, serve_app, import_app, view_app, check_app, needed}
+use Rattle.tb_command_line.specs.Grammar.{program_app, init_app, serve_app, import_app, view_app, check_app}
 use Rattle.tb_command_line.specs.Matches.{named_at, order_at}
-use Rattle.tb_command_line.specs.Orders.{Request, Init, Serve, Run, Import, View, Check, is_plain, order_of, texts_of, word_of, words_of}
+use Rattle.tb_command_line.specs.Orders.{Request, Init, Serve, Run, Import, View, Check, is_plain, order_of, texts_of, words_of}
 use Rattle.tb_command_line.proofs.Entering.{Enters, leaf, taken_below, found_below}
-use Rattle.tb_command_line.proofs.Positionals.{IsWord, is_word, takes_words, rows_of_words, rows_taken, level_taken}
+use Rattle.tb_command_line.proofs.Options.{are_words, options_have, options_pass, serve_rows, serve_words, serving}
+use Rattle.tb_command_line.proofs.Positionals.{takes_words, rows_of_words, rows_taken, level_taken}
 use Rattle.clap.specs.Simple.{new_app}
 
 -- the program takes the words, and they are the order
@@ -97,52 +96,29 @@ check_reaches file plain = plainly (codes "check") (leaf check_app) (file ∷ []
 
 -- ---- the form with options
 
-abbrev serving : Shape
-serving = leaf serve_app
-
-abbrev row : Text → Text → Row
-row id value = record { id = id; values = value ∷ []; count = None; source = Some CommandLine; reading = reading_by (with_index 1 (filled (needed id))) }
-
-port_passes : (file port : Text) → IsWord file → IsWord port → level_passes serving [] nothing_held (file ∷ codes "--port" ∷ port ∷ []) false ≡ true
-unfolding clap_on_literals
-port_passes file port f p = rw (f.no_end, f.no_flag, f.no_flag, p.no_end, p.no_flag, p.no_flag) (refl {a = true})
-
-port_rows : (file port : Text) → IsWord file → IsWord port → rows_after serving.rules [] (file ∷ codes "--port" ∷ port ∷ []) ≡ row (codes "file") file ∷ row (codes "port") port ∷ []
-unfolding clap_on_literals
-port_rows file port f p = rw (f.no_end, f.no_flag, f.no_flag, p.no_end, p.no_flag, p.no_flag) (refl {a = row (codes "file") file ∷ row (codes "port") port ∷ []})
-
-both_pass : (file port count : Text) → IsWord file → IsWord port → IsWord count
-    → level_passes serving [] nothing_held (file ∷ codes "--port" ∷ port ∷ codes "--connections" ∷ count ∷ []) false ≡ true
-unfolding clap_on_literals
-both_pass file port count f p n = rw (f.no_end, f.no_flag, f.no_flag, p.no_end, p.no_flag, p.no_flag, n.no_end, n.no_flag, n.no_flag) (refl {a = true})
-
-both_rows : (file port count : Text) → IsWord file → IsWord port → IsWord count
-    → rows_after serving.rules [] (file ∷ codes "--port" ∷ port ∷ codes "--connections" ∷ count ∷ []) ≡ row (codes "file") file ∷ row (codes "port") port ∷ row (codes "connections") count ∷ []
-unfolding clap_on_literals
-both_rows file port count f p n = rw (f.no_end, f.no_flag, f.no_flag, p.no_end, p.no_flag, p.no_flag, n.no_end, n.no_flag, n.no_flag)
-    (refl {a = row (codes "file") file ∷ row (codes "port") port ∷ row (codes "connections") count ∷ []})
-
-serve_reaches : (file port : Text) (count : Option Text) → list_all is_plain (texts_of (Serve file port count)) ≡ true → Reaches (words_of (Serve file port count)) (order_of (Serve file port count))
+serve_named : (file port : Text) (count : Option Text) (is_forever log : Bool)
+    → named_at (codes "serve") (serve_rows file port count is_forever log) ≡ order_of (Serve file port count is_forever log)
 unfolding named_at
-serve_reaches file port None plain =
-    let file_is = and_parts (is_plain file) (list_all is_plain (port ∷ [])) plain in
-    let port_is = and_parts (is_plain port) true file_is.1 in
-    let f = is_word file file_is.0 in
-    let p = is_word port port_is.0 in
-    below (codes "serve") serving (file ∷ codes "--port" ∷ port ∷ []) (order_of (Serve file port None)) serve_enters (port_passes file port f p) (ap (named_at (codes "serve")) (port_rows file port f p))
-serve_reaches file port (Some count) plain =
-    let file_is = and_parts (is_plain file) (list_all is_plain (port ∷ count ∷ [])) plain in
-    let port_is = and_parts (is_plain port) (list_all is_plain (count ∷ [])) file_is.1 in
-    let count_is = and_parts (is_plain count) true port_is.1 in
-    let f = is_word file file_is.0 in
-    let p = is_word port port_is.0 in
-    let n = is_word count count_is.0 in
-    below (codes "serve") serving (file ∷ codes "--port" ∷ port ∷ codes "--connections" ∷ count ∷ []) (order_of (Serve file port (Some count))) serve_enters
-    (both_pass file port count f p n) (ap (named_at (codes "serve")) (both_rows file port count f p n))
+serve_named file port None false false = refl
+serve_named file port None false true = refl
+serve_named file port None true false = refl
+serve_named file port None true true = refl
+serve_named file port (Some count) false false = refl
+serve_named file port (Some count) false true = refl
+serve_named file port (Some count) true false = refl
+serve_named file port (Some count) true true = refl
+
+serve_reaches : (file port : Text) (count : Option Text) (is_forever log : Bool) → list_all is_plain (texts_of (Serve file port count is_forever log)) ≡ true
+    → Reaches (words_of (Serve file port count is_forever log)) (order_of (Serve file port count is_forever log))
+serve_reaches file port count is_forever log plain =
+    let w = are_words file port count is_forever log plain in
+    below (codes "serve") serving (serve_words file port count is_forever log) (order_of (Serve file port count is_forever log)) serve_enters
+    (options_pass file port count is_forever log w)
+    (ap (named_at (codes "serve")) (options_have file port count is_forever log w) ∙ serve_named file port count is_forever log)
 
 pub reaches : (request : Request) → list_all is_plain (texts_of request) ≡ true → Reaches (words_of request) (order_of request)
 reaches (Init file name key) plain = init_reaches file name key plain
-reaches (Serve file port count) plain = serve_reaches file port count plain
+reaches (Serve file port count is_forever log) plain = serve_reaches file port count is_forever log plain
 reaches Run plain = run_reaches
 reaches (Import file member key id board kind) plain = import_reaches file member key id board kind plain
 reaches (View kind file member key board) plain = view_reaches kind file member key board plain

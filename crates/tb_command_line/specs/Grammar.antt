@@ -2,7 +2,7 @@
 use Rattle.std.specs.Prelude.{◌≡◌, Bool, true, false, codes, Some}
 use Rattle.clap.specs.Walk.{Rule, Text}
 use Rattle.clap.specs.Simple.{app_of, App, new_app, new_rule, with_rule, with_subcommand, on_top}
-use Rattle.clap.specs.declared.builder.action.ArgAction.TheVariants.{Set}
+use Rattle.clap.specs.declared.builder.action.ArgAction.TheVariants.{Set, SetTrue}
 use Rattle.clap.specs.declared.builder.command.Command.{Command}
 use Rattle.clap.specs.declared.builder.command.Command.TheViews.{out-Command}
 
@@ -12,13 +12,20 @@ needed id = record (new_rule id) { required = true; action = Some Set }
 abbrev pub option_rule : Text → Bool → Rule
 option_rule name is_required = record (new_rule name) { long = Some name; required = is_required; action = Some Set }
 
+abbrev pub flag_rule : Text → Rule
+flag_rule name = record (new_rule name) { long = Some name; action = Some SetTrue }
+
 -- `init FILE NAME KEY`
 abbrev pub init_app : App
 init_app = with_rule (with_rule (with_rule (new_app (codes "init")) (needed (codes "file"))) (needed (codes "name"))) (needed (codes "key"))
 
 -- `serve FILE --port P [--connections N]`
+abbrev pub counted_serve_app : App
+counted_serve_app = with_rule (with_rule (with_rule (new_app (codes "serve")) (needed (codes "file"))) (option_rule (codes "port") true)) (option_rule (codes "connections") false)
+
+-- `serve FILE --port P [--connections N] [--forever] [--log]`
 abbrev pub serve_app : App
-serve_app = with_rule (with_rule (with_rule (new_app (codes "serve")) (needed (codes "file"))) (option_rule (codes "port") true)) (option_rule (codes "connections") false)
+serve_app = with_rule (with_rule counted_serve_app (flag_rule (codes "forever"))) (flag_rule (codes "log"))
 
 -- `NAME FILE MEMBER KEY`
 abbrev pub member_app : Text → App

@@ -1,10 +1,12 @@
 -- The order that a subcommand is with its matches.
-use Rattle.std.specs.Prelude.{ℕ, List, codes, Option, Some, None, option_and_then, Result, Ok, Err, if◌then◌else◌}
+use Rattle.std.specs.Prelude.{Bool, false, List, codes, Option, Some, None, option_and_then, Result, Ok, Err, if◌then◌else◌}
+use Rattle.std.specs.Option.{option_map_or}
 use Rattle.std.specs.Str.{bytes_eq}
 use Rattle.clap.specs.Walk.{Row, Text, first_of}
 use Rattle.tb_values.specs.Outcome.{◌>>=◌}
 use Rattle.tb_board.specs.Names.{read_name, read_key}
 use Rattle.tb_task.specs.TaskId.{read_id}
+use Rattle.tb_command_line.specs.declared.order.Connections.{Connections}
 use Rattle.tb_command_line.specs.declared.order.Order.{Order}
 use Rattle.tb_command_line.specs.declared.order.Order.TheVariants as order
 use Rattle.tb_command_line.specs.declared.order.ViewKind.{ViewKind}
@@ -21,6 +23,13 @@ value_at read id rows = or_bad (option_and_then read (first_of id rows))
 abbrev pub text_at : Text → List Row → Result Text WordsFault
 text_at id rows = or_bad (first_of id rows)
 
+-- a flag's value is `true` where it is given
+abbrev pub flag_at : Text → List Row → Bool
+flag_at id rows = option_map_or (λ text. bytes_eq text (codes "true")) (first_of id rows) false
+
+abbrev pub connections_at : List Row → Result Connections WordsFault
+connections_at rows = or_bad (connections_in (first_of (codes "connections") rows) (flag_at (codes "forever") rows))
+
 abbrev pub init_at : List Row → Result Order WordsFault
 init_at rows = do
   file ← text_at (codes "file") rows
@@ -32,8 +41,8 @@ abbrev pub serve_at : List Row → Result Order WordsFault
 serve_at rows = do
   file ← text_at (codes "file") rows
   p ← value_at port_in (codes "port") rows
-  n ← or_bad (connections_in (first_of (codes "connections") rows))
-  Ok (order.Serve (record { file = file; port = p; connections = n }))
+  n ← connections_at rows
+  Ok (order.Serve (record { file = file; port = p; connections = n; log = flag_at (codes "log") rows }))
 
 abbrev pub import_at : List Row → Result Order WordsFault
 import_at rows = do

@@ -1,9 +1,11 @@
 -- The forms of the command line, and the order that each is.
-use Rattle.std.specs.Prelude.{◌==◌, ℕ, Bool, true, not, List, [], ◌∷◌, codes, Option, Some, None, Result, Ok, Err, if◌then◌else◌}
+use Rattle.std.specs.Prelude.{◌==◌, ℕ, Bool, true, false, not, List, [], ◌∷◌, ◌++◌, codes, Option, Some, None, option_map, Result, Ok, if◌then◌else◌}
 use Rattle.std.specs.Str.{bytes_eq}
 use Rattle.tb_values.specs.Outcome.{◌>>=◌}
 use Rattle.tb_board.specs.Names.{read_name, read_key}
 use Rattle.tb_task.specs.TaskId.{read_id}
+use Rattle.tb_command_line.specs.declared.order.Connections.{Connections}
+use Rattle.tb_command_line.specs.declared.order.Connections.TheVariants as connections
 use Rattle.tb_command_line.specs.declared.order.ImportKind.{ImportKind}
 use Rattle.tb_command_line.specs.declared.order.ImportKind.TheVariants as kind
 use Rattle.tb_command_line.specs.declared.order.Order.{Order}
@@ -21,8 +23,8 @@ Text = List ℕ
 pub data Request : Type 0 where
   -- FILE, NAME and KEY
   Init : Text → Text → Text → Request
-  -- FILE, the port, and the number of connections where it is given
-  Serve : Text → Text → Option Text → Request
+  -- FILE, the port, the number of connections where it is given, and whether `--forever` and `--log` are
+  Serve : Text → Text → Option Text → Bool → Bool → Request
   Run : Request
   -- FILE, MEMBER, KEY, ID, BOARD and KIND
   Import : Text → Text → Text → Text → Text → Text → Request
@@ -39,17 +41,28 @@ word_of view.Todo = codes "todo"
 -- the words, without the options
 abbrev pub texts_of : Request → List Text
 texts_of (Init file name key) = file ∷ name ∷ key ∷ []
-texts_of (Serve file port None) = file ∷ port ∷ []
-texts_of (Serve file port (Some connections)) = file ∷ port ∷ connections ∷ []
+texts_of (Serve file port None is_forever log) = file ∷ port ∷ []
+texts_of (Serve file port (Some count) is_forever log) = file ∷ port ∷ count ∷ []
 texts_of Run = []
 texts_of (Import file member key id board kind) = file ∷ member ∷ key ∷ id ∷ board ∷ kind ∷ []
 texts_of (View kind file member key board) = file ∷ member ∷ key ∷ board ∷ []
 texts_of (Check file) = file ∷ []
 
+-- an option and its value, where it is given
+abbrev pub option_words : Text → Option Text → List Text
+option_words name None = []
+option_words name (Some value) = name ∷ value ∷ []
+
+-- a flag, where it is given
+abbrev pub flag_words : Text → Bool → List Text
+flag_words name true = name ∷ []
+flag_words name false = []
+
 abbrev pub words_of : Request → List Text
 words_of (Init file name key) = codes "init" ∷ file ∷ name ∷ key ∷ []
-words_of (Serve file port None) = codes "serve" ∷ file ∷ codes "--port" ∷ port ∷ []
-words_of (Serve file port (Some connections)) = codes "serve" ∷ file ∷ codes "--port" ∷ port ∷ codes "--connections" ∷ connections ∷ []
+words_of (Serve file port count is_forever log) =
+    codes "serve" ∷ file ∷ codes "--port" ∷ port ∷ (option_words (codes "--connections") count
+    ++ (flag_words (codes "--forever") is_forever ++ flag_words (codes "--log") log))
 words_of Run = codes "run" ∷ []
 words_of (Import file member key id board kind) = codes "import" ∷ file ∷ member ∷ key ∷ id ∷ board ∷ kind ∷ []
 words_of (View kind file member key board) = word_of kind ∷ file ∷ member ∷ key ∷ board ∷ []
@@ -71,10 +84,12 @@ kind_in text = if bytes_eq text (codes "json") then Some kind.Json
 abbrev pub port_in : Text → Option ℕ
 port_in text = number_to 65535 text
 
--- from 1 to 1000000, and 1000 where none is given
-abbrev pub connections_in : Option Text → Option ℕ
-connections_in None = Some 1000
-connections_in (Some text) = number_to 1000000 text
+-- up to a number from 1 to 1000000, which is 1000 where none is given, or without end, but not both
+abbrev pub connections_in : Option Text → Bool → Option Connections
+connections_in None false = Some (connections.UpTo 1000)
+connections_in None true = Some connections.Forever
+connections_in (Some text) false = option_map connections.UpTo (number_to 1000000 text)
+connections_in (Some text) true = None
 
 -- from 1 to 4294967295
 abbrev pub board_in : Text → Option ℕ
@@ -88,11 +103,11 @@ init_of file name key = do
   k ← or_bad (read_key key)
   Ok (order.Init (record { file = file; name = n; key = k }))
 
-abbrev pub serve_of : Text → Text → Option Text → Result Order WordsFault
-serve_of file port connections = do
+abbrev pub serve_of : Text → Text → Option Text → Bool → Bool → Result Order WordsFault
+serve_of file port count is_forever log = do
   p ← or_bad (port_in port)
-  n ← or_bad (connections_in connections)
-  Ok (order.Serve (record { file = file; port = p; connections = n }))
+  n ← or_bad (connections_in count is_forever)
+  Ok (order.Serve (record { file = file; port = p; connections = n; log = log }))
 
 abbrev pub import_of : Text → Text → Text → Text → Text → Text → Result Order WordsFault
 import_of file member key id board kind = do
@@ -113,7 +128,7 @@ view_of kind file member key board = do
 -- the order that a request is, or Bad where a part of it isn't in its form
 abbrev pub order_of : Request → Result Order WordsFault
 order_of (Init file name key) = init_of file name key
-order_of (Serve file port connections) = serve_of file port connections
+order_of (Serve file port count is_forever log) = serve_of file port count is_forever log
 order_of Run = Ok order.Run
 order_of (Import file member key id board kind) = import_of file member key id board kind
 order_of (View kind file member key board) = view_of kind file member key board

@@ -7,6 +7,7 @@ mod reading;
 mod words;
 
 pub use order::{
-    ImportKind, ImportOrder, InitOrder, Order, ServeOrder, ViewKind, ViewOrder, WordsFault,
+    Connections, ImportKind, ImportOrder, InitOrder, Order, ServeOrder, ViewKind, ViewOrder,
+    WordsFault,
 };
 pub use words::command_of;

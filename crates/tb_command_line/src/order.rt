@@ -27,12 +27,21 @@ pub struct InitOrder {
     pub key: Key,
 }
 
-/// The server of a file, on a port of the loopback, up to a number of connections.
+/// The server of a file, on a port of the loopback.
 #[derive(Debug, Drop)]
 pub struct ServeOrder {
     pub file: Text,
     pub port: u16,
-    pub connections: u32,
+    pub connections: Connections,
+    /// Each message has a line on standard error.
+    pub log: bool,
+}
+
+/// How many connections a server takes before it ends.
+#[derive(Clone, Copy, Debug, PartialEq, Eq)]
+pub enum Connections {
+    UpTo(u32),
+    Forever,
 }
 
 /// An import of standard input.

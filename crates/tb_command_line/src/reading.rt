@@ -4,13 +4,14 @@ ghost use Rattle.clap.specs.Matches.{found_of};
 ghost use Rattle.clap.specs.Simple.{subcommand_rows_of};
 ghost use Rattle.clap.specs.Walk.{first_of, rows_of};
 ghost use Rattle.tb_board.specs.Names.{read_key, read_name};
-ghost use Rattle.tb_command_line.specs.Matches.{check_at, import_at, init_at, named_at, order_at, serve_at, text_at, value_at, view_at};
-ghost use Rattle.tb_command_line.specs.Orders.{board_in, connections_in, kind_in, port_in};
-ghost use Rattle.tb_command_line.specs.Outcome.{Reads, or_bad};
+ghost use Rattle.tb_command_line.specs.Matches.{check_at, connections_at, flag_at, import_at, init_at, named_at, order_at, serve_at, text_at, value_at, view_at};
+ghost use Rattle.tb_command_line.specs.Orders.{board_in, kind_in, port_in};
+ghost use Rattle.tb_command_line.specs.Outcome.{Reads};
 ghost use Rattle.tb_task.specs.TaskId.{read_id};
 
 use crate::order::{
-    ImportKind, ImportOrder, InitOrder, Order, ServeOrder, ViewKind, ViewOrder, WordsFault,
+    Connections, ImportKind, ImportOrder, InitOrder, Order, ServeOrder, ViewKind, ViewOrder,
+    WordsFault,
 };
 use clap::ArgMatches;
 use std::alloc::Global;
@@ -65,10 +66,12 @@ fn read_serve(alloc: Global, found: &ArgMatches<'_>) -> Result<Order, WordsFault
     let file = file_of(alloc, found)?;
     let port = port_of(found)?;
     let connections = connections_of(found)?;
+    let log = has_flag(found, "log");
     Ok(Order::Serve(ServeOrder {
         file,
         port,
         connections,
+        log,
     }))
 }
 
@@ -187,13 +190,25 @@ fn port_of(found: &ArgMatches<'_>) -> Result<u16, WordsFault>
     }
 }
 
-fn connections_of(found: &ArgMatches<'_>) -> Result<u32, WordsFault>
-    ensures { Reads result (or_bad (connections_in (first_of (codes "connections") (rows_of (found_of found.now))))) }
+fn connections_of(found: &ArgMatches<'_>) -> Result<Connections, WordsFault>
+    ensures { Reads result (connections_at (rows_of (found_of found.now))) }
 {
-    match text_of(found, "connections") {
-        Some(text) => read_number(text, MOST_CONNECTIONS).ok_or(WordsFault::Bad),
-        None => Ok(USUAL_CONNECTIONS),
+    let is_forever = has_flag(found, "forever");
+    match (text_of(found, "connections"), is_forever) {
+        (Some(text), false) => match read_number(text, MOST_CONNECTIONS) {
+            Some(count) => Ok(Connections::UpTo(count)),
+            None => Err(WordsFault::Bad),
+        },
+        (None, false) => Ok(Connections::UpTo(USUAL_CONNECTIONS)),
+        (None, true) => Ok(Connections::Forever),
+        (Some(_), true) => Err(WordsFault::Bad),
     }
+}
+
+fn has_flag(found: &ArgMatches<'_>, id: &str) -> bool
+    ensures { result ≡ flag_at id.now (rows_of (found_of found.now)) }
+{
+    matches!(text_of(found, id), Some("true"))
 }
 
 fn text_of<'a>(found: &ArgMatches<'a>, id: &str) -> Option<&'a str>

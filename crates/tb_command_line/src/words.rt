@@ -3,7 +3,7 @@ ghost use Rattle.std.specs.Prelude.{◌≡◌, IfOk, Bool, List, codes, false, m
 ghost use Rattle.std.specs.List.{list_all};
 ghost use Rattle.clap.specs.Simple.{app_of, new_app};
 ghost use Rattle.clap.specs.Walk.{rule_of};
-ghost use Rattle.tb_command_line.specs.Grammar.{IsShaped, bare, check_app, file_app, import_app, init_app, input_app, member_app, needed, option_rule, program_app, serve_app, view_app};
+ghost use Rattle.tb_command_line.specs.Grammar.{IsShaped, bare, check_app, counted_serve_app, file_app, flag_rule, import_app, init_app, input_app, member_app, needed, option_rule, program_app, serve_app, view_app};
 ghost use Rattle.tb_command_line.specs.Orders.{Request, is_plain, order_of, texts_of, words_of};
 ghost use Rattle.tb_command_line.specs.Outcome.{Reads};
 
@@ -93,9 +93,18 @@ fn init<'a>(alloc: Global) -> Result<Command<'a>, AllocError>
         .arg(positional(alloc, "key"))
 }
 
-/// `serve FILE --port P [--connections N]`.
+/// `serve FILE --port P [--connections N] [--forever] [--log]`.
 fn serve<'a>(alloc: Global) -> Result<Command<'a>, AllocError>
     ensures { IfOk result (IsShaped serve_app) }
+{
+    counted_serve(alloc)?
+        .arg(flag(alloc, "forever"))?
+        .arg(flag(alloc, "log"))
+}
+
+/// `serve FILE --port P [--connections N]`.
+fn counted_serve<'a>(alloc: Global) -> Result<Command<'a>, AllocError>
+    ensures { IfOk result (IsShaped counted_serve_app) }
 {
     Command::new(alloc, "serve")
         .arg(positional(alloc, "file"))?
@@ -152,4 +161,11 @@ fn option<'a>(alloc: Global, name: &'a str, is_required: bool) -> Arg<'a>
         .long(name)
         .required(is_required)
         .action(ArgAction::Set)
+}
+
+fn flag<'a>(alloc: Global, name: &'a str) -> Arg<'a>
+    ensures rule { rule_of result ≡ flag_rule name.entry.now }
+    ensures local { result.global ≡ false }
+{
+    Arg::new(alloc, name).long(name).action(ArgAction::SetTrue)
 }

@@ -1,3 +1,4 @@
+pub mod Inputs
 pub mod Messages
 pub mod Orders
 pub mod Telling

@@ -5,7 +5,8 @@ use Rattle.tb_command_line.specs.declared.order.Order.{Order}
 use Rattle.tb_command_line.specs.declared.order.WordsFault.{WordsFault}
 use Rattle.tb_command_line.specs.declared.order.WordsFault.TheVariants as words
 use Rattle.tb_program.specs.declared.fault.Fault.{Fault}
-use Rattle.tb_program.specs.declared.fault.Fault.TheVariants.{Bad, BadBody, Memory, Store, WriteFailed}
+use Rattle.tb_program.specs.declared.fault.Fault.TheVariants.{Bad, BadBody, Memory, NoClock, ReadFailed, Store, WriteFailed}
+use Rattle.tb_program.specs.Faults.{is_of_reading}
 
 -- of the words
 abbrev pub is_of_words : Fault → Bool
@@ -24,6 +25,17 @@ is_of_answers _ = false
 abbrev pub is_of_imports : Fault → Bool
 is_of_imports BadBody = true
 is_of_imports fault = is_of_answers fault
+
+-- of what an import's message is made of
+abbrev pub is_of_messages : Fault → Bool
+is_of_messages NoClock = true
+is_of_messages fault = is_of_reading fault
+
+-- of an import of an input
+abbrev pub is_of_inputs : Fault → Bool
+is_of_inputs NoClock = true
+is_of_inputs ReadFailed = true
+is_of_inputs fault = is_of_imports fault
 
 -- bad words alone are told as such, and memory may run out whatever they are
 abbrev pub Tells : {X : Type 0} → Fault → Result X WordsFault → Type 0

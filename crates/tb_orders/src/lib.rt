@@ -5,12 +5,14 @@
 
 mod ending;
 mod importing;
+mod input;
 mod message;
 mod viewing;
 mod words;
 
 pub use ending::{Ending, fault_of_keep};
 pub use importing::import_text;
+pub use input::import_input;
 pub use message::import_message;
 pub use viewing::print_view;
 pub use words::{order_of, read_order};

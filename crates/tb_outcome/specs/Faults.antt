@@ -1,13 +1,11 @@
 -- The faults of the crates below, as the program tells them.
-use Rattle.std.specs.Prelude.{Bool, true, false, Option, Some}
+use Rattle.std.specs.Prelude.{Bool, true, false}
 use Rattle.tb_keeper.specs.declared.creating.CreateFault.{CreateFault}
 use Rattle.tb_keeper.specs.declared.creating.CreateFault.TheVariants as making
 use Rattle.tb_program.specs.declared.fault.Fault.{Fault}
 use Rattle.tb_program.specs.declared.fault.Fault.TheVariants.{Memory, NotEmpty, NotOurs, ReadFailed, Store, WriteFailed, WrongVersion}
 use Rattle.tb_script.specs.declared.fault.LinesFault.{LinesFault}
 use Rattle.tb_script.specs.declared.fault.LinesFault.TheVariants as lines
-use Rattle.tb_serve.specs.declared.serving.ServeFault.{ServeFault}
-use Rattle.tb_serve.specs.declared.serving.ServeFault.TheVariants as serving
 use Rattle.tb_sql.specs.declared.opening.OpenFault.{OpenFault}
 use Rattle.tb_sql.specs.declared.opening.OpenFault.TheVariants as opening
 
@@ -27,11 +25,6 @@ abbrev pub fault_of_making : CreateFault → Fault
 fault_of_making making.NotEmpty = NotEmpty
 fault_of_making making.Store = Store
 fault_of_making making.Memory = Memory
-
--- a failed store alone ends the serving of connections
-abbrev pub ends_serving : Option ServeFault → Bool
-ends_serving (Some serving.Store) = true
-ends_serving _ = false
 
 -- ---- which faults these are
 

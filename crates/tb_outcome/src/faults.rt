@@ -1,11 +1,10 @@
 //! The faults of the crates below, as the program tells them.
 ghost use Rattle.std.specs.Prelude.{◌≡◌, true};
-ghost use Rattle.tb_outcome.specs.Faults.{ends_serving, fault_of_making, fault_of_opening, fault_of_script, is_of_making, is_of_opening, is_of_scripts};
+ghost use Rattle.tb_outcome.specs.Faults.{fault_of_making, fault_of_opening, fault_of_script, is_of_making, is_of_opening, is_of_scripts};
 
 use tb_keeper::CreateFault;
 use tb_program::Fault;
 use tb_script::LinesFault;
-use tb_serve::ServeFault;
 use tb_sql::opening::OpenFault;
 
 /// Of a script that wasn't run to its end.
@@ -43,15 +42,5 @@ pub fn fault_of_making(fault: CreateFault) -> Fault
         CreateFault::NotEmpty => Fault::NotEmpty,
         CreateFault::Store => Fault::Store,
         CreateFault::Memory => Fault::Memory,
-    }
-}
-
-/// Whether no further connection is served: after every other end the next one is.
-pub fn ends_serving(fault: Option<ServeFault>) -> bool
-    ensures { result ≡ ends_serving fault }
-{
-    match fault {
-        Some(ServeFault::Store) => true,
-        _ => false,
     }
 }

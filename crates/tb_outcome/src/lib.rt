@@ -7,5 +7,5 @@ mod faults;
 mod status;
 
 pub use auditing::print_audit;
-pub use faults::{ends_serving, fault_of_making, fault_of_opening, fault_of_script};
+pub use faults::{fault_of_making, fault_of_opening, fault_of_script};
 pub use status::{print_fault, status_of};

@@ -1,5 +1,6 @@
-//! What the program takes from the machine and tells it: its faults, the clock, standard input, what is printed, connections.
-//! All of it is generic over readers, writers, clocks and listeners, so that tests can stand in for the machine.
+//! What the program takes from the machine and tells it: its faults, the clock, standard input, what is printed, the address that is
+//! listened on.
+//! All of it is generic over readers, writers and clocks, so that tests can stand in for the machine.
 //! Stands on `tb_values` for texts and writing, and on `tb_task` for moments.
 #![tactic(auto)]
 
@@ -12,5 +13,5 @@ mod printing;
 pub use clock::machine_moment;
 pub use fault::Fault;
 pub use input::read_text;
-pub use listening::{Service, loopback, serve_connections};
+pub use listening::loopback;
 pub use printing::{print_line, print_text};

@@ -1,8 +1,10 @@
 //! A case: each line that isn't an answer is a question, and is told again with its answer. What is told has to be the text of the case.
 
+use crate::given::halves;
+use crate::told::{Told, say};
 use crate::{
-    boards, changes, graphs, identifiers, imports, json, lists, messages, moments, recurrences,
-    rows, scripts, statuses, tasks, texts, todo_lines,
+    boards, changes, graphs, identifiers, imports, json, lists, machine, messages, moments, orders,
+    outcomes, recurrences, rows, scripts, statuses, tasks, texts, todo_lines,
 };
 use std::alloc::Global;
 use std::io;
@@ -34,73 +36,51 @@ fn tell_answer(alloc: Global, told: &mut String, line: &str) -> io::Result<()> {
     if line.is_empty() || line.starts_with('#') {
         return Ok(());
     }
-    let (word, given) = line.split_once(' ').unwrap_or((line, ""));
-    let answer = answer(alloc, word, given)?;
+    let (word, given) = halves(line);
+    let answer = answer_or_none(alloc, word, given)?;
     for line in answer.as_str().lines() {
         tell_line(told, "< ", line)?;
     }
     Ok(())
 }
 
+fn answer_or_none(alloc: Global, word: &str, given: &str) -> Told {
+    match answer(alloc, word, given) {
+        Err(error) if error.kind() == io::ErrorKind::NotFound => say(alloc, "none"),
+        told => told,
+    }
+}
+
 /// What the function that the word names answers.
-fn answer(alloc: Global, word: &str, given: &str) -> io::Result<String> {
-    if let Some(answer) = boards::answer(alloc, word, given)? {
-        return Ok(answer);
-    }
-    if let Some(answer) = changes::answer(alloc, word, given)? {
-        return Ok(answer);
-    }
-    if let Some(answer) = graphs::answer(alloc, word, given)? {
-        return Ok(answer);
-    }
-    if let Some(answer) = identifiers::answer(alloc, word, given)? {
-        return Ok(answer);
-    }
-    if let Some(answer) = lists::answer(alloc, word, given)? {
-        return Ok(answer);
-    }
-    if let Some(answer) = moments::answer(alloc, word, given)? {
-        return Ok(answer);
-    }
-    if let Some(answer) = recurrences::answer(alloc, word, given)? {
-        return Ok(answer);
-    }
-    if let Some(answer) = rows::answer(alloc, word, given)? {
-        return Ok(answer);
-    }
-    if let Some(answer) = statuses::answer(alloc, word, given)? {
-        return Ok(answer);
-    }
-    if let Some(answer) = tasks::answer(alloc, word, given)? {
-        return Ok(answer);
-    }
-    if let Some(answer) = texts::answer(alloc, word, given)? {
-        return Ok(answer);
-    }
-    if let Some(answer) = text_answer(alloc, word, given)? {
-        return Ok(answer);
-    }
-    Ok(format!(in alloc; "no such word: {word}")?)
+fn answer(alloc: Global, word: &str, given: &str) -> Told {
+    value_answer(alloc, word, given)
+        .or_else(|| todo_lines::answer(alloc, word, given))
+        .or_else(|| json::answer(alloc, word, given))
+        .or_else(|| imports::answer(alloc, word, given))
+        .or_else(|| messages::answer(alloc, word, given))
+        .or_else(|| scripts::answer(alloc, word, given))
+        .or_else(|| machine::answer(alloc, word, given))
+        .or_else(|| orders::answer(alloc, word, given))
+        .or_else(|| outcomes::answer(alloc, word, given))
+        .unwrap_or_else(|| Ok(format!(in alloc; "no such word: {word}")?))
 }
 
-/// The same, where the function is one over texts as they come in and go out.
-fn text_answer(alloc: Global, word: &str, given: &str) -> io::Result<Option<String>> {
-    if let Some(answer) = todo_lines::answer(alloc, word, given)? {
-        return Ok(Some(answer));
-    }
-    if let Some(answer) = json::answer(alloc, word, given)? {
-        return Ok(Some(answer));
-    }
-    if let Some(answer) = imports::answer(alloc, word, given)? {
-        return Ok(Some(answer));
-    }
-    if let Some(answer) = messages::answer(alloc, word, given)? {
-        return Ok(Some(answer));
-    }
-    scripts::answer(alloc, word, given)
+/// The same, where the function is one over values.
+fn value_answer(alloc: Global, word: &str, given: &str) -> Option<Told> {
+    boards::answer(alloc, word, given)
+        .or_else(|| changes::answer(alloc, word, given))
+        .or_else(|| graphs::answer(alloc, word, given))
+        .or_else(|| identifiers::answer(alloc, word, given))
+        .or_else(|| lists::answer(alloc, word, given))
+        .or_else(|| moments::answer(alloc, word, given))
+        .or_else(|| recurrences::answer(alloc, word, given))
+        .or_else(|| rows::answer(alloc, word, given))
+        .or_else(|| statuses::answer(alloc, word, given))
+        .or_else(|| tasks::answer(alloc, word, given))
+        .or_else(|| texts::answer(alloc, word, given))
 }
 
-fn first_difference(alloc: Global, text: &str, told: &str) -> io::Result<String> {
+fn first_difference(alloc: Global, text: &str, told: &str) -> Told {
     let mut others = told.lines();
     let mut number = 1u32;
     for line in text.lines() {

@@ -1,4 +1,5 @@
 //! A reader and a writer in memory.
+use std::alloc::Global;
 use std::io;
 use std::io::{Read, Write};
 
@@ -23,16 +24,33 @@ impl Read for Pieces<'_> {
     }
 }
 
-/// Takes so many bytes, and then none.
+/// Takes so many bytes, never more than `size` at a time, and then none, or fails.
 #[derive(Drop)]
 pub(crate) struct Narrow {
     pub taken: Vec<u8>,
     pub room: usize,
+    pub size: usize,
+    pub fails: bool,
+}
+
+impl Narrow {
+    /// A writer that takes at once what it has room for, and then none.
+    pub(crate) fn of(alloc: Global, room: usize) -> Narrow {
+        Narrow {
+            taken: Vec::new(alloc),
+            room,
+            size: usize::MAX,
+            fails: false,
+        }
+    }
 }
 
 impl Write for Narrow {
     fn write(&mut self, buf: &[u8]) -> io::Result<usize> {
-        let count = buf.len().min(self.room);
+        if self.fails && self.room == 0 {
+            return Err(io::Error::from(io::ErrorKind::Other));
+        }
+        let count = buf.len().min(self.room).min(self.size);
         self.taken.extend_from_slice(&buf[..count])?;
         self.room -= count;
         Ok(count)

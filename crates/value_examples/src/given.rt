@@ -1,17 +1,47 @@
-//! What stands behind the word of a question: texts, bytes, numbers and the moment at which it is asked.
+//! What stands behind the word of a question: its parts, numbers, texts, bytes, moments and people.
+use crate::told::missing;
 use bstr::ByteVec;
 use std::alloc::{AllocError, Global};
 use std::io;
-use tb_task::Moment;
+use tb_board::{Key, Name, Person};
+use tb_task::{Moment, Step, TaskId};
 
-/// 20260101T000000Z, at which every question is asked.
+/// 20260101T000000Z, at which a question is asked that tells no moment.
 pub(crate) fn now() -> io::Result<Moment> {
-    Moment::from_seconds(1_767_225_600).ok_or(io::Error::from(io::ErrorKind::InvalidData))
+    Moment::from_seconds(1_767_225_600).ok_or(missing())
+}
+
+pub(crate) fn moment_at(text: &str) -> io::Result<Moment> {
+    Moment::read(text.as_bytes()).ok_or(missing())
+}
+
+pub(crate) fn step_of(text: &str) -> io::Result<Step> {
+    Step::read(text).ok_or(missing())
+}
+
+pub(crate) fn id_of(text: &str) -> io::Result<TaskId> {
+    TaskId::read(text).ok_or(missing())
+}
+
+pub(crate) fn person(alloc: Global, name: &str, key: &str) -> io::Result<Person> {
+    let name = Name::read(alloc, name)?.ok_or(missing())?;
+    let key = Key::read(alloc, key)?.ok_or(missing())?;
+    Ok(Person { name, key })
+}
+
+/// What stands before the first space, and what stands behind it.
+pub(crate) fn halves(text: &str) -> (&str, &str) {
+    text.split_once(' ').unwrap_or((text, ""))
 }
 
 /// A number in decimals, and 0 for what is none.
 pub(crate) fn read_count(text: &str) -> usize {
     text.parse().unwrap_or(0)
+}
+
+/// A place or a size in decimals, and for what is none the largest that there is.
+pub(crate) fn read_place(text: &str) -> usize {
+    text.parse().unwrap_or(usize::MAX)
 }
 
 /// The text with TEXT a number of times for each `\{NUMBER TEXT\}`.

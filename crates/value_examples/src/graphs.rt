@@ -1,68 +1,59 @@
 //! Links between nodes, and the circles in them.
 
-use crate::told::{halves, tell, tell_text};
+use crate::given::{halves, read_count, read_place};
+use crate::told::{Told, missing, show};
 use std::alloc::{AllocError, Global};
 use std::io;
 use tb_graph::Links;
 
-pub(crate) fn answer(alloc: Global, word: &str, given: &str) -> io::Result<Option<String>> {
-    match word {
+pub(crate) fn answer(alloc: Global, word: &str, given: &str) -> Option<Told> {
+    Some(match word {
         "chain" => chain(alloc, given),
         "nodes" | "acyclic" | "reaches" | "blocked" | "blocking" => graph(alloc, word, given),
-        _ => Ok(None),
-    }
-}
-
-fn node(text: &str) -> usize {
-    text.parse().unwrap_or(usize::MAX)
+        _ => return None,
+    })
 }
 
 /// Asks a graph of so many nodes with the links `FROM>TO`, or `-` for none.
-fn graph(alloc: Global, word: &str, given: &str) -> io::Result<Option<String>> {
+fn graph(alloc: Global, word: &str, given: &str) -> Told {
     let (nodes, rest) = halves(given);
     let (pairs, rest) = halves(rest);
-    let mut links = Links::new(alloc, nodes.parse().unwrap_or(0))?;
+    let mut links = Links::new(alloc, read_count(nodes))?;
     for pair in pairs.split(',') {
-        if !add(&mut links, pair)? {
-            return tell_text(alloc, Some("no such link"));
-        }
+        add(&mut links, pair)?;
     }
-    asked(alloc, &links, word, rest)
+    match word {
+        "nodes" => show(alloc, &links.nodes()),
+        "acyclic" => show(alloc, &links.acyclic()?),
+        "reaches" => reaches(alloc, &links, rest),
+        _ => waiting(alloc, &links, word, rest),
+    }
 }
 
-/// Adds a link, if there are such nodes.
-fn add(links: &mut Links, pair: &str) -> Result<bool, AllocError> {
-    let Some((from, to)) = pair.split_once('>') else {
-        return Ok(pair == "-");
-    };
-    let (from, to) = (node(from), node(to));
+fn add(links: &mut Links, pair: &str) -> io::Result<()> {
+    if pair == "-" {
+        return Ok(());
+    }
+    let (from, to) = pair.split_once('>').ok_or(missing())?;
+    let (from, to) = (read_place(from), read_place(to));
     if from >= links.nodes() || to >= links.nodes() {
-        return Ok(false);
+        return Err(missing());
     }
     links.add(from, to)?;
-    Ok(true)
+    Ok(())
 }
 
-fn asked(alloc: Global, links: &Links, word: &str, rest: &str) -> io::Result<Option<String>> {
-    match word {
-        "nodes" => tell(alloc, &Some(links.nodes())),
-        "acyclic" => tell(alloc, &Some(links.acyclic()?)),
-        "reaches" => reaches(alloc, links, rest),
-        _ => waiting(alloc, links, word, rest),
-    }
-}
-
-fn reaches(alloc: Global, links: &Links, rest: &str) -> io::Result<Option<String>> {
+fn reaches(alloc: Global, links: &Links, rest: &str) -> Told {
     let (from, to) = halves(rest);
-    let (from, to) = (node(from), node(to));
+    let (from, to) = (read_place(from), read_place(to));
     if from >= links.nodes() || to >= links.nodes() {
-        return tell_text(alloc, Some("no such node"));
+        return Err(missing());
     }
-    tell(alloc, &Some(links.reaches(from, to)?))
+    show(alloc, &links.reaches(from, to)?)
 }
 
 /// Which of the nodes that are open, with a `+`, are blocked or blocking.
-fn waiting(alloc: Global, links: &Links, word: &str, rest: &str) -> io::Result<Option<String>> {
+fn waiting(alloc: Global, links: &Links, word: &str, rest: &str) -> Told {
     let mut open = Vec::new(alloc);
     for mark in rest.as_bytes() {
         open.push(*mark == b'+')?;
@@ -71,15 +62,7 @@ fn waiting(alloc: Global, links: &Links, word: &str, rest: &str) -> io::Result<O
         "blocked" => links.blocked(open.as_slice())?,
         _ => links.blocking(open.as_slice())?,
     };
-    tell_marks(alloc, marks.as_slice())
-}
-
-fn tell_marks(alloc: Global, marks: &[bool]) -> io::Result<Option<String>> {
-    let mut told = String::new(alloc);
-    for mark in marks {
-        told.push(if *mark { '+' } else { '-' })?;
-    }
-    Ok(Some(told))
+    show(alloc, &marks.as_slice())
 }
 
 /// Links a node to the next one and to three later ones, if there are such.
@@ -93,19 +76,19 @@ fn link_on(links: &mut Links, from: usize) -> Result<(), AllocError> {
 }
 
 /// Whether a long chain is acyclic, whether its first node reaches the last, and whether it is acyclic with a link back.
-fn chain(alloc: Global, given: &str) -> io::Result<Option<String>> {
-    let nodes = given.parse().unwrap_or(0);
+fn chain(alloc: Global, given: &str) -> Told {
+    let nodes = read_count(given);
     let mut links = Links::new(alloc, nodes)?;
     for from in 0..nodes {
         link_on(&mut links, from)?;
     }
     if links.nodes() == 0 {
-        return tell_text(alloc, None);
+        return Err(missing());
     }
     let last = links.nodes() - 1;
     let is_acyclic = links.acyclic()?;
     let reaches = links.reaches(0, last)?;
     links.add(last, 0)?;
     let is_still = links.acyclic()?;
-    Ok(Some(format!(in alloc; "{is_acyclic} {reaches} {is_still}")?))
+    Ok(format!(in alloc; "{is_acyclic} {reaches} {is_still}")?)
 }

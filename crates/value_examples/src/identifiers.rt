@@ -1,31 +1,29 @@
 //! Identifiers of tasks.
 
-use crate::told::{halves, number, plain, tell, tell_text};
+use crate::given::{halves, id_of, text_of};
+use crate::told::{Told, missing, say, show};
 use std::alloc::Global;
-use std::io;
 use tb_task::TaskId;
 
-pub(crate) fn answer(alloc: Global, word: &str, given: &str) -> io::Result<Option<String>> {
-    match word {
+pub(crate) fn answer(alloc: Global, word: &str, given: &str) -> Option<Told> {
+    Some(match word {
         "identifier" => tell_id(alloc, TaskId::read(given)),
         "made" => tell_id(alloc, made(given)),
-        "number_on" => tell(alloc, &number_on(given)),
+        "number_on" => number_on(alloc, given),
         "space" => tell_id(alloc, Some(TaskId::space(board(given)))),
         "named" => named(alloc, given),
         "bytes" => bytes(alloc, given),
-        _ => Ok(None),
-    }
+        _ => return None,
+    })
 }
 
-fn tell_id(alloc: Global, id: Option<TaskId>) -> io::Result<Option<String>> {
-    let Some(id) = id else {
-        return tell_text(alloc, None);
-    };
+fn tell_id(alloc: Global, id: Option<TaskId>) -> Told {
+    let id = id.ok_or(missing())?;
     let text = id.text(alloc)?;
     if text.as_bytes() != id.write().as_slice() {
-        return tell_text(alloc, Some("two texts"));
+        return say(alloc, "two texts");
     }
-    tell_text(alloc, Some(text.as_str()))
+    Ok(text.into_string())
 }
 
 /// The number of a board, or 0 for what is none.
@@ -34,31 +32,26 @@ fn board(text: &str) -> u32 {
 }
 
 fn made(given: &str) -> Option<TaskId> {
-    let (on, text) = halves(given);
-    TaskId::made(board(on), number(text))
+    let (on, number) = halves(given);
+    TaskId::made(board(on), number.parse().unwrap_or(0))
 }
 
-fn number_on(given: &str) -> Option<u64> {
-    let (on, text) = halves(given);
-    TaskId::read(text)?.number_on(board(on))
+fn number_on(alloc: Global, given: &str) -> Told {
+    let (on, id) = halves(given);
+    show(alloc, &id_of(id)?.number_on(board(on)).ok_or(missing())?)
 }
 
-fn named(alloc: Global, given: &str) -> io::Result<Option<String>> {
+fn named(alloc: Global, given: &str) -> Told {
     let (space, name) = halves(given);
-    let Some(space) = TaskId::read(space) else {
-        return tell_text(alloc, None);
-    };
-    let name = plain(alloc, name)?;
+    let (space, name) = (id_of(space)?, text_of(alloc, name)?);
     tell_id(alloc, Some(TaskId::named(space, name.as_bytes())))
 }
 
 /// The bytes of an identifier, which have to be read as that identifier.
-fn bytes(alloc: Global, given: &str) -> io::Result<Option<String>> {
-    let Some(id) = TaskId::read(given) else {
-        return tell_text(alloc, None);
-    };
+fn bytes(alloc: Global, given: &str) -> Told {
+    let id = id_of(given)?;
     if TaskId::of_bytes(id.bytes()) != id {
-        return tell_text(alloc, Some("another"));
+        return say(alloc, "another");
     }
-    tell(alloc, &Some(id.bytes()))
+    show(alloc, &id.bytes())
 }

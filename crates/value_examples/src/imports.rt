@@ -1,30 +1,28 @@
 //! Imports onto an empty board, and what they change when they come again.
+use crate::boards::empty_board;
 use crate::given::now;
+use crate::told::{Told, missing, show};
 use std::alloc::{AllocError, Global};
-use std::io;
-use tb_board::{Board, Draft, Title};
+use tb_board::Draft;
 use tb_import::{ImportStop, Imported, import_tasks};
 use tb_json::{read_import, write_stored};
 use tb_task::Incoming;
 
-pub(crate) fn answer(alloc: Global, word: &str, given: &str) -> io::Result<Option<String>> {
+pub(crate) fn answer(alloc: Global, word: &str, given: &str) -> Option<Told> {
     match word {
-        "import_tasks" => Ok(Some(imported(alloc, given)?)),
-        _ => Ok(None),
+        "import_tasks" => Some(imported(alloc, given)),
+        _ => None,
     }
 }
 
-fn imported(alloc: Global, text: &str) -> io::Result<String> {
-    let (Some(title), Ok(list)) = (
-        Title::read(alloc, "board")?,
-        read_import(alloc, text.as_bytes(), now()?),
-    ) else {
-        return Ok(String::from_str(alloc, "no import")?);
-    };
-    let empty = Board::new(alloc, 1, title);
+fn imported(alloc: Global, text: &str) -> Told {
+    let list = read_import(alloc, text.as_bytes(), now()?)
+        .ok()
+        .ok_or(missing())?;
+    let empty = empty_board(alloc)?;
     match import_tasks(alloc, Draft::of(alloc, &empty)?, list.as_slice()) {
         Ok(first) => Ok(told(alloc, &first, list.as_slice())?),
-        Err(ImportStop::Refused(refusal)) => Ok(format!(in alloc; "{refusal:?}")?),
+        Err(ImportStop::Refused(refusal)) => show(alloc, &refusal),
         Err(ImportStop::Memory) => Err(AllocError.into()),
     }
 }
@@ -32,39 +30,25 @@ fn imported(alloc: Global, text: &str) -> io::Result<String> {
 /// What an import made, and what the same import makes after it.
 fn told(alloc: Global, first: &Imported, list: &[Incoming]) -> Result<String, AllocError> {
     let board = &first.draft.board;
-    let mut told = counted(alloc, first)?;
+    let mut told = String::new(alloc);
+    push_counts(&mut told, first)?;
     for task in board.tasks.as_slice() {
         told.push_str(write_stored(alloc, task.get())?.as_str())?;
         told.push('\n')?;
     }
     match import_tasks(alloc, Draft::of(alloc, board)?, list) {
-        Ok(again) => told.push_str(counted(alloc, &again)?.as_str())?,
-        Err(stop) => told.push_str(format!(in alloc; "{stop:?}")?.as_str())?,
+        Ok(again) => push_counts(&mut told, &again)?,
+        Err(stop) => write!(told, "{stop:?}")?,
     }
     Ok(told)
 }
 
-fn counted(alloc: Global, imported: &Imported) -> Result<String, AllocError> {
+fn push_counts(told: &mut String, imported: &Imported) -> Result<(), AllocError> {
     let counts = imported.counts;
-    let mut told = String::new(alloc);
-    push_count(alloc, &mut told, "known", counts.known)?;
-    push_count(alloc, &mut told, "new", counts.new)?;
-    push_count(alloc, &mut told, "orphans", counts.orphans)?;
-    push_count(alloc, &mut told, "unlinked", counts.unlinked)?;
-    push_count(alloc, &mut told, "gone", imported.draft.board.gone.len())?;
-    push_count(alloc, &mut told, "changes", imported.draft.changes.len())?;
-    told.push('\n')?;
-    Ok(told)
-}
-
-fn push_count(
-    alloc: Global,
-    told: &mut String,
-    name: &str,
-    count: usize,
-) -> Result<(), AllocError> {
-    if !told.is_empty() {
-        told.push_str(", ")?;
-    }
-    told.push_str(format!(in alloc; "{name} {count}")?.as_str())
+    let (known, new) = (counts.known, counts.new);
+    let (orphans, unlinked) = (counts.orphans, counts.unlinked);
+    let gone = imported.draft.board.gone.len();
+    let changes = imported.draft.changes.len();
+    write!(told, "known {known}, new {new}, orphans {orphans}, ")?;
+    writeln!(told, "unlinked {unlinked}, gone {gone}, changes {changes}")
 }

@@ -1,7 +1,8 @@
 //! Tasks as JSON: as they come in, as they are stored, and the edits of them.
-use crate::given::{now, read_count, text_of};
+use crate::given::{halves, now, read_count, text_of};
+use crate::tasks::read;
+use crate::told::{Told, say, show};
 use std::alloc::{AllocError, Global};
-use std::io;
 use tb_json::{
     ImportFault, JsonFault, parse, read_import, read_modify, read_stored, read_task, write_stored,
     write_task, write_tasks,
@@ -9,39 +10,39 @@ use tb_json::{
 use tb_task::{Incoming, Shown, TaskId, check};
 use tb_values::Shared;
 
-pub(crate) fn answer(alloc: Global, word: &str, given: &str) -> io::Result<Option<String>> {
-    match word {
-        "task" => Ok(Some(task(alloc, given)?)),
-        "many_tags" => Ok(Some(many_tags(alloc, given)?)),
-        "edits" => Ok(Some(edits(alloc, given)?)),
-        "import" => Ok(Some(import(alloc, text_of(alloc, given)?.as_str())?)),
-        "stored" => Ok(Some(stored(alloc, given)?)),
-        "stored_list" => Ok(Some(stored_list(alloc, given)?)),
-        _ => Ok(None),
-    }
+pub(crate) fn answer(alloc: Global, word: &str, given: &str) -> Option<Told> {
+    Some(match word {
+        "task" => task(alloc, given),
+        "many_tags" => many_tags(alloc, given),
+        "edits" => edits(alloc, given),
+        "import" => import(alloc, given),
+        "stored" => stored(alloc, given),
+        "stored_list" => stored_list(alloc, given),
+        _ => return None,
+    })
 }
 
-fn told(alloc: Global, fault: &JsonFault) -> Result<String, AllocError> {
+fn told(alloc: Global, fault: &JsonFault) -> Told {
     match fault {
-        JsonFault::NotObject => String::from_str(alloc, "NotObject"),
-        JsonFault::BadField(name) => format!(in alloc; "BadField {}", name.as_str()),
-        JsonFault::Memory => Err(AllocError),
+        JsonFault::NotObject => say(alloc, "NotObject"),
+        JsonFault::BadField(name) => Ok(format!(in alloc; "BadField {}", name.as_str())?),
+        JsonFault::Memory => Err(AllocError.into()),
     }
 }
 
 /// The task that comes in, or its fault.
-fn task(alloc: Global, text: &str) -> io::Result<String> {
+fn task(alloc: Global, text: &str) -> Told {
     let Some(value) = parse(alloc, text)? else {
-        return Ok(String::from_str(alloc, "no JSON")?);
+        return say(alloc, "no JSON");
     };
     match read_task(alloc, &value, now()?) {
         Ok(incoming) => first_of_board(alloc, incoming),
-        Err(fault) => Ok(told(alloc, &fault)?),
+        Err(fault) => told(alloc, &fault),
     }
 }
 
 /// How many members were dropped, and what is written of the task when it comes to board 1 as its first.
-fn first_of_board(alloc: Global, incoming: Incoming) -> io::Result<String> {
+fn first_of_board(alloc: Global, incoming: Incoming) -> Told {
     let dropped = incoming.dropped;
     let mut task = incoming.task;
     task.modified = Some(now()?);
@@ -55,11 +56,10 @@ fn first_of_board(alloc: Global, incoming: Incoming) -> io::Result<String> {
 }
 
 /// How long the answer is of a task with so many tags in falling order, each of which goes before all that are there.
-fn many_tags(alloc: Global, count: &str) -> io::Result<String> {
+fn many_tags(alloc: Global, count: &str) -> Told {
     let mut text = String::from_str(alloc, r#"{"description":"a","tags":["a""#)?;
     for number in 0..read_count(count) {
-        let tag = format!(in alloc; ",\"{}\"", 999_999usize.saturating_sub(number))?;
-        text.push_str(tag.as_str())?;
+        write!(text, ",\"{}\"", 999_999usize.saturating_sub(number))?;
     }
     text.push_str("]}")?;
     let answer = task(alloc, text.as_str())?;
@@ -67,9 +67,9 @@ fn many_tags(alloc: Global, count: &str) -> io::Result<String> {
 }
 
 /// The names of the attributes that are set or removed.
-fn edits(alloc: Global, text: &str) -> Result<String, AllocError> {
+fn edits(alloc: Global, text: &str) -> Told {
     let Some(value) = parse(alloc, text)? else {
-        return String::from_str(alloc, "no JSON");
+        return say(alloc, "no JSON");
     };
     let edits = match read_modify(alloc, &value) {
         Ok(edits) => edits,
@@ -77,53 +77,45 @@ fn edits(alloc: Global, text: &str) -> Result<String, AllocError> {
     };
     let mut all = String::new(alloc);
     for edit in edits.as_slice() {
-        let end = if edit.value.is_some() {
-            " set\n"
-        } else {
-            " removed\n"
-        };
+        let is_set = edit.value.is_some();
         all.push_str(edit.name.as_str())?;
-        all.push_str(end)?;
+        all.push_str(if is_set { " set\n" } else { " removed\n" })?;
     }
     Ok(all)
 }
 
 /// How many tasks an import has, or its fault.
-fn import(alloc: Global, text: &str) -> io::Result<String> {
+fn import(alloc: Global, given: &str) -> Told {
+    let text = text_of(alloc, given)?;
     match read_import(alloc, text.as_bytes(), now()?) {
         Ok(tasks) => Ok(format!(in alloc; "{} tasks", tasks.len())?),
         Err(ImportFault::BadTask(at, name)) => {
             Ok(format!(in alloc; "BadTask {at} {}", name.as_str())?)
         }
-        Err(ImportFault::NotJson) => Ok(String::from_str(alloc, "NotJson")?),
-        Err(ImportFault::TooMany) => Ok(String::from_str(alloc, "TooMany")?),
+        Err(ImportFault::NotJson) => say(alloc, "NotJson"),
+        Err(ImportFault::TooMany) => say(alloc, "TooMany"),
         Err(ImportFault::Memory) => Err(AllocError.into()),
     }
 }
 
 /// A stored task as it is stored again.
-fn stored(alloc: Global, text: &str) -> Result<String, AllocError> {
+fn stored(alloc: Global, text: &str) -> Told {
     match read_stored(alloc, text) {
         Ok(task) => match check(&task) {
             Ok(()) => Ok(write_stored(alloc, &task)?.into_string()),
-            Err(field) => format!(in alloc; "{field:?}"),
+            Err(field) => show(alloc, &field),
         },
         Err(fault) => told(alloc, &fault),
     }
 }
 
 /// The list of a stored task a number of times.
-fn stored_list(alloc: Global, given: &str) -> Result<String, AllocError> {
-    let (count, text) = given.split_once(' ').unwrap_or((given, ""));
+fn stored_list(alloc: Global, given: &str) -> Told {
+    let (count, text) = halves(given);
     let mut tasks = Vec::new(alloc);
     for _ in 0..read_count(count) {
-        match read_stored(alloc, text) {
-            Ok(task) => {
-                let task = Shared::new(alloc, task)?;
-                tasks.push(Shown { task, mask: None })?;
-            }
-            Err(fault) => return told(alloc, &fault),
-        }
+        let task = Shared::new(alloc, read(alloc, text)?)?;
+        tasks.push(Shown { task, mask: None })?;
     }
     Ok(write_tasks(alloc, &tasks)?.into_string())
 }

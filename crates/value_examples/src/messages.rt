@@ -1,59 +1,72 @@
 //! Messages of HTTP: what is read of bytes, the resources that paths name, and answers.
 use crate::ends::{Narrow, Pieces};
-use crate::given::{bytes_of, read_count};
+use crate::given::{bytes_of, halves, read_count};
+use crate::told::{Told, missing, push_other, say, show};
 use bstr::ByteVec;
 use http::Method;
 use std::alloc::{AllocError, Global};
 use std::io;
 use tb_http::{Answer, ContentType, HeadRoom, Message, Reader, Routes, WireFault, find_field};
 
-pub(crate) fn answer(alloc: Global, word: &str, given: &str) -> io::Result<Option<String>> {
-    let (first, rest) = given.split_once(' ').unwrap_or((given, ""));
+/// What comes of reading a message.
+type Read = Result<Message, WireFault>;
+
+/// The names of what is read first and next, and whether the connection was closed between them.
+type Names = (&'static str, &'static str, bool);
+
+pub(crate) fn answer(alloc: Global, word: &str, given: &str) -> Option<Told> {
+    let (first, rest) = halves(given);
     match word {
-        "message" => Ok(Some(message(alloc, first, bytes_of(alloc, rest)?.as_slice())?)),
-        "field" => Ok(Some(field(alloc, first, bytes_of(alloc, rest)?.as_slice())?)),
-        "fronts" => Ok(Some(fronts(alloc, first, bytes_of(alloc, rest)?.as_slice())?)),
-        "resource" => Ok(Some(resource(alloc, first, rest)?)),
-        "answer" => Ok(Some(sent(alloc, first, bytes_of(alloc, rest)?.as_slice())?)),
-        _ => Ok(None),
+        "resource" => Some(resource(alloc, first, rest)),
+        "message" | "field" | "fronts" | "answer" => Some(asked(alloc, word, first, rest)),
+        _ => None,
+    }
+}
+
+/// What is asked of bytes.
+fn asked(alloc: Global, word: &str, first: &str, rest: &str) -> Told {
+    let bytes = bytes_of(alloc, rest)?;
+    match word {
+        "message" => message(alloc, first, bytes.as_slice()),
+        "field" => field(alloc, first, bytes.as_slice()),
+        "fronts" => Ok(fronts(alloc, first, bytes.as_slice())?),
+        _ => Ok(sent(alloc, first, bytes.as_slice())?),
     }
 }
 
 /// What is read first of bytes in pieces of each of the sizes, told once where it is the same.
-fn message(alloc: Global, sizes: &str, bytes: &[u8]) -> Result<String, AllocError> {
+fn message(alloc: Global, sizes: &str, bytes: &[u8]) -> Told {
     let mut told = String::new(alloc);
     for size in sizes.split(',') {
         let one = match first_of(alloc, bytes, read_count(size))? {
             Ok(message) => parts_told(alloc, &message)?,
             Err(fault) => String::from_str(alloc, fault.name())?,
         };
-        if one.as_str() != told.as_str() {
-            told.push_str(one.as_str())?;
-        }
+        push_other(&mut told, one.as_str())?;
     }
     Ok(told)
 }
 
-fn first_of(
-    alloc: Global,
-    bytes: &[u8],
-    size: usize,
-) -> Result<Result<Message, WireFault>, AllocError> {
+fn first_of(alloc: Global, bytes: &[u8], size: usize) -> Result<Read, AllocError> {
     let fails = false;
     let mut reader = Reader::new(alloc, Pieces { bytes, size, fails })?;
     Ok(reader.read_message(alloc))
+}
+
+/// The message that bytes begin with.
+pub(crate) fn message_of(alloc: Global, bytes: &[u8]) -> io::Result<Message> {
+    first_of(alloc, bytes, 4096)?.ok().ok_or(missing())
 }
 
 /// A message's content, and what it is known by, a line each.
 fn parts_told(alloc: Global, message: &Message) -> Result<String, AllocError> {
     let content = Vec::from_slice(alloc, message.content(alloc)?.as_slice())?;
     let mut told = format!(in alloc; "{:?}\n", content.into_string_lossy()?)?;
-    let fields = format!(in alloc; "{} fields\n", message.fields.len())?;
-    told.push_str(fields.as_str())?;
-    push_named(&mut told, "member ", message.member())?;
-    push_named(&mut told, "key ", message.key())?;
+    writeln!(told, "{} fields", message.fields.len())?;
+    push_named(&mut told, "member", message.member())?;
+    push_named(&mut told, "key", message.key())?;
     if let Some(id) = message.request_id() {
-        push_named(&mut told, "id ", Some(id.text(alloc)?.as_str()))?;
+        push_named(&mut told, "id", Some(id.text(alloc)?.as_str()))?;
     }
     if message.takes_body() {
         told.push_str("takes a body\n")?;
@@ -62,23 +75,17 @@ fn parts_told(alloc: Global, message: &Message) -> Result<String, AllocError> {
 }
 
 fn push_named(told: &mut String, name: &str, value: Option<&str>) -> Result<(), AllocError> {
-    if let Some(value) = value {
-        told.push_str(name)?;
-        told.push_str(value)?;
-        told.push('\n')?;
+    match value {
+        Some(value) => writeln!(told, "{name} {value}"),
+        None => Ok(()),
     }
-    Ok(())
 }
 
 /// The first value of a name in a message's head.
-fn field(alloc: Global, name: &str, bytes: &[u8]) -> Result<String, AllocError> {
-    let Ok(message) = first_of(alloc, bytes, 4096)? else {
-        return String::from_str(alloc, "no message");
-    };
-    match find_field(message.fields.as_slice(), name) {
-        Some(field) => Vec::from_slice(alloc, field.value.as_slice())?.into_string_lossy(),
-        None => String::from_str(alloc, "no field"),
-    }
+fn field(alloc: Global, name: &str, bytes: &[u8]) -> Told {
+    let message = message_of(alloc, bytes)?;
+    let field = find_field(message.fields.as_slice(), name).ok_or(missing())?;
+    Ok(Vec::from_slice(alloc, field.value.as_slice())?.into_string_lossy()?)
 }
 
 /// What is read of each front of the bytes, where it isn't the same as of the front before it.
@@ -88,33 +95,20 @@ fn fronts(alloc: Global, end: &str, bytes: &[u8]) -> Result<String, AllocError> 
     for len in 0..=bytes.len() {
         let read = first_names(alloc, &bytes[..len], end == "fails")?;
         if read != last {
-            push_names(alloc, &mut told, len, read)?;
+            push_names(&mut told, len, read)?;
             last = read;
         }
     }
     Ok(told)
 }
 
-fn push_names(
-    alloc: Global,
-    told: &mut String,
-    len: usize,
-    (first, next, closes): (&str, &str, bool),
-) -> Result<(), AllocError> {
-    let begin = format!(in alloc; "{len}: {first}")?;
-    told.push_str(begin.as_str())?;
-    told.push_str(if closes { ", closed, " } else { ", " })?;
-    told.push_str(next)?;
-    told.push('\n')?;
-    Ok(())
+fn push_names(told: &mut String, len: usize, names: Names) -> Result<(), AllocError> {
+    let (first, next, closes) = names;
+    let closed = if closes { ", closed" } else { "" };
+    writeln!(told, "{len}: {first}{closed}, {next}")
 }
 
-/// The names of what is read first and next, and whether the connection was closed between them.
-fn first_names(
-    alloc: Global,
-    bytes: &[u8],
-    fails: bool,
-) -> Result<(&'static str, &'static str, bool), AllocError> {
+fn first_names(alloc: Global, bytes: &[u8], fails: bool) -> Result<Names, AllocError> {
     let size = 4096;
     let mut reader = Reader::new(alloc, Pieces { bytes, size, fails })?;
     let first = name_of(&reader.read_message(alloc));
@@ -122,18 +116,18 @@ fn first_names(
     Ok((first, name_of(&reader.read_message(alloc)), closes))
 }
 
-fn name_of(read: &Result<Message, WireFault>) -> &'static str {
+fn name_of(read: &Read) -> &'static str {
     match read {
         Ok(_) => "Message",
         Err(fault) => fault.name(),
     }
 }
 
-fn resource(alloc: Global, method: &str, path: &str) -> Result<String, AllocError> {
+fn resource(alloc: Global, method: &str, path: &str) -> Told {
     let routes = Routes::new(alloc)?;
     match Method::from_bytes(alloc, method.as_bytes()) {
-        Ok(method) => format!(in alloc; "{:?}", routes.resource(&method, path)),
-        Err(_) => String::from_str(alloc, "no method"),
+        Ok(method) => show(alloc, &routes.resource(&method, path)),
+        Err(_) => say(alloc, "no method"),
     }
 }
 
@@ -168,8 +162,7 @@ fn sent_into(
     answer: Answer,
     body: &[u8],
 ) -> Result<(Vec<u8>, Option<usize>), AllocError> {
-    let taken = Vec::new(alloc);
-    let mut narrow = Narrow { taken, room };
+    let mut narrow = Narrow::of(alloc, room);
     let sent = HeadRoom::new(alloc)?.send(&mut narrow, answer, body);
     Ok((narrow.taken, sent.err().map(|fault| fault.written)))
 }

@@ -1,35 +1,36 @@
 //! Moments and steps.
 
-use crate::told::{plain, tell, tell_text};
+use crate::given::{moment_at, step_of, text_of};
+use crate::told::{Told, missing, say, show};
 use std::alloc::Global;
-use std::io;
-use tb_task::{Moment, Step};
+use tb_task::Moment;
 
-pub(crate) fn answer(alloc: Global, word: &str, given: &str) -> io::Result<Option<String>> {
-    match word {
+pub(crate) fn answer(alloc: Global, word: &str, given: &str) -> Option<Told> {
+    Some(match word {
         "moment" => moment(alloc, given),
         "instant" => instant(alloc, given),
-        "step" => tell(alloc, &Step::read(given)),
-        _ => Ok(None),
-    }
+        "step" => step(alloc, given),
+        _ => return None,
+    })
 }
 
 /// The seconds of a text.
-fn moment(alloc: Global, given: &str) -> io::Result<Option<String>> {
-    let text = plain(alloc, given)?;
-    let moment = Moment::read(text.as_bytes());
-    tell(alloc, &moment.map(|moment| moment.seconds()))
+fn moment(alloc: Global, given: &str) -> Told {
+    let text = text_of(alloc, given)?;
+    show(alloc, &moment_at(text.as_str())?.seconds())
 }
 
 /// The text of seconds.
-fn instant(alloc: Global, given: &str) -> io::Result<Option<String>> {
+fn instant(alloc: Global, given: &str) -> Told {
     let seconds = given.parse::<u64>().unwrap_or(u64::MAX);
-    let Some(moment) = Moment::from_seconds(seconds) else {
-        return tell_text(alloc, None);
-    };
+    let moment = Moment::from_seconds(seconds).ok_or(missing())?;
     let text = moment.text(alloc)?;
     if text.as_bytes() != moment.write().as_slice() {
-        return tell_text(alloc, Some("two texts"));
+        return say(alloc, "two texts");
     }
-    tell_text(alloc, Some(text.as_str()))
+    Ok(text.into_string())
+}
+
+fn step(alloc: Global, given: &str) -> Told {
+    show(alloc, &step_of(given)?)
 }

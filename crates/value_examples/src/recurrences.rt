@@ -1,72 +1,65 @@
 //! Recurrence: dues, instances, and what a template wants.
 
+use crate::given::{halves, id_of, moment_at, step_of};
 use crate::tasks::{read, tell_task};
-use crate::told::{halves, tell, tell_text};
+use crate::told::{Told, missing, show};
 use std::alloc::Global;
 use std::io;
 use tb_recur::{due, instance, plan_of, wanted};
-use tb_task::{Moment, Step, TaskId};
 
-pub(crate) fn answer(alloc: Global, word: &str, given: &str) -> io::Result<Option<String>> {
-    match word {
-        "due" => tell_moment(alloc, due_in(given)),
-        "wanted" => tell(alloc, &is_wanted(given)),
-        "plan_wants" => tell(alloc, &plan_wants(alloc, given)),
+pub(crate) fn answer(alloc: Global, word: &str, given: &str) -> Option<Told> {
+    Some(match word {
+        "due" => due_in(alloc, given),
+        "wanted" => is_wanted(alloc, given),
+        "plan_wants" => plan_wants(alloc, given),
         "instance" => instance_in(alloc, given),
-        _ => Ok(None),
-    }
+        _ => return None,
+    })
 }
 
-fn tell_moment(alloc: Global, moment: Option<Moment>) -> io::Result<Option<String>> {
-    match moment {
-        Some(moment) => tell_text(alloc, Some(moment.text(alloc)?.as_str())),
-        None => tell_text(alloc, None),
-    }
-}
-
-pub(crate) fn moment_at(text: &str) -> Option<Moment> {
-    Moment::read(text.as_bytes())
+/// The number of an instance, counted from 0.
+fn number(text: &str) -> io::Result<u32> {
+    text.parse().ok().ok_or(missing())
 }
 
 /// The due of an instance: the first due, the step, and the instance's number.
-fn due_in(given: &str) -> Option<Moment> {
-    let mut words = given.split(' ');
-    let first = moment_at(words.next()?)?;
-    let step = Step::read(words.next()?)?;
-    due(first, step, words.next()?.parse().ok()?)
+fn due_in(alloc: Global, given: &str) -> Told {
+    let (first, rest) = halves(given);
+    let (step, k) = halves(rest);
+    let due = due(moment_at(first)?, step_of(step)?, number(k)?).ok_or(missing())?;
+    Ok(due.text(alloc)?.into_string())
 }
 
 /// Whether an instance is wanted: the first due, the step, until when or `-`, the instance's number, and the moment.
-fn is_wanted(given: &str) -> Option<bool> {
-    let mut words = given.split(' ');
-    let first = moment_at(words.next()?)?;
-    let step = Step::read(words.next()?)?;
-    let until = moment_at(words.next()?);
-    let k = words.next()?.parse().ok()?;
-    Some(wanted(first, step, until, k, moment_at(words.next()?)?))
+fn is_wanted(alloc: Global, given: &str) -> Told {
+    let (first, rest) = halves(given);
+    let (step, rest) = halves(rest);
+    let (until, rest) = halves(rest);
+    let (k, at) = halves(rest);
+    let (first, step) = (moment_at(first)?, step_of(step)?);
+    let until = moment_at(until).ok();
+    show(
+        alloc,
+        &wanted(first, step, until, number(k)?, moment_at(at)?),
+    )
 }
 
 /// Whether an instance of a template is wanted, and by which plan: the instance's number, the moment, and the template.
-fn plan_wants(alloc: Global, given: &str) -> Option<(String, Step, bool)> {
+fn plan_wants(alloc: Global, given: &str) -> Told {
     let (k, rest) = halves(given);
     let (at, json) = halves(rest);
-    let plan = plan_of(&read(alloc, json)?)?;
-    let wants = plan.wants(k.parse().ok()?, moment_at(at)?);
-    let due = plan.due.text(alloc).ok()?.into_string();
-    Some((due, plan.step, wants))
+    let plan = plan_of(&read(alloc, json)?).ok_or(missing())?;
+    let wants = plan.wants(number(k)?, moment_at(at)?);
+    let (due, step) = (plan.due.text(alloc)?, plan.step);
+    show(alloc, &(due.as_str(), step, wants))
 }
 
 /// An instance of a template: the instance's number, its identifier, the moment, and the template.
-fn instance_in(alloc: Global, given: &str) -> io::Result<Option<String>> {
+fn instance_in(alloc: Global, given: &str) -> Told {
     let (k, rest) = halves(given);
     let (id, rest) = halves(rest);
     let (at, json) = halves(rest);
-    let (Some(id), Some(at)) = (TaskId::read(id), moment_at(at)) else {
-        return tell_text(alloc, None);
-    };
-    let Some(template) = read(alloc, json) else {
-        return tell_text(alloc, None);
-    };
-    let task = instance(&template, k.parse().unwrap_or(0), id, at)?;
+    let template = read(alloc, json)?;
+    let task = instance(&template, number(k)?, id_of(id)?, moment_at(at)?)?;
     tell_task(alloc, &task)
 }

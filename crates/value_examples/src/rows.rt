@@ -1,25 +1,22 @@
 //! Rows of a store that are read back, or refused.
 
-use crate::told::{halves, tell, tell_text};
+use crate::given::halves;
+use crate::told::{Told, missing, show};
 use std::alloc::{AllocError, Global};
 use std::io;
-use tb_board::{Board, Person, RoleOn};
-use tb_reopen::{ReopenFault, add_roles, read_board, read_people};
+use tb_board::{Board, Person};
+use tb_reopen::{add_roles, read_board, read_people};
 use tb_sql_tables::rows::{BoardRow, GoneRow, PersonRow, RoleRow, TaskRow};
 use tb_task::TaskId;
 use tb_values::{Items, Text};
 
-pub(crate) fn answer(alloc: Global, word: &str, given: &str) -> io::Result<Option<String>> {
-    match word {
+pub(crate) fn answer(alloc: Global, word: &str, given: &str) -> Option<Told> {
+    Some(match word {
         "people" => people(alloc, given),
         "roles" => roles(alloc, given),
         "board" => board(alloc, given),
-        _ => Ok(None),
-    }
-}
-
-fn tell_fault(alloc: Global, fault: ReopenFault) -> io::Result<Option<String>> {
-    tell(alloc, &Some(fault))
+        _ => return None,
+    })
 }
 
 fn person_row(alloc: Global, text: &str) -> Result<PersonRow, AllocError> {
@@ -32,30 +29,27 @@ fn person_row(alloc: Global, text: &str) -> Result<PersonRow, AllocError> {
 }
 
 /// The people of the rows `NUMBER:NAME`, with their keys.
-fn people(alloc: Global, given: &str) -> io::Result<Option<String>> {
+fn people(alloc: Global, given: &str) -> Told {
     let mut rows = Vec::new(alloc);
     for text in given.split(' ') {
         rows.push(person_row(alloc, text)?)?;
     }
     match read_people(alloc, rows.as_slice()) {
         Ok(people) => tell_people(alloc, people.as_slice()),
-        Err(fault) => tell_fault(alloc, fault),
+        Err(fault) => show(alloc, &fault),
     }
 }
 
-fn tell_people(alloc: Global, people: &[Person]) -> io::Result<Option<String>> {
+fn tell_people(alloc: Global, people: &[Person]) -> Told {
     let mut told = String::new(alloc);
     for person in people {
-        told.push_str(person.name.as_str())?;
-        told.push(' ')?;
-        told.push_str(person.key.as_str())?;
-        told.push('\n')?;
+        writeln!(told, "{} {}", person.name.as_str(), person.key.as_str())?;
     }
-    Ok(Some(told))
+    Ok(told)
 }
 
 /// The roles of rows of these kinds, all of person 2 on board 1.
-fn roles(alloc: Global, given: &str) -> io::Result<Option<String>> {
+fn roles(alloc: Global, given: &str) -> Told {
     let mut rows = Vec::new(alloc);
     for kind in given.split(' ') {
         rows.push(RoleRow {
@@ -65,33 +59,21 @@ fn roles(alloc: Global, given: &str) -> io::Result<Option<String>> {
         })?;
     }
     match add_roles(Items::new(alloc), rows.as_slice()) {
-        Ok(roles) => tell_roles(alloc, roles.as_slice()),
-        Err(fault) => tell_fault(alloc, fault),
+        Ok(roles) => show(alloc, &roles.as_slice()),
+        Err(fault) => show(alloc, &fault),
     }
-}
-
-fn tell_roles(alloc: Global, roles: &[RoleOn]) -> io::Result<Option<String>> {
-    let mut told = String::new(alloc);
-    for role in roles {
-        let role = format!(in alloc; "{} {} {:?}\n", role.board, role.person, role.role)?;
-        told.push_str(role.as_str())?;
-    }
-    Ok(Some(told))
 }
 
 /// The row `PLACE NUMBER` of a task that this JSON text stores.
-fn task_row(alloc: Global, words: &str, json: &str) -> io::Result<Option<TaskRow>> {
+fn task_row(alloc: Global, words: &str, json: &str) -> io::Result<TaskRow> {
     let (place, number) = halves(words);
-    let Some(uuid) = TaskId::made(1, number.parse().unwrap_or(0)) else {
-        return Ok(None);
-    };
-    Ok(Some(TaskRow {
+    Ok(TaskRow {
         board: 1,
         place: place.parse().unwrap_or(0),
-        uuid,
+        uuid: TaskId::made(1, number.parse().unwrap_or(0)).ok_or(missing())?,
         body: Text::from_str(alloc, json)?,
         mask: None,
-    }))
+    })
 }
 
 /// The row `TEMPLATE MARK` of the first instance of a template, which is gone.
@@ -106,12 +88,10 @@ fn gone_row(alloc: Global, words: &str) -> io::Result<GoneRow> {
 }
 
 /// The board of one task and one place that is gone, `PLACE NUMBER/TEMPLATE MARK/JSON`.
-fn board(alloc: Global, given: &str) -> io::Result<Option<String>> {
+fn board(alloc: Global, given: &str) -> Told {
     let (task, rest) = given.split_once('/').unwrap_or((given, ""));
     let (gone, json) = rest.split_once('/').unwrap_or((rest, ""));
-    let Some(task) = task_row(alloc, task, json)? else {
-        return tell_text(alloc, Some("no such identifier"));
-    };
+    let task = task_row(alloc, task, json)?;
     let gone = gone_row(alloc, gone)?;
     let row = BoardRow {
         id: 1,
@@ -120,17 +100,15 @@ fn board(alloc: Global, given: &str) -> io::Result<Option<String>> {
     };
     match read_board(alloc, &row, &[task], &[gone]) {
         Ok(board) => tell_board(alloc, &board),
-        Err(fault) => tell_fault(alloc, fault),
+        Err(fault) => show(alloc, &fault),
     }
 }
 
 /// The first task of a board, whether its first gone place is that task's, and that place's mark.
-fn tell_board(alloc: Global, board: &Board) -> io::Result<Option<String>> {
-    let (Some(task), Some(place)) = (board.tasks.get(0), board.gone.get(0)) else {
-        return tell_text(alloc, None);
-    };
-    let task = task.get();
+fn tell_board(alloc: Global, board: &Board) -> Told {
+    let task = board.tasks.get(0).ok_or(missing())?.get();
+    let place = board.gone.get(0).ok_or(missing())?;
     let is_its = place.template == task.id;
     let mark = char::from(place.mark.byte());
-    Ok(Some(format!(in alloc; "{} {is_its} {mark}", task.description.as_str())?))
+    Ok(format!(in alloc; "{} {is_its} {mark}", task.description.as_str())?)
 }

@@ -3,17 +3,17 @@ ghost use Rattle.std.specs.Prelude.{◌≡◌};
 ghost use Rattle.tb_todotxt.specs.Lines.{is_free_of};
 
 use crate::given::{now, text_of};
+use crate::told::{Told, say, show};
 use std::alloc::{AllocError, Global};
-use std::io;
 use tb_json::write_stored;
 use tb_todotxt::{Day, LineParts, read_file, read_line, write_line};
 
-pub(crate) fn answer(alloc: Global, word: &str, given: &str) -> io::Result<Option<String>> {
-    match word {
-        "todo_line" => Ok(Some(line(alloc, text_of(alloc, given)?.as_str())?)),
-        "todo_tasks" => Ok(Some(tasks(alloc, text_of(alloc, given)?.as_str())?)),
-        _ => Ok(None),
-    }
+pub(crate) fn answer(alloc: Global, word: &str, given: &str) -> Option<Told> {
+    Some(match word {
+        "todo_line" => line(alloc, given),
+        "todo_tasks" => tasks(alloc, given),
+        _ => return None,
+    })
 }
 
 /// Whether a text has no line feed.
@@ -27,18 +27,19 @@ fn is_one_line(bytes: &[u8]) -> bool
 }
 
 /// What a line says, or its fault.
-fn line(alloc: Global, text: &str) -> Result<String, AllocError> {
+fn line(alloc: Global, given: &str) -> Told {
+    let text = text_of(alloc, given)?;
     if !is_one_line(text.as_bytes()) {
-        return String::from_str(alloc, "more than one line");
+        return say(alloc, "more than one line");
     }
-    let line = match read_line(alloc, text) {
+    let line = match read_line(alloc, text.as_str()) {
         Ok(line) => line,
-        Err(fault) => return format!(in alloc; "{fault:?}"),
+        Err(fault) => return show(alloc, &fault),
     };
-    if write_line(alloc, &line)?.as_str() != text {
-        return String::from_str(alloc, "written otherwise");
+    if write_line(alloc, &line)?.as_str() != text.as_str() {
+        return say(alloc, "written otherwise");
     }
-    parts_told(alloc, line.parts())
+    Ok(parts_told(alloc, line.parts())?)
 }
 
 fn parts_told(alloc: Global, parts: &LineParts) -> Result<String, AllocError> {
@@ -52,31 +53,28 @@ fn parts_told(alloc: Global, parts: &LineParts) -> Result<String, AllocError> {
     }
     push_day(&mut told, "ended", parts.completion)?;
     push_day(&mut told, "created", parts.creation)?;
-    let body = format!(in alloc; "{:?}", parts.body.as_str())?;
-    told.push_str(body.as_str())?;
+    write!(told, "{:?}", parts.body.as_str())?;
     Ok(told)
 }
 
 fn push_day(told: &mut String, what: &str, day: Option<Day>) -> Result<(), AllocError> {
     if let Some(day) = day {
-        told.push_str(what)?;
-        told.push(' ')?;
-        told.push_str(str::from_utf8(&day.write()).unwrap_or(""))?;
-        told.push(' ')?;
+        let day = day.write();
+        write!(told, "{what} {} ", str::from_utf8(&day).unwrap_or(""))?;
     }
     Ok(())
 }
 
 /// The tasks of a text's lines on board 1, as they are stored.
-fn tasks(alloc: Global, text: &str) -> io::Result<String> {
-    let tasks = match read_file(alloc, text, now()?, 1) {
+fn tasks(alloc: Global, given: &str) -> Told {
+    let text = text_of(alloc, given)?;
+    let tasks = match read_file(alloc, text.as_str(), now()?, 1) {
         Ok(tasks) => tasks,
-        Err(fault) => return Ok(format!(in alloc; "{fault:?}")?),
+        Err(fault) => return show(alloc, &fault),
     };
     let mut told = String::new(alloc);
     for task in tasks.as_slice() {
-        told.push_str(write_stored(alloc, task)?.as_str())?;
-        told.push('\n')?;
+        writeln!(told, "{}", write_stored(alloc, task)?.as_str())?;
     }
     Ok(told)
 }

@@ -1,34 +1,38 @@
-//! Answers, and the parts of a question.
+//! Answers, and what they are told of.
 
+use bstr::ByteVec;
 use std::alloc::Global;
 use std::fmt::Debug;
 use std::io;
 
-/// A value as it is shown, or `none`.
-pub(crate) fn tell<T: Debug>(alloc: Global, value: &Option<T>) -> io::Result<Option<String>> {
-    match value {
-        Some(value) => Ok(Some(format!(in alloc; "{value:?}")?)),
-        None => Ok(Some(String::from_str(alloc, "none")?)),
+/// The answer to a question. One whose parts can't be read, or that asks for what there isn't, is answered by `missing`.
+pub(crate) type Told = io::Result<String>;
+
+/// Told as `none`.
+pub(crate) fn missing() -> io::Error {
+    io::Error::from(io::ErrorKind::NotFound)
+}
+
+/// A text as it is.
+pub(crate) fn say(alloc: Global, text: &str) -> Told {
+    Ok(String::from_str(alloc, text)?)
+}
+
+/// A value as it is shown.
+pub(crate) fn show<T: Debug>(alloc: Global, value: &T) -> Told {
+    Ok(format!(in alloc; "{value:?}")?)
+}
+
+/// How something ended, and what was written until then.
+pub(crate) fn ended<T: Debug>(alloc: Global, end: &T, written: Vec<u8>) -> Told {
+    let text = written.into_string_lossy()?;
+    Ok(format!(in alloc; "{end:?} {text:?}")?)
+}
+
+/// Adds what is told, unless that alone has been told so far.
+pub(crate) fn push_other(all: &mut String, told: &str) -> io::Result<()> {
+    if all.as_str() != told {
+        all.push_str(told)?;
     }
-}
-
-/// A text, or `none`.
-pub(crate) fn tell_text(alloc: Global, text: Option<&str>) -> io::Result<Option<String>> {
-    Ok(Some(String::from_str(alloc, text.unwrap_or("none"))?))
-}
-
-/// What stands before the first space, and what stands behind it.
-pub(crate) fn halves(text: &str) -> (&str, &str) {
-    text.split_once(' ').unwrap_or((text, ""))
-}
-
-/// A text as it is meant: `\s` stands for a space, and `\n` for the end of a line.
-pub(crate) fn plain(alloc: Global, text: &str) -> io::Result<String> {
-    let text = text.replace(alloc, "\\s", " ")?;
-    Ok(text.as_str().replace(alloc, "\\n", "\n")?)
-}
-
-/// A number, or 0 for what is none.
-pub(crate) fn number(text: &str) -> u64 {
-    text.parse().unwrap_or(0)
+    Ok(())
 }

@@ -1,5 +1,0 @@
-mod command_line;
-mod desk;
-mod orders;
-mod outcomes;
-mod program;

@@ -1,0 +1,31 @@
+-- The lines of the log: seven words, none of which has a byte but plain signs.
+use Rattle.std.specs.Prelude.{ℕ, ◌+◌, ◌-◌, ◌/◌, ◌%◌, ◌==◌, Bool, not, ◌&&◌, nat_le, nat_lt, if◌then◌else◌, List, [], ◌∷◌, ◌++◌, codes, decimal, Option, Some, None}
+use Rattle.std.specs.List.{flat_map}
+use Rattle.std.specs.Option.{option_copied}
+use Rattle.tb_event_loop.specs.declared.logging.LogEntry.{LogEntry}
+use Rattle.tb_task.specs.MomentText.{moment_text}
+
+-- from ! to ~, but for the sign that begins what is written out
+abbrev pub is_plain : ℕ → Bool
+is_plain byte = nat_le 33 byte && nat_le byte 126 && not (byte == 92)
+
+abbrev pub hex_digit : ℕ → ℕ
+hex_digit number = if nat_lt number 10 then 48 + number else 97 + (number - 10)
+
+-- a plain sign as it is, and another byte as \x and two digits
+abbrev pub escaped_byte : ℕ → List ℕ
+escaped_byte byte = if is_plain byte then byte ∷ [] else 92 ∷ 120 ∷ hex_digit (byte / 16) ∷ hex_digit (byte % 16) ∷ []
+
+abbrev pub escaped : List ℕ → List ℕ
+escaped bytes = flat_map escaped_byte bytes
+
+abbrev pub member_text : Option (List ℕ) → List ℕ
+member_text None = codes " -"
+member_text (Some name) = codes " " ++ escaped name
+
+-- the moment, the member, the method, the target, the status, the bytes and the milliseconds
+abbrev pub log_text : LogEntry → List ℕ
+log_text entry =
+    moment_text entry.moment ++ member_text (option_copied entry.member) ++ codes " " ++ escaped entry.method.now ++ codes " "
+    ++ escaped entry.target.now ++ codes " " ++ escaped entry.status.now ++ codes " " ++ decimal entry.bytes ++ codes " "
+    ++ decimal entry.millis ++ codes "\n"

@@ -1,0 +1,98 @@
+//! A socket, and what it is ready for.
+use mio::net::TcpStream;
+use std::io;
+use std::io::{ErrorKind, Read};
+use std::net::Shutdown;
+
+/// How many bytes are read at a time.
+pub(crate) const PIECE: usize = 16_384;
+
+#[derive(Drop)]
+pub(crate) struct Connection {
+    pub(crate) stream: TcpStream,
+    pub(crate) can_read: bool,
+    pub(crate) can_write: bool,
+    /// The system told that the client sends no more, which a read will tell.
+    pub(crate) has_hung_up: bool,
+    /// The client sends no more.
+    pub(crate) has_ended: bool,
+    /// What is held may be a whole message.
+    pub(crate) may_answer: bool,
+    /// It is to leave its place.
+    pub(crate) is_gone: bool,
+}
+
+impl Connection {
+    /// A connection that may be ready: the first read and the first write tell.
+    pub(crate) fn new(stream: TcpStream) -> Connection {
+        Connection {
+            stream,
+            can_read: true,
+            can_write: true,
+            has_hung_up: false,
+            has_ended: false,
+            may_answer: false,
+            is_gone: false,
+        }
+    }
+
+    pub(crate) fn needs_bytes(&self) -> bool {
+        self.can_read && !self.may_answer && !self.has_ended
+    }
+
+    /// So many bytes came, up to a piece. Where they are fewer, no more are there now.
+    pub(crate) fn bytes_came(&mut self, count: usize) {
+        self.may_answer = true;
+        if count < PIECE && !self.has_hung_up {
+            self.can_read = false;
+        }
+    }
+
+    /// Nothing more comes of it. What is held may still be answered.
+    pub(crate) fn end_input(&mut self) {
+        self.can_read = false;
+        self.has_ended = true;
+        if !self.may_answer {
+            self.is_gone = true;
+        }
+    }
+
+    /// What is held is no whole message.
+    pub(crate) fn lack_bytes(&mut self) {
+        self.may_answer = false;
+        if self.has_ended {
+            self.is_gone = true;
+        }
+    }
+
+    pub(crate) fn read_failed(&mut self, error: &io::Error) {
+        match error.kind() {
+            ErrorKind::WouldBlock => self.can_read = false,
+            ErrorKind::Interrupted => (),
+            _ => self.is_gone = true,
+        }
+    }
+
+    pub(crate) fn write_failed(&mut self, error: &io::Error) {
+        match error.kind() {
+            ErrorKind::WouldBlock => self.can_write = false,
+            ErrorKind::Interrupted => (),
+            _ => self.is_gone = true,
+        }
+    }
+
+    /// Nothing more is sent.
+    pub(crate) fn stop_sending(&mut self) {
+        let _ = self.stream.shutdown(Shutdown::Write);
+    }
+
+    /// Reads once, and throws it away.
+    pub(crate) fn drop_some(&mut self) {
+        let mut piece = [0u8; PIECE];
+        match self.stream.read(&mut piece) {
+            Ok(0) => self.is_gone = true,
+            Ok(_) => (),
+            Err(error) => self.read_failed(&error),
+        }
+    }
+}

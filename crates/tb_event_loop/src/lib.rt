@@ -1,0 +1,22 @@
+//! The server's loop: many connections in one thread, each read, answered and written in turn.
+//! It owns sockets, their readiness and the log. It stands on `mio` for sockets, on `tb_timeouts` for every decision about time and
+//! room, and on a `Service` for what messages are and what they are told.
+#![tactic(auto)]
+
+mod arrivals;
+mod connection;
+mod event_loop;
+mod exchange;
+mod farewell;
+mod fault;
+mod journal;
+mod logging;
+mod places;
+mod request_line;
+mod service;
+
+pub use event_loop::EventLoop;
+pub use fault::LoopFault;
+pub use journal::Journal;
+pub use logging::{LogEntry, log_line};
+pub use service::{Happening, Service, StoreFailed};

@@ -1,0 +1,91 @@
+//! A line of the log.
+ghost use Rattle.std.specs.Prelude.{◌≡◌, ◌<◌, ◌++◌, codes, decimal, IfOk, OnOk};
+ghost use Rattle.std.specs.Option.{option_copied};
+ghost use Rattle.tb_event_loop.specs.LogLine.{escaped, escaped_byte, hex_digit, is_plain, log_text, member_text};
+
+use itoa::Buffer;
+use std::alloc::{AllocError, Global};
+use tb_task::Moment;
+
+/// What is told of a message that was answered. A member's key has no place in it.
+#[derive(Clone, Copy)]
+pub struct LogEntry<'a> {
+    pub moment: Moment,
+    /// The name that the message gives, which may be of no member.
+    pub member: Option<&'a [u8]>,
+    pub method: &'a [u8],
+    pub target: &'a [u8],
+    pub status: &'a [u8],
+    /// Of the answer.
+    pub bytes: usize,
+    pub millis: u64,
+}
+
+/// The line that tells of a message.
+pub fn log_line(alloc: Global, entry: &LogEntry<'_>) -> Result<Vec<u8>, AllocError>
+    ensures { IfOk result (λ line. line.items ≡ log_text entry.now) }
+{
+    let mut line = Vec::from_slice(alloc, &entry.moment.write())?;
+    push_member(&mut line, entry.member)?;
+    push_word(&mut line, entry.method)?;
+    push_word(&mut line, entry.target)?;
+    push_word(&mut line, entry.status)?;
+    push_number(&mut line, entry.bytes as u64)?;
+    push_number(&mut line, entry.millis)?;
+    line.extend_from_slice(b"\n")?;
+    Ok(line)
+}
+
+fn push_member(line: &mut Vec<u8>, member: Option<&[u8]>) -> Result<(), AllocError>
+    ensures { OnOk result (line.new.items ≡ line.old.items ++ member_text (option_copied member.entry)) }
+{
+    match member {
+        Some(name) => push_word(line, name),
+        None => line.extend_from_slice(b" -"),
+    }
+}
+
+fn push_number(line: &mut Vec<u8>, number: u64) -> Result<(), AllocError>
+    ensures { OnOk result (line.new.items ≡ line.old.items ++ codes " " ++ decimal number) }
+{
+    let mut buffer = Buffer::new();
+    line.extend_from_slice(b" ")?;
+    line.extend_from_slice(buffer.format(number).as_bytes())
+}
+
+// A blank, and the text with each byte that is no plain sign written out.
+fn push_word(line: &mut Vec<u8>, text: &[u8]) -> Result<(), AllocError>
+    ensures { OnOk result (line.new.items ≡ line.old.items ++ codes " " ++ escaped text.now) }
+{
+    line.extend_from_slice(b" ")?;
+    for byte in text {
+        push_byte(line, *byte)?;
+    }
+    Ok(())
+}
+
+fn push_byte(line: &mut Vec<u8>, byte: u8) -> Result<(), AllocError>
+    ensures { OnOk result (line.new.items ≡ line.old.items ++ escaped_byte byte) }
+{
+    if is_plain(byte) {
+        return line.extend_from_slice(&[byte]);
+    }
+    line.extend_from_slice(&[b'\\', b'x', digit(byte / 16), digit(byte % 16)])
+}
+
+fn is_plain(byte: u8) -> bool
+    ensures { result ≡ is_plain byte }
+{
+    b'!' <= byte && byte <= b'~' && byte != b'\\'
+}
+
+fn digit(number: u8) -> u8
+    requires { number < 16 }
+    ensures { result ≡ hex_digit number }
+{
+    if number < 10 {
+        b'0' + number
+    } else {
+        b'a' + (number - 10)
+    }
+}

@@ -1,0 +1,120 @@
+-- An import of an input, by what the import of its text promises.
+use Rattle.std.proofs.Common.{◌≡◌, ◌⊎◌, ℕ, true, List, [], ◌∷◌, Option, IfOk, IfSome, OnOk, Result, Ok, Err, true≢false, ap, arith, inl, inr, refl, subst, sym}
+use Rattle.std.specs.Io.KnownBytes.{Appends}
+use Rattle.tb_asking.specs.Asking.{asked_of}
+use Rattle.tb_asking.specs.declared.asked.Asked.{Asked}
+use Rattle.tb_asking.specs.declared.asked.Asked.TheVariants as asked
+use Rattle.tb_asking.specs.declared.rejection.Rejection.{Rejection}
+use Rattle.tb_calls.specs.Calls.{State, once, plain, reply}
+use Rattle.tb_calls.specs.Keeping.{Only, StandsAfter}
+use Rattle.tb_calls.specs.declared.call.Call.{Call}
+use Rattle.tb_command_line.specs.declared.order.ImportOrder.{ImportOrder}
+use Rattle.tb_http.specs.declared.message.Message.{Message}
+use Rattle.tb_orders.specs.Inputs.{AreAskedBy, IsAskedBy, IsMade}
+use Rattle.tb_orders.specs.Messages.{message_of}
+use Rattle.tb_orders.specs.Orders.{AsksFor, calls_made, ending_of, line_text}
+use Rattle.tb_orders.specs.Telling.{is_of_imports, is_of_inputs, is_of_messages}
+use Rattle.tb_orders.specs.declared.ending.Ending.{Ending}
+use Rattle.tb_program.specs.declared.fault.Fault.{Fault}
+use Rattle.tb_program.specs.declared.fault.Fault.TheVariants.{Bad, BadBody, Memory, NoClock, NoListen, NotEmpty, NotOurs, ReadFailed, Store, WriteFailed, WrongVersion}
+
+is_call_or_not : (r : Result Asked Rejection) → ((call : Call) × (r ≡ Ok (asked.Call call))) ⊎ ((call : Call) → r ≡ Ok (asked.Call call) → ⊥)
+is_call_or_not (Ok (asked.Call call)) = inl (call, refl)
+is_call_or_not (Ok (asked.View sender view)) = inr (λ call is. absurd (cc))
+is_call_or_not (Ok asked.Unknown) = inr (λ call is. absurd (cc))
+is_call_or_not (Err rejection) = inr (λ call is. absurd (cc))
+
+asks_or_not : (m : Message) (at : ℕ) → ((call : Call) × AsksFor m at call) ⊎ ((call : Call) → AsksFor m at call → ⊥)
+asks_or_not m at = is_call_or_not (asked_of m at)
+
+-- an accepted import made the call that was asked for
+pub made_by : (r : Result Ending Fault) (order : ImportOrder) (text : List ℕ) (m : Message) (at : ℕ) (input : Option (List ℕ)) (s : State)
+    (now : State → Type 0) (before after : Option (List ℕ)) → m ≡ message_of order text → IfSome input (λ all. text ≡ all)
+    → ((call : Call) → AsksFor m at call → OnOk r (Appends before after (line_text (reply s [] call))))
+    → ((call : Call) → AsksFor m at call → OnOk r (now (plain s (once s (call ∷ [])))))
+    → ((call : Call) → AsksFor m at call → IfOk r (λ ending. ending ≡ ending_of (reply s [] call)))
+    → (((call : Call) → AsksFor m at call → ⊥) → (r ≡ Err BadBody) ⊎ (r ≡ Err Memory))
+    → IfOk r (IsMade order input s now before after)
+made_by (Err fault) order text m at input s now before after is whole told left ends unasked = tt
+made_by (Ok ending) order text m at input s now before after is whole told left ends unasked =
+    elim (asks_or_not m at) [
+      | inl made ↦ record {
+        call = made.0;
+        asked = record { text = text; at = at; whole = whole; asked = subst (λ x. AsksFor x at made.0) is made.1 };
+        held = left made.0 made.1;
+        told = told made.0 made.1;
+        ends = ends made.0 made.1;
+      }
+      | inr none ↦ elim (unasked none) [ inl refused ↦ absurd (cc) | inr refused ↦ absurd (cc) ]
+    ]
+
+-- no call was made
+pub none_made : (s : State) (now stops : State → Type 0) → now s → Only s stops → StandsAfter s [] 0 now stops
+none_made s now stops held only =
+    record { held = (s, held, (0, omega arith, omega arith, refl)); stops = λ t left. (0, omega arith, omega arith, only t left) }
+
+-- a message that asks for no call left the desk as it was
+none_stood : {D : Type 0} (r : Result Ending Fault) (s : State) (holds stops : D → State → Type 0) (old new : D)
+    → ((r ≡ Err BadBody) ⊎ (r ≡ Err Memory)) × (new ≡ old) → holds old s → Only s (stops old)
+    → StandsAfter s [] (calls_made r) (holds new) (stops new)
+none_stood r s holds stops old new same held only =
+    let none : calls_made r ≡ 0 = elim same.0 [ inl is ↦ ap calls_made is | inr is ↦ ap calls_made is ] in
+    let before = subst (λ n. StandsAfter s [] n (holds old) (stops old)) (sym none) (none_made s (holds old) (stops old) held only) in
+    subst (λ d. StandsAfter s [] (calls_made r) (holds d) (stops d)) (sym same.1) before
+
+-- what stands is what a call led to that was asked for, or nothing was
+pub stood_by : {D : Type 0} (r : Result Ending Fault) (order : ImportOrder) (text : List ℕ) (m : Message) (at : ℕ) (input : Option (List ℕ)) (s : State)
+    (holds stops : D → State → Type 0) (old new : D) → m ≡ message_of order text → IfSome input (λ all. text ≡ all)
+    → ((call : Call) → AsksFor m at call → StandsAfter s (call ∷ []) (calls_made r) (holds new) (stops new))
+    → (((call : Call) → AsksFor m at call → ⊥) → ((r ≡ Err BadBody) ⊎ (r ≡ Err Memory)) × (new ≡ old))
+    → holds old s → Only s (stops old)
+    → (calls : List Call) × AreAskedBy order input calls × StandsAfter s calls (calls_made r) (holds new) (stops new)
+stood_by r order text m at input s holds stops old new is whole stands unasked held only =
+    elim (asks_or_not m at) [
+      | inl made ↦ (
+        made.0 ∷ [],
+        record { text = text; at = at; whole = whole; asked = subst (λ x. AsksFor x at made.0) is made.1 },
+        stands made.0 made.1,
+      )
+      | inr none ↦ ([], tt, none_stood r s holds stops old new (unasked none) held only)
+    ]
+
+-- what an input couldn't be made into a message for, made no call
+pub unread_made : (fault : Fault) → is_of_messages fault ≡ true → calls_made (Err fault) ≡ 0
+unread_made Bad is = absurd (true≢false (sym is))
+unread_made BadBody is = refl
+unread_made Memory is = refl
+unread_made NoClock is = refl
+unread_made NoListen is = absurd (true≢false (sym is))
+unread_made NotEmpty is = absurd (true≢false (sym is))
+unread_made NotOurs is = absurd (true≢false (sym is))
+unread_made ReadFailed is = refl
+unread_made Store is = absurd (true≢false (sym is))
+unread_made WriteFailed is = absurd (true≢false (sym is))
+unread_made WrongVersion is = absurd (true≢false (sym is))
+
+pub of_message : (fault : Fault) → is_of_messages fault ≡ true → is_of_inputs fault ≡ true
+of_message Bad is = absurd (true≢false (sym is))
+of_message BadBody is = refl
+of_message Memory is = refl
+of_message NoClock is = refl
+of_message NoListen is = absurd (true≢false (sym is))
+of_message NotEmpty is = absurd (true≢false (sym is))
+of_message NotOurs is = absurd (true≢false (sym is))
+of_message ReadFailed is = refl
+of_message Store is = absurd (true≢false (sym is))
+of_message WriteFailed is = absurd (true≢false (sym is))
+of_message WrongVersion is = absurd (true≢false (sym is))
+
+pub of_import : (fault : Fault) → is_of_imports fault ≡ true → is_of_inputs fault ≡ true
+of_import Bad is = absurd (true≢false (sym is))
+of_import BadBody is = refl
+of_import Memory is = refl
+of_import NoClock is = absurd (true≢false (sym is))
+of_import NoListen is = absurd (true≢false (sym is))
+of_import NotEmpty is = absurd (true≢false (sym is))
+of_import NotOurs is = absurd (true≢false (sym is))
+of_import ReadFailed is = absurd (true≢false (sym is))
+of_import Store is = refl
+of_import WriteFailed is = refl
+of_import WrongVersion is = absurd (true≢false (sym is))

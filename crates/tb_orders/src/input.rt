@@ -1,0 +1,70 @@
+//! The import of an input, whole.
+ghost use Rattle.std.specs.Prelude.{◌≡◌, ℕ, List, IfErr, IfOk, IfSome, IsErrOf, true};
+ghost use Rattle.tb_calls.specs.Calls.{State};
+ghost use Rattle.tb_calls.specs.Keeping.{Only, StandsAfter};
+ghost use Rattle.tb_calls.specs.declared.call.Call.{Call};
+ghost use Rattle.tb_orders.specs.Inputs.{AreAskedBy, IsMade};
+ghost use Rattle.tb_orders.specs.Messages.{message_of};
+ghost use Rattle.tb_orders.specs.Orders.{calls_made};
+ghost use Rattle.tb_orders.specs.Telling.{is_of_inputs, is_of_messages};
+ghost use Rattle.tb_program.specs.declared.fault.Fault.TheVariants.{Memory, Store};
+
+use crate::ending::Ending;
+use crate::importing::import_text;
+use crate::message::import_message;
+use std::alloc::Global;
+use std::io::{Read, Write};
+use std::time::Clock;
+use tb_calls::Keep;
+use tb_command_line::ImportOrder;
+use tb_desk::Desk;
+use tb_http::Message;
+use tb_program::{Fault, machine_moment, read_text};
+use tb_task::Moment;
+
+/// The message of an import, and the moment after its text was read.
+#[derive(Drop)]
+struct Arrived {
+    message: Message,
+    at: Moment,
+}
+
+/// Reads the text of an import, makes the call that the same import makes over HTTP, and prints the body of its reply on a line.
+pub fn import_input<K: Keep, R: Read + Drop, W: Write>(
+    alloc: Global,
+    desk: &mut Desk<K>,
+    order: &ImportOrder,
+    reader: R,
+    clock: &impl Clock,
+    writer: &mut W,
+) -> Result<Ending, Fault>
+    ensures made { (s : State) → K.holds desk.old s → IfOk result (IsMade order.now (R.remaining reader) s
+        (K.holds desk.new) (W.contents writer.old) (W.contents writer.new)) }
+    ensures memory { (s : State) → K.holds desk.old s → IsErrOf result Memory → K.holds desk.new s }
+    ensures stands { (s : State) → K.holds desk.old s → Only s (K.after_stop desk.old)
+        → (calls : List Call) × AreAskedBy order.now (R.remaining reader) calls
+        × StandsAfter s calls (calls_made result) (K.holds desk.new) (K.after_stop desk.new) }
+    ensures fault { IfErr result (λ fault. is_of_inputs fault ≡ true) }
+    ensures store { IsErrOf result Store → K.has_failed desk.new ≡ true }
+{
+    match read_message(alloc, order, reader, clock) {
+        Ok(arrived) => import_text(alloc, desk, &arrived.message, arrived.at, writer),
+        Err(fault) => Err(fault),
+    }
+}
+
+fn read_message<R: Read + Drop>(
+    alloc: Global,
+    order: &ImportOrder,
+    reader: R,
+    clock: &impl Clock,
+) -> Result<Arrived, Fault>
+    ensures read { IfOk result (λ arrived. (text : List ℕ) × IfSome (R.remaining reader) (λ all. text ≡ all)
+        × (arrived.message ≡ message_of order.now text)) }
+    ensures fault { IfErr result (λ fault. is_of_messages fault ≡ true) }
+{
+    let text = read_text(alloc, reader)?;
+    let at = machine_moment(clock).ok_or(Fault::NoClock)?;
+    let message = import_message(alloc, order, text)?;
+    Ok(Arrived { message, at })
+}

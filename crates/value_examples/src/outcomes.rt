@@ -1,0 +1,70 @@
+//! Lines on standard output and standard error, and the status at the end.
+
+use crate::given::halves;
+use crate::told::{Told, ended, show};
+use std::alloc::Global;
+use tb_keeper::{Audit, CreateFault};
+use tb_orders::Ending;
+use tb_outcome::{
+    fault_of_making, fault_of_opening, fault_of_script, print_audit, print_fault, status_of,
+};
+use tb_program::Fault;
+use tb_script::LinesFault;
+use tb_sql::opening::OpenFault;
+
+pub(crate) fn answer(alloc: Global, word: &str, given: &str) -> Option<Told> {
+    Some(match word {
+        "audit" => audit(alloc, given),
+        "faults" => faults(alloc),
+        "statuses" => statuses(alloc),
+        "told_as" => told_as(alloc),
+        _ => return None,
+    })
+}
+
+/// The line of an audit: how many boards, tasks, and faults.
+fn audit(alloc: Global, given: &str) -> Told {
+    let (boards, rest) = halves(given);
+    let (tasks, faults) = halves(rest);
+    let audit = Audit {
+        boards: boards.parse().unwrap_or(0),
+        tasks: tasks.parse().unwrap_or(0),
+        faults: faults.parse().unwrap_or(0),
+    };
+    let mut out = Vec::new(alloc);
+    let end = print_audit(alloc, &audit, &mut out);
+    ended(alloc, &end, out)
+}
+
+/// Some faults by their names, their statuses, and the lines that tell them.
+fn faults(alloc: Global) -> Told {
+    let mut told = String::new(alloc);
+    for fault in [Fault::Bad, Fault::NotOurs, Fault::Store] {
+        let mut out = Vec::new(alloc);
+        let end = print_fault(fault, &mut out);
+        let line = ended(alloc, &end, out)?;
+        writeln!(told, "{} {} {line}", fault.name(), fault.status())?;
+    }
+    Ok(told)
+}
+
+/// The status of orders that are accepted, refused, no order, and that a store fails.
+fn statuses(alloc: Global) -> Told {
+    let ends = [
+        status_of(Ok(Ending::Accepted)),
+        status_of(Ok(Ending::Refused)),
+        status_of(Err(Fault::Bad)),
+        status_of(Err(Fault::Store)),
+    ];
+    show(alloc, &ends)
+}
+
+/// What faults of a script, of opening and of making a store are told as.
+fn told_as(alloc: Global) -> Told {
+    let faults = [
+        fault_of_script(LinesFault::ReadFailed),
+        fault_of_opening(OpenFault::WrongVersion),
+        fault_of_making(CreateFault::NotEmpty),
+    ];
+    show(alloc, &faults)
+}

@@ -1,0 +1,11 @@
+#!/bin/sh
+# Measures the server under many clients at once, and prints each figure. It fails only where a task is lost or doubled.
+# It needs python3, and takes two minutes at most once the program is there.
+set -eu
+
+port=${PORT:-8084}
+# How long the slow clients send, in seconds.
+slow=${SLOW:-10}
+. "$(dirname "$0")/prepare.sh"
+
+PYTHONPATH=$top/tests python3 "$top/tests/load.py" "$program" "$port" "$slow"
