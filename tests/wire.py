@@ -1,7 +1,7 @@
 """Plays the connections of the wire examples against a real server, and compares the bytes that it answers: wire.py PROGRAM
 
 What a real socket and clock can't be told to do is left out: scenes with moments of their own, readers and writers that fail. Moments in
-answers are those of the machine's clock, so they are only compared as moments. `crates/examples/data/README.md` says what the lines mean."""
+answers are those of the machine's clock, so they are only compared as moments. `crates/wire_examples/data/README.md` says what the lines mean."""
 import os
 import pathlib
 import re
@@ -13,7 +13,7 @@ import tempfile
 from connecting import connected
 
 program, port = os.path.abspath(sys.argv[1]), 8084
-folder = pathlib.Path(__file__).resolve().parent.parent / "crates/examples/data"
+folder = pathlib.Path(__file__).resolve().parent.parent / "crates/wire_examples/data"
 BEHIND = b"GET /boards/1/list HTTP/1.1\r\nHost: a\r\nx-member: root\r\nx-key: root-key-1\r\nConnection: close\r\n\r\n"
 
 

@@ -1,8 +1,8 @@
 //! Looks at the tables: the rows of all, those of board 1 where rows are of a board. Another hand may change them.
 
+use crate::script::{Kind, Script};
 use crate::told::Told;
 use sqlite::{Alter, Connection, Error, Transaction};
-use std::alloc::AllocError;
 use tb_sql::boards::{find_board, select_boards};
 use tb_sql::gone::select_gone;
 use tb_sql::instances::select_instances;
@@ -17,14 +17,30 @@ use tb_sql_tables::rows::TaskRow;
 /// A board has no more tasks.
 const MOST_TASKS: usize = 10_000;
 
-pub fn tell_tables<S: Alter>(conn: &mut Connection<S>, told: &mut Told) -> Result<(), Error> {
-    if conn.is_autocommit() {
-        let mut tx = conn.transaction();
-        tell_rows(&mut tx, told)?;
-        drop(tx);
-        tell_lent(conn, told)?;
+/// Takes the steps that come next and ask or change tables.
+pub fn look_at_tables<S: Alter>(conn: &mut Connection<S>, script: &mut Script<'_>) {
+    for _ in 0..script.left() {
+        let Some(step) = script.next_of(Kind::Table) else {
+            return;
+        };
+        let well = match step.strip_prefix("hand ") {
+            Some(statements) => conn.execute_batch(statements).is_ok(),
+            None => tell_tables(conn, &mut script.told),
+        };
+        if !well {
+            script.told.answer("NotRun");
+        }
     }
-    Ok(())
+}
+
+fn tell_tables<S: Alter>(conn: &mut Connection<S>, told: &mut Told) -> bool {
+    if !conn.is_autocommit() {
+        return false;
+    }
+    let mut tx = conn.transaction();
+    let well = tell_rows(&mut tx, told).is_ok();
+    drop(tx);
+    well && tell_lent(conn, told).is_ok()
 }
 
 fn tell_rows<S: Alter>(tx: &mut Transaction<'_, S>, told: &mut Told) -> Result<(), Error> {
@@ -40,56 +56,60 @@ fn tell_rows<S: Alter>(tx: &mut Transaction<'_, S>, told: &mut Told) -> Result<(
 
 /// The number, name and key of each person, who is found again by the name.
 fn tell_people<S: Alter>(tx: &mut Transaction<'_, S>, told: &mut Told) -> Result<(), Error> {
-    for person in select_people(tx)?.as_slice() {
+    let people = select_people(tx)?;
+    for person in people.as_slice() {
         let (id, name) = (person.id, person.name.as_str());
         let found = find_person(tx, name)?;
         let key = match &found {
             Some(found) if found.id == id => found.secret.as_str(),
             _ => "not found",
         };
-        told.answer(&format!(in told.alloc; "person {id} {name} {key}")?)?;
+        told.answer_made(format!(in told.alloc; "person {id} {name} {key}"));
     }
     Ok(())
 }
 
 /// The number, title and least free number of each board, which is found again by its number.
 fn tell_boards<S: Alter>(tx: &mut Transaction<'_, S>, told: &mut Told) -> Result<(), Error> {
-    for board in select_boards(tx)?.as_slice() {
+    let boards = select_boards(tx)?;
+    for board in boards.as_slice() {
         let (id, title) = (board.id, board.title.as_str());
         let low = match find_board(tx, id)? {
             Some(found) => found.low,
             None => 0,
         };
-        told.answer(&format!(in told.alloc; "board {id} {title} {low}")?)?;
+        told.answer_made(format!(in told.alloc; "board {id} {title} {low}"));
     }
     Ok(())
 }
 
 /// The person and kind of each role, which is found again by the person.
 fn tell_roles<S: Alter>(tx: &mut Transaction<'_, S>, told: &mut Told) -> Result<(), Error> {
-    for role in select_roles(tx, 1)?.as_slice() {
+    let roles = select_roles(tx, 1)?;
+    for role in roles.as_slice() {
         let person = role.person;
         let kind = match find_role(tx, 1, person)? {
             Some(found) => found.kind,
             None => 0,
         };
-        told.answer(&format!(in told.alloc; "role {person} {kind}")?)?;
+        told.answer_made(format!(in told.alloc; "role {person} {kind}"));
     }
     Ok(())
 }
 
 /// The place, identifier, mask and text of each task, which is found again by its place.
 fn tell_tasks<S: Alter>(tx: &mut Transaction<'_, S>, told: &mut Told) -> Result<(), Error> {
-    for task in select_tasks(tx, 1)?.as_slice() {
+    let tasks = select_tasks(tx, 1)?;
+    for task in tasks.as_slice() {
         match find_task(tx, 1, task.place)? {
-            Some(found) => tell_task(&found, told)?,
-            None => told.answer("task not found")?,
+            Some(found) => tell_task(&found, told),
+            None => told.answer("task not found"),
         }
     }
     Ok(())
 }
 
-fn tell_task(task: &TaskRow, told: &mut Told) -> Result<(), AllocError> {
+fn tell_task(task: &TaskRow, told: &mut Told) {
     let id = task.uuid.write();
     let id = str::from_utf8(&id).unwrap_or("no text");
     let mask = match &task.mask {
@@ -97,35 +117,40 @@ fn tell_task(task: &TaskRow, told: &mut Told) -> Result<(), AllocError> {
         None => "none",
     };
     let (place, body) = (task.place, task.body.as_str());
-    told.answer(&format!(in told.alloc; "task {place} {id} {mask} {body}")?)
+    told.answer_made(format!(in told.alloc; "task {place} {id} {mask} {body}"));
 }
 
 fn tell_links<S: Alter>(tx: &mut Transaction<'_, S>, told: &mut Told) -> Result<(), Error> {
-    for link in select_links(tx, 1)?.as_slice() {
-        told.answer(&format!(in told.alloc; "link {} {}", link.place, link.target)?)?;
+    let links = select_links(tx, 1)?;
+    for link in links.as_slice() {
+        let (place, target) = (link.place, link.target);
+        told.answer_made(format!(in told.alloc; "link {place} {target}"));
     }
     Ok(())
 }
 
 fn tell_instances<S: Alter>(tx: &mut Transaction<'_, S>, told: &mut Told) -> Result<(), Error> {
-    for row in select_instances(tx, 1)?.as_slice() {
+    let instances = select_instances(tx, 1)?;
+    for row in instances.as_slice() {
         let (template, imask, place) = (row.template, row.imask, row.place);
-        told.answer(&format!(in told.alloc; "instance {template} {imask} {place}")?)?;
+        told.answer_made(format!(in told.alloc; "instance {template} {imask} {place}"));
     }
     Ok(())
 }
 
 fn tell_gone<S: Alter>(tx: &mut Transaction<'_, S>, told: &mut Told) -> Result<(), Error> {
-    for row in select_gone(tx, 1)?.as_slice() {
+    let gone = select_gone(tx, 1)?;
+    for row in gone.as_slice() {
         let (template, imask, mark) = (row.template, row.imask, row.mark.as_str());
-        told.answer(&format!(in told.alloc; "gone {template} {imask} {mark}")?)?;
+        told.answer_made(format!(in told.alloc; "gone {template} {imask} {mark}"));
     }
     Ok(())
 }
 
 /// The person, identifier, number, status and body of each reply, which is found again by the first two.
 fn tell_kept<S: Alter>(tx: &mut Transaction<'_, S>, told: &mut Told) -> Result<(), Error> {
-    for row in select_kept(tx)?.as_slice() {
+    let replies = select_kept(tx)?;
+    for row in replies.as_slice() {
         let id = row.id.write();
         let id = str::from_utf8(&id).unwrap_or("no text");
         let found = find_kept(tx, row.person, row.id)?;
@@ -134,7 +159,7 @@ fn tell_kept<S: Alter>(tx: &mut Transaction<'_, S>, told: &mut Told) -> Result<(
             None => "not found",
         };
         let (person, number, status) = (row.person, row.number, row.status);
-        told.answer(&format!(in told.alloc; "kept {person} {id} {number} {status} {body}")?)?;
+        told.answer_made(format!(in told.alloc; "kept {person} {id} {number} {status} {body}"));
     }
     Ok(())
 }
@@ -146,10 +171,10 @@ fn tell_lent<S: Alter>(conn: &mut Connection<S>, told: &mut Told) -> Result<(), 
     for _ in 0..MOST_TASKS {
         match next_task(&mut rows)? {
             Some(task) if task.place == count.saturating_add(1) => count = task.place,
-            Some(_) => told.answer("a task in another place")?,
+            Some(_) => told.answer("a task in another place"),
             None => break,
         }
     }
-    told.answer(&format!(in told.alloc; "lent {count}")?)?;
+    told.answer_made(format!(in told.alloc; "lent {count}"));
     Ok(())
 }

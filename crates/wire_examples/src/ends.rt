@@ -1,5 +1,6 @@
 //! Readers and writers in memory.
-use std::io::{self, Read, Write};
+use std::io;
+use std::io::{Read, Write};
 
 /// Gives the bytes up to `cut` first, then the others, and never more than `size` at a time; behind them it ends or is interrupted.
 #[derive(Drop)]
