@@ -1,0 +1,119 @@
+#!/bin/sh
+# Copies a file of boards, also while it is served, checks the copy, and keeps the newest copies.
+#
+#   backup.sh FILE FOLDER [KEEP]
+#
+# FILE is the file of boards. The copy is FOLDER/NAME-MOMENT.db, where NAME is the file's name without `.db` and MOMENT is the
+# second at which the copy began, in UTC. KEEP copies of this NAME stay there, 14 where it isn't given; older ones go once the new
+# one was checked. It prints the path of the copy, and what `taskboard check` says of it.
+#
+# What was answered before the copy began is in it. The server isn't stopped, and nothing is written beside FILE.
+# The program is the one of $TASKBOARD, or else `taskboard` of the PATH. The status is 0 where the copy is there and was checked,
+# 1 where it isn't, and then no copy goes, and 2 where the words aren't right.
+set -u
+export LC_ALL=C
+umask 077
+program=${TASKBOARD:-taskboard}
+part=
+
+fail() {
+    echo "backup.sh: $1" >&2
+    exit 1
+}
+
+usage() {
+    echo "usage: backup.sh FILE FOLDER [KEEP], where KEEP is a whole number from 1" >&2
+    exit 2
+}
+
+# The path with a folder in front, so that no name is taken as an option.
+with_folder() {
+    case $1 in
+    -*) printf './%s\n' "$1" ;;
+    *) printf '%s\n' "$1" ;;
+    esac
+}
+
+is_readable() {
+    [ -f "$file" ] && [ -r "$file" ]
+}
+
+is_writable() {
+    [ -d "$folder" ] && [ -w "$folder" ]
+}
+
+# Where the copy goes: by the second at which it begins, and each second has one.
+name_copy() {
+    copy=$folder/$name-$(date -u +%Y%m%dT%H%M%SZ).db
+    while [ -e "$copy" ]; do
+        sleep 1
+        copy=$folder/$name-$(date -u +%Y%m%dT%H%M%SZ).db
+    done
+}
+
+# The first 32 bytes of a log, as words, or nothing where there is no log.
+header_of() {
+    if [ -f "$1" ]; then
+        od -A n -v -t x1 -N 32 "$1"
+    fi
+}
+
+# Copies the file and then its log. The log is emptied only once the file has what it held, and begins with other bytes from then on:
+# where its first bytes were the same before the file was copied and after the log was, file and log belong together.
+copy_both() {
+    rm -f "$part/$name.db" "$part/$name.db-wal"
+    before=$(header_of "$file-wal")
+    cp "$file" "$part/$name.db" || return 1
+    if [ -f "$file-wal" ]; then
+        cp "$file-wal" "$part/$name.db-wal" || return 1
+    fi
+    [ "$(header_of "$part/$name.db-wal")" = "$before" ] && [ "$(header_of "$file-wal")" = "$before" ]
+}
+
+# Tries until no log was emptied meanwhile: at once at first, then a second apart.
+copy_whole() {
+    tries=1
+    while ! copy_both; do
+        is_readable || fail "$file can't be read"
+        [ "$tries" -lt 60 ] || fail "the log of $file was emptied during each of 60 copies, or a copy failed: stop the server for the time of a copy"
+        if [ "$tries" -ge 20 ]; then
+            sleep 1
+        fi
+        tries=$((tries + 1))
+    done
+}
+
+# Removes the oldest copies of this name.
+keep_newest() {
+    set -- "$folder/$name"-[0-9][0-9][0-9][0-9][0-9][0-9][0-9][0-9]T[0-9][0-9][0-9][0-9][0-9][0-9]Z.db
+    while [ $# -gt "$keep" ]; do
+        rm -f "$1"
+        shift
+    done
+}
+
+[ $# -eq 2 ] || [ $# -eq 3 ] || usage
+keep=${3:-14}
+case $keep in
+'' | *[!0-9]* | 0*) usage ;;
+esac
+file=$(with_folder "$1")
+folder=$(with_folder "$2")
+name=$(basename "$file" .db)
+
+command -v "$program" >/dev/null 2>&1 || fail "the program $program isn't there: name it by TASKBOARD"
+is_readable || fail "$file isn't a file that can be read"
+is_writable || fail "$folder isn't a folder that can be written to"
+
+trap 'if [ -n "$part" ]; then rm -rf "$part"; fi' EXIT
+trap 'exit 1' HUP INT TERM
+part=$(mktemp -d "$folder/.$name.XXXXXX") || fail "no folder can be made in $folder"
+name_copy
+copy_whole
+# The program puts what the log holds into the file.
+checked=$("$program" check "$part/$name.db") || fail "the copy of $file didn't pass the check: ${checked:-taskboard check failed}"
+sync "$part/$name.db" || fail "$part/$name.db can't be brought to the disk"
+mv "$part/$name.db" "$copy" || fail "$copy can't be made"
+sync "$folder"
+keep_newest
+printf '%s %s\n' "$copy" "$checked"
