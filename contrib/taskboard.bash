@@ -1,0 +1,61 @@
+# Completion of taskboard's orders, options and files for bash: read by bash-completion, or by `source contrib/taskboard.bash`.
+
+# Names of files and folders that begin with the word.
+_taskboard_files() {
+    compopt -o filenames 2>/dev/null
+    mapfile -t COMPREPLY < <(compgen -f -- "$1")
+}
+
+_taskboard_words() {
+    mapfile -t COMPREPLY < <(compgen -W "$1" -- "$2")
+}
+
+# The place of a word among those that are no option: 1 is the order, 2 its file.
+_taskboard_place() {
+    local at place=0
+    for ((at = 1; at <= COMP_CWORD; at++)); do
+        case ${COMP_WORDS[at - 1]} in
+        --port | --connections) continue ;;
+        esac
+        case ${COMP_WORDS[at]} in
+        --port | --connections | --forever | --log) ;;
+        *) place=$((place + 1)) ;;
+        esac
+    done
+    echo "$place"
+}
+
+_taskboard_of_serve() {
+    case ${COMP_WORDS[COMP_CWORD - 1]} in
+    --port | --connections)
+        COMPREPLY=()
+        return
+        ;;
+    esac
+    case $2 in
+    -*) _taskboard_words "--port --connections --forever --log" "$2" ;;
+    *)
+        if [ "$(_taskboard_place)" -eq 2 ]; then
+            _taskboard_files "$2"
+        else
+            _taskboard_words "--port --connections --forever --log" "$2"
+        fi
+        ;;
+    esac
+}
+
+_taskboard() {
+    local order=${COMP_WORDS[1]}
+    COMPREPLY=()
+    if [ "$COMP_CWORD" -eq 1 ]; then
+        _taskboard_words "init serve run import list export todo check" "$2"
+        return
+    fi
+    case $order:$COMP_CWORD in
+    serve:*) _taskboard_of_serve "$@" ;;
+    init:2 | import:2 | list:2 | export:2 | todo:2 | check:2) _taskboard_files "$2" ;;
+    import:7) _taskboard_words "json todo" "$2" ;;
+    esac
+}
+
+complete -F _taskboard taskboard

@@ -1,0 +1,145 @@
+"""Copies a file of boards while clients add tasks to it, and restores a copy: python3 backup.py PROGRAM PORT BACKUP, in a folder that it
+may write to. BACKUP is the script that copies."""
+import json
+import os
+import pathlib
+import shutil
+import sqlite3
+import subprocess
+import sys
+import threading
+import time
+
+from talking import Server, adding, answer_to, description, expect_each_once, is_whole, make_file, status_of
+
+PROGRAM, PORT, BACKUP = sys.argv[1], int(sys.argv[2]), sys.argv[3]
+CLIENTS, COPIES, KEPT = 3, 3, 2
+# How many messages a client sends, which is less than a connection carries.
+MOST = 900
+FOLDER = pathlib.Path("copies")
+# A program that copies, and for its first six times waits behind it: the server empties its log meanwhile.
+SLOW = """#!/bin/sh
+{cp} "$@" || exit 1
+echo >>count
+[ "$(wc -l <count)" -gt 6 ] || sleep 0.15
+"""
+
+
+def expect(what, is_so):
+    if not is_so:
+        sys.exit(f"backup: {what}")
+
+
+class Sender(threading.Thread):
+    """A client that adds one task after the other, and counts those that were answered."""
+
+    def __init__(self, server, first):
+        super().__init__(daemon=True)
+        self.server, self.first, self.answered, self.goes_on, self.fault = server, first, 0, True, None
+
+    def run(self):
+        with self.server.connect() as client:
+            while self.goes_on and self.fault is None and self.answered < MOST:
+                answer = answer_to(client, adding(self.first + self.answered))
+                if is_whole(answer) and status_of(answer) == 200:
+                    self.answered += 1
+                else:
+                    self.fault = f"an answer: {answer[:80]}"
+
+    def numbers(self):
+        return range(self.first, self.first + self.answered)
+
+
+def ran_backup(file, *more):
+    path = f"{os.getcwd()}/slow:{os.environ['PATH']}"
+    return subprocess.run(["sh", BACKUP, file, str(FOLDER), *more], env={**os.environ, "PATH": path, "TASKBOARD": PROGRAM}, capture_output=True, text=True)
+
+
+def make_slow_copying():
+    slow = pathlib.Path("slow/cp")
+    slow.parent.mkdir()
+    slow.write_text(SLOW.format(cp=shutil.which("cp")))
+    slow.chmod(0o755)
+
+
+def tasks_in(copy):
+    exported = subprocess.run([PROGRAM, "export", copy, "ann", "ann-key-1", "1"], check=True, stdout=subprocess.PIPE)
+    return [task["description"] for task in json.loads(exported.stdout)]
+
+
+def copy_while_serving(senders):
+    """Makes a copy, which has to hold each task once that was answered before, and gives its path and what it has."""
+    before = {description(number) for sender in senders for number in sender.numbers()}
+    done = ran_backup("b.db", str(KEPT))
+    expect(f"it ended with {done.returncode}: {done.stdout}{done.stderr}", done.returncode == 0)
+    copy, checked = done.stdout.rstrip("\n").split(" ", 1)
+    expect(f"the copy was checked: {checked}", checked.endswith("faults 0"))
+    expect("it is for its owner alone", os.stat(copy).st_mode & 0o077 == 0)
+    expect("it needs no log", not os.path.exists(copy + "-wal"))
+    # It is looked at in another place, since each order leaves a log.
+    shutil.copy(copy, "looked-at.db")
+    found = tasks_in("looked-at.db")
+    expect("no task is there twice", len(found) == len(set(found)))
+    lost = before - set(found)
+    expect(f"what was answered before is in it: lost {sorted(lost)[:5]}", not lost)
+    return copy, set(found)
+
+
+def sqlite_reads(copy):
+    """Another program finds the copy whole."""
+    with sqlite3.connect(copy) as other:
+        expect("SQLite finds it whole", other.execute("PRAGMA integrity_check").fetchall() == [("ok",)])
+    other.close()
+    subprocess.run(["rm", "-f", copy + "-wal", copy + "-shm"], check=True)
+
+
+def refuses():
+    """What can't be copied or checked leaves the copies as they are."""
+    kept = sorted(FOLDER.iterdir())
+    expect("a missing file is refused", ran_backup("missing.db").returncode == 1)
+    expect("nothing was made", not os.path.exists("missing.db"))
+    expect("a count of none is refused", ran_backup("b.db", "0").returncode == 2)
+    pathlib.Path("b.txt").write_text("no database\n")
+    expect("what fails the check is refused", ran_backup("b.txt", "1").returncode == 1)
+    expect("the copies stay", sorted(FOLDER.iterdir()) == kept)
+
+
+def restore(copy, found, senders):
+    """Serves a copy in the place of the file, and sends again what it lacks and some that it has: nothing is lost or there twice."""
+    for name in ("b.db", "b.db-wal"):
+        os.rename(name, "old-" + name)
+    shutil.copy(copy, "b.db")
+    numbers = [number for sender in senders for number in sender.numbers()]
+    again = [number for number in numbers if description(number) not in found or number % 10 == 1]
+    with open("errors", "w") as errors, Server(PROGRAM, PORT, errors=errors) as server:
+        for at in range(0, len(again), MOST):
+            with server.connect() as client:
+                for number in again[at : at + MOST]:
+                    expect("an answer", status_of(answer_to(client, adding(number))) == 200)
+    expect_each_once(PROGRAM, numbers)
+
+
+def main():
+    begun = time.monotonic()
+    FOLDER.mkdir()
+    make_slow_copying()
+    make_file(PROGRAM)
+    with open("errors", "w") as errors, Server(PROGRAM, PORT, errors=errors) as server:
+        senders = [Sender(server, 1 + 1000 * at) for at in range(CLIENTS)]
+        for sender in senders:
+            sender.start()
+        copies = [copy_while_serving(senders) for _ in range(COPIES)]
+        for sender in senders:
+            sender.goes_on = False
+            sender.join()
+            expect(sender.fault, sender.fault is None)
+    tries = pathlib.Path("count").read_text().count("\n") // 2
+    expect(f"{KEPT} copies stay", sorted(map(str, FOLDER.iterdir())) == sorted(copy for copy, _ in copies)[-KEPT:])
+    sqlite_reads(copies[-1][0])
+    refuses()
+    restore(*copies[-2], senders)
+    sizes = ", ".join(str(len(found)) for _, found in copies)
+    print(f"copies of {sizes} tasks, in {tries} tries, while {CLIENTS} clients added, one restored, in {time.monotonic() - begun:.0f} s")
+
+
+main()
