@@ -1,6 +1,6 @@
 #!/bin/sh
 # What the program shows by itself, in under three minutes and without a prover: the worked scripts, the bytes of connections, orders over
-# real files, a server that is killed, silent, slow and many clients, and files that another hand changed. What a machine lacks is skipped by name.
+# real files, a server that is killed, silent, slow and many clients, files that another hand changed, and copies of a file that is served. What a machine lacks is skipped by name.
 set -u
 cd "$(dirname "$0")/.."
 failed=
@@ -34,6 +34,7 @@ attempt curl.sh python3 curl
 attempt silent.sh python3
 attempt crowd.sh python3
 attempt clients.sh python3
+attempt backup.sh python3
 
 if [ -n "$failed" ]; then
     echo "FAILED:$failed"
