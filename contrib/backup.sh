@@ -63,9 +63,10 @@ header_of() {
 copy_both() {
     rm -f "$part/$name.db" "$part/$name.db-wal"
     before=$(header_of "$file-wal")
-    cp "$file" "$part/$name.db" || return 1
-    if [ -f "$file-wal" ]; then
-        cp "$file-wal" "$part/$name.db-wal" || return 1
+    cp "$file" "$part/$name.db" || fail "$file can't be copied into $folder"
+    # An order that ends may take an empty log away meanwhile.
+    if [ -f "$file-wal" ] && ! cp "$file-wal" "$part/$name.db-wal"; then
+        [ ! -f "$file-wal" ] || fail "$file-wal can't be copied into $folder"
     fi
     [ "$(header_of "$part/$name.db-wal")" = "$before" ] && [ "$(header_of "$file-wal")" = "$before" ]
 }
@@ -74,8 +75,7 @@ copy_both() {
 copy_whole() {
     tries=1
     while ! copy_both; do
-        is_readable || fail "$file can't be read"
-        [ "$tries" -lt 60 ] || fail "the log of $file was emptied during each of 60 copies, or a copy failed: stop the server for the time of a copy"
+        [ "$tries" -lt 60 ] || fail "the log of $file was emptied during each of 60 copies: stop the server for the time of a copy"
         if [ "$tries" -ge 20 ]; then
             sleep 1
         fi
@@ -104,6 +104,8 @@ name=$(basename "$file" .db)
 command -v "$program" >/dev/null 2>&1 || fail "the program $program isn't there: name it by TASKBOARD"
 is_readable || fail "$file isn't a file that can be read"
 is_writable || fail "$folder isn't a folder that can be written to"
+# The log lies beside the file itself, and not beside a link to it.
+file=$(readlink -f "$file")
 
 trap 'if [ -n "$part" ]; then rm -rf "$part"; fi' EXIT
 trap 'exit 1' HUP INT TERM

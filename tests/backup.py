@@ -93,6 +93,17 @@ def sqlite_reads(copy):
     subprocess.run(["rm", "-f", copy + "-wal", copy + "-shm"], check=True)
 
 
+def follows_links(senders):
+    """The log beside the file is copied, and not looked for beside a link to it."""
+    os.symlink("b.db", "link.db")
+    done = ran_backup("link.db")
+    expect(f"a link is followed: {done.stderr}", done.returncode == 0)
+    copy = done.stdout.split(" ", 1)[0]
+    expect("what the log had is in it", set(tasks_in(copy)) == {description(number) for sender in senders for number in sender.numbers()})
+    for name in (copy, copy + "-wal", "link.db"):
+        os.remove(name)
+
+
 def refuses():
     """What can't be copied or checked leaves the copies as they are."""
     kept = sorted(FOLDER.iterdir())
@@ -136,6 +147,7 @@ def main():
     tries = pathlib.Path("count").read_text().count("\n") // 2
     expect(f"{KEPT} copies stay", sorted(map(str, FOLDER.iterdir())) == sorted(copy for copy, _ in copies)[-KEPT:])
     sqlite_reads(copies[-1][0])
+    follows_links(senders)
     refuses()
     restore(*copies[-2], senders)
     sizes = ", ".join(str(len(found)) for _, found in copies)

@@ -54,6 +54,14 @@ if is_there groff; then
     [ ! -s warnings ] || fail "the man page: $(cat warnings)"
 fi
 
+# The man page has each fault and each refusal by its name.
+names=$(sed -n 's/^ *Fault::.* => "\(.*\)",$/\1/p' "$top/crates/tb_program/src/fault.rt"
+    sed -n 's/^| [0-9]* \([A-Z][A-Za-z]*\) |.*/\1/p' "$top/docs/HTTP.md")
+for name in $names; do
+    grep -qw "$name" "$contrib/taskboard.1" || fail "the man page lacks $name"
+done
+[ "$(echo "$names" | wc -l)" -gt 20 ] || fail "the names of faults and refusals weren't found"
+
 # What bash offers in the place of the last word.
 offered() {
     bash -c '
