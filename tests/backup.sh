@@ -42,7 +42,7 @@ done
 if is_there shellcheck; then
     shellcheck "$contrib"/*.sh "$contrib/taskboard.bash"
 fi
-if is_there systemd-analyze; then
+if is_there systemd-analyze && is_there man; then
     units=$prefix/lib/systemd/system
     cp "$units/taskboard@.service" "$units/taskboard@office.service"
     MANPATH="$prefix/share/man:" systemd-analyze verify "$units/taskboard.service" "$units/taskboard@office.service" \
