@@ -1,5 +1,5 @@
 #!/bin/sh
-# Installs the program, its man page, its completion for bash, the backup script, the units and the documents, and says what it did.
+# Installs the program, the backup script, their man pages, the completion for bash, the units and the documents, and says what it did.
 #
 #   contrib/install.sh [--prefix FOLDER]              installs below FOLDER, /usr/local where it isn't given
 #   contrib/install.sh [--prefix FOLDER] --uninstall  removes what that put there
@@ -28,6 +28,7 @@ parts() {
 755 bin/taskboard PROGRAM
 755 bin/taskboard-backup contrib/backup.sh
 644 share/man/man1/taskboard.1 contrib/taskboard.1
+644 share/man/man1/taskboard-backup.1 contrib/taskboard-backup.1
 644 share/bash-completion/completions/taskboard contrib/taskboard.bash
 644 lib/systemd/system/taskboard.service contrib/taskboard.service
 644 lib/systemd/system/taskboard@.service contrib/taskboard@.service

@@ -1,7 +1,7 @@
 #!/bin/sh
 # Copies a file by contrib/backup.sh while three clients add tasks to it: what was answered before the copy began is in it, and a copy that
 # is served in the file's place takes the same calls again. Then it installs all of contrib/ into a folder and removes it again, and lets
-# whatever of shellcheck, systemd-analyze, groff and bash is there look at its scripts, units, man page and completion.
+# whatever of shellcheck, systemd-analyze, groff and bash is there look at its scripts, units, man pages and completion.
 # It needs python3 with its sqlite3, and takes under ten seconds once the program is there.
 set -eu
 
@@ -50,8 +50,8 @@ if is_there systemd-analyze && is_there man; then
     rm "$units/taskboard@office.service"
 fi
 if is_there groff; then
-    groff -man -Tutf8 -ww "$contrib/taskboard.1" >page 2>warnings
-    [ ! -s warnings ] || fail "the man page: $(cat warnings)"
+    groff -man -Tutf8 -ww "$contrib/taskboard.1" "$contrib/taskboard-backup.1" >page 2>warnings
+    [ ! -s warnings ] || fail "the man pages: $(cat warnings)"
 fi
 
 # The man page has each fault and each refusal by its name.
