@@ -5,12 +5,15 @@ use Rattle.tb_http.specs.declared.fault.WireFault.{WireFault}
 use Rattle.tb_http.specs.declared.fault.WireFault.TheVariants.{BadHead, HeadTooLong}
 use Rattle.tb_http.specs.declared.begun.Begun.{Begun}
 use Rattle.tb_http.specs.declared.message.Head.{Head}
+use Rattle.tb_http.specs.declared.open_head.OpenHead.{OpenHead}
 use Rattle.tb_http.specs.Head.{HasBadLine}
 use Rattle.tb_http.specs.declared.message.Message.{Message}
 use Rattle.tb_http.specs.Message.{message_from}
+use Rattle.tb_http.specs.OpenHead.{IsOpenHead}
 use Rattle.tb_http.specs.Wire.{head_limit, BeginsWithHead, BeginsWithMessage, IsOpen}
 use Rattle.tb_http.specs.Inbox.{HasFault, IsBegun, IsUnfinished}
 use Rattle.tb_http.specs.Framing.{body_length}
+use Rattle.tb_http.proofs.OpenHeadLemmas.{open_head_is_open}
 use Rattle.tb_http.proofs.WireLemmas.{bad_window, begins_grown, begins_more}
 
 pub bad_whatever : (held : List ℕ) → HasBadLine (take head_limit held) → HasFault held BadHead
@@ -31,6 +34,10 @@ open_is_unfinished (b ∷ held) is_open short = inr (inl (is_open, omega arith, 
 
 pub open_unfinished : (held : List ℕ) → IsOpen (take head_limit held) → length held ≤ head_limit → IsUnfinished held
 open_unfinished held is_open short = open_is_unfinished held (subst IsOpen (take_all head_limit held short) is_open) short
+
+-- a head whose last line has no end in all that came
+pub awaits_line : (held : List ℕ) (so_far : OpenHead) → IsOpenHead held so_far → so_far.searched ≡ length held → length held ≤ head_limit → IsUnfinished held
+awaits_line held so_far is all short = open_is_unfinished held (open_head_is_open held so_far is all) short
 
 -- a body that has not come whole
 pub lacks_body : (held : List ℕ) (begun : Begun) → IsBegun held begun → length held < begun.len + begun.size → IsUnfinished held

@@ -307,15 +307,20 @@ open_more held more so_far is = record {
   no_end = λ k from below. rw (get_or_append_left held more 0 k (omega (arith, is.inside))) (is.no_end k from below);
 }
 
+-- the last line was searched on
+pub open_searched_to : (held : List ℕ) (so_far : OpenHead) (to : ℕ) → IsOpenHead held so_far → so_far.searched ≤ to → to ≤ length held
+    → ((k : ℕ) → so_far.searched ≤ k → k < to → get_or held k 0 ≢ 10) → IsOpenHead held (record so_far { searched = to })
+open_searched_to held so_far to is behind inside none = record {
+  ordered = omega (arith, is.ordered, behind);
+  inside = inside;
+  front = is.front;
+  no_end = λ k from below. elim (cases_lt k so_far.searched) [ inl before ↦ is.no_end k from before | inr after ↦ none k after below ];
+}
+
 -- the last line was searched as far as there are bytes
 pub open_searched : (held : List ℕ) (so_far : OpenHead) → IsOpenHead held so_far → ((k : ℕ) → so_far.searched ≤ k → k < length held → get_or held k 0 ≢ 10)
     → IsOpenHead held (record so_far { searched = length held })
-open_searched held so_far is none = record {
-  ordered = omega (arith, is.ordered, is.inside);
-  inside = omega arith;
-  front = is.front;
-  no_end = λ k from below. elim (cases_lt k so_far.searched) [ inl before ↦ is.no_end k from before | inr behind ↦ none k behind below ];
-}
+open_searched held so_far is none = open_searched_to held so_far (length held) is is.inside (omega arith) none
 
 -- ---- one line more
 

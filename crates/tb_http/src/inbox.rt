@@ -9,7 +9,7 @@ ghost use Rattle.tb_http.specs.Inbox.{HasFault, IsBegun, IsUnfinished};
 use crate::begun::{Begun, Taken, begin, take_begun};
 use crate::closing::MESSAGE_LIMIT;
 use crate::fault::WireFault;
-use crate::head::FIELD_ROOM;
+use crate::head::{FIELD_ROOM, HEAD_LIMIT};
 use crate::message::Message;
 use crate::open_head::OpenHead;
 use httparse::spans::{EMPTY_HEADER_SPAN, HeaderSpan};
@@ -43,6 +43,19 @@ fn release_room(alloc: Global, held: &mut Vec<u8>)
     }
 }
 
+// Puts bytes behind those that are held. A single one needs no copying of a slice.
+#[inline]
+fn append(held: &mut Vec<u8>, piece: &[u8]) -> Result<(), AllocError>
+    ensures ok { OnOk result (held.new.items ≡ held.old.items ++ piece.now) }
+    ensures err { OnErr result (held.new.items ≡ held.old.items) }
+{
+    let [byte] = piece else {
+        return held.extend_from_slice(piece);
+    };
+    held.push(*byte)?;
+    Ok(())
+}
+
 // What was begun, or else the head that is whole now.
 fn take_begun_or_begin(
     alloc: Global,
@@ -67,6 +80,7 @@ fn take_begun_or_begin(
 }
 
 // Takes the next message, if it is whole. What was read of its head is kept.
+#[inline(never)]
 fn take_next(
     alloc: Global,
     so_far: &mut OpenHead,
@@ -173,16 +187,31 @@ impl Inbox {
     }
 
     /// Puts bytes that came behind those that are held.
+    #[inline]
     pub fn push(&mut self, piece: &[u8]) -> Result<(), AllocError>
         ensures ok { OnOk result (self.new ≡ record self.old { bytes = self.old.bytes ++ piece.now }) }
         ensures err { OnErr result (self.new ≡ self.old) }
     {
-        self.held.extend_from_slice(piece)?;
+        append(&mut self.held, piece)?;
+        self.so_far.search(&self.held);
         Ok(())
+    }
+
+    // Whether no message can be whole before more bytes come: by the length of a body that was begun, or because a
+    // head has no further line.
+    #[inline]
+    fn awaits_more(&self) -> bool
+        ensures { result ≡ true → IsUnfinished self.now.bytes }
+    {
+        match &self.begun {
+            Some(begun) => self.held.len() < begun.len + begun.size,
+            None => self.so_far.searched == self.held.len() && self.held.len() <= HEAD_LIMIT,
+        }
     }
 
     /// Takes the next message, if it is whole: None says that more bytes are needed. A message closes the connection where its sender
     /// says so and where it is the 1,000th, and a fault closes it.
+    #[inline]
     pub fn next_message(
         &mut self,
         alloc: Global,
@@ -199,6 +228,9 @@ impl Inbox {
     {
         if self.is_closing {
             return Err(WireFault::Ended);
+        }
+        if self.awaits_more() {
+            return Ok(None);
         }
         self.is_closing = true;
         let found = take_next(

@@ -30,9 +30,19 @@ impl OpenHead {
             is_in_fields: false,
         }
     }
+
+    /// Searches what came for the end of the last line, up to the first one.
+    #[inline]
+    pub fn search(&mut self, held: &[u8])
+        requires { IsOpenHead held.now self.old }
+        ensures { IsOpenHead held.now self.new }
+    {
+        self.searched = feed_at(held, self.searched);
+    }
 }
 
 // Where the first line ends that has its end behind an offset.
+#[inline]
 fn line_end(bytes: &[u8], from: usize) -> Option<usize>
     requires { from ≤ length bytes.now }
     ensures { MatchOption result ((k : ℕ) → from ≤ k → k < length bytes.now → slice_index bytes.now k ≢ line_feed)
@@ -47,6 +57,19 @@ fn line_end(bytes: &[u8], from: usize) -> Option<usize>
         end += 1;
     }
     None
+}
+
+// Where the first line feed is from an offset on, or else the end.
+#[inline]
+fn feed_at(bytes: &[u8], from: usize) -> usize
+    requires { from ≤ length bytes.now }
+    ensures within { (from ≤ result) × (result ≤ length bytes.now) }
+    ensures none { (k : ℕ) → from ≤ k → k < result → slice_index bytes.now k ≢ line_feed }
+{
+    match line_end(bytes, from) {
+        Some(end) => end - 1,
+        None => bytes.len(),
+    }
 }
 
 fn is_empty_line(line: &[u8]) -> bool
