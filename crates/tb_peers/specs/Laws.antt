@@ -1,8 +1,9 @@
 -- What is true of the connections of a server, whatever is done to them.
 use Rattle.std.specs.Prelude.{◌≡◌, ℕ, List, [], ◌∷◌, Option}
 use Rattle.tb_calls.specs.Calls.{State}
+use Rattle.tb_http.specs.Stream.{Received}
 use Rattle.tb_peers.specs.Server.{Timed, calls_among, server}
-use Rattle.tb_serve.specs.Serving.{Received, answers}
+use Rattle.tb_serve.specs.Serving.{answers}
 use Rattle.tb_serve.specs.Telling.{after}
 use Rattle.tb_turns.specs.Turns.{Run, Step, Talk}
 use Rattle.tb_turns.specs.Told.{AllAt, AllWell, IsSame, IsServed, handled, taken_on, told_on}

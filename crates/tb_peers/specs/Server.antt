@@ -7,8 +7,9 @@ use Rattle.tb_calls.specs.Calls.{State}
 use Rattle.tb_http.specs.declared.fault.WireFault.{WireFault}
 use Rattle.tb_http.specs.Inbox.{HasFault, IsUnfinished}
 use Rattle.tb_http.specs.Message.{takes_body}
+use Rattle.tb_http.specs.Stream.{Received}
 use Rattle.tb_http.specs.Wire.{BeginsWithMessage, is_last}
-use Rattle.tb_serve.specs.Serving.{Received, answer_to, unread_text}
+use Rattle.tb_serve.specs.Serving.{answer_to, unread_text}
 use Rattle.tb_serve.specs.Telling.{after, calls_in, failed_text}
 use Rattle.tb_turns.specs.Turns.{Serving}
 

@@ -9,12 +9,13 @@ use Rattle.tb_calls.specs.Calls.{State}
 use Rattle.tb_calls.specs.Keeping.{Only}
 use Rattle.tb_desk.proofs.Runs.{after_all-append}
 use Rattle.tb_http.specs.declared.message.Message.{Message}
+use Rattle.tb_http.specs.Stream.{Brings, Received}
 use Rattle.tb_http.specs.Wire.{BeginsWithMessage, is_last}
 use Rattle.tb_serve.specs.declared.serving.Exchange.{Exchange}
 use Rattle.tb_serve.specs.declared.serving.ServeEnd.{ServeEnd}
 use Rattle.tb_serve.specs.declared.serving.Turn.{Turn}
 use Rattle.tb_serve.specs.declared.serving.Turn.TheVariants.{Told, Failed, Unread}
-use Rattle.tb_serve.specs.Serving.{Brings, Exchanges, Handles, HandlesMessage, IsServed, Received, Sends, Turns, answer_to, answers, calls_of, ended_by, ended_well, ends_last, goes_on, later, left_by, next, no_start, none_closes}
+use Rattle.tb_serve.specs.Serving.{Exchanges, Handles, HandlesMessage, IsServed, Sends, Turns, answer_to, answers, calls_of, ended_by, ended_well, ends_last, goes_on, later, left_by, next, no_start, none_closes}
 use Rattle.tb_serve.specs.Telling.{StandsAt, after, calls_in}
 use Rattle.tb_serve.proofs.Lists.{answers-push, brings-push, calls-push, ends-push, left-push, none-push, reached, reached-after}
 

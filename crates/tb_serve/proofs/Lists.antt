@@ -3,8 +3,9 @@ use Rattle.std.proofs.Common.{◌≡◌, ℕ, ◌+◌, ◌&&◌, Bool, true, fal
 use Rattle.std.proofs.lemmas.List.{append-nil}
 use Rattle.tb_calls.specs.Calls.{State}
 use Rattle.tb_desk.proofs.Runs.{after_all-append}
+use Rattle.tb_http.specs.Stream.{Brings, Received}
 use Rattle.tb_http.specs.Wire.{BeginsWithMessage, is_last}
-use Rattle.tb_serve.specs.Serving.{Brings, Received, answer_to, answers, calls_of, ends_last, later, left_by, next, none_closes}
+use Rattle.tb_serve.specs.Serving.{answer_to, answers, calls_of, ends_last, later, left_by, next, none_closes}
 use Rattle.tb_serve.specs.Telling.{after, calls_in}
 
 pub brings-push : (bytes : List ℕ) (ms : List Received) (left : List ℕ) (m : Received) (rest : List ℕ)

@@ -12,6 +12,7 @@ use Rattle.tb_http.specs.declared.message.Message.{Message}
 use Rattle.tb_http.specs.Answer.{answer_text, fault_answer}
 use Rattle.tb_http.specs.Fault.{body_of, status_of}
 use Rattle.tb_http.specs.Message.{takes_body}
+use Rattle.tb_http.specs.Stream.{Brings, Received}
 use Rattle.tb_http.specs.Wire.{BeginsWithMessage, Faults, is_last}
 use Rattle.tb_serve.specs.declared.serving.Exchange.{Exchange}
 use Rattle.tb_serve.specs.declared.serving.ServeEnd.{ServeEnd}
@@ -21,17 +22,7 @@ use Rattle.tb_serve.specs.declared.serving.Turn.{Turn}
 use Rattle.tb_serve.specs.declared.serving.Turn.TheVariants.{Told, Failed, Unread}
 use Rattle.tb_serve.specs.Telling.{FailedAt, StandsAt, after, calls_in, failed_text, told_at, told_text}
 
--- ---- messages and moments
-
--- A message that was read, and whether its sender closes the connection after it.
-pub record Received : Type 0 where
-  pub message : Message
-  pub closes : Bool
-
--- bytes begin with these messages, and the rest is behind them
-abbrev pub Brings : List ℕ → List Received → List ℕ → Type 0
-Brings bytes [] rest = bytes ≡ rest
-Brings bytes (m ∷ ms) rest = (behind : List ℕ) × BeginsWithMessage bytes m.message m.closes behind × Brings behind ms rest
+-- ---- moments
 
 -- what the clock gives next, and what it has behind that; at its end it gives no moment
 abbrev pub next : List (Option ℕ) → Option ℕ
