@@ -1,3 +1,4 @@
+pub mod Connections
 pub mod Headline
 pub mod ImportAgain
 pub mod Sessions

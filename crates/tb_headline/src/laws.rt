@@ -1,13 +1,23 @@
 //! Laws over whole runs.
 
-ghost use Rattle.tb_headline.specs.ImportAgain.{ImportJsonAgain};
+ghost use Rattle.tb_headline.specs.Connections.{HeadlineOfConnections, StopsJoin, TellsReplies};
 ghost use Rattle.tb_headline.specs.Headline.{Headline};
+ghost use Rattle.tb_headline.specs.ImportAgain.{ImportJsonAgain};
 
 /// Whenever sessions stop, and whatever is sent again at whatever moment: once every call of a list was answered, the boards and the
 /// kept replies are those of the list handled once, each answer is the one that the list without a stop gives, and the boards are good.
 /// The list is of all calls, whoever sends them. Of each call the moment counts at which it stood first.
 pub fn headline()
     ensures { Headline }
+{}
+
+/// The same where the calls come over many connections, whatever turns these take: the list is of all calls in the order in which they
+/// were handled first. Each connection is told what its own messages ask for, and the replies to its calls are those of that list.
+/// What `session::serve` leaves of a session is what the next of them begins with.
+pub fn headline_of_connections()
+    ensures headline { HeadlineOfConnections }
+    ensures join { StopsJoin }
+    ensures told { TellsReplies }
 {}
 
 /// An import of the task format that comes again right after itself changes nothing, and says so.

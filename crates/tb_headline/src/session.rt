@@ -1,12 +1,13 @@
-//! A session over a file: it begins with an empty database or with a store that stands, and handles calls until it stops.
-ghost use Rattle.std.specs.Prelude.{◌≡◌, ◌≢◌, false, length, take, true, IfOk, None, Some};
+//! A session over a file: it begins with an empty database or with a store that stands, and handles calls, or serves connections, until it stops.
+ghost use Rattle.std.specs.Prelude.{◌≡◌, ◌≢◌, false, length, take, true, IfErr, IfOk, IsErr, None, OnErr, OnOk, Some};
 ghost use Rattle.sqlite.specs.Held.{state};
 ghost use Rattle.sqlite.specs.State.{HasCleanDisk, Opens};
 ghost use Rattle.tb_calls.specs.declared.fault.KeepFault.TheVariants.{Store};
 ghost use Rattle.tb_calls.specs.Calls.{State, once, plain};
 ghost use Rattle.tb_calls.specs.Opening.{opening};
-ghost use Rattle.tb_headline.specs.Sessions.{IsAt, IsSession};
+ghost use Rattle.tb_headline.specs.Sessions.{IsAt, IsCut, IsPlayed, IsSession};
 ghost use Rattle.tb_keeper.specs.Stored.{AreTreesOf};
+ghost use Rattle.tb_peers.specs.Happening.{done_at, talk_at};
 
 use sqlite::{Alter, Connection};
 use std::alloc::Global;
@@ -14,6 +15,8 @@ use tb_board::{Key, Name};
 use tb_calls::{Call, Keep};
 use tb_desk::{Desk, RunEnd};
 use tb_keeper::{CreateFault, SqlKeep};
+use tb_peers::{Happening, Peer, Tools, play};
+use tb_serve::ServeFault;
 use tb_sql::opening::OpenFault;
 
 /// Makes a store in an empty database, for one person, who owns the one board, and begins a session over it.
@@ -62,4 +65,28 @@ pub fn run<S: Alter>(alloc: Global, desk: &mut Desk<SqlKeep<S>>, calls: &[Call])
     ensures failed { result.fault ≡ Some Store → ⟦<SqlKeep<S> as Keep>⟧.has_failed desk.new ≡ true }
 {
     desk.run(alloc, calls)
+}
+
+/// Serves connections: things are done to them, one after the other, up to a failure of the store. Each connection is told what its own
+/// messages ask for, and whenever the session stops then, what is left is the rows of the state after all calls that were answered, in
+/// the order in which they were handled, and after one more at most.
+pub fn serve<S: Alter>(
+    alloc: Global,
+    tools: &mut Tools,
+    peers: &mut [Peer],
+    desk: &mut Desk<SqlKeep<S>>,
+    happenings: &[(usize, Happening<'_>)],
+) -> Result<(), ServeFault>
+    ensures played { (s : State)
+        → IsAt s (⟦<SqlKeep<S> as Keep>⟧.holds desk.old) (⟦<SqlKeep<S> as Keep>⟧.after_stop desk.old)
+        → OnOk result (IsPlayed s (done_at (length peers.old) happenings.now) (talk_at peers.old) (talk_at peers.new)
+        (⟦<SqlKeep<S> as Keep>⟧.holds desk.new) (⟦<SqlKeep<S> as Keep>⟧.after_stop desk.new) (state S.Store desk.new.conn)) }
+    ensures cut { (s : State)
+        → IsAt s (⟦<SqlKeep<S> as Keep>⟧.holds desk.old) (⟦<SqlKeep<S> as Keep>⟧.after_stop desk.old)
+        → OnErr result (IsCut s (done_at (length peers.old) happenings.now) (talk_at peers.old) (talk_at peers.new)
+        (⟦<SqlKeep<S> as Keep>⟧.holds desk.new) (⟦<SqlKeep<S> as Keep>⟧.after_stop desk.new) (state S.Store desk.new.conn)) }
+    ensures fault { IfErr result (λ fault. fault ≡ ServeFault.Store) }
+    ensures failed { IsErr result → ⟦<SqlKeep<S> as Keep>⟧.has_failed desk.new ≡ true }
+{
+    play(alloc, tools, peers, desk, happenings)
 }

@@ -39,7 +39,7 @@ some_behind s xs ys answered t is = (
   is.3 ∙ sym (after_all-append s xs (take is.0 ys)) ∙ ap (λ cs. after s cs) (sym (take_behind xs ys is.0)),
 )
 
-stands_behind : (s : State) (xs ys : List Call) (answered : ℕ) (now stops : State → Type 0) → StandsAfter (after s xs) ys answered now stops → StandsAfter s (xs ++ ys) (length xs + answered) now stops
+pub stands_behind : (s : State) (xs ys : List Call) (answered : ℕ) (now stops : State → Type 0) → StandsAfter (after s xs) ys answered now stops → StandsAfter s (xs ++ ys) (length xs + answered) now stops
 stands_behind s xs ys answered now stops stood = record {
   held = (stood.held.0, stood.held.1, some_behind s xs ys answered stood.held.0 stood.held.2);
   stops = λ t left. some_behind s xs ys answered t (stood.stops t left);
