@@ -1,9 +1,8 @@
 -- An import of the task format right after itself finds each of its tasks.
-use Rattle.std.proofs.Common.{◌≡◌, ℕ, ◌-◌, ◌==◌, ◌||◌, not, Bool, true, false, List, [], ◌∷◌, ◌++◌, Option, Some, None, Result, Ok, Err, length, find, nat_lt, refl, sym, ◌∙◌, ap, arith, subst, inl, inr, true≢false}
-use Rattle.std.specs.List.{AllByRecursion, list_any}
+use Rattle.std.proofs.Common.{◌≡◌, ℕ, ◌-◌, ◌||◌, not, Bool, true, false, List, [], ◌∷◌, ◌++◌, Option, Some, None, Result, Ok, Err, length, find, refl, sym, ◌∙◌, ap, arith, subst, inl, inr, true≢false}
+use Rattle.std.specs.List.{list_any}
 use Rattle.std.proofs.lemmas.Bool.{cases_Bool, eq-eqb, le-ltb}
 use Rattle.std.proofs.lemmas.List.Folds.{list_any-append}
-use Rattle.tb_task.specs.declared.task.Task.{Task}
 use Rattle.tb_task.specs.declared.incoming.Incoming.{Incoming}
 use Rattle.tb_graph.proofs.Leading.{is_acyclic_decides}
 use Rattle.tb_board.specs.declared.board.Board.{Board}

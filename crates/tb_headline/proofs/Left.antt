@@ -1,10 +1,10 @@
 -- What a session begins with, and what it leaves: what a stop leaves of a store is the rows of a state.
-use Rattle.std.proofs.Common.{◌≡◌, ◌⊎◌, ℕ, Bool, true, false, List, length, take, inl, inr}
+use Rattle.std.proofs.Common.{◌≡◌, ℕ, Bool, true, false, List, length, take, inl, inr}
 use Rattle.sqlite.specs.State.{HasCleanDisk, State as Database}
 use Rattle.sqlite_trees.specs.Tree.{Trees}
 use Rattle.tb_calls.specs.declared.call.Call.{Call}
 use Rattle.tb_calls.specs.Calls.{State, replies_to}
-use Rattle.tb_calls.specs.Keeping.{IsAfterSome, StandsAfter}
+use Rattle.tb_calls.specs.Keeping.{StandsAfter}
 use Rattle.tb_keeper.specs.Stored.{AreTreesOf, Holds, MayLeave}
 use Rattle.tb_reply.specs.declared.reply.Reply.{Reply}
 use Rattle.tb_keeper.specs.Laws.{alone}

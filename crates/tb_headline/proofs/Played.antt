@@ -1,5 +1,5 @@
 -- A session that serves connections: what was handled stands, in the order in which it was handled.
-use Rattle.std.proofs.Common.{◌≡◌, ℕ, ◌+◌, ◌==◌, Bool, false, List, ◌∷◌, ◌++◌, length, take, Option, Result, Ok, Err, arith, sym, ap, ◌∙◌, subst}
+use Rattle.std.proofs.Common.{◌≡◌, ℕ, ◌+◌, Bool, List, ◌++◌, length, take, Option, Result, Ok, Err, arith, sym, ap, ◌∙◌, subst}
 use Rattle.std.specs.Prelude.{OnErr, OnOk}
 use Rattle.sqlite.specs.State.{State as Database}
 use Rattle.tb_calls.specs.declared.call.Call.{Call}
