@@ -1,6 +1,7 @@
 #!/bin/sh
 # What the program shows by itself, in under three minutes and without a prover: the worked scripts, the bytes of connections, orders over
-# real files, a server that is killed, silent, slow and many clients, files that another hand changed, and copies of a file that is served. What a machine lacks is skipped by name.
+# real files, a server that is killed or whose file fails, silent, slow and many clients, files that another hand changed, and copies of a
+# file that is served. What a machine lacks is skipped by name.
 set -u
 cd "$(dirname "$0")/.."
 failed=
@@ -29,6 +30,7 @@ attempt scripts.py python3
 attempt wire.py python3
 attempt serve.sh python3
 attempt kill.sh python3
+attempt failing.sh python3
 attempt strange_rows.sh python3
 attempt curl.sh python3 curl
 attempt silent.sh python3

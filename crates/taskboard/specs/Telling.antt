@@ -1,5 +1,7 @@
 -- Which faults come of an order over a file.
-use Rattle.std.specs.Prelude.{Bool, true}
+use Rattle.std.specs.Prelude.{ℕ, Bool, true, Option, Some, None}
+use Rattle.tb_command_line.specs.declared.order.Connections.{Connections}
+use Rattle.tb_command_line.specs.declared.order.Connections.TheVariants.{UpTo, Forever}
 use Rattle.tb_outcome.specs.Faults.{is_of_opening}
 use Rattle.tb_program.specs.declared.fault.Fault.{Fault}
 use Rattle.tb_event_loop.specs.declared.fault.LoopFault.{LoopFault}
@@ -32,3 +34,8 @@ abbrev pub fault_of_loop : LoopFault → Fault
 fault_of_loop ending.Memory = Memory
 fault_of_loop ending.Sockets = NoListen
 fault_of_loop ending.Store = Store
+
+-- after how many connections the server ends, if it does
+abbrev pub limit_of : Connections → Option ℕ
+limit_of (UpTo count) = Some count
+limit_of Forever = None

@@ -1,6 +1,6 @@
 //! The program `taskboard`: boards of tasks in a file, served to a team, and scripts over boards in memory.
 //! It owns the orders over a real file, the machine's clock and a port. It stands on `tb_orders` and `tb_outcome` for orders, on
-//! `tb_keeper` for the file, and on `tb_serve` and `tb_script` for messages and lines.
+//! `tb_keeper` for the file, and on `tb_server` and `tb_script` for messages and lines.
 #![tactic(auto)]
 
 ghost use Rattle.std.specs.Prelude.{◌≡◌, IfErr, true};
@@ -12,7 +12,6 @@ mod file;
 mod import;
 mod init;
 mod serve;
-mod server;
 mod view;
 
 use crate::check::check_file;

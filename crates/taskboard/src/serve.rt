@@ -1,20 +1,22 @@
 //! The server of a file, on the loopback.
-ghost use Rattle.std.specs.Prelude.{◌≡◌, IfErr, true};
-ghost use Rattle.taskboard.specs.Telling.{fault_of_loop, is_of_serving};
+ghost use Rattle.std.specs.Prelude.{◌≡◌, IfErr, IfOk, IsSome, OnOk, true};
+ghost use Rattle.taskboard.specs.Telling.{fault_of_loop, is_of_serving, limit_of};
+ghost use Rattle.tb_event_loop.specs.History.{still_to_end};
 
 use crate::clock::MachineClock;
 use crate::file::{close_desk, open_desk};
-use crate::server::Server;
 use std::io::Write;
 use tb_command_line::{Connections, ServeOrder};
 use tb_event_loop::{EventLoop, Journal, LoopFault};
 use tb_orders::Ending;
 use tb_program::{Fault, loopback};
+use tb_server::Server;
 use tb_timeouts::LIMITS;
 
-/// Serves a file on a port of the loopback, up to the number of connections, or without end.
+/// Serves a file on a port of the loopback, up to the number of connections, or without end: then it ends by a fault alone.
 pub(crate) fn serve_file(rt: &HostRuntime, order: &ServeOrder) -> Result<Ending, Fault>
-    ensures { IfErr result (λ fault. is_of_serving fault ≡ true) }
+    ensures fault { IfErr result (λ fault. is_of_serving fault ≡ true) }
+    ensures ends { OnOk result (IsSome (limit_of order.now.connections)) }
 {
     let desk = open_desk(rt, order.file.as_str())?;
     let mut event_loop = listen(rt, order)?;
@@ -29,15 +31,26 @@ pub(crate) fn serve_file(rt: &HostRuntime, order: &ServeOrder) -> Result<Ending,
 }
 
 fn listen(rt: &HostRuntime, order: &ServeOrder) -> Result<EventLoop, Fault>
-    ensures { IfErr result (λ fault. is_of_serving fault ≡ true) }
+    ensures fault { IfErr result (λ fault. is_of_serving fault ≡ true) }
+    ensures limit { IfOk result (λ event_loop. still_to_end event_loop ≡ limit_of order.now.connections) }
 {
-    let connections = match order.connections {
-        Connections::UpTo(count) => Some(count),
-        Connections::Forever => None,
-    };
-    match EventLoop::listen(rt, loopback(order.port), connections, LIMITS) {
+    match EventLoop::listen(
+        rt,
+        loopback(order.port),
+        limit_of(order.connections),
+        LIMITS,
+    ) {
         Ok(event_loop) => Ok(event_loop),
         Err(fault) => Err(fault_of_loop(fault)),
+    }
+}
+
+fn limit_of(connections: Connections) -> Option<u32>
+    ensures { result ≡ limit_of connections }
+{
+    match connections {
+        Connections::UpTo(count) => Some(count),
+        Connections::Forever => None,
     }
 }
 

@@ -1,7 +1,8 @@
--- The lines of the log: seven words, none of which has a byte but plain signs.
+-- The lines that tell of messages. No word of a message has a byte in them but plain signs.
 use Rattle.std.specs.Prelude.{ℕ, ◌+◌, ◌-◌, ◌/◌, ◌%◌, ◌==◌, Bool, not, ◌&&◌, nat_le, nat_lt, if◌then◌else◌, List, [], ◌∷◌, ◌++◌, codes, decimal, Option, Some, None}
 use Rattle.std.specs.List.{flat_map}
 use Rattle.std.specs.Option.{option_copied}
+use Rattle.tb_event_loop.specs.declared.logging.FailedMessage.{FailedMessage}
 use Rattle.tb_event_loop.specs.declared.logging.LogEntry.{LogEntry}
 use Rattle.tb_task.specs.MomentText.{moment_text}
 
@@ -23,9 +24,25 @@ abbrev pub member_text : Option (List ℕ) → List ℕ
 member_text None = codes " -"
 member_text (Some name) = codes " " ++ escaped name
 
--- the moment, the member, the method, the target, the status, the bytes and the milliseconds
+-- a line of the log: the moment, the member, the method, the target, the status, the bytes and the milliseconds
 abbrev pub log_text : LogEntry → List ℕ
 log_text entry =
     moment_text entry.moment ++ member_text (option_copied entry.member) ++ codes " " ++ escaped entry.method.now ++ codes " "
     ++ escaped entry.target.now ++ codes " " ++ escaped entry.status.now ++ codes " " ++ decimal entry.bytes ++ codes " "
     ++ decimal entry.millis ++ codes "\n"
+
+-- a word of a message, or a sign that it isn't known
+abbrev pub known_text : List ℕ → List ℕ
+known_text [] = codes " -"
+known_text (byte ∷ bytes) = codes " " ++ escaped (byte ∷ bytes)
+
+abbrev pub known_moment : Option ℕ → List ℕ
+known_moment None = codes " -"
+known_moment (Some moment) = codes " " ++ moment_text moment
+
+-- the line that tells on which message the store failed
+abbrev pub failure_text : FailedMessage → List ℕ
+failure_text failed =
+    codes "taskboard: the file failed while" ++ known_text failed.method.now ++ known_text failed.target.now ++ codes " of"
+    ++ known_text failed.member.now ++ codes " was handled at" ++ known_moment failed.moment
+    ++ codes "; its outcome is known when the file is opened again\n"

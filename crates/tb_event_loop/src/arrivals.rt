@@ -39,11 +39,6 @@ impl Arrivals {
         }
     }
 
-    /// Whether no further connection comes.
-    pub(crate) fn are_over(&self) -> bool {
-        self.still_to_come == Some(0) && self.waiting.is_none()
-    }
-
     /// Whether one that came has no place, or can't be accepted yet.
     pub(crate) fn are_held_up(&self) -> bool {
         self.waiting.is_some() || self.is_ready && self.still_to_come != Some(0)
@@ -87,7 +82,7 @@ impl Arrivals {
         }
     }
 
-    // Puts the one that waits into a vacant place.
+    // Puts the one that waits into a vacant place. Where the system won't tell of it, it ends at once.
     fn seat_one(&mut self, registry: &Registry, places: &mut Places, place: usize, now: u64) {
         let Some(mut stream) = self.waiting.take() else {
             return;
@@ -95,8 +90,10 @@ impl Arrivals {
         // An answer is written as a head and a body, and neither is to wait for the other.
         let _ = stream.set_nodelay(true);
         let both = Interest::READABLE | Interest::WRITABLE;
-        if registry.register(&mut stream, Token(place), both).is_ok() {
-            places.seat(place, stream, now);
+        let is_told_of = registry.register(&mut stream, Token(place), both).is_ok();
+        places.seat(place, stream, now);
+        if !is_told_of {
+            places.let_go(place);
         }
     }
 

@@ -1,10 +1,11 @@
 //! The loop over the listener and the connections.
-ghost use Rattle.std.specs.Prelude.{◌≡◌, ◌⊎◌, IfErr, IsErr, is_err, true};
+ghost use Rattle.std.specs.Prelude.{◌≡◌, ◌⊎◌, ℕ, IfErr, IfOk, IsErr, List, false, is_err, true};
+ghost use Rattle.tb_event_loop.specs.Done.{Done, ends_in};
 ghost use Rattle.tb_event_loop.specs.Ending.{has_stopped};
+ghost use Rattle.tb_event_loop.specs.History.{EndsAll, Goes, Leaves, still_to_end};
 ghost use Rattle.tb_event_loop.specs.declared.fault.LoopFault.TheVariants.{Memory, Sockets, Store};
 
 use crate::arrivals::{Arrivals, LISTENER, RETRY};
-use crate::exchange::{read_some, write_some};
 use crate::fault::LoopFault;
 use crate::journal::Journal;
 use crate::places::{Places, held_bytes};
@@ -15,7 +16,7 @@ use std::alloc::Global;
 use std::io::Write;
 use std::net::{Net, SocketAddr};
 use std::time::{Clock, Duration};
-use tb_timeouts::{Limits, Need, Stage};
+use tb_timeouts::Limits;
 
 /// How many sockets are told of at once.
 const EVENTS: usize = 256;
@@ -30,6 +31,8 @@ pub struct EventLoop {
     pub(crate) events: Events,
     arrivals: Arrivals,
     pub(crate) places: Places,
+    /// How many connections have still to end, if the loop ends with them.
+    still_to_end: Option<u32>,
     now: u64,
 }
 
@@ -41,7 +44,8 @@ impl EventLoop {
         connections: Option<u32>,
         limits: Limits,
     ) -> Result<EventLoop, LoopFault>
-        ensures { IfErr result (λ fault. (fault ≡ Memory) ⊎ (fault ≡ Sockets)) }
+        ensures limit { IfOk result (λ event_loop. still_to_end event_loop ≡ connections) }
+        ensures fault { IfErr result (λ fault. (fault ≡ Memory) ⊎ (fault ≡ Sockets)) }
     {
         let Ok(poll) = Poll::new(rt) else {
             return Err(LoopFault::Sockets);
@@ -61,22 +65,25 @@ impl EventLoop {
             events: Events::with_capacity(rt.alloc(), EVENTS)?,
             arrivals: Arrivals::new(listener, connections),
             places: Places::new(rt.alloc(), limits)?,
+            still_to_end: connections,
             now: 0,
         })
     }
 
-    /// Serves until all connections that are to come have gone. Each has a turn in each round: one read, one message, one write.
+    /// Serves until all connections that are to come have ended. Each has a turn in each round: one read, one message, one write.
+    /// Ok is told only where there was a limit, and exactly so many connections ended.
     pub fn serve<V: Service, C: Clock, W: Write>(
         &mut self,
         service: &mut V,
         journal: &mut Journal<C, W>,
     ) -> Result<(), LoopFault>
-        ensures after { V.follows (has_stopped result) service.old service.new }
+        ensures after { (history : List (ℕ × Done)) × V.follows (has_stopped result) history service.old service.new
+            × EndsAll result (still_to_end self.old) (ends_in history) }
         ensures fault { IfErr result (λ fault. (fault ≡ Store) ⊎ (fault ≡ Sockets)) }
         ensures failed { result ≡ Err Store → V.has_failed service.new ≡ true }
     {
         'rounds: for _ in 0..u64::MAX {
-            if self.arrivals.are_over() && self.places.are_vacant() {
+            if self.still_to_end == Some(0) {
                 return Ok(());
             }
             if !self.wait() {
@@ -88,11 +95,13 @@ impl EventLoop {
                 return Err(LoopFault::Store);
             }
         }
-        Ok(())
+        Err(LoopFault::Sockets) // Never: so many rounds take longer than any machine lasts.
     }
 
     // Waits until a socket is ready or a time is over. False where the system doesn't tell.
-    fn wait(&mut self) -> bool {
+    fn wait(&mut self) -> bool
+        ensures { self.new.still_to_end ≡ self.old.still_to_end }
+    {
         let is_busy = self.places.have_turns() || self.arrivals.can_go_on(&self.places, self.now);
         let millis = if is_busy {
             0
@@ -109,7 +118,9 @@ impl EventLoop {
     }
 
     // Sees what is ready, and puts those that came into places.
-    fn prepare<C: Clock, W: Write>(&mut self, journal: &mut Journal<C, W>) {
+    fn prepare<C: Clock, W: Write>(&mut self, journal: &mut Journal<C, W>)
+        ensures { self.new.still_to_end ≡ self.old.still_to_end }
+    {
         self.now = journal.now();
         for event in &self.events {
             if event.token() == LISTENER {
@@ -126,7 +137,7 @@ impl EventLoop {
         service: &mut V,
         journal: &mut Journal<C, W>,
     ) -> Result<(), StoreFailed>
-        ensures after { V.follows (is_err result) service.old service.new }
+        ensures after { Goes V.follows (is_err result) self.old.still_to_end self.new.still_to_end service.old service.new }
         ensures failed { IsErr result → V.has_failed service.new ≡ true }
     {
         'places: for place in 0..self.places.end {
@@ -142,13 +153,10 @@ impl EventLoop {
         journal: &mut Journal<C, W>,
         place: usize,
     ) -> Result<(), StoreFailed>
-        ensures after { V.follows (is_err result) service.old service.new }
+        ensures after { Goes V.follows (is_err result) self.old.still_to_end self.new.still_to_end service.old service.new }
         ensures failed { IsErr result → V.has_failed service.new ≡ true }
     {
-        let stage = self.places.stage(place);
-        if stage.is_over(&self.places.limits, self.now) {
-            self.end(place);
-        } else if !self.places.has_turn(place) {
+        if !self.places.begin_turn(place, self.now) {
             return Ok(());
         }
         let before = held_bytes(service, place);
@@ -163,168 +171,41 @@ impl EventLoop {
         journal: &mut Journal<C, W>,
         place: usize,
     ) -> Result<(), StoreFailed>
-        ensures after { V.follows (is_err result) service.old service.new }
+        ensures after { Goes V.follows (is_err result) self.old.still_to_end self.new.still_to_end service.old service.new }
         ensures failed { IsErr result → V.has_failed service.new ≡ true }
     {
-        if !self.places.is_gone(place) {
-            self.act(service, journal, place)?;
-        }
+        self.places.act(service, journal, place, self.now)?;
         if !self.places.is_gone(place) {
             return Ok(());
         }
+        self.leave(service, place)
+    }
+
+    // The connection of a place has ended, so that another may come.
+    fn leave<V: Service>(&mut self, service: &mut V, place: usize) -> Result<(), StoreFailed>
+        ensures after { Goes V.follows (is_err result) self.old.still_to_end self.new.still_to_end service.old service.new }
+        ensures failed { IsErr result → V.has_failed service.new ≡ true }
+    {
         self.places.vacate(place);
         self.arrivals.try_again();
+        if !count_one(&mut self.still_to_end) {
+            return Ok(()); // Never: no more connections come than are to end.
+        }
         service.happen(place, &Happening::Opened)
     }
+}
 
-    // Ends a connection that has stayed too long: in stages, or at once where it is at the last.
-    fn end(&mut self, place: usize) {
-        let stage = self.places.stage(place);
-        if let Stage::Closing { since: _, reads: _ } = stage {
-            self.places.let_go(place);
-        } else {
-            self.close(place);
+// One connection has ended. False where none had to.
+fn count_one(still_to_end: &mut Option<u32>) -> bool
+    ensures counted { result ≡ true → Leaves still_to_end.old 1 still_to_end.new }
+    ensures none { result ≡ false → still_to_end.new ≡ still_to_end.old }
+{
+    match still_to_end {
+        Some(0) => false,
+        Some(count) => {
+            *count -= 1;
+            true
         }
-    }
-
-    fn close(&mut self, place: usize) {
-        if let Some(connection) = self.places.connection(place) {
-            connection.stop_sending();
-        }
-        let stage = self.places.stage(place).next(Need::End, self.now);
-        self.places.set_stage(place, stage);
-    }
-
-    fn act<V: Service, C: Clock, W: Write>(
-        &mut self,
-        service: &mut V,
-        journal: &mut Journal<C, W>,
-        place: usize,
-    ) -> Result<(), StoreFailed>
-        ensures after { V.follows (is_err result) service.old service.new }
-        ensures failed { IsErr result → V.has_failed service.new ≡ true }
-    {
-        match self.places.stage(place) {
-            Stage::Vacant => Ok(()),
-            Stage::Closing { since: _, reads: _ } => {
-                self.drop_some(place);
-                Ok(())
-            }
-            Stage::Answering { since: _, taken: _ } => self.reply(service, place),
-            _ => self.converse(service, journal, place),
-        }
-    }
-
-    // Reads, answers and writes.
-    fn converse<V: Service, C: Clock, W: Write>(
-        &mut self,
-        service: &mut V,
-        journal: &mut Journal<C, W>,
-        place: usize,
-    ) -> Result<(), StoreFailed>
-        ensures after { V.follows (is_err result) service.old service.new }
-        ensures failed { IsErr result → V.has_failed service.new ≡ true }
-    {
-        self.read(service, place)?;
-        self.answer(service, journal, place)?;
-        self.reply(service, place)
-    }
-
-    fn reply<V: Service>(&mut self, service: &mut V, place: usize) -> Result<(), StoreFailed>
-        ensures after { V.follows (is_err result) service.old service.new }
-        ensures failed { IsErr result → V.has_failed service.new ≡ true }
-    {
-        self.write(service, place)?;
-        self.settle(service, place);
-        Ok(())
-    }
-
-    // Throws away what comes behind the last answer.
-    fn drop_some(&mut self, place: usize) {
-        if let Some(connection) = self.places.connection(place) {
-            connection.drop_some();
-        }
-        let stage = self.places.stage(place).bytes_dropped();
-        self.places.set_stage(place, stage);
-    }
-
-    // Reads where more bytes are needed and may be held.
-    fn read<V: Service>(&mut self, service: &mut V, place: usize) -> Result<(), StoreFailed>
-        ensures after { V.follows (is_err result) service.old service.new }
-        ensures failed { IsErr result → V.has_failed service.new ≡ true }
-    {
-        let may_read = self.places.may_read(place);
-        match self.places.connection(place) {
-            Some(connection) if may_read && connection.needs_bytes() => {
-                read_some(connection, service, place)?;
-            }
-            _ => return Ok(()),
-        }
-        self.places.enter(service, place, self.now);
-        Ok(())
-    }
-
-    // Answers the next message, if it is whole.
-    fn answer<V: Service, C: Clock, W: Write>(
-        &mut self,
-        service: &mut V,
-        journal: &mut Journal<C, W>,
-        place: usize,
-    ) -> Result<(), StoreFailed>
-        ensures after { V.follows (is_err result) service.old service.new }
-        ensures failed { IsErr result → V.has_failed service.new ≡ true }
-    {
-        match self.places.connection(place) {
-            Some(connection) if connection.may_answer => (),
-            _ => return Ok(()),
-        }
-        let pending = journal.begin(service.held(place));
-        service.happen(place, &Happening::Turn)?;
-        if service.unsent(place).is_empty() {
-            if let Some(connection) = self.places.connection(place) {
-                connection.lack_bytes();
-            }
-        } else if let Some(pending) = pending {
-            journal.end(&pending, service.unsent(place));
-        }
-        self.places.enter(service, place, self.now);
-        Ok(())
-    }
-
-    // Writes where an answer is there.
-    fn write<V: Service>(&mut self, service: &mut V, place: usize) -> Result<(), StoreFailed>
-        ensures after { V.follows (is_err result) service.old service.new }
-        ensures failed { IsErr result → V.has_failed service.new ≡ true }
-    {
-        let before = service.unsent(place).len();
-        match self.places.connection(place) {
-            Some(connection) if before > 0 && connection.can_write => {
-                write_some(connection, service, place)?;
-            }
-            _ => return Ok(()),
-        }
-        if service.unsent(place).len() < before {
-            let stage = self.places.stage(place).part_taken(self.now);
-            self.places.set_stage(place, stage);
-        }
-        Ok(())
-    }
-
-    // What the connection does behind its turn.
-    fn settle<V: Service>(&mut self, service: &V, place: usize) {
-        if !service.unsent(place).is_empty() {
-            return;
-        }
-        if service.is_closing(place) {
-            self.close(place);
-            return;
-        }
-        let has_none = service.held(place).is_empty();
-        if let Some(connection) = self.places.connection(place)
-            && has_none
-        {
-            connection.lack_bytes();
-        }
-        self.places.enter(service, place, self.now);
+        None => true,
     }
 }

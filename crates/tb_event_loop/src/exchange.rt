@@ -1,5 +1,6 @@
 //! The bytes between a socket and the service.
 ghost use Rattle.std.specs.Prelude.{◌≡◌, IsErr, is_err, true};
+ghost use Rattle.tb_event_loop.specs.Done.{Did};
 
 use crate::connection::{Connection, PIECE};
 use crate::service::{Happening, Service, StoreFailed};
@@ -11,7 +12,7 @@ pub(crate) fn read_some<V: Service>(
     service: &mut V,
     place: usize,
 ) -> Result<(), StoreFailed>
-    ensures after { V.follows (is_err result) service.old service.new }
+    ensures after { Did V.follows (is_err result) 0 service.old service.new }
     ensures failed { IsErr result → V.has_failed service.new ≡ true }
 {
     let mut piece = [0u8; PIECE];
@@ -37,7 +38,7 @@ pub(crate) fn write_some<V: Service>(
     service: &mut V,
     place: usize,
 ) -> Result<(), StoreFailed>
-    ensures after { V.follows (is_err result) service.old service.new }
+    ensures after { Did V.follows (is_err result) 0 service.old service.new }
     ensures failed { IsErr result → V.has_failed service.new ≡ true }
 {
     match connection.stream.write(service.unsent(place)) {

@@ -1,11 +1,12 @@
 //! The time, and what is told on standard error.
-use crate::logging::{LogEntry, log_line};
-use crate::request_line::read_request_line;
+use crate::logging::{FailedMessage, LogEntry, failure_line, log_line};
+use crate::request_line::{RequestLine, read_request_line};
 use std::alloc::Global;
 use std::io;
 use std::io::Write;
 use std::time::{Clock, Instant};
 use tb_program::machine_moment;
+use tb_task::Moment;
 use tb_values::write_whole;
 
 /// Tells the time, and writes what happens.
@@ -17,12 +18,9 @@ pub struct Journal<C: Clock, W: Write> {
     is_logged: bool,
     started: Option<Instant>,
     millis: u64,
-}
-
-/// A message whose answer is not there yet.
-#[derive(Drop)]
-pub(crate) struct Pending {
+    /// The front of the message that is being answered, or nothing where there was no memory for it.
     head: Vec<u8>,
+    /// When its answering began.
     began: u64,
 }
 
@@ -37,6 +35,8 @@ impl<C: Clock, W: Write> Journal<C, W> {
             is_logged,
             started,
             millis: 0,
+            head: Vec::new(alloc),
+            began: 0,
         }
     }
 
@@ -59,39 +59,68 @@ impl<C: Clock, W: Write> Journal<C, W> {
     }
 
     /// Keeps what is told of a message, before it is answered.
-    pub(crate) fn begin(&mut self, held: &[u8]) -> Option<Pending> {
-        if !self.is_logged || held.is_empty() {
-            return None;
+    pub(crate) fn begin(&mut self, held: &[u8]) {
+        self.head.clear();
+        let _ = self.head.extend_from_slice(front(held));
+        if self.is_logged {
+            self.began = self.now();
         }
-        let head = Vec::from_slice(self.alloc, front(held)).ok()?;
-        Some(Pending {
-            head,
-            began: self.now(),
-        })
     }
 
-    /// Tells of a message that was answered by this text.
-    pub(crate) fn end(&mut self, pending: &Pending, answer: &[u8]) {
-        let request = read_request_line(&pending.head);
+    /// Tells of the message, with the log, that it was answered by this text.
+    pub(crate) fn end(&mut self, answer: &[u8]) {
+        if !self.is_logged || self.head.is_empty() {
+            return;
+        }
         let Some(moment) = machine_moment(&self.clock) else {
             return;
         };
-        let entry = LogEntry {
-            moment,
-            member: request.member,
+        let millis = self.now().saturating_sub(self.began);
+        let entry = entry_of(read_request_line(&self.head), answer, moment, millis);
+        if let Ok(line) = log_line(self.alloc, &entry) {
+            let _ = write_whole(&mut self.errors, &line);
+        }
+    }
+
+    /// Tells that the store failed on the message, with the log or without.
+    pub(crate) fn tell_failed(&mut self) {
+        let request = read_request_line(&self.head);
+        let failed = FailedMessage {
+            moment: machine_moment(&self.clock),
+            member: request.member.unwrap_or(&[]),
             method: request.method,
             target: request.target,
-            status: status_in(answer),
-            bytes: answer.len(),
-            millis: self.now().saturating_sub(pending.began),
         };
-        if let Ok(line) = log_line(self.alloc, &entry) {
+        if let Ok(line) = failure_line(self.alloc, &failed) {
             let _ = write_whole(&mut self.errors, &line);
         }
     }
 }
 
-/// How many bytes of a message are kept for the log.
+// What the log tells of a message that was answered by this text.
+fn entry_of<'a>(
+    request: RequestLine<'a>,
+    answer: &'a [u8],
+    moment: Moment,
+    millis: u64,
+) -> LogEntry<'a> {
+    let RequestLine {
+        method,
+        target,
+        member,
+    } = request;
+    LogEntry {
+        moment,
+        member,
+        method,
+        target,
+        status: status_in(answer),
+        bytes: answer.len(),
+        millis,
+    }
+}
+
+/// How many bytes of a message are kept for the lines that tell of it.
 const LONGEST_HEAD: usize = 16_384;
 
 fn front(held: &[u8]) -> &[u8] {

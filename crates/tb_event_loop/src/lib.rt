@@ -14,9 +14,10 @@ mod logging;
 mod places;
 mod request_line;
 mod service;
+mod turn;
 
 pub use event_loop::EventLoop;
 pub use fault::LoopFault;
 pub use journal::Journal;
-pub use logging::{LogEntry, log_line};
+pub use logging::{FailedMessage, LogEntry, failure_line, log_line};
 pub use service::{Happening, Service, StoreFailed};

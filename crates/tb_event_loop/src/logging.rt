@@ -1,7 +1,7 @@
-//! A line of the log.
+//! Lines that tell of messages.
 ghost use Rattle.std.specs.Prelude.{◌≡◌, ◌<◌, ◌++◌, codes, decimal, IfOk, OnOk};
 ghost use Rattle.std.specs.Option.{option_copied};
-ghost use Rattle.tb_event_loop.specs.LogLine.{escaped, escaped_byte, hex_digit, is_plain, log_text, member_text};
+ghost use Rattle.tb_event_loop.specs.LogLine.{escaped, escaped_byte, failure_text, hex_digit, is_plain, known_moment, known_text, log_text, member_text};
 
 use itoa::Buffer;
 use std::alloc::{AllocError, Global};
@@ -34,6 +34,52 @@ pub fn log_line(alloc: Global, entry: &LogEntry<'_>) -> Result<Vec<u8>, AllocErr
     push_number(&mut line, entry.millis)?;
     line.extend_from_slice(b"\n")?;
     Ok(line)
+}
+
+/// What is told of a message on which the store failed. A word of no bytes isn't known. A member's key has no place in it.
+#[derive(Clone, Copy)]
+pub struct FailedMessage<'a> {
+    pub moment: Option<Moment>,
+    /// The name that the message gives, which may be of no member.
+    pub member: &'a [u8],
+    pub method: &'a [u8],
+    pub target: &'a [u8],
+}
+
+/// The line that tells on which message the store failed.
+pub fn failure_line(alloc: Global, failed: &FailedMessage<'_>) -> Result<Vec<u8>, AllocError>
+    ensures { IfOk result (λ line. line.items ≡ failure_text failed.now) }
+{
+    let mut line = Vec::from_slice(alloc, b"taskboard: the file failed while")?;
+    push_known(&mut line, failed.method)?;
+    push_known(&mut line, failed.target)?;
+    line.extend_from_slice(b" of")?;
+    push_known(&mut line, failed.member)?;
+    line.extend_from_slice(b" was handled at")?;
+    push_moment(&mut line, failed.moment)?;
+    line.extend_from_slice(b"; its outcome is known when the file is opened again\n")?;
+    Ok(line)
+}
+
+fn push_known(line: &mut Vec<u8>, text: &[u8]) -> Result<(), AllocError>
+    ensures { OnOk result (line.new.items ≡ line.old.items ++ known_text text.now) }
+{
+    if text.is_empty() {
+        return line.extend_from_slice(b" -");
+    }
+    push_word(line, text)
+}
+
+fn push_moment(line: &mut Vec<u8>, moment: Option<Moment>) -> Result<(), AllocError>
+    ensures { OnOk result (line.new.items ≡ line.old.items ++ known_moment moment) }
+{
+    match moment {
+        Some(moment) => {
+            line.extend_from_slice(b" ")?;
+            line.extend_from_slice(&moment.write())
+        }
+        None => line.extend_from_slice(b" -"),
+    }
 }
 
 fn push_member(line: &mut Vec<u8>, member: Option<&[u8]>) -> Result<(), AllocError>

@@ -6,8 +6,7 @@ use mio::net::TcpStream;
 use mio::{Events, Token};
 use std::alloc::{AllocError, Global};
 use tb_timeouts::{
-    CONNECTIONS, Limits, Need, Stage, are_all_vacant, first_vacant, gives_way, longest_wait,
-    may_read,
+    CONNECTIONS, Limits, Need, Stage, first_vacant, gives_way, longest_wait, may_read,
 };
 
 #[derive(Drop)]
@@ -56,10 +55,6 @@ impl Places {
             Some(Some(connection)) => Some(connection),
             _ => None,
         }
-    }
-
-    pub(crate) fn are_vacant(&self) -> bool {
-        are_all_vacant(&self.stages)
     }
 
     /// How long to wait, at most so long, so that none stays longer than it may.

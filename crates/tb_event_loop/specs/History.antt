@@ -1,0 +1,32 @@
+-- What a loop did, from its beginning to its end.
+use Rattle.std.specs.Prelude.{◌≡◌, ℕ, ◌+◌, ◌≤◌, Bool, List, Option, Some, None, Result, Ok, Err, IfSome}
+use Rattle.tb_event_loop.specs.Done.{Done, Did, opened, came, turned, went}
+use Rattle.tb_event_loop.specs.declared.event_loop.EventLoop.{EventLoop}
+use Rattle.tb_event_loop.specs.declared.service.Happening.{Happening}
+use Rattle.tb_event_loop.specs.declared.service.Happening.TheVariants.{Opened, Came, Turn, Went}
+
+-- what was done, without where its bytes lie
+abbrev pub done_of : Happening → Done
+done_of Opened = opened
+done_of (Came piece) = came piece.now
+done_of Turn = turned
+done_of (Went count) = went count
+
+-- how many connections have still to end before the loop does, if it does
+abbrev pub still_to_end : EventLoop → Option ℕ
+still_to_end event_loop = event_loop.still_to_end
+
+-- where so many had still to end, and so many ended, the others still have to
+abbrev pub Leaves : Option ℕ → ℕ → Option ℕ → Type 0
+Leaves None ended now = now ≡ None
+Leaves (Some before) ended now = (left : ℕ) × (now ≡ Some left) × (ended + left ≡ before)
+
+-- Some things were done, one after the other, and the connections that ended among them have no longer to.
+abbrev pub Goes : {V : Type 0} → (Bool → List (ℕ × Done) → V → V → Type 0) → Bool → Option ℕ → Option ℕ → V → V → Type 0
+Goes follows stopped before now old new =
+    (ended : ℕ) × Did follows stopped ended old new × Leaves before ended now
+
+-- A loop that ends well had a limit, and exactly so many connections ended; none that has a limit ends more.
+abbrev pub EndsAll : {T E : Type 0} → Result T E → Option ℕ → ℕ → Type 0
+EndsAll (Ok x) limit ended = limit ≡ Some ended
+EndsAll (Err e) limit ended = IfSome limit (λ most. ended ≤ most)

@@ -1,0 +1,105 @@
+-- One thing that was done to a server.
+use Rattle.std.proofs.Common.{◌≡◌, ℕ, zero, suc, ◌++◌, ◌<◌, ◌≤◌, Bool, true, false, cond, List, [], ◌∷◌, length, Option, Some, None, Result, Ok, Err, refl, sym, ap, ◌∙◌, subst, take, drop, append-nil, arith}
+use Rattle.std.specs.Prelude.{◌==◌}
+use Rattle.std.proofs.lemmas.Bool.{eqb-true, le-ltb, lt-ltb}
+use Rattle.std.proofs.lemmas.List.{drop_all, take_all}
+use Rattle.tb_calls.specs.Calls.{State}
+use Rattle.tb_calls.specs.Keeping.{Only}
+use Rattle.tb_event_loop.specs.Done.{Done}
+use Rattle.tb_peers.specs.Following.{Follows, has_stopped}
+use Rattle.tb_peers.specs.Happening.{Comes, Happens, Plays, talk_at}
+use Rattle.tb_peers.specs.Server.{Timed, server}
+use Rattle.tb_peers.proofs.Following as following
+use Rattle.tb_peers.proofs.Steps.{plays_none}
+use Rattle.tb_serve.specs.declared.serving.ServeFault.{ServeFault}
+use Rattle.tb_serve.specs.declared.serving.ServeFault.TheVariants.{ReadFailed, WriteFailed, Store, Memory}
+use Rattle.tb_server.specs.Serves.{IsTimed, Makes, Serves, at_places}
+use Rattle.tb_turns.specs.Turns.{Event, Happening, Moves, MovesIf, Talk, after_event, silent}
+
+moves_if : (place c : ℕ) (is : Bool) (s : State) (e : Event Timed) (talks later : ℕ → Talk) → (place == c) ≡ is → Moves server s e (talks place) (later place)
+    → ((d : ℕ) → (place == d) ≡ false → later d ≡ talks d) → MovesIf server is s e (talks c) (later c)
+moves_if place c true s e talks later at moves others = subst (λ (d : ℕ). Moves server s e (talks d) (later d)) (eqb-true place c at) moves
+moves_if place c false s e talks later at moves others = others c at
+
+comes_plays : (fault : Option ServeFault) (s : State) (place : ℕ) (timed : Happening (Option ℕ)) (talks later : ℕ → Talk) (now stops : State → Type 0)
+    → Comes fault s timed (talks place) (later place) now stops → ((d : ℕ) → (place == d) ≡ false → later d ≡ talks d)
+    → Plays s ((place, timed) ∷ []) talks later now stops
+comes_plays fault s place timed talks later now stops is others = (
+  record { place = place; happening = timed; event = is.0 } ∷ [],
+  after_event server s is.0,
+  refl,
+  (is.1, later, λ c. moves_if place c (place == c) s is.0 talks later refl is.3 others, (refl, λ c. refl)),
+  is.4,
+)
+
+happens_makes : {T : Type 0} (r : Result T ServeFault) (s : State) (place : ℕ) (timed : Happening (Option ℕ)) (talks later : ℕ → Talk) (now stops : State → Type 0)
+    → Happens r s place timed talks later now stops → Makes (has_stopped r) s ((place, timed) ∷ []) talks later now stops
+happens_makes (Ok x) s place timed talks later now stops is = comes_plays None s place timed talks later now stops is.0 is.1
+happens_makes (Err ReadFailed) s place timed talks later now stops is = absurd is.0
+happens_makes (Err WriteFailed) s place timed talks later now stops is = comes_plays (Some WriteFailed) s place timed talks later now stops is.0 is.1
+happens_makes (Err Memory) s place timed talks later now stops is = comes_plays (Some Memory) s place timed talks later now stops is.0 is.1
+happens_makes (Err Store) s place timed talks later now stops is = record {
+  ks = [];
+  end = s;
+  middle = talks;
+  place = place;
+  last = timed;
+  done_is = refl;
+  run = (refl, λ c. refl);
+  stopped = is.0;
+  others = is.1;
+}
+
+one_there : (count place : ℕ) (timed : Happening (Option ℕ)) → place < count → at_places count ((place, timed) ∷ []) ≡ (place, timed) ∷ []
+one_there count place timed inside = ap (λ b. cond b ((place, timed) ∷ []) []) (lt-ltb place count inside)
+
+none_there : (count place : ℕ) (timed : Happening (Option ℕ)) → count ≤ place → at_places count ((place, timed) ∷ []) ≡ []
+none_there count place timed past = ap (λ b. cond b ((place, timed) ∷ []) []) (le-ltb place count past)
+
+-- one thing was done, at a place that there is, to the connections as they were lent
+pub one_served : {T : Type 0} (r : Result T ServeFault) (stopped : Bool) (place : ℕ) (one : Done) (timed : Happening (Option ℕ)) (talks lent later : List Talk)
+    (old old_stops now stops : State → Type 0)
+    → has_stopped r ≡ stopped → place < length talks → length later ≡ length talks → lent ≡ talks → IsTimed one timed
+    → ((s : State) → old s → Only s old_stops → Happens r s place timed (talk_at lent) (talk_at later) now stops)
+    → Follows (has_stopped r) old old_stops now stops
+    → Serves stopped ((place, one) ∷ []) talks later old old_stops now stops
+one_served r stopped place one timed talks lent later old old_stops now stops is inside places same fits happens follows =
+    subst (λ (b : Bool). Serves b ((place, one) ∷ []) talks later old old_stops now stops) is (record {
+      places = places;
+      calls = follows;
+      timed = (place, timed) ∷ [];
+      fits = (refl, fits, tt);
+      run = λ s held only. subst (λ (l : List (ℕ × Happening (Option ℕ))). Makes (has_stopped r) s l (talk_at talks) (talk_at later) now stops)
+          (sym (one_there (length talks) place timed inside))
+          (happens_makes r s place timed (talk_at talks) (talk_at later) now stops
+          (subst (λ (l : List Talk). Happens r s place timed (talk_at l) (talk_at later) now stops) same (happens s held only)));
+    })
+
+-- there is no such place
+pub passed : (place : ℕ) (one : Done) (timed : Happening (Option ℕ)) (talks : List Talk) (now stops : State → Type 0)
+    → length talks ≤ place → IsTimed one timed → Serves false ((place, one) ∷ []) talks talks now stops now stops
+passed place one timed talks now stops past fits = record {
+  places = refl;
+  calls = following.unchanged now stops;
+  timed = (place, timed) ∷ [];
+  fits = (refl, fits, tt);
+  run = λ s held only. subst (λ (l : List (ℕ × Happening (Option ℕ))). Makes false s l (talk_at talks) (talk_at talks) now stops)
+      (sym (none_there (length talks) place timed past))
+      (plays_none s (talk_at talks) now stops held only);
+}
+
+-- what was lent of a list is given back as a whole
+pub given_back : (len : ℕ) (new old : List Talk) → length new ≡ length old → len ≡ length old → take len (new ++ drop (length new) old) ≡ new
+given_back len new old same is =
+    let none : length old ≤ length new = omega (arith, same) in
+    let all : length new ≤ len = omega (arith, same, is) in
+    ap (λ l. take len (new ++ l)) (drop_all (length new) old none) ∙ ap (take len) (append-nil new) ∙ take_all len new all
+
+-- ---- the beginning
+
+-- one more connection to which nothing came
+pub silent_more : (talks : List Talk) → ((c : ℕ) → talk_at talks c ≡ silent) → (c : ℕ) → talk_at (talks ++ silent ∷ []) c ≡ silent
+silent_more [] are zero = refl
+silent_more [] are (suc c) = refl
+silent_more (talk ∷ talks) are zero = are zero
+silent_more (talk ∷ talks) are (suc c) = silent_more talks (λ d. are (suc d)) c

@@ -1,0 +1,71 @@
+-- What was done in two parts is done in one.
+use Rattle.std.specs.Prelude.{◌≡◌, ℕ, Bool, true, false, List, [], ◌∷◌, ◌++◌, Option, length, nat_lt}
+use Rattle.std.proofs.Common.{refl, sym, ap, ◌∙◌, subst, append_assoc}
+use Rattle.std.proofs.lemmas.List.Elements.{filter-append}
+use Rattle.tb_calls.specs.Calls.{State}
+use Rattle.tb_calls.specs.Keeping.{Only}
+use Rattle.tb_event_loop.specs.Done.{Done}
+use Rattle.tb_peers.specs.Happening.{Plays, talk_at}
+use Rattle.tb_peers.specs.Server.{server}
+use Rattle.tb_peers.proofs.Following as following
+use Rattle.tb_peers.proofs.Steps.{plays_none, plays_then}
+use Rattle.tb_server.specs.Serves.{AreTimed, Makes, Serves, at_places}
+use Rattle.tb_turns.specs.Turns.{Happening, Talk, done_in}
+use Rattle.tb_turns.proofs.Interleaved.{done_then, run_then}
+
+timed_then : (first more : List (ℕ × Done)) (t u : List (ℕ × Happening (Option ℕ))) → AreTimed first t → AreTimed more u → AreTimed (first ++ more) (t ++ u)
+timed_then [] more [] u is are = are
+timed_then [] more (other ∷ t) u is are = absurd is
+timed_then (one ∷ first) more [] u is are = absurd is
+timed_then (one ∷ first) more (other ∷ t) u is are = (is.0, is.1, timed_then first more t u is.2 are)
+
+both : (a b c d : List (ℕ × Happening (Option ℕ))) → a ≡ b → c ≡ d → a ++ c ≡ b ++ d
+both a b c d ab cd = ap (λ x. x ++ c) ab ∙ ap (λ y. b ++ y) cd
+
+makes_then : (stopped : Bool) (s : State) (done more : List (ℕ × Happening (Option ℕ))) (talks middle later : ℕ → Talk) (now stops next next_stops : State → Type 0)
+    → Plays s done talks middle now stops → ((t : State) → now t → Only t stops → Makes stopped t more middle later next next_stops)
+    → Makes stopped s (done ++ more) talks later next next_stops
+makes_then false s done more talks middle later now stops next next_stops first go_on =
+    plays_then s done more talks middle later now stops next next_stops first go_on
+makes_then true s done more talks middle later now stops next next_stops first go_on =
+    let second = go_on first.1 first.4.held first.4.stops in
+    let at : ℕ × Happening (Option ℕ) = (second.place, second.last) in
+    record {
+      ks = first.0 ++ second.ks;
+      end = second.end;
+      middle = second.middle;
+      place = second.place;
+      last = second.last;
+      done_is = ap (λ l. l ++ at ∷ []) (done_then first.0 second.ks) ∙ append_assoc (done_in first.0) (done_in second.ks) (at ∷ [])
+          ∙ both (done_in first.0) done (done_in second.ks ++ at ∷ []) more first.2 second.done_is;
+      run = run_then server s talks first.0 first.1 middle second.ks second.end second.middle first.3 second.run;
+      stopped = second.stopped;
+      others = second.others;
+    }
+
+-- nothing was done
+pub serves_none : (talks : List Talk) (now stops : State → Type 0) → Serves false [] talks talks now stops now stops
+serves_none talks now stops = record {
+  places = refl;
+  calls = following.unchanged now stops;
+  timed = [];
+  fits = tt;
+  run = λ s held only. plays_none s (talk_at talks) now stops held only;
+}
+
+pub serves_then : (stopped : Bool) (first more : List (ℕ × Done)) (talks middle later : List Talk) (old old_stops mid mid_stops now stops : State → Type 0)
+    → Serves false first talks middle old old_stops mid mid_stops → Serves stopped more middle later mid mid_stops now stops
+    → Serves stopped (first ++ more) talks later old old_stops now stops
+serves_then stopped first more talks middle later old old_stops mid mid_stops now stops one two = record {
+  places = two.places ∙ one.places;
+  calls = following.joined stopped old old_stops mid mid_stops now stops one.calls two.calls;
+  timed = one.timed ++ two.timed;
+  fits = timed_then first more one.timed two.timed one.fits two.fits;
+  run = λ s held only.
+      let count = length talks in
+      subst (λ (done : List (ℕ × Happening (Option ℕ))). Makes stopped s done (talk_at talks) (talk_at later) now stops)
+      (sym (filter-append (λ place. nat_lt place.0 count) one.timed two.timed))
+      (makes_then stopped s (at_places count one.timed) (at_places count two.timed) (talk_at talks) (talk_at middle) (talk_at later) mid mid_stops now stops
+      (one.run s held only)
+      (λ t kept alone. subst (λ (n : ℕ). Makes stopped t (at_places n two.timed) (talk_at middle) (talk_at later) now stops) one.places (two.run t kept alone)));
+}

@@ -1,0 +1,3 @@
+pub mod Serves
+pub mod Joining
+pub mod Laws

@@ -1,0 +1,63 @@
+-- What a server makes of all that was done to its connections.
+use Rattle.std.specs.Prelude.{◌≡◌, ℕ, ◌==◌, Bool, true, false, List, [], ◌∷◌, ◌++◌, Option, filter, length, nat_lt}
+use Rattle.tb_calls.specs.Calls.{State}
+use Rattle.tb_calls.specs.Keeping.{Only}
+use Rattle.tb_event_loop.specs.Done as done
+use Rattle.tb_event_loop.specs.Done.{Done}
+use Rattle.tb_peers.specs.Following.{Follows}
+use Rattle.tb_peers.specs.Happening.{Plays, Stops, talk_at}
+use Rattle.tb_peers.specs.Server.{Timed, server}
+use Rattle.tb_turns.specs.Turns.{Happening, Run, Step, Talk, done_in, opens, comes, turns, goes}
+
+-- what was done, with a moment where it was a turn
+abbrev pub IsTimed : Done → Happening (Option ℕ) → Type 0
+IsTimed done.opened timed = timed ≡ opens
+IsTimed (done.came piece) timed = timed ≡ comes piece
+IsTimed done.turned timed = (at : Option ℕ) × (timed ≡ turns at)
+IsTimed (done.went count) timed = timed ≡ goes count
+
+-- one for one, at the same places
+abbrev pub AreTimed : List (ℕ × Done) → List (ℕ × Happening (Option ℕ)) → Type 0
+AreTimed [] [] = Unit {0}
+AreTimed [] (one ∷ timed) = ⊥
+AreTimed (one ∷ history) [] = ⊥
+AreTimed (one ∷ history) (other ∷ timed) = (other.0 ≡ one.0) × IsTimed one.1 other.1 × AreTimed history timed
+
+-- those at places that there are
+abbrev pub at_places : ℕ → List (ℕ × Happening (Option ℕ)) → List (ℕ × Happening (Option ℕ))
+at_places count timed = filter (λ one. nat_lt one.0 count) timed
+
+-- The store failed on the last of what was done: a run was made of all before it, and its call may have acted.
+pub record StopsAtLast (s : State) (timed : List (ℕ × Happening (Option ℕ))) (talks later : ℕ → Talk)
+    (now stops : State → Type 0) : Type 0 where
+  pub ks : List (Step (Option ℕ) Timed)
+  pub end : State
+  pub middle : ℕ → Talk
+  pub place : ℕ
+  pub last : Happening (Option ℕ)
+  pub done_is : done_in ks ++ (place, last) ∷ [] ≡ timed
+  pub run : Run server s talks ks end middle
+  pub stopped : Stops end last (middle place) (later place) now stops
+  pub others : (c : ℕ) → (place == c) ≡ false → later c ≡ middle c
+
+-- A run of the connections is made of all that was done, and the desk stands at its end; or the store failed at last.
+abbrev pub Makes : Bool → State → List (ℕ × Happening (Option ℕ)) → (ℕ → Talk) → (ℕ → Talk)
+    → (State → Type 0) → (State → Type 0) → Type 0
+Makes false s timed talks later now stops = Plays s timed talks later now stops
+Makes true s timed talks later now stops = StopsAtLast s timed talks later now stops
+
+-- What was done to the connections of a server, one thing after the other, and what it made of them and of the desk:
+-- nothing but this is done to any of them, and to what the desk holds.
+pub record Serves (stopped : Bool) (history : List (ℕ × Done)) (talks later : List Talk)
+    (old old_stops now stops : State → Type 0) : Type 0 where
+  -- no place came or went
+  pub places : length later ≡ length talks
+  -- the desk stands where the calls lead that it handled
+  pub calls : Follows stopped old old_stops now stops
+  -- each turn came at some moment
+  pub timed : List (ℕ × Happening (Option ℕ))
+  pub fits : AreTimed history timed
+  -- These very bytes came, these turns were had, this much was sent. The calls are those of the messages that the bytes
+  -- bring, by the law of any turns of `tb_peers`.
+  pub run : (s : State) → old s → Only s old_stops
+      → Makes stopped s (at_places (length talks) timed) (talk_at talks) (talk_at later) now stops

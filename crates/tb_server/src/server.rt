@@ -1,0 +1,143 @@
+//! The connections of a server over a desk.
+ghost use Rattle.std.specs.Prelude.{◌≡◌, ℕ, IfOk};
+ghost use Rattle.tb_event_loop.specs.History.{done_of as done_to};
+ghost use Rattle.tb_peers.specs.Happening.{done_of, talk_at};
+ghost use Rattle.tb_server.specs.Serves.{IsTimed, Serves};
+ghost use Rattle.tb_server.specs.Joining.{serves_none, serves_then};
+ghost use Rattle.tb_turns.specs.Turns.{silent};
+
+use std::alloc::{AllocError, Global};
+use tb_calls::Keep;
+use tb_desk::Desk;
+use tb_event_loop::{Happening, Service, StoreFailed};
+use tb_peers::{Happening as PeerHappening, Peer, Tools, happen, stops_all};
+use tb_serve::Clock;
+use tb_timeouts::CONNECTIONS;
+
+/// Answers the messages of many connections over the boards of a desk, each at the moment that its clock tells.
+#[derive(Drop)]
+pub struct Server<K: Keep, C: Clock> {
+    alloc: Global,
+    pub(crate) desk: Desk<K>,
+    clock: C,
+    tools: Tools,
+    pub(crate) peers: Vec<Peer>,
+}
+
+impl<K: Keep + Drop, C: Clock + Drop> Server<K, C> {
+    /// A server over a desk, whose places are all empty.
+    pub fn new(alloc: Global, desk: Desk<K>, clock: C) -> Result<Server<K, C>, AllocError>
+        ensures desk { IfOk result (λ server. server.desk ≡ desk) }
+        ensures silent { IfOk result (λ server. (c : ℕ) → talk_at server.peers.items c ≡ silent) }
+    {
+        Ok(Server {
+            alloc,
+            desk,
+            clock,
+            tools: Tools::new(alloc)?,
+            peers: silent_peers(alloc)?,
+        })
+    }
+
+    /// The desk, once all connections are gone.
+    pub fn into_desk(self) -> Desk<K>
+        ensures { result ≡ self.desk }
+    {
+        let Server {
+            alloc: _,
+            desk,
+            clock: _,
+            tools: _,
+            peers: _,
+        } = self;
+        desk
+    }
+}
+
+// The connections of all places, to which nothing came yet.
+fn silent_peers(alloc: Global) -> Result<Vec<Peer>, AllocError>
+    ensures { IfOk result (λ peers. (c : ℕ) → talk_at peers.items c ≡ silent) }
+{
+    let mut peers = Vec::with_capacity(alloc, CONNECTIONS)?;
+    'places: for _ in 0..CONNECTIONS {
+        peers.push(Peer::new(alloc))?;
+    }
+    Ok(peers)
+}
+
+// What happens, at a moment where it is a turn.
+fn at_moment<'a, C: Clock>(clock: &mut C, happening: &Happening<'a>) -> PeerHappening<'a>
+    ensures { IsTimed (done_to happening.now) (done_of result) }
+{
+    match happening {
+        Happening::Opened => PeerHappening::Opened,
+        Happening::Came(piece) => PeerHappening::Came(*piece),
+        Happening::Turn => PeerHappening::Turn(clock.now()),
+        Happening::Went(count) => PeerHappening::Went(*count),
+    }
+}
+
+impl<K: Keep, C: Clock> Service for Server<K, C> {
+    ghost follows = { λ stopped history old new. Serves stopped history old.peers.items new.peers.items
+        (K.holds old.desk) (K.after_stop old.desk) (K.holds new.desk) (K.after_stop new.desk) };
+
+    ghost has_failed = { λ server. K.has_failed server.desk };
+
+    ghost held_at = { λ server place. (talk_at server.peers.items place).bytes };
+
+    ghost owed_at = { λ server place. (talk_at server.peers.items place).out };
+
+    ghost closes_at = { λ server place. (talk_at server.peers.items place).is_closing };
+
+    ghost unchanged = { λ s. serves_none s.peers.items (K.holds s.desk) (K.after_stop s.desk) };
+
+    ghost joined = { λ stopped first more a b c. serves_then stopped first more a.peers.items b.peers.items c.peers.items
+        (K.holds a.desk) (K.after_stop a.desk) (K.holds b.desk) (K.after_stop b.desk) (K.holds c.desk) (K.after_stop c.desk) };
+
+    fn happen(&mut self, place: usize, happening: &Happening<'_>) -> Result<(), StoreFailed> {
+        let what = at_moment(&mut self.clock, happening);
+        if place >= self.peers.len() {
+            return Ok(());
+        }
+        let outcome = happen(
+            self.alloc,
+            &mut self.tools,
+            &mut self.peers,
+            &mut self.desk,
+            place,
+            &what,
+        );
+        if stops_all(outcome) {
+            return Err(StoreFailed);
+        }
+        Ok(())
+    }
+
+    fn held(&self, place: usize) -> &[u8] {
+        match self.peers.get(place) {
+            Some(peer) => peer.held(),
+            None => &[],
+        }
+    }
+
+    fn unsent(&self, place: usize) -> &[u8] {
+        match self.peers.get(place) {
+            Some(peer) => peer.unsent(),
+            None => &[],
+        }
+    }
+
+    fn has_head(&self, place: usize) -> bool {
+        match self.peers.get(place) {
+            Some(peer) => peer.has_head(),
+            None => false,
+        }
+    }
+
+    fn is_closing(&self, place: usize) -> bool {
+        match self.peers.get(place) {
+            Some(peer) => peer.is_closing(),
+            None => false,
+        }
+    }
+}
