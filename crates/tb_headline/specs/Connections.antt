@@ -1,4 +1,5 @@
--- The life of a file whose sessions serve connections: whatever turns these take, it is the life of the list of their calls.
+-- The life of a file whose sessions serve connections: whatever turns these take, it is the life of
+-- the list of their calls.
 use Rattle.std.specs.Prelude.{◌≡◌, ℕ, ◌+◌, ◌≤◌, List, [], ◌∷◌, ◌++◌, Option, length, take}
 use Rattle.tb_calls.specs.declared.call.Call.{Call}
 use Rattle.tb_calls.specs.Calls.{State, replies_to, reply}
@@ -16,8 +17,8 @@ use Rattle.tb_serve.specs.Telling.{after, told_reply, told_text}
 use Rattle.tb_turns.specs.Told.{handled}
 use Rattle.tb_turns.specs.Turns.{Run, Step, Talk}
 
--- A session that serves connections: what they hold when it begins, its steps, what they hold when it ends, and its calls
--- as calls of a list.
+-- A session that serves connections: what they hold when it begins, its steps, what they hold when
+-- it ends, and its calls as calls of a list.
 pub record Service : Type 0 where
   pub talks : ℕ → Talk
   pub steps : List (Step (Option ℕ) Timed)
@@ -28,7 +29,8 @@ abbrev pub sendings : List Service → List Sending
 sendings [] = []
 sendings (x ∷ xs) = x.sending ∷ sendings xs
 
--- the replies to the calls of messages, each in the state that all messages before it, of whatever connection, led to
+-- the replies to the calls of messages, each in the state that all messages before it, of whatever
+-- connection, led to
 abbrev pub replies_among : State → List Timed → List Reply
 replies_among s [] = []
 replies_among s (m ∷ ms) = replies_to s (calls_at m) ++ replies_among (after s (calls_at m)) ms
@@ -39,8 +41,9 @@ TellsReplies = (s : State) (before : ℕ) (m : Timed) (call : Call) → calls_at
     → server.text s before m
     ≡ told_text (told_reply Json (reply s [] call)) (is_last m.received.closes before) (takes_body m.received.message)
 
--- The steps are a run of the server, over any connections in any turns. The calls that it handled, in that order, are the
--- answered ones of those that are sent, and told these replies; they stand, and one more at most.
+-- The steps are a run of the server, over any connections in any turns. The calls that it handled,
+-- in that order, are the answered ones of those that are sent, and told these replies; they stand,
+-- and one more at most.
 pub record Serves (s : State) (x : Service) (replies : List Reply) : Type 0 where
   pub end : State
   pub run : Run server s x.talks x.steps end x.later
@@ -62,8 +65,8 @@ service_of talks steps later sent stood = record {
   sending = record { sent = sent; answered = length (calls_handled steps); stood = stood };
 }
 
--- Whatever is left of a session that serves connections, by what it promises (`leaves` of `IsPlayed` and `IsCut`), it is
--- what such a session leaves.
+-- Whatever is left of a session that serves connections, by what it promises (`leaves` of
+-- `IsPlayed` and `IsCut`), it is what such a session leaves.
 abbrev pub StopsJoin : Type 0
 StopsJoin = (s end t : State) (talks later : ℕ → Talk) (steps : List (Step (Option ℕ) Timed)) (more : List Call)
     (sent : List Sent) → Run server s talks steps end later
@@ -84,9 +87,9 @@ abbrev pub ServedInTurn : State → List Service → Type 0
 ServedInTurn s [] = Unit {0}
 ServedInTurn s (x ∷ xs) = AllServed s x.talks x.steps x.later × ServedInTurn (left_by s x) xs
 
--- Sessions that serve connections, in which these send a list of calls, whatever turns they take, whenever the sessions
--- stop and whatever comes again at whatever moment, lead where the list leads that is handled once; and the replies that
--- the connections are told are those of that list.
+-- Sessions that serve connections, in which these send a list of calls, whatever turns they take,
+-- whenever the sessions stop and whatever comes again at whatever moment, lead where the list leads
+-- that is handled once; and the replies that the connections are told are those of that list.
 abbrev pub HeadlineOfConnections : Type 0
 HeadlineOfConnections = (s : State) (calls : List Call) (xs : List Service) (replies : List (List Reply)) (t : State)
     → IsGoodWorld s.world → SendsAll calls 0 (sendings xs)

@@ -35,12 +35,13 @@ pub record IsSession (s : State) (calls : List Call) (replies : List Reply) (now
 abbrev pub calls_handled : List (Step (Option ℕ) Timed) → List Call
 calls_handled steps = calls_among (handled steps)
 
--- Each connection is served what its own messages ask for, up to where another is opened in its place.
+-- Each connection is served what its own messages ask for, up to where another is opened in its
+-- place.
 abbrev pub AllServed : State → (ℕ → Talk) → List (Step (Option ℕ) Timed) → (ℕ → Talk) → Type 0
 AllServed s talks steps later = (c : ℕ) → IsSame c steps → IsServed server c s (talks c) steps (later c)
 
--- All that was done to connections was done in these steps, and nothing else. They lead to the state of all their calls,
--- each acting once; and this state alone is left.
+-- All that was done to connections was done in these steps, and nothing else. They lead to the
+-- state of all their calls, each acting once; and this state alone is left.
 pub record IsPlayed (s : State) (done : List (ℕ × Happening (Option ℕ))) (talks later : ℕ → Talk)
     (now may_leave : State → Type 0) (d : Database) : Type 0 where
   pub steps : List (Step (Option ℕ) Timed)
@@ -50,8 +51,8 @@ pub record IsPlayed (s : State) (done : List (ℕ × Happening (Option ℕ))) (t
   pub at : IsAt (after s (calls_handled steps)) now may_leave
   pub leaves : Leaves s (calls_handled steps) (length (calls_handled steps)) d
 
--- The same up to the turn of a connection in which the store failed: the call of the message that was taken then, if it
--- asked for one, may be left or not, and all before it are.
+-- The same up to the turn of a connection in which the store failed: the call of the message that
+-- was taken then, if it asked for one, may be left or not, and all before it are.
 pub record IsCut (s : State) (done : List (ℕ × Happening (Option ℕ))) (talks later : ℕ → Talk)
     (now may_leave : State → Type 0) (d : Database) : Type 0 where
   pub steps : List (Step (Option ℕ) Timed)
@@ -62,7 +63,7 @@ pub record IsCut (s : State) (done : List (ℕ × Happening (Option ℕ))) (talk
   pub done_is : done_in steps ++ (place, last) ∷ rest ≡ done
   pub run : Run server s talks steps (after s (calls_handled steps)) middle
   pub served : AllServed s talks steps middle
-  -- first the message
+  -- what came of that turn; its first part is the message
   pub failed : Stops (after s (calls_handled steps)) last (middle place) (later place) now may_leave
   pub others : (c : ℕ) → (place == c) ≡ false → later c ≡ middle c
   pub leaves : Leaves s (calls_handled steps ++ calls_at failed.0) (length (calls_handled steps)) d

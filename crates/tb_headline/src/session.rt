@@ -1,4 +1,5 @@
-//! A session over a file: it begins with an empty database or with a store that stands, and handles calls, or serves connections, until it stops.
+//! A session over a file: it begins with an empty database or with a store that stands, and handles
+//! calls, or serves connections, until it stops.
 ghost use Rattle.std.specs.Prelude.{◌≡◌, ◌≢◌, false, length, take, true, IfErr, IfOk, IsErr, None, OnErr, OnOk, Some};
 ghost use Rattle.sqlite.specs.Held.{state};
 ghost use Rattle.sqlite.specs.State.{HasCleanDisk, Opens};
@@ -67,9 +68,10 @@ pub fn run<S: Alter>(alloc: Global, desk: &mut Desk<SqlKeep<S>>, calls: &[Call])
     desk.run(alloc, calls)
 }
 
-/// Serves connections: things are done to them, one after the other, up to a failure of the store. Each connection is told what its own
-/// messages ask for, and whenever the session stops then, what is left is the rows of the state after all calls that were answered, in
-/// the order in which they were handled, and after one more at most.
+/// Serves connections: things are done to them, one after the other, up to a failure of the store.
+/// Each connection is told what its own messages ask for, and whenever the session stops then, what
+/// is left is the rows of the state after all calls that were answered, in the order in which they
+/// were handled, and after one more at most.
 pub fn serve<S: Alter>(
     alloc: Global,
     tools: &mut Tools,
