@@ -38,6 +38,7 @@ attempt crowd.sh python3
 attempt clients.sh python3
 attempt backup.sh python3
 attempt browser.sh python3
+attempt faults.sh python3
 
 if [ -n "$failed" ]; then
     echo "FAILED:$failed"

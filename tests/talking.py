@@ -35,6 +35,15 @@ def status_of(answer):
     return int(answer[9:12])
 
 
+def body_of(answer):
+    return answer.partition(b"\r\n\r\n")[2]
+
+
+def without_moments(text):
+    """The text with each moment taken out, which the machine's clock gave."""
+    return re.sub(rb"\d{8}T\d{6}Z", b"MOMENT", text)
+
+
 def answer_to(client, sent):
     """The answer to one message; what came of it where the connection ends before it's whole."""
     client.sendall(sent)
@@ -85,11 +94,14 @@ class Server:
     def connect(self, timeout=10):
         return connected(self.port, timeout)
 
+    def status_line(self, name):
+        """A size in KiB that the system tells of it."""
+        with open(f"/proc/{self.process.pid}/status") as lines:
+            return int(next(line for line in lines if line.startswith(name + ":")).split()[1])
+
     def resident(self):
         """Its memory in MiB."""
-        with open(f"/proc/{self.process.pid}/status") as lines:
-            size = next(line for line in lines if line.startswith("VmRSS:"))
-        return int(size.split()[1]) / 1024
+        return self.status_line("VmRSS") / 1024
 
     def seconds_used(self):
         """The processor's time that it took."""

@@ -11,6 +11,7 @@ import sys
 import tempfile
 
 from connecting import connected
+from talking import without_moments
 
 program, port = os.path.abspath(sys.argv[1]), 8084
 folder = pathlib.Path(__file__).resolve().parent.parent / "crates/wire_examples/data"
@@ -57,10 +58,6 @@ def answered(sent):
         while piece := client.recv(65536):
             got += piece
     return got
-
-
-def without_moments(text):
-    return re.sub(rb"\d{8}T\d{6}Z", b"MOMENT", text)
 
 
 def is_played(name, scene):

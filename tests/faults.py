@@ -1,0 +1,172 @@
+"""Has the machine fail the program in one way after the other: python3 faults.py PROGRAM PORT TRIES KIND.., in a folder that it may write to.
+
+Each kind prints a line: how often it was tried, how often the program ended by itself, how many calls were answered, and how often something was wrong."""
+import collections
+import contextlib
+import errno
+import os
+import random
+import shutil
+import subprocess
+import sys
+import time
+
+from failing import CALLS, Judge, Wrong
+from talking import make_file
+
+PROGRAM, PORT, TRIES, KINDS = os.path.abspath(sys.argv[1]), int(sys.argv[2]), int(sys.argv[3]), sys.argv[4:]
+STRACE = ("strace", "-D", "-f", "-qq", "-o")
+# Which system calls fail, and how: those of the file once or from there on, those of the sockets once, and then all calls are answered.
+FILES = {"openat": "EIO EMFILE", "pread64": "EIO", "pwrite64": "EIO ENOSPC", "fsync": "EIO", "fdatasync": "EIO ENOSPC", "ftruncate": "EIO ENOSPC", "write": "EIO", "read": "EIO"}
+SOCKETS = {"accept4": "ECONNABORTED EMFILE", "recvfrom": "ECONNRESET ENOBUFS", "sendto": "EPIPE ENOBUFS", "epoll_wait": "EINTR"}
+MEMORY = ("brk", "mmap")
+STOPPED = ("openat", "pread64", "pwrite64", "fsync", "fdatasync", "ftruncate", "recvfrom", "sendto")
+wrong = []
+
+
+def tally(what, trials):
+    """Tries each trial, a name and what it does, which gives whether the program ended by itself; prints a line."""
+    ended, before, count = 0, len(wrong), 0
+    judge.failing.clear()
+    for name, trial in trials:
+        count += 1
+        try:
+            make_file(PROGRAM)
+            ended += trial()
+        except (Wrong, OSError, subprocess.SubprocessError, StopIteration) as fault:
+            wrong.append(f"{what}, {name}: {type(fault).__name__} {fault}")
+    print(f"{what}: {count} tries, {ended} ended the program, {sum(judge.failing)} calls answered, {len(wrong) - before} wrong", flush=True)
+
+
+def session(*befores, seconds=None, all_answered=False):
+    """Sessions in a row, each on a machine that fails in its way; then the file is judged."""
+
+    def trial():
+        answered, any_ended = 0, False
+        for before in befores:
+            answered, ended = judge.run(before, answered, seconds)
+            any_ended = any_ended or ended
+        if all_answered and answered < len(CALLS):
+            raise Wrong(f"{answered} calls were answered")
+        judge.judge(answered)
+        return any_ended
+
+    return trial
+
+
+def making(before):
+    """The making of a file fails: then it can be made, or stands whole."""
+
+    def trial():
+        for name in ("b.db", "b.db-wal"):
+            with contextlib.suppress(FileNotFoundError):
+                os.remove(name)
+        made = subprocess.run([*before, PROGRAM, "init", "b.db", "ann", "ann-key-1"], capture_output=True, timeout=60)
+        again = subprocess.run([PROGRAM, "init", "b.db", "ann", "ann-key-1"], capture_output=True, text=True, timeout=60)
+        if (again.returncode, again.stderr) not in ((0, ""), (1, "taskboard: NotEmpty\n")) or made.returncode == again.returncode == 0:
+            raise Wrong(f"made by {made}, and again by {again}")
+        judge.judge(0)
+        return made.returncode != 0
+
+    return trial
+
+
+def injected(calls, how, count, onward=False):
+    """The words before the program that have the call of this number fail."""
+    words = [f"--inject={call}:{how}:when={count}{'+' if onward else ''}" for call in calls]
+    return *STRACE, "/dev/null", f"--trace={','.join(calls)}", *words
+
+
+def counted(run):
+    """How often each system call comes in a session, or in a making, without a fault."""
+    make_file(PROGRAM)
+    run((*STRACE, "calls.txt"))
+    time.sleep(0.2)
+    with open("calls.txt") as lines:
+        return collections.Counter(line.split(maxsplit=1)[1].partition("(")[0] for line in lines if "(" in line)
+
+
+def some(count, most=TRIES):
+    """Some of the numbers up to this one, or all."""
+    return sorted(random.sample(range(1, count + 1), min(count, most)))
+
+
+def calls_fail():
+    """One system call fails, or all from one on, in a session and in the making of a file."""
+    in_session, in_making = counted(judge.run), counted(lambda before: making(before)())
+    for call, errors in (FILES | SOCKETS).items():
+        trials = []
+        for error in errors.split():
+            for count in some(in_session[call]):
+                onward = call in FILES and random.random() < 0.5
+                trials.append((f"{error} at {count}{'+' if onward else ''}", session(injected((call,), f"error={error}", count, onward), all_answered=call in SOCKETS)))
+            for count in some(in_making[call], TRIES // 2):
+                trials.append((f"{error} at {count} of a making", making(injected((call,), f"error={error}", count))))
+        tally(f"{call} fails with {errors.replace(' ', ' or ')}", trials)
+    asked = max(in_session[call] for call in MEMORY)
+    tally("no memory from one asking on", [(f"at {count}", session(injected(MEMORY, "error=ENOMEM", count, True))) for count in some(asked, 3 * TRIES)])
+
+
+def memory_bounded():
+    """About as much as it takes between its opening and its end."""
+    sizes = [random.randint(judge.least * 9 // 10, judge.most) for _ in range(3 * TRIES)]
+    tally("memory bounded", [(f"{size} KiB", session(("sh", "-c", f'ulimit -v {size} && exec "$@"', "sh"))) for size in sizes])
+
+
+def files_bounded():
+    """A file may grow to some size alone."""
+    largest = max(os.path.getsize(name) for name in ("b.db", "b.db-wal"))
+    sizes = [random.randint(0, largest // 512) for _ in range(2 * TRIES)]
+    tally("size of files bounded", [(f"{size} blocks", session(("sh", "-c", f"trap '' XFSZ; ulimit -f {size} && exec \"$@\"", "sh"))) for size in sizes])
+
+
+def disk_full():
+    """A small disk of its own, on which little is left."""
+    os.mkdir("disk")
+    if subprocess.run(["mount", "-t", "tmpfs", "-o", "size=8m", "tmpfs", "disk"], capture_output=True).returncode:
+        print("a full disk: skipped, since no disk can be mounted here")
+        return
+
+    def trial(left):
+        def on_what_is_left():
+            free = shutil.disk_usage(".").free
+            with open("ballast", "wb") as ballast:
+                ballast.write(bytes(max(free - left, 0)))
+            answered, ended = judge.run(())
+            os.remove("ballast")
+            judge.judge(answered)
+            return ended
+
+        return on_what_is_left
+
+    try:
+        os.chdir("disk")
+        tally("a full disk", [(f"{left} pages left", trial(4096 * left)) for left in (random.randint(0, 300) for _ in range(2 * TRIES))])
+    finally:
+        os.chdir("..")
+        subprocess.run(["umount", "disk"], check=True)
+
+
+def stops():
+    """Killed at a system call, and again in the session that follows."""
+    counts = counted(judge.run)
+    at_calls = [injected((call,), "signal=SIGKILL", count) for call in STOPPED for count in some(counts[call], TRIES)]
+    tally("killed at a system call", [(" ".join(before[-1:]), session(before)) for before in at_calls])
+    again = [(random.choice(at_calls), random.choice(at_calls)) for _ in range(2 * TRIES)]
+    tally("killed at a system call, and once more", [(f"{first[-1]}, {second[-1]}", session(first, second)) for first, second in again])
+
+
+def kills():
+    moments = [random.uniform(0, 0.15) for _ in range(3 * TRIES)]
+    tally("killed at any moment", [(f"after {seconds:.3f} s", session((), seconds=seconds)) for seconds in moments])
+
+
+TRIED = {"calls": calls_fail, "stops": stops, "kills": kills, "memory": memory_bounded, "size": files_bounded, "disk": disk_full}
+begun = time.monotonic()
+judge = Judge(PROGRAM, PORT)
+for kind in KINDS:
+    TRIED[kind]()
+for told in wrong[:20]:
+    print(f"wrong: {told[:1000]}")
+print(f"sessions of {len(CALLS)} calls, in {time.monotonic() - begun:.0f} s")
+sys.exit(1 if wrong else 0)
