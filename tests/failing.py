@@ -5,7 +5,7 @@ import subprocess
 import threading
 import time
 
-from talking import KNOWN, Server, answer_to, body_of, is_whole, make_file, message, status_of, without_moments
+from talking import KNOWN, Server, answer_to, body_of, identified, is_whole, make_file, message, status_of, without_moments
 
 MILK, RENT, LOST = ("00000001-0000-8000-8000-%012x" % number for number in (1, 3, 77))
 TASKS = "".join(json.dumps({"description": "Task " + "of an import " * 40, "uuid": f"dddddddd-dddd-4ddd-8ddd-{at:012d}"}) + "\n" for at in range(200))
@@ -99,8 +99,7 @@ class Program:
     def call(self, number):
         target, body = CALLS[number]
         body = body if isinstance(body, str) else json.dumps(body)
-        fields = KNOWN + b"x-request-id: 00000000-0000-4000-8000-%012d\r\n" % number
-        return self.ask(message(b"POST", target.encode(), body.encode(), fields))
+        return self.ask(message(b"POST", target.encode(), body.encode(), identified(number)))
 
     def calls_from(self, number):
         """The answers to the calls from this one on, up to the first that gets none."""

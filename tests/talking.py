@@ -19,11 +19,15 @@ def description(number):
     return f"Task {number} of many"
 
 
-def adding(number):
+def identified(number):
+    """The fields of a call of ann's under the identifier of this number."""
+    return KNOWN + b"x-request-id: 00000000-0000-4000-8000-%012d\r\n" % number
+
+
+def adding(number, board=1):
     """The message that adds the task of this number; sent again it's the same."""
-    identifier = b"x-request-id: 00000000-0000-4000-8000-%012d\r\n" % number
     body = json.dumps({"description": description(number)}).encode()
-    return message(b"POST", b"/boards/1/tasks", body, KNOWN + identifier)
+    return message(b"POST", b"/boards/%d/tasks" % board, body, identified(number))
 
 
 def is_whole(answer):
