@@ -1,0 +1,10 @@
+#!/bin/sh
+# 16 clients that add, list, complete and send again, on a server that is killed time after time and then runs on: sh soak.sh MINUTES,
+# 1 where none are given. At the end nothing is lost or doubled, and the server's memory is what its file takes. It needs python3.
+set -eu
+
+port=${PORT:-8093}
+minutes=${1:-1}
+. "$(dirname "$0")/prepare.sh"
+
+PYTHONPATH=$top/tests python3 "$top/tests/soak.py" "$program" "$port" "$minutes"
