@@ -39,6 +39,7 @@ attempt clients.sh python3
 attempt backup.sh python3
 attempt browser.sh python3
 attempt faults.sh python3
+attempt documents.sh python3
 
 if [ -n "$failed" ]; then
     echo "FAILED:$failed"

@@ -1,0 +1,170 @@
+"""Looks up what the documents name: files, links, crates, contracts, examples and numbers. Prints each that isn't there: python3 document_names.py"""
+import collections
+import pathlib
+import re
+import sys
+
+TOP = pathlib.Path(__file__).resolve().parent.parent
+DOCUMENTS = [TOP / "README.md", *sorted((TOP / "docs").glob("*.md"))]
+ENDINGS = r"\.(?:md|sh|py|rt|antt|txt|json|gz|case|wire|script|answers|html)"
+# What the program and the provers make, so that a clone needn't have it.
+MADE = re.compile(r"(out/.*|.*\.db(-wal)?)")
+PLACEHOLDER = re.compile(r"NAME|FILE|MINUTES")
+FOLDERS = ("", "crates", "docs", "tests", "tools")
+faults = []
+
+
+def lines_of(path):
+    """The lines of a document with their numbers, but for those that are shown as they are."""
+    return [(number, line) for number, line in enumerate(path.read_text().split("\n"), 1) if not line.startswith("    ")]
+
+
+def tell(path, number, what):
+    faults.append(f"{path.relative_to(TOP)}:{number}: {what}")
+
+
+def crates_named(line):
+    return [name for quoted in re.findall(r"`([^`]+)`", line) for name in re.findall(r"\w+", quoted) if name in CRATES]
+
+
+def every_file():
+    """Each file of the repository by its last name, but for what is made."""
+    files = collections.defaultdict(list)
+    for path in TOP.rglob("*"):
+        relative = path.relative_to(TOP)
+        if not {"out", ".git", "__pycache__"} & set(relative.parts):
+            files[path.name].append(str(relative))
+    return files
+
+
+def is_there(word, crates):
+    """Whether a path is one from the top or a usual folder; else the end of one in a crate that the line names, or in any where it names none."""
+    word = word.rstrip("/").removeprefix("./")
+    pattern = PLACEHOLDER.sub("*", word)
+    if any(next((TOP / folder).glob(pattern), None) for folder in FOLDERS):
+        return True
+    inside = [f"crates/{crate}/" for crate in crates] or ["crates/"]
+    if "*" in pattern:
+        return True
+    return any(path.endswith("/" + word) and path.startswith(tuple(inside)) for path in FILES[word.rpartition("/")[2]])
+
+
+def check_files(path):
+    """Each word between backticks that is a path has to be one; words that begin with a slash are routes."""
+    crates = []
+    for number, line in lines_of(path):
+        # (a row stands for itself, but for promises; a paragraph or a list goes on with the crates of the lines above)
+        is_new = line.startswith("## ") if path.name == "PROMISES.md" else line.startswith("|") or not line.strip()
+        crates = crates_named(line) if is_new else [*crates, *crates_named(line)]
+        for word in [word for quoted in re.findall(r"`([^`]+)`", line) for word in quoted.split()]:
+            is_path = re.fullmatch(rf"[\w./-]*\w{ENDINGS}|(?:\w+/)*(?:specs|src|proofs|tests|tools|docs|dist|crates|examples|data)/?[\w/.-]*", word)
+            if is_path and "/" + word[0] != "//" and not MADE.fullmatch(word) and not word.startswith(".") and not is_there(word, crates):
+                tell(path, number, f"no file {word}")
+
+
+def anchors(path):
+    return {re.sub(r"[^\w -]", "", line.lstrip("# ").lower()).replace(" ", "-") for _, line in lines_of(path) if line.startswith("#")}
+
+
+def check_links(path):
+    for number, line in lines_of(path):
+        for target in re.findall(r"\]\(([^)]+)\)", line):
+            name, _, anchor = target.partition("#")
+            to = path.parent / name if name else path
+            if not target.startswith("http") and (not to.exists() or anchor and anchor not in anchors(to)):
+                tell(path, number, f"no target {target}")
+
+
+def declared(crate):
+    """What a crate declares: functions, types, clauses, modules and definitions, and itself."""
+    names = {crate}
+    for path in (TOP / "crates" / crate / "src").rglob("*.rt"):
+        names.add(path.stem)
+        names |= set(re.findall(r"\b(?:fn|struct|enum|trait|type|const|mod|ensures|requires) +(\w+)", path.read_text()))
+    for path in (TOP / "crates" / crate / "specs").rglob("*.antt"):
+        names |= set(re.findall(r"\bpub (\w+) :", path.read_text()))
+    return names
+
+
+def check_contracts():
+    """Each name that carries a promise is declared in a crate that its row names, or that rows above it in its section name."""
+    path = TOP / "docs/PROMISES.md"
+    by_crate = {crate: declared(crate) for crate in CRATES}
+    everywhere = set().union(*by_crate.values())
+    above = []
+    for number, line in lines_of(path):
+        cells = line.split(" | ")
+        above = [] if line.startswith("## ") else above
+        if not line.startswith("|") or len(cells) != 2:
+            continue
+        crates = crates_named(cells[1])
+        above += crates
+        known = set().union(*(by_crate[crate] for crate in above)) if above else everywhere
+        quotes = [re.sub(r"^impl \w+ for ", "", quoted) for quoted in re.findall(r"`([^`]+)`", cells[1]) if not re.search(r"[/.]", quoted)]
+        for word in [word for quoted in quotes for word in re.split(r"::| ", quoted)]:
+            if word not in known:
+                tell(path, number, f"{' '.join(crates) or 'no crate'} declares no {word}")
+
+
+def check_crates():
+    """The table of crates has each, and each stands on what it's said to."""
+    path, seen = TOP / "docs/ARCHITECTURE.md", set()
+    whole = path.read_text()
+    for number, line in lines_of(path):
+        cells = line.strip("| ").split(" | ")
+        names = [name for name in re.findall(r"`(\w+)`", cells[0]) if name in CRATES]
+        if len(cells) != 3 or not names or re.search(r"[./]", cells[0]):
+            continue
+        seen |= set(names)
+        below = set().union(*(all_below(name) for name in names))
+        for other in re.findall(r"`(\w+)`", cells[2]):
+            if other not in below:
+                tell(path, number, f"{names} don't stand on {other}")
+    for crate in sorted(CRATES):
+        if crate not in seen or crate not in BELOW or f" {crate} " not in whole and "examples" not in crate:
+            tell(path, 0, f"{crate} lacks in the table of crates, in the layers or in crates.txt")
+
+
+def all_below(name):
+    return set(BELOW.get(name, ())).union(*(all_below(it) for it in BELOW.get(name, ())))
+
+
+def check_examples():
+    """Each example that has a heading, or a row of messages, is a file of a crate's data."""
+    path = TOP / "docs/EXAMPLES.md"
+    stems = {pathlib.Path(name).stem for paths in FILES.values() for name in paths if "_examples/data/" in name}
+    for number, line in lines_of(path):
+        names = re.findall(r"^#+ ([a-z_]+)$|^\| `([a-z_]+)` \|", line)
+        for name in [heading or row for heading, row in names]:
+            if name not in stems:
+                tell(path, number, f"no example {name}")
+
+
+def check_numbers():
+    """How many edits, crates and tables there are, wherever the documents tell it."""
+    numbers = {
+        "must-fail edits": len(list(TOP.glob("crates/*/must-fail/*.edit"))),
+        "crates in all": len(CRATES),
+        "STRICT tables": len(re.findall(r"(?m)^    \w+\(", (TOP / "docs/TABLES.md").read_text())),
+    }
+    words = dict(zip("one two three four five six seven eight nine ten eleven twelve".split(), range(1, 13)))
+    for path in DOCUMENTS:
+        for number, line in lines_of(path):
+            for told, what in re.findall(rf"(\w+) ({'|'.join(numbers)})", line):
+                count = words.get(told.lower(), int(told) if told.isdigit() else None)
+                if count not in (None, numbers[what]):
+                    tell(path, number, f"{told} {what}: there are {numbers[what]}")
+
+
+FILES = every_file()
+CRATES = {path.name for path in (TOP / "crates").iterdir() if (path / "src").is_dir()}
+BELOW = {line.partition(":")[0]: line.partition(":")[2].split() for line in (TOP / "crates.txt").read_text().split("\n") if ":" in line}
+for document in DOCUMENTS:
+    check_files(document)
+    check_links(document)
+check_contracts()
+check_crates()
+check_examples()
+check_numbers()
+print("\n".join(faults) or f"what {len(DOCUMENTS)} documents name is there")
+sys.exit(bool(faults))
