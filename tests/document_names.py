@@ -140,6 +140,16 @@ def check_examples():
                 tell(path, number, f"no example {name}")
 
 
+def check_tests():
+    """Each test has a row."""
+    path = TOP / "docs/TESTING.md"
+    rows = set(re.findall(r"(?m)^\| `tests/([\w.]+)", path.read_text()))
+    helpers = {"all.sh", "quick.sh", "prepare.sh", "release.sh"}
+    for name in sorted(test.name for test in (TOP / "tests").glob("*.sh")):
+        if name not in rows | helpers:
+            tell(path, 0, f"no row of tests/{name}")
+
+
 def check_numbers():
     """How many edits, crates and tables there are, wherever the documents tell it."""
     numbers = {
@@ -165,6 +175,7 @@ for document in DOCUMENTS:
 check_contracts()
 check_crates()
 check_examples()
+check_tests()
 check_numbers()
 print("\n".join(faults) or f"what {len(DOCUMENTS)} documents name is there")
 sys.exit(bool(faults))

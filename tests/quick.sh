@@ -1,7 +1,8 @@
 #!/bin/sh
 # What the program shows by itself, in under three minutes and without a prover: the worked scripts, the bytes of connections, orders over
-# real files, a server that is killed or whose file fails, silent, slow and many clients, files that another hand changed, and copies of a
-# file that is served. What a machine lacks is skipped by name.
+# real files, a server that is killed or whose file fails, silent, slow and many clients, a page in a browser, files that another hand
+# changed, copies of a file that is served, a machine that fails, and what the documents show (docs/TESTING.md). What a machine lacks
+# is skipped by name.
 set -u
 cd "$(dirname "$0")/.."
 failed=
