@@ -40,6 +40,7 @@ attempt clients.sh python3
 attempt backup.sh python3
 attempt browser.sh python3
 attempt faults.sh python3
+attempt power.sh python3 strace
 attempt documents.sh python3
 
 if [ -n "$failed" ]; then
