@@ -44,7 +44,8 @@ def minute(servers, number, slow):
         took = seconds_of_pair(servers, 1 + number * PAIRS + pair)
         sums = [one + more for one, more in zip(sums, took)]
     alone, beside = (PAIRS * ADDS / one for one in sums)
-    print(f"minute {number + 1}: {beside:,.0f} adds a second beside {BESIDE}, {alone:,.0f} alone, {beside / alone:.2f} times; {slow.ended - ended} slow ones were ended", flush=True)
+    rates = f"{beside:,.0f} adds a second beside {BESIDE}, {alone:,.0f} alone, {beside / alone:.2f} times"
+    print(f"minute {number + 1}: {rates}; {slow.ended - ended} slow ones were ended", flush=True)
     time.sleep(max(begun + 60 - time.monotonic(), 0))
     return beside / alone
 

@@ -3,12 +3,11 @@ import contextlib
 import random
 import resource
 import select
-import socket
 import sys
 import threading
 import time
 
-from talking import Server, adding, answer_to, expect_each_once, has_ended, is_whole, make_file, message, status_of
+from talking import Caller, Server, adding, answer_to, expect_each_once, has_ended, is_whole, make_file, message, status_of
 
 PROGRAM, PORT, LONGEST, PART = sys.argv[1], int(sys.argv[2]), float(sys.argv[3]), sys.argv[4]
 PLACES = 512
@@ -121,10 +120,10 @@ def readers():
 class Sender(threading.Thread):
     """A client that sends each of its tasks until it is answered."""
 
-    def __init__(self, server, numbers):
+    def __init__(self, numbers):
         super().__init__(daemon=True)
-        self.server, self.numbers = server, numbers
-        self.client, self.tries, self.fault = None, 0, None
+        self.caller, self.numbers = Caller(PORT), numbers
+        self.tries, self.fault = 0, None
 
     def run(self):
         for number in self.numbers:
@@ -133,30 +132,24 @@ class Sender(threading.Thread):
                 if time.monotonic() > last:
                     self.fault = f"task {number} got no answer"
                 time.sleep(0.01)
-        if self.client:
-            self.client.close()
+        self.caller.disconnect()
 
     def sends(self, number):
         self.tries += 1
         try:
-            self.client = self.client or socket.create_connection(("127.0.0.1", PORT), timeout=10)
-            answer = answer_to(self.client, adding(number))
-        except OSError:
-            answer = b""
-        if not is_whole(answer):
-            if self.client:
-                self.client.close()
-            self.client = None
+            answer = self.caller.one_try(adding(number))
+        except TimeoutError:
+            self.caller.disconnect()
             return False
-        if status_of(answer) != 200:
+        if answer and status_of(answer) != 200:
             self.fault = f"task {number}: {answer}"
-        return True
+        return bool(answer)
 
 
 def kills():
     """A server that is killed under clients that send again: nothing is lost, and nothing there twice."""
     senders, each, times = 16, 60, 12
-    crowd = [Sender(at, range(1 + at * each, 1 + (at + 1) * each)) for at in range(senders)]
+    crowd = [Sender(range(1 + at * each, 1 + (at + 1) * each)) for at in range(senders)]
     server = Server(PROGRAM, PORT)
     killed = 0
     for sender in crowd:

@@ -1,11 +1,10 @@
 """A session of calls on a server whose machine fails it, and the judgement of what it left: what faults.py tries in many ways."""
 import json
-import socket
 import subprocess
 import threading
 import time
 
-from talking import KNOWN, Server, answer_to, body_of, identified, is_whole, make_file, message, status_of, without_moments
+from talking import KNOWN, Caller, Server, body_of, identified, make_file, message, status_of, without_moments
 
 MILK, RENT, LOST = ("00000001-0000-8000-8000-%012x" % number for number in (1, 3, 77))
 TASKS = "".join(json.dumps({"description": "Task " + "of an import " * 40, "uuid": f"dddddddd-dddd-4ddd-8ddd-{at:012d}"}) + "\n" for at in range(200))
@@ -39,7 +38,7 @@ class Program:
     """The program as it serves b.db behind some words, and for some seconds where they are given; it may end at any time."""
 
     def __init__(self, program, port, before=(), seconds=None):
-        self.port, self.client = port, None
+        self.caller = Caller(port, PATIENCE)
         words = [*before, program, "serve", "b.db", "--port", str(port), "--forever"]
         self.process = subprocess.Popen(words, stdout=subprocess.DEVNULL, stderr=subprocess.DEVNULL)
         if seconds is not None:
@@ -51,47 +50,33 @@ class Program:
         return self
 
     def __exit__(self, *_):
-        self.disconnect()
+        self.caller.disconnect()
         self.end()
-
-    def disconnect(self):
-        if self.client:
-            self.client.close()
-        self.client = None
 
     def is_connected(self):
         """Whether there is a connection, once the process listens or has ended."""
         last = time.monotonic() + PATIENCE
-        while not self.client:
+        while True:
             ended = not self.runs()
             try:
-                self.client = socket.create_connection(("127.0.0.1", self.port), timeout=PATIENCE)
-            except OSError:
+                self.caller.connect()
+                return True
+            except ConnectionError:
                 if ended:
                     return False
-                if time.monotonic() > last:
-                    raise Wrong(f"it neither listens nor ends in {PATIENCE} seconds") from None
-                time.sleep(0.005)
-        return True
-
-    def one_try(self, sent):
-        """What is answered; nothing where no whole answer came."""
-        try:
-            answer = answer_to(self.client, sent)
-        except TimeoutError:
-            raise Wrong(f"no answer in {PATIENCE} seconds") from None
-        except OSError:
-            answer = b""
-        if not is_whole(answer) or b"connection: close" in answer:
-            self.disconnect()
-        return answer if is_whole(answer) else b""
+            if time.monotonic() > last:
+                raise Wrong(f"it neither listens nor ends in {PATIENCE} seconds")
+            time.sleep(0.005)
 
     def ask(self, sent):
         """The answer to a message that is sent again until it comes; None where the process has ended, or ends each connection without one."""
         for _ in range(TRIES):
             if not self.is_connected():
                 return None
-            answer = self.one_try(sent)
+            try:
+                answer = self.caller.one_try(sent)
+            except TimeoutError:
+                raise Wrong(f"no answer in {PATIENCE} seconds") from None
             if answer and status_of(answer) not in (500, 503):
                 return status_of(answer), without_moments(body_of(answer))
         return None

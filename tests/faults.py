@@ -3,7 +3,6 @@
 Each kind prints a line: how often it was tried, how often the program ended by itself, how many calls were answered, and how often something was wrong."""
 import collections
 import contextlib
-import errno
 import os
 import random
 import shutil
@@ -17,7 +16,16 @@ from talking import make_file
 PROGRAM, PORT, TRIES, KINDS = os.path.abspath(sys.argv[1]), int(sys.argv[2]), int(sys.argv[3]), sys.argv[4:]
 STRACE = ("strace", "-D", "-f", "-qq", "-o")
 # Which system calls fail, and how: those of the file once or from there on, those of the sockets once, and then all calls are answered.
-FILES = {"openat": "EIO EMFILE", "pread64": "EIO", "pwrite64": "EIO ENOSPC", "fsync": "EIO", "fdatasync": "EIO ENOSPC", "ftruncate": "EIO ENOSPC", "write": "EIO", "read": "EIO"}
+FILES = {
+    "openat": "EIO EMFILE",
+    "pread64": "EIO",
+    "pwrite64": "EIO ENOSPC",
+    "fsync": "EIO",
+    "fdatasync": "EIO ENOSPC",
+    "ftruncate": "EIO ENOSPC",
+    "write": "EIO",
+    "read": "EIO",
+}
 SOCKETS = {"accept4": "ECONNABORTED EMFILE", "recvfrom": "ECONNRESET ENOBUFS", "sendto": "EPIPE ENOBUFS", "epoll_wait": "EINTR"}
 MEMORY = ("brk", "mmap")
 STOPPED = ("openat", "pread64", "pwrite64", "fsync", "fdatasync", "ftruncate", "recvfrom", "sendto")
@@ -99,8 +107,9 @@ def calls_fail():
         for error in errors.split():
             for count in some(in_session[call]):
                 onward = call in FILES and random.random() < 0.5
-                trials.append((f"{error} at {count}{'+' if onward else ''}", session(injected((call,), f"error={error}", count, onward), all_answered=call in SOCKETS)))
-            for count in some(in_making[call], TRIES // 2):
+                failing = injected((call,), f"error={error}", count, onward)
+                trials.append((f"{error} at {count}{'+' if onward else ''}", session(failing, all_answered=call in SOCKETS)))
+            for count in some(in_making[call], max(TRIES // 2, 1)):
                 trials.append((f"{error} at {count} of a making", making(injected((call,), f"error={error}", count))))
         tally(f"{call} fails with {errors.replace(' ', ' or ')}", trials)
     asked = max(in_session[call] for call in MEMORY)

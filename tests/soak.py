@@ -5,13 +5,12 @@ first half; in the other half one server runs on, whose memory is compared with 
 import collections
 import json
 import random
-import socket
 import subprocess
 import sys
 import threading
 import time
 
-from talking import Server, adding, answer_to, body_of, description, identified, is_whole, make_file, message, status_of
+from talking import Caller, Server, adding, answer_to, body_of, description, identified, make_file, message, status_of
 
 PROGRAM, PORT, MINUTES = sys.argv[1], int(sys.argv[2]), float(sys.argv[3])
 CLIENTS = 16
@@ -33,7 +32,7 @@ class Client(threading.Thread):
         self.at, self.last = at, last
         # (a new number for each call; those of the clients don't meet)
         self.numbers = iter(range(1 + at * 10**9, (at + 1) * 10**9))
-        self.client, self.fault = None, None
+        self.caller, self.fault = Caller(PORT, PATIENCE), None
         self.asked, self.unanswered, self.slowest = 0, 0, 0
         self.wanted = collections.defaultdict(list)
 
@@ -44,22 +43,7 @@ class Client(threading.Thread):
         except Exception as fault:
             self.fault = f"client {self.at}: {type(fault).__name__} {fault}"
         finally:
-            self.disconnect()
-
-    def disconnect(self):
-        if self.client:
-            self.client.close()
-        self.client = None
-
-    def one_try(self, sent):
-        try:
-            self.client = self.client or socket.create_connection(("127.0.0.1", PORT), timeout=10)
-            answer = answer_to(self.client, sent)
-        except OSError:
-            answer = b""
-        if not is_whole(answer) or b"connection: close" in answer:
-            self.disconnect()
-        return answer if is_whole(answer) else b""
+            self.caller.disconnect()
 
     def ask(self, sent):
         """The body of the answer to a message, which is sent until it comes."""
@@ -67,7 +51,7 @@ class Client(threading.Thread):
         last = time.monotonic() + PATIENCE
         while time.monotonic() < last:
             begun = time.monotonic()
-            answer = self.one_try(sent)
+            answer = self.caller.one_try(sent)
             if answer:
                 self.slowest = max(self.slowest, time.monotonic() - begun)
                 if status_of(answer) != 200:
@@ -150,7 +134,9 @@ def main():
         sys.exit("\n".join(faults[:5]))
     tasks, boards, resident = expect_all(clients)
     asked, unanswered = sum(client.asked for client in clients), sum(client.unanswered for client in clients)
-    print(f"{CLIENTS} clients, {asked} messages, killed {killed} times, {unanswered} tries got no answer; {tasks} tasks on {boards - 1} boards are there once, each completed; the longest wait {max(client.slowest for client in clients):.3f} s")
+    slowest = max(client.slowest for client in clients)
+    print(f"{CLIENTS} clients, {asked} messages, killed {killed} times, {unanswered} tries got no answer, the longest wait for one {slowest:.3f} s")
+    print(f"{tasks} tasks on {boards - 1} boards are there once, each completed")
     print(f"memory at the beginning {began:.1f} MiB, behind the last kill {middle:.1f}, at the end {end:.1f}; of a new server over that file {resident:.1f}")
     if end > resident * (1 + SHARE) + MORE:
         sys.exit("the server has grown")

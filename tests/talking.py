@@ -2,6 +2,7 @@
 import collections
 import json
 import re
+import socket
 import subprocess
 import sys
 
@@ -58,6 +59,32 @@ def answer_to(client, sent):
             break
         answer += more
     return answer
+
+
+class Caller:
+    """A client of a server that may end at any time: where its connection ends it makes a new one."""
+
+    def __init__(self, port, patience=10):
+        self.port, self.patience, self.connection = port, patience, None
+
+    def connect(self):
+        self.connection = self.connection or socket.create_connection(("127.0.0.1", self.port), timeout=self.patience)
+
+    def disconnect(self):
+        if self.connection:
+            self.connection.close()
+        self.connection = None
+
+    def one_try(self, sent):
+        """What is answered to a message; nothing where no whole answer came. One that doesn't come in time is a TimeoutError."""
+        try:
+            self.connect()
+            answer = answer_to(self.connection, sent)
+        except ConnectionError:
+            answer = b""
+        if not is_whole(answer) or b"connection: close" in answer:
+            self.disconnect()
+        return answer if is_whole(answer) else b""
 
 
 def has_ended(client):
