@@ -10,7 +10,7 @@ ENDINGS = r"\.(?:md|sh|py|rt|antt|txt|json|gz|case|wire|script|answers|html)"
 # What the program and the provers make, so that a clone needn't have it.
 MADE = re.compile(r"(out/.*|.*\.db(-wal)?)")
 PLACEHOLDER = re.compile(r"NAME|FILE|MINUTES")
-FOLDERS = ("", "crates", "docs", "tests", "tools")
+FOLDERS = ("", "crates", "docs", "tests", "tools", "contrib")
 faults = []
 
 
@@ -57,7 +57,7 @@ def check_files(path):
         is_new = line.startswith("## ") if path.name == "PROMISES.md" else line.startswith("|") or not line.strip()
         crates = crates_named(line) if is_new else [*crates, *crates_named(line)]
         for word in [word for quoted in re.findall(r"`([^`]+)`", line) for word in quoted.split()]:
-            is_path = re.fullmatch(rf"[\w./-]*\w{ENDINGS}|(?:\w+/)*(?:specs|src|proofs|tests|tools|docs|dist|crates|examples|data)/?[\w/.-]*", word)
+            is_path = re.fullmatch(rf"[\w./-]*\w{ENDINGS}|(?:\w+/)*(?:specs|src|proofs|tests|tools|docs|dist|crates|examples|data|contrib)/?[\w/.-]*", word)
             if is_path and "/" + word[0] != "//" and not MADE.fullmatch(word) and not word.startswith(".") and not is_there(word, crates):
                 tell(path, number, f"no file {word}")
 

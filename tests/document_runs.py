@@ -85,6 +85,10 @@ def boards_in_a_file():
     if "Buy milk" not in listed or '"new":3' not in imported or not printed.endswith("4 of 4 tasks"):
         sys.exit(f"README.md: {listed}\n{imported}\n{printed}")
     ran.append("README.md")
+    copying = next(block for _, block in blocks_of("README.md") if "contrib/backup.sh" in block)
+    if "faults 0" not in run(copying) or len(os.listdir("copies")) != 1:
+        sys.exit(f"README.md: {copying}\nmakes no copy")
+    ran.append("README.md")
 
 
 def asked_by_curl():
@@ -105,7 +109,8 @@ def asked_by_curl():
 
 
 os.symlink(PROGRAM, "taskboard")
-shutil.copytree(TOP / "examples", "examples")
+for name in ("examples", "contrib"):
+    shutil.copytree(TOP / name, name)
 first_run()
 for path in ["README.md", *(f"docs/{path.name}" for path in sorted((TOP / "docs").glob("*.md")))]:
     fenced(path)
