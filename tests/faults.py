@@ -1,7 +1,6 @@
 """Has the machine fail the program in one way after the other: python3 faults.py PROGRAM PORT TRIES KIND.., in a folder that it may write to.
 
 Each kind prints a line: how often it was tried, how often the program ended by itself, how many calls were answered, and how often something was wrong."""
-import collections
 import contextlib
 import os
 import random
@@ -10,11 +9,12 @@ import subprocess
 import sys
 import time
 
-from failing import CALLS, Judge, Wrong
+from failing import CALLS, TASKS, Judge, Wrong
 from talking import make_file
+from tracing import counted, injected
 
 PROGRAM, PORT, TRIES, KINDS = os.path.abspath(sys.argv[1]), int(sys.argv[2]), int(sys.argv[3]), sys.argv[4:]
-STRACE = ("strace", "-D", "-f", "-qq", "-o")
+IMPORT = next(at for at, (target, _) in enumerate(CALLS) if target == "/boards/1/import")
 # Which system calls fail, and how: those of the file once or from there on, those of the sockets once, and then all calls are answered.
 FILES = {
     "openat": "EIO EMFILE",
@@ -79,19 +79,30 @@ def making(before):
     return trial
 
 
-def injected(calls, how, count, onward=False):
-    """The words before the program that have the call of this number fail."""
-    words = [f"--inject={call}:{how}:when={count}{'+' if onward else ''}" for call in calls]
-    return *STRACE, "/dev/null", f"--trace={','.join(calls)}", *words
+def importing(before):
+    """The order that imports makes the ninth call of the session, behind the others before it."""
+
+    def trial():
+        for name in ("b.db", "b.db-wal"):
+            shutil.copy("of-eight-calls." + name, name)
+        words = [*before, PROGRAM, "import", "b.db", "ann", "ann-key-1", f"00000000-0000-4000-8000-{IMPORT:012d}", "1", "json"]
+        done = subprocess.run(words, input=TASKS.encode(), capture_output=True, timeout=60)
+        if done.returncode == 0 and done.stdout.rstrip() != judge.answers[IMPORT][1]:
+            raise Wrong(f"imported by {done}")
+        judge.judge(IMPORT + (done.returncode == 0))
+        return done.returncode != 0
+
+    return trial
 
 
-def counted(run):
-    """How often each system call comes in a session, or in a making, without a fault."""
+def before_an_import():
+    """Keeps the file of a session up to its import, as a server that was killed left it."""
     make_file(PROGRAM)
-    run((*STRACE, "calls.txt"))
-    time.sleep(0.2)
-    with open("calls.txt") as lines:
-        return collections.Counter(line.split(maxsplit=1)[1].partition("(")[0] for line in lines if "(" in line)
+    with judge.start() as killed:
+        for number in range(IMPORT):
+            killed.call(number)
+    for name in ("b.db", "b.db-wal"):
+        shutil.copy(name, "of-eight-calls." + name)
 
 
 def some(count, most=TRIES):
@@ -100,8 +111,11 @@ def some(count, most=TRIES):
 
 
 def calls_fail():
-    """One system call fails, or all from one on, in a session and in the making of a file."""
-    in_session, in_making = counted(judge.run), counted(lambda before: making(before)())
+    """One system call fails, or all from one on, in a session, in the making of a file and in an import by the order."""
+    before_an_import()
+    orders = [(kind, order, counted(lambda before: order(before)())) for kind, order in (("a making", making), ("an import", importing))]
+    make_file(PROGRAM)
+    in_session = counted(judge.run)
     for call, errors in (FILES | SOCKETS).items():
         trials = []
         for error in errors.split():
@@ -109,8 +123,9 @@ def calls_fail():
                 onward = call in FILES and random.random() < 0.5
                 failing = injected((call,), f"error={error}", count, onward)
                 trials.append((f"{error} at {count}{'+' if onward else ''}", session(failing, all_answered=call in SOCKETS)))
-            for count in some(in_making[call], max(TRIES // 2, 1)):
-                trials.append((f"{error} at {count} of a making", making(injected((call,), f"error={error}", count))))
+            for kind, order, counts in orders:
+                numbers = some(counts[call], max(TRIES // 2, 1))
+                trials += [(f"{error} at {count} of {kind}", order(injected((call,), f"error={error}", count))) for count in numbers]
         tally(f"{call} fails with {errors.replace(' ', ' or ')}", trials)
     asked = max(in_session[call] for call in MEMORY)
     tally("no memory from one asking on", [(f"at {count}", session(injected(MEMORY, "error=ENOMEM", count, True))) for count in some(asked, 3 * TRIES)])
@@ -158,6 +173,7 @@ def disk_full():
 
 def stops():
     """Killed at a system call, and again in the session that follows."""
+    make_file(PROGRAM)
     counts = counted(judge.run)
     at_calls = [injected((call,), "signal=SIGKILL", count) for call in STOPPED for count in some(counts[call], TRIES)]
     tally("killed at a system call", [(" ".join(before[-1:]), session(before)) for before in at_calls])

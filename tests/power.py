@@ -7,16 +7,15 @@ import random
 import re
 import subprocess
 import sys
-import time
 
 from failing import CALLS, Judge, Wrong
 from talking import make_file
+from tracing import taken_down
 
 PROGRAM, PORT, TRIES = os.path.abspath(sys.argv[1]), int(sys.argv[2]), int(sys.argv[3])
 FILES = ("b.db", "b.db-wal")
 SECTOR = 512
-TRACED = "openat,pwrite64,ftruncate,fdatasync,fsync,sendto,close"
-STRACE = ("strace", "-D", "-f", "-qq", "-xx", "-s", "10000000", "-o", "calls.txt", f"--trace={TRACED}")
+WHOLE = ("-xx", "-s", "10000000", "--trace=openat,pwrite64,ftruncate,fdatasync,fsync,sendto,close")
 LINE = re.compile(r'\d+ +(\w+)\((.*)\) += (\d+)')
 
 
@@ -98,13 +97,6 @@ def contents():
     return found
 
 
-def taken_down(run):
-    run()
-    time.sleep(0.3)
-    with open("calls.txt") as lines:
-        return steps_of(lines)
-
-
 def made_again():
     """After a loss of power in the making a file can be made, or stands whole."""
     again = subprocess.run([PROGRAM, "init", "b.db", "ann", "ann-key-1"], capture_output=True, text=True, timeout=60)
@@ -132,7 +124,7 @@ def tally(what, started, steps, first=0, before_judging=lambda: None):
 
 def in_a_session():
     make_file(PROGRAM)
-    return tally(f"power lost in a session of {len(CALLS)} calls", contents(), taken_down(lambda: judge.run(STRACE)))
+    return tally(f"power lost in a session of {len(CALLS)} calls", contents(), steps_of(taken_down(judge.run, WHOLE)))
 
 
 def behind_a_kill():
@@ -142,15 +134,15 @@ def behind_a_kill():
     with judge.start() as killed:
         for number in range(first):
             killed.call(number)
-    return tally("power lost behind a kill", contents(), taken_down(lambda: judge.run(STRACE, first)), first)
+    return tally("power lost behind a kill", contents(), steps_of(taken_down(lambda before: judge.run(before, first), WHOLE)), first)
 
 
 def in_the_making():
     for name in FILES:
         os.remove(name)
-    words = [*STRACE, PROGRAM, "init", "b.db", "ann", "ann-key-1"]
-    steps = taken_down(lambda: subprocess.run(words, check=True))
-    return tally("power lost in the making of a file", dict.fromkeys(FILES, b""), steps, before_judging=made_again)
+    words = [PROGRAM, "init", "b.db", "ann", "ann-key-1"]
+    lines = taken_down(lambda before: subprocess.run([*before, *words], check=True), WHOLE)
+    return tally("power lost in the making of a file", dict.fromkeys(FILES, b""), steps_of(lines), before_judging=made_again)
 
 
 judge = Judge(PROGRAM, PORT)
