@@ -17,6 +17,8 @@ TOP = pathlib.Path(__file__).resolve().parent.parent
 # Three tasks, as the machine's own Taskwarrior might export them.
 EXPORTED = json.dumps([{"description": f"Task {number}", "uuid": f"dddddddd-dddd-4ddd-8ddd-{number:012d}"} for number in range(3)])
 COMMAND = re.compile(r"(?:\./taskboard|curl|task export|printf|who=|id\(\)|t=|sh )")
+# What an answer of a script begins with: a status and a body, a body, or a row of a list.
+ANSWER = r'\d{3} (\d+|-) \{|\{"(added|field|name)"|\{"description":.*"entry"|    +\d'
 ran = []
 
 
@@ -108,6 +110,24 @@ def asked_by_curl():
                 sys.exit(f"docs/HTTP.md: {command} prints nothing")
 
 
+def worked_examples():
+    """How many of the answers that EXAMPLES.md shows stand in the answers of the script of that name, which `scripts.py` compares; each has to."""
+    count = 0
+    text = (TOP / "docs/EXAMPLES.md").read_text()
+    for name, part in re.findall(r"(?ms)^## ([a-z_]+)\n(.*?)(?=^## |\Z)", text):
+        path = TOP / f"crates/worked_examples/data/{name}.answers"
+        answers = path.read_text() if path.exists() else ""
+        spans = re.findall(r"`([^`]+)`", re.sub(r"(?m)^    .*$", "", part)) if answers else []
+        shown = [re.sub(r"T\((\d+)\)", lambda task: f"00000001-0000-8000-8000-{int(task[1]):012x}", span) for span in spans]
+        wanted = [span for span in shown if re.match(ANSWER, span) and ".." not in span]
+        wanted += [line + "\n" for line in re.findall(r"(?m)^    (.*)$", part) if answers]
+        for span in wanted:
+            if span not in answers:
+                sys.exit(f"docs/EXAMPLES.md: {name} isn't answered {span}")
+        count += len(wanted)
+    return count
+
+
 os.symlink(PROGRAM, "taskboard")
 for name in ("examples", "contrib"):
     shutil.copytree(TOP / name, name)
@@ -119,4 +139,5 @@ if shutil.which("curl"):
     asked_by_curl()
 else:
     print("what the documents ask by curl: skipped, since it isn't there")
+print(f"{worked_examples()} answers of examples are as their scripts have them")
 print(f"{len(ran)} commands of the documents print what stands behind them")

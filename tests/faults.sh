@@ -1,8 +1,8 @@
 #!/bin/sh
-# A machine that fails the program while it makes a file, imports, and serves a session of calls: system calls that fail, memory and disk that are
-# refused, and kills. What was answered stands in the file that it leaves, one call more at most, and all sent again leads where a run
-# without a fault leads. It needs python3, for most of it strace, and for a full disk root; `sh tests/faults.sh TRIES` tries more than 2 of
-# each kind, which take under a minute.
+# A machine that fails the program while it makes a file, imports, and serves a session of calls: system calls that fail, memory and disk
+# that are refused, and kills. What was answered stands in the file that it leaves, one call more at most, and all sent again leads where
+# a run without a fault leads. It needs python3, for most of it strace, and for a full disk root; `sh tests/faults.sh TRIES` tries more
+# than 2 of each kind, which take under a minute.
 set -eu
 
 port=${PORT:-8089}
