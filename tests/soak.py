@@ -10,7 +10,7 @@ import sys
 import threading
 import time
 
-from talking import Caller, Server, adding, answer_to, body_of, description, identified, make_file, message, status_of
+from talking import Caller, Server, adding, answer_to, body_of, description, end_by_signal, identified, make_file, message, status_of
 
 PROGRAM, PORT, MINUTES = sys.argv[1], int(sys.argv[2]), float(sys.argv[3])
 CLIENTS = 16
@@ -117,6 +117,7 @@ def expect_all(clients):
 
 
 def main():
+    end_by_signal()
     make_file(PROGRAM)
     server, begun = serve(), time.monotonic()
     began = server.resident()

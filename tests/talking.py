@@ -2,6 +2,7 @@
 import collections
 import json
 import re
+import signal
 import socket
 import subprocess
 import sys
@@ -139,6 +140,11 @@ class Server:
         with open(f"/proc/{self.process.pid}/stat") as line:
             fields = line.read().rpartition(")")[2].split()
         return (int(fields[11]) + int(fields[12])) / 100
+
+
+def end_by_signal():
+    """Has a signal that ends this test end its servers too."""
+    signal.signal(signal.SIGTERM, lambda number, _: sys.exit(128 + number))
 
 
 def make_file(program, file="b.db"):
