@@ -5,7 +5,6 @@
 # It needs python3 with its sqlite3, and takes under ten seconds once the program is there.
 set -eu
 
-port=${PORT:-8095}
 . "$(dirname "$0")/prepare.sh"
 contrib=$top/contrib
 prefix=$folder/opt

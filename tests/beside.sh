@@ -4,7 +4,6 @@
 # below LEAST times one alone. It needs python3, and as long as it's told; of a core it takes a quarter.
 set -eu
 
-port=${PORT:-8091}
 minutes=${1:-2}
 least=${LEAST:-0.9}
 . "$(dirname "$0")/prepare.sh"

@@ -12,7 +12,6 @@ if [ -z "$browser" ]; then
     exit 0
 fi
 
-port=${PORT:-8088}
 # How long the page may wait for an answer, in seconds.
 longest=${LONGEST:-1}
 . "$(dirname "$0")/prepare.sh"

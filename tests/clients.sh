@@ -3,7 +3,6 @@
 # and curl with --parallel where it's there. It needs python3, and takes seconds once the program is there.
 set -eu
 
-port=${PORT:-8087}
 # How long a client may wait for an answer, in seconds.
 longest=${LONGEST:-1}
 . "$(dirname "$0")/prepare.sh"

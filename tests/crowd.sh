@@ -3,7 +3,6 @@
 # killed under 16 clients that send again. It needs python3, and takes under 40 seconds once the program is there.
 set -eu
 
-port=${PORT:-8085}
 # How long a client that the server has a place for may wait for an answer, in seconds.
 longest=${LONGEST:-1}
 # Which of the four are tried.

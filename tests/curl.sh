@@ -2,7 +2,6 @@
 # Lets curl add a task, send it again under its identifier, and list it. It needs curl, and takes seconds once the program is there.
 set -eu
 
-port=${PORT:-8083}
 . "$(dirname "$0")/prepare.sh"
 
 "$program" init b.db ann ann-key-1

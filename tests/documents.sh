@@ -3,7 +3,6 @@
 # print. It needs python3, and curl for most commands, and takes seconds once the program is there.
 set -eu
 
-port=${PORT:-8094}
 . "$(dirname "$0")/prepare.sh"
 
 python3 "$top/tests/document_names.py"

@@ -5,7 +5,6 @@
 # than 2 of each kind, which take under a minute.
 set -eu
 
-port=${PORT:-8089}
 # How often each way is tried at least.
 tries=${TRIES:-${1:-2}}
 kinds=${KINDS:-kills memory size disk}

@@ -6,7 +6,7 @@ set -eu
 . "$(dirname "$0")/prepare.sh"
 
 "$program" init b.db ann ann-key-1
-python3 - "$program" "${PORT:-8081}" "${TASKS:-500}" "${KILLS:-20}" <<'CLIENT'
+python3 - "$program" "$port" "${TASKS:-500}" "${KILLS:-20}" <<'CLIENT'
 import http.client
 import random
 import subprocess

@@ -3,7 +3,6 @@
 # It needs python3, and takes two minutes at most once the program is there.
 set -eu
 
-port=${PORT:-8084}
 # How long the slow clients send, in seconds.
 slow=${SLOW:-10}
 . "$(dirname "$0")/prepare.sh"

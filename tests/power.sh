@@ -4,7 +4,6 @@
 # to. It needs python3 and strace, and takes 20 seconds; `sh tests/power.sh TRIES` tries more than 15 of each.
 set -eu
 
-port=${PORT:-8096}
 tries=${1:-15}
 if ! strace -qq -o /dev/null true 2>/dev/null; then
     echo "a loss of power: skipped, since strace isn't there or may not trace"

@@ -3,7 +3,6 @@
 # imports tasks, and tries what is refused. It needs python3, and takes seconds once the program is there.
 set -eu
 
-port=${PORT:-8080}
 . "$(dirname "$0")/prepare.sh"
 
 expect() {

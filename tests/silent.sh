@@ -6,7 +6,6 @@ set -eu
 
 # How long the second client may wait, in seconds.
 longest=${LONGEST:-1}
-port=${PORT:-8082}
 . "$(dirname "$0")/prepare.sh"
 
 "$program" init b.db ann ann-key-1

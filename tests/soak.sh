@@ -3,7 +3,6 @@
 # 1 where none are given. At the end nothing is lost or doubled, and the server's memory is what its file takes. It needs python3.
 set -eu
 
-port=${PORT:-8093}
 minutes=${1:-1}
 . "$(dirname "$0")/prepare.sh"
 

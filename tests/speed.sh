@@ -4,15 +4,8 @@
 # It needs python3, and takes seconds once the program is there.
 set -eu
 
-top=$(cd "$(dirname "$0")/.." && pwd)
-port=${PORT:-8082}
 adds=${ADDS:-1000}
-folder=$(mktemp -d)
-server=
-trap 'if [ -n "$server" ]; then kill "$server" 2>/dev/null || true; fi; rm -rf "$folder"' EXIT
-
-program=$("$top/taskboard" --where)
-cd "$folder"
+. "$(dirname "$0")/prepare.sh"
 
 "$program" init b.db ann ann-key-1
 "$program" serve b.db --port "$port" --connections 1 &

@@ -3,7 +3,6 @@
 # It needs the packages sqlite3 and python3, and takes seconds once the program is there.
 set -eu
 
-port=${PORT:-8080}
 . "$(dirname "$0")/prepare.sh"
 
 ask() {

@@ -10,10 +10,10 @@ import subprocess
 import sys
 import tempfile
 
-from connecting import connected
+from connecting import connected, free_port
 from talking import without_moments
 
-program, port = os.path.abspath(sys.argv[1]), 8084
+program, port = os.path.abspath(sys.argv[1]), free_port()
 folder = pathlib.Path(__file__).resolve().parent.parent / "crates/wire_examples/data"
 BEHIND = b"GET /boards/1/list HTTP/1.1\r\nHost: a\r\nx-member: root\r\nx-key: root-key-1\r\nConnection: close\r\n\r\n"
 
