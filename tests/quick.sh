@@ -31,7 +31,7 @@ attempt scripts.py python3
 attempt wire.py python3
 attempt serve.sh python3
 attempt kill.sh python3
-attempt failing.sh python3
+attempt store_fails.sh python3
 attempt strange_rows.sh python3
 attempt curl.sh python3 curl
 attempt silent.sh python3

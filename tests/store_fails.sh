@@ -3,7 +3,6 @@
 # when the file is opened again, and the message that failed is sent again and counts once. It needs python3, and takes seconds.
 set -eu
 
-port=${PORT:-8086}
 . "$(dirname "$0")/prepare.sh"
 
 # Adds the task of this number, with a long description, and prints the answer.
