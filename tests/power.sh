@@ -1,10 +1,10 @@
 #!/bin/sh
 # Power is lost in a session of calls, in one behind a kill, and in the making of a file: of the writes that weren't synced some first ones
 # stand, each 512 bytes by themselves. What was answered stands in the file, one call more at most, and all sent again leads where it has
-# to. It needs python3 and strace, and takes 20 seconds; `sh tests/power.sh TRIES` tries more than 15 of each.
+# to. It needs python3 and strace, and takes 15 seconds; `sh tests/power.sh TRIES` tries more than 10 of each.
 set -eu
 
-tries=${1:-15}
+tries=${1:-10}
 if ! strace -qq -o /dev/null true 2>/dev/null; then
     echo "a loss of power: skipped, since strace isn't there or may not trace"
     exit 0

@@ -9,6 +9,8 @@ failed=
 
 # A machine that has other work too may take longer than a test that is run alone allows.
 export LONGEST=${LONGEST:-5}
+# Each way in which a machine fails the program is tried once; by itself that test tries more.
+export TRIES=${TRIES:-1}
 
 # Runs a test where the programs that it needs are there: attempt NAME NEEDED..
 attempt() {
