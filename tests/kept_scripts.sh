@@ -4,13 +4,13 @@
 set -eu
 
 top=$(cd "$(dirname "$0")/.." && pwd)
-data=$top/crates/worked_examples/data
+data=$top/crates/examples/data
 folder=$(mktemp -d)
 trap 'rm -rf "$folder"' EXIT
 
 # Builds the program where it is proved.
-(cd "$top/crates/worked_examples" && rt run -- --memory </dev/null)
-program=$top/crates/worked_examples/out/worked_examples
+(cd "$top/crates/examples" && rt run -- --memory </dev/null)
+program=$top/crates/examples/out/examples
 cd "$folder"
 
 run_line_by_line() {

@@ -8,8 +8,8 @@ folder=$(mktemp -d)
 trap 'rm -rf "$folder"' EXIT
 
 # Builds the program where it is proved.
-(cd "$top/crates/worked_examples" && rt run -- --memory </dev/null)
-program=$top/crates/worked_examples/out/worked_examples
+(cd "$top/crates/examples" && rt run -- --memory </dev/null)
+program=$top/crates/examples/out/examples
 taskboard=$("$top/taskboard" --where)
 cd "$folder"
 

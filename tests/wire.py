@@ -1,7 +1,8 @@
 """Plays the connections of the wire examples against a real server, and compares the bytes that it answers: wire.py PROGRAM
 
-What a real socket and clock can't be told to do is left out: scenes with moments of their own, readers and writers that fail. Moments in
-answers are those of the machine's clock, so they are only compared as moments. `crates/wire_examples/data/README.md` says what the lines mean."""
+What a real socket and clock can't be told to do is left out: scenes with moments of their own, readers and writers that fail, and
+connections at once in every order. Moments in answers are those of the machine's clock, so they are only compared as moments.
+`crates/examples/data/README.md` says what the lines mean."""
 import os
 import pathlib
 import re
@@ -14,7 +15,7 @@ from connecting import connected, free_port
 from talking import without_moments
 
 program, port = os.path.abspath(sys.argv[1]), free_port()
-folder = pathlib.Path(__file__).resolve().parent.parent / "crates/wire_examples/data"
+folder = pathlib.Path(__file__).resolve().parent.parent / "crates/examples/data"
 BEHIND = b"GET /boards/1/list HTTP/1.1\r\nHost: a\r\nx-member: root\r\nx-key: root-key-1\r\nConnection: close\r\n\r\n"
 
 
@@ -34,7 +35,7 @@ def scenes_of(path):
             sent += bytes_of(word, rest)
         elif word.startswith("<"):
             wanted += bytes_of(word, rest)
-        elif word in ("moments", "reader", "writer"):
+        elif word in ("moments", "parts", "reader", "writer"):
             plays = False
         elif word == "again":
             again = True
@@ -95,4 +96,4 @@ for path in sorted(folder.glob("*.wire")):
     played += [is_played(path.stem, scene) for scene in scenes]
 if not played or not all(played) or not bytes_behind_are_dropped():
     sys.exit(1)
-print(f"{len(played)} scenes are answered as written; {left} files are of ends or moments that a real server can't be given")
+print(f"{len(played)} scenes are answered as written; {left} files are of ends, moments or orders that a real server can't be given")

@@ -1,0 +1,73 @@
+//! The lines of a file: bytes and numbers as they stand there, what is told of a case, and how it is compared with what is written.
+
+use bstr::ByteVec;
+use std::alloc::{AllocError, Global};
+use std::io;
+
+/// A line that can't be read.
+pub fn unreadable() -> io::Error {
+    io::Error::from(io::ErrorKind::InvalidData)
+}
+
+/// A number in decimals.
+pub fn read_count(text: &str) -> io::Result<usize> {
+    text.parse::<usize>().or(Err(unreadable()))
+}
+
+/// Adds the bytes of a line. Its mark says how often they stand there, and whether the end of a line stands behind each.
+pub fn push_line(alloc: Global, out: &mut Vec<u8>, mark: &str, text: &str) -> io::Result<()> {
+    let (mark, count) = match mark.split_once('*') {
+        Some((mark, count)) => (mark, read_count(count)?),
+        None => (mark, 1),
+    };
+    let mut bytes = Vec::unescape_bytes(alloc, text)?;
+    if mark.is_empty() {
+        bytes.extend_from_slice(b"\r\n")?;
+    }
+    for _ in 0..count {
+        out.extend_from_slice(bytes.as_slice())?;
+    }
+    Ok(())
+}
+
+/// Finds the first line that is told otherwise than it is wanted.
+pub fn compare(alloc: Global, wanted: &[u8], told: &[u8]) -> io::Result<()> {
+    if wanted == told {
+        return Ok(());
+    }
+    let mut number = 0u32;
+    let mut others = told.split(|byte| *byte == b'\n');
+    for line in wanted.split(|byte| *byte == b'\n') {
+        number = number.saturating_add(1);
+        let other = others.next().unwrap_or(b"nothing");
+        if line != other {
+            let other = str::from_utf8(other).unwrap_or("no text");
+            let text = format!(in alloc; "line {number}: {other}")?;
+            return Err(io::Error::other(text.as_str()));
+        }
+    }
+    Err(io::Error::other("there is more"))
+}
+
+/// Steps, and behind each its answers.
+#[derive(Drop)]
+pub struct Told {
+    pub alloc: Global,
+    pub text: String,
+}
+
+impl Told {
+    pub fn line(&mut self, front: &str, line: &str) -> Result<(), AllocError> {
+        self.text.push_str(front)?;
+        self.text.push_str(line)?;
+        self.text.push('\n')
+    }
+
+    /// Tells an answer of some lines.
+    pub fn answer(&mut self, text: &str) -> Result<(), AllocError> {
+        for line in text.lines() {
+            self.line("< ", line)?;
+        }
+        Ok(())
+    }
+}

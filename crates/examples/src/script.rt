@@ -1,0 +1,107 @@
+//! Scripts, each answered in every way.
+
+use crate::breaking::answer_through_break;
+use crate::lines::compare;
+use crate::store::{Owner, answer_in, ended};
+use std::alloc::AllocError;
+use std::{fs, io};
+use tb_script::run_lines;
+
+/// A script of more bytes is answered over lists and over a store in memory alone.
+const MOST_BYTES: usize = 8192;
+
+const STORE: &str = "boards.db";
+
+const LOG: &str = "boards.db-wal";
+
+/// A script, and what it has to be answered.
+#[derive(Drop)]
+struct Case<'o> {
+    owner: &'o Owner,
+    script: Vec<u8>,
+    answers: Vec<u8>,
+}
+
+/// Answers the script of that name in every way.
+pub fn run(rt: &HostRuntime, owner: &Owner, name: &str) -> io::Result<String> {
+    let case = Case {
+        owner,
+        script: fs::read(rt, format!(in owner.alloc; "{name}.script")?)?,
+        answers: fs::read(rt, format!(in owner.alloc; "{name}.answers")?)?,
+    };
+    case.answer_in_memory(rt)?;
+    if case.script.len() <= MOST_BYTES {
+        case.answer_by_line(rt)?;
+        let calls = format!(in owner.alloc; "{}\n", case.answer_through_breaks()?)?;
+        if let Ok(wanted) = fs::read(rt, format!(in owner.alloc; "{name}.calls")?) {
+            compare(owner.alloc, wanted.as_slice(), calls.as_bytes())?;
+        }
+    }
+    Ok(String::from_str(owner.alloc, "ok")?)
+}
+
+impl Case<'_> {
+    /// Over lists, and over a store in memory.
+    fn answer_in_memory(&self, rt: &HostRuntime) -> io::Result<()> {
+        let script = self.script.as_slice();
+        let mut answers = Vec::new(self.owner.alloc);
+        ended(run_lines(self.owner.alloc, script, &mut answers))?;
+        self.expect("over lists", answers.as_slice())?;
+        let answers = answer_in(rt, self.owner, "--memory", script)?;
+        self.expect("over memory", answers.as_slice())
+    }
+
+    /// Over a file that is opened anew for each line.
+    fn answer_by_line(&self, rt: &HostRuntime) -> io::Result<()> {
+        let mut answers = Vec::new(self.owner.alloc);
+        remove_store(rt);
+        for line in self.lines()?.as_slice() {
+            let answer = answer_in(rt, self.owner, STORE, *line)?;
+            answers.extend_from_slice(answer.as_slice())?;
+        }
+        remove_store(rt);
+        self.expect("over a file", answers.as_slice())
+    }
+
+    /// Lets the store fail at its first call, at its second, and so on, up to the first that the script doesn't come to.
+    fn answer_through_breaks(&self) -> io::Result<u64> {
+        let lines = self.lines()?;
+        for calls in 0..u64::MAX {
+            let fails = self.answer_through_break(lines.as_slice(), calls, false)?;
+            let fails_late = self.answer_through_break(lines.as_slice(), calls, true)?;
+            if !fails || !fails_late {
+                return Ok(calls);
+            }
+        }
+        Ok(u64::MAX)
+    }
+
+    /// Whether the script comes to the call at which its store fails.
+    fn answer_through_break(&self, lines: &[&[u8]], calls: u64, stands: bool) -> io::Result<bool> {
+        let (answers, fails) = answer_through_break(self.owner, lines, calls, stands)?;
+        self.expect("over a store that fails", answers.as_slice())?;
+        Ok(fails)
+    }
+
+    fn expect(&self, way: &str, answers: &[u8]) -> io::Result<()> {
+        let alloc = self.owner.alloc;
+        match compare(alloc, self.answers.as_slice(), answers) {
+            Ok(()) => Ok(()),
+            Err(error) => Err(io::Error::other(format!(in alloc; "{way}: {error}")?.as_str())),
+        }
+    }
+
+    fn lines(&self) -> Result<Vec<&[u8]>, AllocError> {
+        self.script
+            .as_slice()
+            .split(|byte| *byte == b'\n')
+            .filter(|line| !line.is_empty())
+            .collect(self.owner.alloc)
+    }
+}
+
+/// Removes the file of a store and its log, where they are there.
+fn remove_store(rt: &HostRuntime) {
+    let _ = fs::remove_file(rt, STORE);
+    let _ = fs::remove_file(rt, LOG);
+}

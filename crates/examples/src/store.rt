@@ -1,0 +1,125 @@
+//! Stores, with whom all boards begin, and lines that are answered over them.
+
+ghost use Rattle.std.specs.Prelude.{◌≡◌, false};
+
+use sqlite::{Alter, Connection};
+use std::alloc::{AllocError, Global};
+use std::io;
+use tb_board::{Key, Name};
+use tb_desk::{Desk, ListKeep};
+use tb_keeper::{CreateFault, SqlKeep};
+use tb_script::{LinesFault, run_lines_on};
+use tb_sql::opening::{OpenFault, is_empty};
+
+/// The person who owns board 1.
+#[derive(Drop)]
+pub struct Owner {
+    pub alloc: Global,
+    pub name: Name,
+    pub key: Key,
+}
+
+impl Owner {
+    /// The person `root`, whose key is `root-key-1`.
+    pub fn root(alloc: Global) -> io::Result<Owner> {
+        match (Name::read(alloc, "root")?, Key::read(alloc, "root-key-1")?) {
+            (Some(name), Some(key)) => Ok(Owner { alloc, name, key }),
+            _ => Err(io::Error::other("there is no owner")),
+        }
+    }
+
+    /// New boards that lists keep.
+    pub fn lists(&self) -> Result<ListKeep, AllocError> {
+        ListKeep::new(self.alloc, &self.name, &self.key)
+    }
+}
+
+/// A store, or the database without one and the word for why.
+pub type Opened<S> = Result<SqlKeep<S>, (Connection<S>, &'static str)>;
+
+/// Opens the store of a database. `open` makes one where there is none, `make` makes one, and `take` makes none.
+pub fn open_store<S: Alter + Drop>(owner: &Owner, conn: Connection<S>, how: &str) -> Opened<S> {
+    if !conn.is_autocommit() {
+        return Err((conn, "InTransaction"));
+    }
+    if how == "make" || (how == "open" && is_empty(&conn)) {
+        made(owner, conn)
+    } else {
+        taken(owner.alloc, conn)
+    }
+}
+
+fn made<S: Alter + Drop>(owner: &Owner, conn: Connection<S>) -> Opened<S>
+    requires { conn.in_transaction ≡ false }
+{
+    match SqlKeep::create(owner.alloc, conn, &owner.name, &owner.key) {
+        Ok(keep) => Ok(keep),
+        Err((conn, CreateFault::NotEmpty)) => Err((conn, "NotEmpty")),
+        Err((conn, CreateFault::Store)) => Err((conn, "Store")),
+        Err((conn, CreateFault::Memory)) => Err((conn, "Memory")),
+    }
+}
+
+fn taken<S: Alter + Drop>(alloc: Global, conn: Connection<S>) -> Opened<S>
+    requires { conn.in_transaction ≡ false }
+{
+    match SqlKeep::open(alloc, conn) {
+        Ok(keep) => Ok(keep),
+        Err((conn, OpenFault::NotOurs)) => Err((conn, "NotOurs")),
+        Err((conn, OpenFault::WrongVersion)) => Err((conn, "WrongVersion")),
+        Err((conn, OpenFault::Store)) => Err((conn, "Store")),
+        Err((conn, OpenFault::Memory)) => Err((conn, "Memory")),
+    }
+}
+
+/// A desk over the store of a database, or over a new one.
+pub fn desk_over<S: Alter + Drop>(
+    owner: &Owner,
+    conn: Connection<S>,
+) -> io::Result<Desk<SqlKeep<S>>> {
+    match open_store(owner, conn, "open") {
+        Ok(keep) => Ok(Desk::new(keep)),
+        Err((_, word)) => Err(io::Error::other(word)),
+    }
+}
+
+/// Answers lines over the store that the file of that name holds, or a new one where there is none, or for `--memory` in memory.
+pub fn answer_in(
+    rt: &HostRuntime,
+    owner: &Owner,
+    place: &str,
+    lines: &[u8],
+) -> io::Result<Vec<u8>> {
+    if place == "--memory" {
+        let conn = Connection::open_in_memory(owner.alloc)?;
+        return Ok(answer_over(owner, conn, lines)?.0);
+    }
+    let Ok(conn) = Connection::open(rt, place) else {
+        return Err(io::Error::other("the file can't be opened"));
+    };
+    let (answers, conn) = answer_over(owner, conn, lines)?;
+    match conn.close() {
+        Ok(()) => Ok(answers),
+        Err(_) => Err(io::Error::other("the file can't be closed")),
+    }
+}
+
+fn answer_over<S: Alter + Drop>(
+    owner: &Owner,
+    conn: Connection<S>,
+    lines: &[u8],
+) -> io::Result<(Vec<u8>, Connection<S>)> {
+    let mut answers = Vec::new(owner.alloc);
+    let mut desk = desk_over(owner, conn)?;
+    ended(run_lines_on(owner.alloc, lines, &mut answers, &mut desk))?;
+    Ok((answers, desk.into_keep().close()))
+}
+
+/// The end of some lines, as an error where not all are answered.
+pub fn ended(end: Result<(), LinesFault>) -> io::Result<()> {
+    match end {
+        Ok(()) => Ok(()),
+        Err(LinesFault::Store) => Err(io::Error::other("the store has failed")),
+        Err(_) => Err(io::Error::other("a line has no answer")),
+    }
+}
