@@ -132,7 +132,7 @@ def all_below(name):
 def check_examples():
     """Each example that has a heading, or a row of messages, is a file of a crate's data."""
     path = TOP / "docs/EXAMPLES.md"
-    stems = {pathlib.Path(name).stem for paths in FILES.values() for name in paths if "_examples/data/" in name}
+    stems = {pathlib.Path(name).stem for paths in FILES.values() for name in paths if "examples/data/" in name}
     for number, line in lines_of(path):
         names = re.findall(r"^#+ ([a-z_]+)$|^\| `([a-z_]+)` \|", line)
         for name in [heading or row for heading, row in names]:
