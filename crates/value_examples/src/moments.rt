@@ -1,5 +1,4 @@
 //! Moments and steps.
-
 use crate::given::{moment_at, step_of, text_of};
 use crate::told::{Told, missing, say, show};
 use std::alloc::Global;
