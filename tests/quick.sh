@@ -35,6 +35,7 @@ attempt serve.sh python3
 attempt kill.sh python3
 attempt store_fails.sh python3
 attempt strange_rows.sh python3
+attempt old_file.py python3
 attempt curl.sh python3 curl
 attempt silent.sh python3
 attempt crowd.sh python3
