@@ -1,12 +1,14 @@
 """Plays the connections of the wire examples against a real server, and compares the bytes that it answers: wire.py PROGRAM
 
-What a real socket and clock can't be told to do is left out: scenes with moments of their own, readers and writers that fail, and
-connections at once in every order. Moments in answers are those of the machine's clock, so they are only compared as moments.
+What a real socket and clock can't be told to do is left out: scenes with moments of their own, readers that fail, writers that fail at
+each byte or stall, and connections at once in every order. A writer that fails behind some bytes is a client that goes away behind them.
+Moments in answers are those of the machine's clock, so they are only compared as moments.
 `crates/examples/data/README.md` says what the lines mean."""
 import os
 import pathlib
 import re
 import socket
+import struct
 import subprocess
 import sys
 import tempfile
@@ -27,14 +29,17 @@ def bytes_of(word, rest):
 
 
 def scenes_of(path):
-    """The scenes of a file: each is the connections that one file of boards is sent, as bytes sent and wanted, and whether a real server can play it."""
-    scenes, sent, wanted, plays, again = [], b"", b"", True, False
+    """The scenes of a file that a real server can play: each is the connections that one file of boards is sent, as bytes sent and wanted,
+    and how many of these the client takes before it goes away; None where it stays."""
+    scenes, sent, wanted, taken, plays, again = [], b"", b"", None, True, False
     for line in path.read_bytes().decode().split("\n"):
         word, _, rest = line.partition(" ")
         if word.startswith(">"):
             sent += bytes_of(word, rest)
         elif word.startswith("<"):
             wanted += bytes_of(word, rest)
+        elif word == "writer" and re.fullmatch(r"fails after \d+", rest):
+            taken = int(rest.split()[2])
         elif word in ("moments", "parts", "reader", "writer"):
             plays = False
         elif word == "again":
@@ -42,13 +47,13 @@ def scenes_of(path):
         elif word == "end":
             if not again:
                 scenes.append([])
-            scenes[-1].append((sent, wanted, plays))
-            sent, wanted, plays, again = b"", b"", True, False
-    return [[(sent, wanted) for sent, wanted, _ in scene] for scene in scenes if all(plays for _, _, plays in scene)]
+            scenes[-1].append((sent, wanted[:taken], taken, plays))
+            sent, wanted, taken, plays, again = b"", b"", None, True, False
+    return [[connection[:3] for connection in scene] for scene in scenes if all(connection[3] for connection in scene)]
 
 
-def answered(sent):
-    """What is answered to these bytes, up to the end of the connection."""
+def answered(sent, taken=None):
+    """What is answered to these bytes, up to the end of the connection, or the bytes that are taken before the client resets it."""
     with connected(port, 60) as client:
         try:
             client.sendall(sent)
@@ -56,8 +61,10 @@ def answered(sent):
         except (BrokenPipeError, ConnectionResetError):
             pass
         got = b""
-        while piece := client.recv(65536):
+        while len(got) != taken and (piece := client.recv(65536 if taken is None else taken - len(got))):
             got += piece
+        if taken is not None:
+            client.setsockopt(socket.SOL_SOCKET, socket.SO_LINGER, struct.pack("ii", 1, 0))
     return got
 
 
@@ -66,8 +73,8 @@ def is_played(name, scene):
         subprocess.run([program, "init", "b.db", "root", "root-key-1"], cwd=room, check=True)
         server = subprocess.Popen([program, "serve", "b.db", "--port", str(port), "--connections", str(len(scene))], cwd=room, stderr=subprocess.DEVNULL)
         try:
-            for sent, wanted in scene:
-                got = answered(sent)
+            for sent, wanted, taken in scene:
+                got = answered(sent, taken)
                 if without_moments(got) != without_moments(wanted):
                     print(f"{name}: wanted {wanted[:600]!r}, got {got[:600]!r}")
                     return False
