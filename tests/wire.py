@@ -12,6 +12,7 @@ import struct
 import subprocess
 import sys
 import tempfile
+import time
 
 from connecting import connected, free_port
 from talking import without_moments
@@ -68,20 +69,33 @@ def answered(sent, taken=None):
     return got
 
 
-def is_played(name, scene):
+def difference(scene):
+    """How a new server goes otherwise than a scene is written, or no word; and whether the clock's second changed before that."""
     with tempfile.TemporaryDirectory() as room:
         subprocess.run([program, "init", "b.db", "root", "root-key-1"], cwd=room, check=True)
         server = subprocess.Popen([program, "serve", "b.db", "--port", str(port), "--connections", str(len(scene))], cwd=room, stderr=subprocess.DEVNULL)
+        second = int(time.time())
         try:
             for sent, wanted, taken in scene:
                 got = answered(sent, taken)
                 if without_moments(got) != without_moments(wanted):
-                    print(f"{name}: wanted {wanted[:600]!r}, got {got[:600]!r}")
-                    return False
-            return server.wait(timeout=30) == 0
+                    return f"wanted {wanted[:600]!r}, got {got[:600]!r}", int(time.time()) != second
+            status = server.wait(timeout=30)
+            return status and f"the server ends with {status}", False
         finally:
             server.kill()
             server.wait()
+
+
+def is_played(name, scene):
+    """Whether a scene is answered as it is written. A listing shows a second of age, so one within which the second changed is played again."""
+    for _ in range(10):
+        told, has_changed = difference(scene)
+        if not has_changed:
+            break
+    if told:
+        print(f"{name}: {told}")
+    return not told
 
 
 def bytes_behind_are_dropped():
