@@ -14,6 +14,7 @@ pub mod Importing
 pub mod Modifying
 pub mod Opening
 pub mod RoleDecisions
+pub mod Shapes
 pub mod Sound
 pub mod SoundEdits
 pub mod Stays

@@ -17,4 +17,5 @@ pub mod Owners
 pub mod People
 pub mod Refusal
 pub mod Refusals
+pub mod Shapes
 pub mod Transitions

@@ -3,6 +3,7 @@ ghost use Rattle.tb_core.specs.Apply.{apply, judged, on_board, outcome, role_giv
 ghost use Rattle.tb_board.specs.Changes.{Follows, IsDraft};
 ghost use Rattle.tb_core.specs.Refusals.{Gives};
 ghost use Rattle.tb_core.specs.Decisions.{GivesOutcome, IsRefused, TakesAdded};
+ghost use Rattle.tb_core.specs.Shapes.{AreOfOne};
 ghost use Rattle.tb_core.specs.declared.command.Answer.TheVariants.{OnBoard};
 ghost use Rattle.tb_core.specs.declared.command.Command.TheVariants.{SetRole};
 ghost use Rattle.tb_board.specs.declared.world.World.{World};
@@ -60,6 +61,7 @@ pub fn decide(
 ) -> Result<Decision, AllocError>
     ensures decided { IfOk result (λ d. (w : World) (name : List ℕ) → seen.now ≡ seen_of w name command.now → IsDecision w d (apply w name command.now at)) }
     ensures unchanged { IfOk result (λ d. IfErr d.answer (λ refusal. d.changes ≡ [])) }
+    ensures shape { IfOk result (λ d. AreOfOne d.changes) }
 {
     match command {
         Command::NewPerson { name, key } => decide_person(alloc, seen, name, key),
@@ -84,6 +86,7 @@ fn decide_on_board(
 ) -> Result<Decision, AllocError>
     ensures decided { IfOk result (λ d. (w : World) (name : List ℕ) → seen.now ≡ seen_of w name command.now → IsDecision w d (on_board w seen.now command.now at)) }
     ensures unchanged { IfOk result (λ d. IfErr d.answer (λ refusal. d.changes ≡ [])) }
+    ensures shape { IfOk result (λ d. AreOfOne d.changes) }
 {
     if seen.caller.is_none() {
         return Ok(refused(alloc, Refusal::UnknownCaller));
@@ -106,6 +109,7 @@ fn decide_role(
 ) -> Result<Decision, AllocError>
     ensures decided { IfOk result (λ d. (w : World) (name : List ℕ) (n : ℕ) (other : List ℕ) → seen.now ≡ seen_of w name (SetRole n other role) → IsDecision w d (role_given w seen.now seen.now.caller seen.now.board role at)) }
     ensures unchanged { IfOk result (λ d. IfErr d.answer (λ refusal. d.changes ≡ [])) }
+    ensures shape { IfOk result (λ d. AreOfOne d.changes) }
 {
     if seen.caller.is_none() {
         return Ok(refused(alloc, Refusal::UnknownCaller));
@@ -127,7 +131,8 @@ fn decide_role(
 
 /// A refusal has no changes.
 pub fn refused(alloc: Global, refusal: Refusal) -> Decision
-    ensures { result ≡ record { changes = []; answer = Err refusal } }
+    ensures is { result ≡ record { changes = []; answer = Err refusal } }
+    ensures shape { AreOfOne result.changes }
 {
     Decision {
         changes: Items::new(alloc),

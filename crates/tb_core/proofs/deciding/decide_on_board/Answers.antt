@@ -1,5 +1,6 @@
 use Rattle.std.proofs.Common.{ap, not, ◌∙◌}
 use Rattle.tb_core.proofs.Decided.{is_accepted}
+use Rattle.tb_core.proofs.Shapes.{draft_shape}
 use Rattle.tb_core.proofs.deciding.decide_on_board.Goals as goal
 
 pub returns-in-Ok-clause-decided : goal.returns-in-Ok-clause-decided
@@ -8,3 +9,6 @@ returns-in-Ok-clause-decided c = λ w name is.
     let made = rw c.get.ensures at c.in-Ok.ensures.made in
     rw c.into_decision.ensures
     (is_accepted w c.args.seen.now name c.args.command.now c.args.at c.in-Some.found c.in-Ok.accepted.draft c.in-Ok.accepted.answer is (ap not (c.is_none.ensures ∙ ap not c.if-is_none.false)) c.in-Some.is gives made)
+
+pub returns-in-Ok-clause-shape : goal.returns-in-Ok-clause-shape
+returns-in-Ok-clause-shape c = rw c.into_decision.ensures (draft_shape _ c.in-Ok.accepted.draft c.in-Ok.ensures.made)

@@ -1,6 +1,7 @@
 use Rattle.std.proofs.Common.{ap, not, sym, ◌∙◌}
 use Rattle.std.proofs.lemmas.Result.{IfOk-weaker}
 use Rattle.tb_core.proofs.Decided.{is_role}
+use Rattle.tb_core.proofs.Shapes.{role_shape}
 use Rattle.tb_core.proofs.deciding.decide_role.Goals as goal
 
 pub returns-clause-decided : goal.returns-clause-decided
@@ -13,3 +14,6 @@ returns-clause-decided c =
 
 pub returns-clause-unchanged : goal.returns-clause-unchanged
 returns-clause-unchanged c = IfOk-weaker c.role_decision.result _ _ (λ d decides. rw decides.answer tt) c.role_decision.ensures
+
+pub returns-clause-shape : goal.returns-clause-shape
+returns-clause-shape c = IfOk-weaker c.role_decision.result _ _ (λ d decides. role_shape _ _ _ _ d decides) c.role_decision.ensures
