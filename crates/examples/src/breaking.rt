@@ -52,6 +52,12 @@ impl<K: Keep> Keep for Breaking<K> {
 
     ghost has_failed = { λ b. b.has_failed || K.has_failed b.keep };
 
+    ghost is_honest = { λ b. K.is_honest b.keep };
+
+    ghost given = { λ b s good held. K.given b.keep s good held };
+
+    ghost leaves = { λ b s left. K.leaves b.keep s left };
+
     ghost alone = { λ b s held fine. K.alone b.keep s held (or_parts b.has_failed (K.has_failed b.keep) fine).1 };
 
     ghost good = { λ b s held. K.good b.keep s held };

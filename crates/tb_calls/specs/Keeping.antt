@@ -5,6 +5,7 @@ use Rattle.tb_board.specs.declared.change.Change.{Change}
 use Rattle.tb_board.specs.Changes.{changed}
 use Rattle.tb_board.specs.Extends.{Extends}
 use Rattle.tb_core.specs.GoodWorld.{IsGoodWorld}
+use Rattle.tb_core.specs.Shapes.{AreOfOne}
 use Rattle.tb_board.specs.World.{key_of}
 use Rattle.tb_calls.specs.declared.call.Call.{Call}
 use Rattle.tb_reply.specs.declared.reply.Reply.{Reply}
@@ -36,12 +37,14 @@ pub record HoldsEither (before after : State) (now : State → Type 0) (may_leav
 abbrev pub with_reply : State → List Change → Call → Reply → State
 with_reply s changes c r = record { world = changed s.world changes; kept = insert s.kept (name_of c) (record { content = c.content; reply = r }) }
 
--- when a call's changes and reply may be put: its person is known, its name is new, and the world stays good and keeps what it has
+-- when a call's changes and reply may be put: its person is known, its name is new, the world stays good and keeps what it has, and the
+-- changes are of one board or of one person
 pub record MayCommit (s : State) (changes : List Change) (c : Call) : Type 0 where
   pub known : IsSome (key_of s.world c.member)
   pub new : kept_for s c ≡ None
   pub good : IsGoodWorld (changed s.world changes)
   pub extends : Extends s.world (changed s.world changes)
+  pub shape : AreOfOne changes
 
 -- the call's caller is known, and nothing is kept under its name
 pub record IsNew (s : State) (c : Call) : Type 0 where

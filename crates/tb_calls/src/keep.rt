@@ -16,7 +16,8 @@ use tb_reply::Reply;
 use tb_task::TaskId;
 
 /// Keeps people, boards and roles, and the replies given. A keeper is sound where it holds a state, and its content is the state that
-/// it holds: what is promised is promised for each state that it holds.
+/// it holds: what is promised is promised for each state that it holds. A keeper may look in a store at each call: what it answers is
+/// true where the store has given back, to the end of the call, what was put into it.
 pub trait Keep {
     /// What is stored stands for this state.
     ghost holds: { Self → State → Type 0 };
@@ -27,15 +28,19 @@ pub trait Keep {
     /// The store has failed.
     ghost has_failed: { Self → Bool };
 
+    /// So far the store has given back what was put into it, wherever one looked.
+    ghost is_honest: { Self → Bool };
+
     /// 0, and 1 from the first failure of the store on.
     fn failures(&self) -> u64
         ensures { result ≡ (if has_failed self.now then 1 else 0) };
 
     /// The key of the person of that name.
     fn person(&mut self, alloc: Global, name: &Name) -> Result<Option<Key>, KeepFault>
-        ensures answer { (s : State) → holds self.old s → IfOk result (λ key. key ≡ key_of s.world name.now) }
+        ensures answer { is_honest self.new ≡ true → (s : State) → holds self.old s → IfOk result (λ key. key ≡ key_of s.world name.now) }
         ensures same { IsStill (holds self.old) (after_stop self.old) (holds self.new) (after_stop self.new) }
         ensures failed { has_failed self.new ≡ is_store result }
+        ensures honest { is_honest self.new ≡ true → is_honest self.old ≡ true }
         ensures closed { has_failed self.old ≡ true → IsErrOf result Store };
 
     /// What is kept under the name of a call.
@@ -45,16 +50,18 @@ pub trait Keep {
         name: &Name,
         id: TaskId,
     ) -> Result<Option<KeptReply>, KeepFault>
-        ensures answer { (s : State) → holds self.old s → IfOk result (λ kept. kept ≡ get s.kept (name.now, id)) }
+        ensures answer { is_honest self.new ≡ true → (s : State) → holds self.old s → IfOk result (λ kept. kept ≡ get s.kept (name.now, id)) }
         ensures same { IsStill (holds self.old) (after_stop self.old) (holds self.new) (after_stop self.new) }
         ensures failed { has_failed self.new ≡ is_store result }
+        ensures honest { is_honest self.new ≡ true → is_honest self.old ≡ true }
         ensures closed { has_failed self.old ≡ true → IsErrOf result Store };
 
     /// What the command of a person who is known looks at.
     fn look(&mut self, alloc: Global, name: &Name, command: &Command) -> Result<Seen, KeepFault>
-        ensures answer { (s : State) → holds self.old s → IsSome (key_of s.world name.now) → IfOk result (λ seen. seen ≡ seen_of s.world name.now command.now) }
+        ensures answer { is_honest self.new ≡ true → (s : State) → holds self.old s → IsSome (key_of s.world name.now) → IfOk result (λ seen. seen ≡ seen_of s.world name.now command.now) }
         ensures same { IsStill (holds self.old) (after_stop self.old) (holds self.new) (after_stop self.new) }
         ensures failed { has_failed self.new ≡ is_store result }
+        ensures honest { is_honest self.new ≡ true → is_honest self.old ≡ true }
         ensures closed { has_failed self.old ≡ true → IsErrOf result Store };
 
     /// Makes the changes of a call and keeps its reply, both at once. A refusal has no changes.
@@ -73,7 +80,14 @@ pub trait Keep {
         ensures stays { (s : State) → holds self.old s → MayCommit s changes.now call.now → has_failed self.old ≡ true
             → IsStill (holds self.old) (after_stop self.old) (holds self.new) (after_stop self.new) }
         ensures failed { has_failed self.new ≡ is_store result }
+        ensures honest { is_honest self.new ≡ true → is_honest self.old ≡ true }
         ensures closed { has_failed self.old ≡ true → IsErrOf result Store };
+
+    /// What an honest store alone would hold is held.
+    ghost given: { (k : Self) (s : State) → IsGoodWorld s.world → (is_honest k ≡ true → holds k s) → holds k s };
+
+    /// A stop leaves something that can be said of an honest store alone.
+    ghost leaves: { (k : Self) (s : State) → after_stop k s → is_honest k ≡ true };
 
     /// Until the store fails, a stop leaves what is held.
     ghost alone: { (k : Self) (s : State) → holds k s → has_failed k ≡ false → Only s (after_stop k) };

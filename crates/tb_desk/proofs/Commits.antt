@@ -9,6 +9,7 @@ use Rattle.tb_core.specs.Apply.{IsDecision, apply}
 use Rattle.tb_board.specs.Changes.{changed}
 use Rattle.tb_board.specs.Extends.{Extends}
 use Rattle.tb_core.specs.GoodWorld.{IsGoodWorld}
+use Rattle.tb_core.specs.Shapes.{AreOfOne}
 use Rattle.tb_board.specs.World.{key_of}
 use Rattle.tb_core.proofs.Extending.{extends}
 use Rattle.tb_core.proofs.Stays.{stays_good}
@@ -35,14 +36,16 @@ pub told_new : (s : State) (c : Call) (d : Decision) (r : Reply) → IsMade s c 
 unfolding outcome
 told_new s c d r made told = told ∙ ap reply_of made.answer
 
-pub may_commit : (s : State) (c : Call) (d : Decision) (changes : List Change) → changes ≡ d.changes → IsGoodWorld s.world → IsNew s c → IsMade s c d → MayCommit s changes c
-may_commit s c d changes same good new made =
+pub may_commit : (s : State) (c : Call) (d : Decision) (changes : List Change) → changes ≡ d.changes → AreOfOne d.changes
+    → IsGoodWorld s.world → IsNew s c → IsMade s c d → MayCommit s changes c
+may_commit s c d changes same shape good new made =
     let later = sym (ap (changed s.world) same ∙ made.world) in
     record {
       known = known_is_some s c new.known;
       new = new.new;
       good = subst IsGoodWorld later (stays_good s.world c.member c.command c.moment good);
       extends = subst (Extends s.world) later (extends s.world c.member c.command c.moment);
+      shape = subst AreOfOne (sym same) shape;
     }
 
 -- the state with the reply

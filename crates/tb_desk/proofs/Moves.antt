@@ -1,6 +1,6 @@
 -- Held states under other names.
-use Rattle.std.proofs.Common.{◌≡◌, ◌⊎◌, ℕ, ◌+◌, ◌≤◌, ◌<◌, zero, suc, get_or, Bool, true, false, if◌then◌else◌, List, [], ◌∷◌, length, take, Option, Some, ◌≢◌, Result, Ok, Err, refl, sym, ap, ◌∙◌, subst, inl, inr, ⊎_elim, arith}
-use Rattle.std.specs.Prelude.{OnOk, IsErrOf, is_ok}
+use Rattle.std.proofs.Common.{◌≡◌, ◌⊎◌, ℕ, ◌+◌, ◌≤◌, ◌<◌, zero, suc, get_or, Bool, true, false, if◌then◌else◌, List, [], ◌∷◌, length, take, Option, Some, ◌≢◌, Result, Ok, Err, refl, sym, ap, ◌∙◌, subst, inl, inr, true≢false, ⊎_elim, arith}
+use Rattle.std.specs.Prelude.{OnOk, IsErrOf, MatchOption, is_ok}
 use Rattle.tb_calls.specs.declared.call.Call.{Call}
 use Rattle.tb_reply.specs.declared.reply.Reply.{Reply}
 use Rattle.tb_calls.specs.declared.fault.KeepFault.{KeepFault}
@@ -66,6 +66,22 @@ still_then old old_stops mid mid_stops new new_stops first later = record {
   held = λ s held. later.held s (first.held s held);
   stops = λ s t held left. first.stops s t held (later.stops s t (first.held s held) left);
 }
+
+-- ---- of a store that isn't honest nothing is said
+
+pub where_honest : {s t : State} {now stops : State → Type 0} (honest : Bool) → (honest ≡ true → HoldsEither s t now stops)
+    → ((honest ≡ true → now s) → now s) → ((u : State) → stops u → honest ≡ true) → HoldsEither s t now stops
+where_honest true either given leaves = either refl
+where_honest false either given leaves = record { held = inl (given (λ e. absurd (true≢false (sym e)))); stops = λ u left. absurd (true≢false (sym (leaves u left))) }
+
+pub held_where_honest : {s t : State} (now : State → Type 0) (honest : Bool) → (honest ≡ true → now s ⊎ now t) → ((honest ≡ true → now s) → now s)
+    → now s ⊎ now t
+held_where_honest now true either given = either refl
+held_where_honest now false either given = inl (given (λ e. absurd (true≢false (sym e))))
+
+-- what is matched by a value that is there
+pub matched_some : {X : Type 0} (N : Type 0) (P : X → Type 0) (o : Option X) (x : X) → MatchOption o N P → o ≡ Some x → P x
+matched_some N P o x matched is = subst (λ p. MatchOption p N P) is matched
 
 -- ---- whether a keeper has failed
 

@@ -42,7 +42,7 @@ impl ListKeep {
 }
 
 impl Keep for ListKeep {
-    ghost use Rattle.std.specs.Prelude.{◌≡◌, false};
+    ghost use Rattle.std.specs.Prelude.{◌≡◌, false, refl, true};
     ghost use Rattle.tb_desk.specs.Listed.{IsListed, listed, only};
 
     ghost holds = { λ k s. IsListed k.world k.kept.entries s };
@@ -50,6 +50,12 @@ impl Keep for ListKeep {
     ghost after_stop = { λ k s. s ≡ listed k.world k.kept.entries };
 
     ghost has_failed = { λ _. false };
+
+    ghost is_honest = { λ _. true };
+
+    ghost given = { λ k s good held. held refl };
+
+    ghost leaves = { λ k s left. refl };
 
     ghost alone = { λ k s held fine t left. only held left };
 

@@ -29,8 +29,9 @@ pub(crate) fn show<K: Keep>(
     view: &View,
     at: Moment,
 ) -> Result<Reply, KeepFault>
-    ensures told { (s : State) → K.holds keep.old s → IfOk result (λ r. r ≡ shown_in s name.now key.now view.now at) }
+    ensures told { K.is_honest keep.new ≡ true → (s : State) → K.holds keep.old s → IfOk result (λ r. r ≡ shown_in s name.now key.now view.now at) }
     ensures same { IsStill (K.holds keep.old) (K.after_stop keep.old) (K.holds keep.new) (K.after_stop keep.new) }
+    ensures honest { K.is_honest keep.new ≡ true → K.is_honest keep.old ≡ true }
     ensures failed { K.has_failed keep.new ≡ is_store result }
     ensures closed { K.has_failed keep.old ≡ true → IsErrOf result Store }
 {

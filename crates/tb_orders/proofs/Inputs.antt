@@ -1,5 +1,5 @@
 -- An import of an input, by what the import of its text promises.
-use Rattle.std.proofs.Common.{◌≡◌, ◌⊎◌, ℕ, true, List, [], ◌∷◌, Option, IfOk, IfSome, OnOk, Result, Ok, Err, true≢false, ap, arith, inl, inr, refl, subst, sym}
+use Rattle.std.proofs.Common.{◌≡◌, ◌⊎◌, ℕ, Bool, true, List, [], ◌∷◌, Option, IfOk, IfSome, OnOk, Result, Ok, Err, true≢false, ap, arith, inl, inr, refl, subst, sym}
 use Rattle.std.specs.Io.KnownBytes.{Appends}
 use Rattle.tb_asking.specs.Asking.{asked_of}
 use Rattle.tb_asking.specs.declared.asked.Asked.{Asked}
@@ -29,21 +29,21 @@ asks_or_not m at = is_call_or_not (asked_of m at)
 
 -- an accepted import made the call that was asked for
 pub made_by : (r : Result Ending Fault) (order : ImportOrder) (text : List ℕ) (m : Message) (at : ℕ) (input : Option (List ℕ)) (s : State)
-    (now : State → Type 0) (before after : Option (List ℕ)) → m ≡ message_of order text → IfSome input (λ all. text ≡ all)
-    → ((call : Call) → AsksFor m at call → OnOk r (Appends before after (line_text (reply s [] call))))
+    (honest : Bool) (now : State → Type 0) (before after : Option (List ℕ)) → m ≡ message_of order text → IfSome input (λ all. text ≡ all)
+    → (honest ≡ true → (call : Call) → AsksFor m at call → OnOk r (Appends before after (line_text (reply s [] call))))
     → ((call : Call) → AsksFor m at call → OnOk r (now (plain s (once s (call ∷ [])))))
-    → ((call : Call) → AsksFor m at call → IfOk r (λ ending. ending ≡ ending_of (reply s [] call)))
+    → (honest ≡ true → (call : Call) → AsksFor m at call → IfOk r (λ ending. ending ≡ ending_of (reply s [] call)))
     → (((call : Call) → AsksFor m at call → ⊥) → (r ≡ Err BadBody) ⊎ (r ≡ Err Memory))
-    → IfOk r (IsMade order input s now before after)
-made_by (Err fault) order text m at input s now before after is whole told left ends unasked = tt
-made_by (Ok ending) order text m at input s now before after is whole told left ends unasked =
+    → IfOk r (IsMade order input s honest now before after)
+made_by (Err fault) order text m at input s honest now before after is whole told left ends unasked = tt
+made_by (Ok ending) order text m at input s honest now before after is whole told left ends unasked =
     elim (asks_or_not m at) [
       | inl made ↦ record {
         call = made.0;
         asked = record { text = text; at = at; whole = whole; asked = subst (λ x. AsksFor x at made.0) is made.1 };
         held = left made.0 made.1;
-        told = told made.0 made.1;
-        ends = ends made.0 made.1;
+        told = λ so. told so made.0 made.1;
+        ends = λ so. ends so made.0 made.1;
       }
       | inr none ↦ elim (unasked none) [ inl refused ↦ absurd (cc) | inr refused ↦ absurd (cc) ]
     ]

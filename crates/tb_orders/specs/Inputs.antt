@@ -1,5 +1,5 @@
 -- What an import of an input comes to.
-use Rattle.std.specs.Prelude.{◌≡◌, ℕ, List, [], ◌∷◌, Option, IfSome}
+use Rattle.std.specs.Prelude.{◌≡◌, ℕ, Bool, true, List, [], ◌∷◌, Option, IfSome}
 use Rattle.std.specs.Io.KnownBytes.{Appends}
 use Rattle.tb_calls.specs.Calls.{State, once, plain, reply}
 use Rattle.tb_calls.specs.declared.call.Call.{Call}
@@ -21,11 +21,11 @@ AreAskedBy order input [] = Unit {0}
 AreAskedBy order input (call ∷ []) = IsAskedBy order input call
 AreAskedBy order input (c ∷ d ∷ calls) = ⊥
 
--- the call that an order asks for by an input was made, and its reply is told and decides how the order ended
-pub record IsMade (order : ImportOrder) (input : Option (List ℕ)) (s : State) (now : State → Type 0)
+-- the call that an order asks for by an input was made, and its reply, which is true of an honest store, is told and decides how the order ended
+pub record IsMade (order : ImportOrder) (input : Option (List ℕ)) (s : State) (honest : Bool) (now : State → Type 0)
     (before after : Option (List ℕ)) (ending : Ending) : Type 0 where
   pub call : Call
   pub asked : IsAskedBy order input call
   pub held : now (plain s (once s (call ∷ [])))
-  pub told : Appends before after (line_text (reply s [] call))
-  pub ends : ending ≡ ending_of (reply s [] call)
+  pub told : honest ≡ true → Appends before after (line_text (reply s [] call))
+  pub ends : honest ≡ true → ending ≡ ending_of (reply s [] call)

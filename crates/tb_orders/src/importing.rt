@@ -28,15 +28,15 @@ pub fn import_text<K: Keep, W: Write>(
     at: Moment,
     writer: &mut W,
 ) -> Result<Ending, Fault>
-    ensures told { (s : State) → K.holds desk.old s → (call : Call) → AsksFor message.now at call
+    ensures told { K.is_honest desk.new ≡ true → (s : State) → K.holds desk.old s → (call : Call) → AsksFor message.now at call
         → OnOk result (Appends (W.contents writer.old) (W.contents writer.new) (line_text (reply s [] call))) }
-    ensures front { (s : State) → K.holds desk.old s → (call : Call) → AsksFor message.now at call
+    ensures front { K.is_honest desk.new ≡ true → (s : State) → K.holds desk.old s → (call : Call) → AsksFor message.now at call
         → OnErr result (AppendsFront (W.contents writer.old) (W.contents writer.new) (line_text (reply s [] call))) }
     ensures left { (s : State) → K.holds desk.old s → (call : Call) → AsksFor message.now at call
         → OnOk result (K.holds desk.new (plain s (once s (call ∷ [])))) }
     ensures held { (s : State) → K.holds desk.old s → (call : Call) → AsksFor message.now at call
         → K.holds desk.new s ⊎ K.holds desk.new (plain s (once s (call ∷ []))) }
-    ensures ending { (s : State) → K.holds desk.old s → (call : Call) → AsksFor message.now at call
+    ensures ending { K.is_honest desk.new ≡ true → (s : State) → K.holds desk.old s → (call : Call) → AsksFor message.now at call
         → IfOk result (λ ending. ending ≡ ending_of (reply s [] call)) }
     ensures memory { (s : State) → K.holds desk.old s → IsErrOf result Memory → K.holds desk.new s }
     ensures written { (s : State) → K.holds desk.old s → (call : Call) → AsksFor message.now at call
@@ -64,13 +64,13 @@ fn make_call<K: Keep, W: Write>(
     call: &Call,
     writer: &mut W,
 ) -> Result<Ending, Fault>
-    ensures told { (s : State) → K.holds desk.old s
+    ensures told { K.is_honest desk.new ≡ true → (s : State) → K.holds desk.old s
         → OnOk result (Appends (W.contents writer.old) (W.contents writer.new) (line_text (reply s [] call.now))) }
-    ensures front { (s : State) → K.holds desk.old s
+    ensures front { K.is_honest desk.new ≡ true → (s : State) → K.holds desk.old s
         → OnErr result (AppendsFront (W.contents writer.old) (W.contents writer.new) (line_text (reply s [] call.now))) }
     ensures left { (s : State) → K.holds desk.old s → OnOk result (K.holds desk.new (plain s (once s (call.now ∷ [])))) }
     ensures held { (s : State) → K.holds desk.old s → K.holds desk.new s ⊎ K.holds desk.new (plain s (once s (call.now ∷ []))) }
-    ensures ending { (s : State) → K.holds desk.old s → IfOk result (λ ending. ending ≡ ending_of (reply s [] call.now)) }
+    ensures ending { K.is_honest desk.new ≡ true → (s : State) → K.holds desk.old s → IfOk result (λ ending. ending ≡ ending_of (reply s [] call.now)) }
     ensures memory { (s : State) → K.holds desk.old s → IsErrOf result Memory → K.holds desk.new s }
     ensures written { (s : State) → K.holds desk.old s → IsErrOf result WriteFailed → K.holds desk.new (plain s (once s (call.now ∷ []))) }
     ensures stands { (s : State) → K.holds desk.old s → Only s (K.after_stop desk.old)

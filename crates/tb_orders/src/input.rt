@@ -39,7 +39,7 @@ pub fn import_input<K: Keep, R: Read + Drop, W: Write>(
     writer: &mut W,
 ) -> Result<Ending, Fault>
     ensures made { (s : State) → K.holds desk.old s → IfOk result (IsMade order.now (R.remaining reader) s
-        (K.holds desk.new) (W.contents writer.old) (W.contents writer.new)) }
+        (K.is_honest desk.new) (K.holds desk.new) (W.contents writer.old) (W.contents writer.new)) }
     ensures memory { (s : State) → K.holds desk.old s → IsErrOf result Memory → K.holds desk.new s }
     ensures stands { (s : State) → K.holds desk.old s → Only s (K.after_stop desk.old)
         → (calls : List Call) × AreAskedBy order.now (R.remaining reader) calls

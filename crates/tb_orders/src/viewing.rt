@@ -26,11 +26,11 @@ pub fn print_view<K: Keep, W: Write>(
     at: Moment,
     writer: &mut W,
 ) -> Result<Ending, Fault>
-    ensures told { (s : State) → K.holds desk.old s
+    ensures told { K.is_honest desk.new ≡ true → (s : State) → K.holds desk.old s
         → OnOk result (Appends (W.contents writer.old) (W.contents writer.new) (view_text (shown_by s order.now at))) }
-    ensures front { (s : State) → K.holds desk.old s
+    ensures front { K.is_honest desk.new ≡ true → (s : State) → K.holds desk.old s
         → OnErr result (AppendsFront (W.contents writer.old) (W.contents writer.new) (view_text (shown_by s order.now at))) }
-    ensures ending { (s : State) → K.holds desk.old s → IfOk result (λ ending. ending ≡ ending_of (shown_by s order.now at)) }
+    ensures ending { K.is_honest desk.new ≡ true → (s : State) → K.holds desk.old s → IfOk result (λ ending. ending ≡ ending_of (shown_by s order.now at)) }
     ensures same { IsStill (K.holds desk.old) (K.after_stop desk.old) (K.holds desk.new) (K.after_stop desk.new) }
     ensures fault { IfErr result (λ fault. is_of_answers fault ≡ true) }
     ensures store { IsErrOf result Store → K.has_failed desk.new ≡ true }

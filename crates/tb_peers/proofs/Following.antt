@@ -1,7 +1,9 @@
 -- What stands in a desk follows from what stood in it before.
 use Rattle.std.proofs.Common.{◌≡◌, ℕ, suc, ◌+◌, ◌≤◌, Bool, true, false, List, [], ◌∷◌, ◌++◌, length, take, Option, Some, None, Result, Ok, Err, sym, ap, ◌∙◌, subst, arith}
+use Rattle.std.specs.Prelude.{IfErr}
 use Rattle.std.proofs.lemmas.List.{length-append}
 use Rattle.tb_calls.specs.declared.call.Call.{Call}
+use Rattle.tb_calls.specs.declared.fault.KeepFault.TheVariants as keep
 use Rattle.tb_calls.specs.Calls.{State}
 use Rattle.tb_calls.specs.Keeping.{IsAfterSome, Only, StandsAfter}
 use Rattle.tb_desk.proofs.Runs.{after_all-append}
@@ -9,15 +11,16 @@ use Rattle.tb_asking.specs.declared.asked.Asked.{Asked}
 use Rattle.tb_asking.specs.declared.asked.Asked.TheVariants as some
 use Rattle.tb_asking.specs.declared.rejection.Rejection.{Rejection}
 use Rattle.tb_asking.specs.Asking.{asked_of}
+use Rattle.tb_http.specs.declared.fault.WireFault.{WireFault}
 use Rattle.tb_http.specs.declared.message.Message.{Message}
+use Rattle.tb_peers.specs.Exchanging.{outcome}
 use Rattle.tb_peers.specs.Following.{Follows, has_stopped}
-use Rattle.tb_peers.specs.Happening.{HappensTo}
-use Rattle.tb_peers.specs.Server.{Timed, calls_at, server}
 use Rattle.tb_serve.specs.declared.serving.ServeFault.{ServeFault}
 use Rattle.tb_serve.specs.declared.serving.ServeFault.TheVariants.{ReadFailed, WriteFailed, Store, Memory}
+use Rattle.tb_serve.specs.declared.serving.Turn.{Turn}
+use Rattle.tb_serve.specs.declared.serving.Turn.TheVariants.{Told, Failed, Unread}
+use Rattle.tb_serve.specs.Serving.{Settles}
 use Rattle.tb_serve.specs.Telling.{StandsAt, after, called_by, calls_in}
-use Rattle.tb_turns.specs.Turns as turns
-use Rattle.tb_turns.specs.Turns.{Event, opened, came, gone, took, failed, refused, rested, went, Talk, after_event}
 
 pub unchanged : (now stops : State → Type 0) → Follows false now stops now stops
 unchanged now stops s held only = ([], record { held = held; stops = only })
@@ -57,17 +60,6 @@ joined true old old_stops mid mid_stops now stops first second = λ s held only.
     let count : length (one.0 ++ two.0) ≤ (length one.0 + two.1) + 1 = simp length-append (omega (arith, two.2)) in
     (one.0 ++ two.0, length one.0 + two.1, count, stands_behind s one.0 two.0 two.1 now stops two.3)
 
--- each event leads on by some calls
-events_calls : (s : State) (e : Event Timed) (now stops : State → Type 0) → StandsAt (after_event server s e) now stops → (calls : List Call) × StandsAt (after s calls) now stops
-events_calls s opened now stops stood = ([], stood)
-events_calls s (came piece) now stops stood = ([], stood)
-events_calls s gone now stops stood = ([], stood)
-events_calls s (took m is_whole) now stops stood = (calls_at m, stood)
-events_calls s (failed m text is_whole) now stops stood = ([], stood)
-events_calls s (refused text is_whole) now stops stood = ([], stood)
-events_calls s rested now stops stood = ([], stood)
-events_calls s (went front) now stops stood = ([], stood)
-
 -- a message asks for one call at most
 called_few : (asked : Result Asked Rejection) → length (called_by asked) ≤ 1
 called_few (Ok (some.Call call)) = omega arith
@@ -79,14 +71,32 @@ calls_few : (message : Message) (at : Option ℕ) → length (calls_in message a
 calls_few message None = omega arith
 calls_few message (Some at) = called_few (asked_of message at)
 
-pub happens_follows : {T : Type 0} (r : Result T ServeFault) (done : turns.Happening (Option ℕ)) (talk later : Talk) (old old_stops now stops : State → Type 0)
-    → ((s : State) → old s → Only s old_stops → HappensTo r s done talk later now stops) → Follows (has_stopped r) old old_stops now stops
-happens_follows (Ok x) done talk later old old_stops now stops happens = λ s held only.
-    let is = happens s held only in events_calls s is.0 now stops is.4
-happens_follows (Err ReadFailed) done talk later old old_stops now stops happens = λ s held only. absurd (happens s held only)
-happens_follows (Err WriteFailed) done talk later old old_stops now stops happens = λ s held only.
-    let is = happens s held only in events_calls s is.0 now stops is.4
-happens_follows (Err Store) done talk later old old_stops now stops happens = λ s held only.
-    let is = happens s held only in (calls_at is.0, 0, calls_few is.0.received.message is.0.at, is.5)
-happens_follows (Err Memory) done talk later old old_stops now stops happens = λ s held only.
-    let is = happens s held only in events_calls s is.0 now stops is.4
+-- a message that was read, whatever it was told
+pub settles_follows : (turn : Turn) (is_whole : Bool) (at : Option ℕ) (message : Message) (old old_stops now stops : State → Type 0)
+    → ((s : State) → old s → Only s old_stops → Settles s at message turn now stops) → Follows (has_stopped (outcome turn is_whole)) old old_stops now stops
+settles_follows Told true at message old old_stops now stops settles = λ s held only. (calls_in message at, settles s held only)
+settles_follows Told false at message old old_stops now stops settles = λ s held only. (calls_in message at, settles s held only)
+settles_follows (Failed keep.Memory) true at message old old_stops now stops settles = λ s held only. ([], settles s held only)
+settles_follows (Failed keep.Memory) false at message old old_stops now stops settles = λ s held only. ([], settles s held only)
+settles_follows (Failed keep.Store) is_whole at message old old_stops now stops settles = λ s held only.
+    (calls_in message at, 0, calls_few message at, settles s held only)
+settles_follows (Unread fault) true at message old old_stops now stops settles = λ s held only. absurd (settles s held only)
+settles_follows (Unread fault) false at message old old_stops now stops settles = λ s held only. absurd (settles s held only)
+
+-- ---- nothing was done to the desk
+
+pub same_desk : {D : Type 0} (holds after_stop : D → State → Type 0) (d e : D) → e ≡ d → Follows false (holds d) (after_stop d) (holds e) (after_stop e)
+same_desk {D = D} holds after_stop d e is =
+    subst (λ (x : D). Follows false (holds d) (after_stop d) (holds x) (after_stop x)) (sym is) (unchanged (holds d) (after_stop d))
+
+pub unread_follows : (fault : WireFault) (is_whole : Bool) (now stops : State → Type 0) → Follows (has_stopped (outcome (Unread fault) is_whole)) now stops now stops
+unread_follows fault true now stops = unchanged now stops
+unread_follows fault false now stops = unchanged now stops
+
+-- without memory nothing ends but the connection
+pub memory_follows : {T : Type 0} (r : Result T ServeFault) (now stops : State → Type 0) → IfErr r (λ fault. fault ≡ Memory) → Follows (has_stopped r) now stops now stops
+memory_follows (Ok x) now stops memory = unchanged now stops
+memory_follows (Err ReadFailed) now stops memory = unchanged now stops
+memory_follows (Err WriteFailed) now stops memory = unchanged now stops
+memory_follows (Err Store) now stops memory = absurd (cc)
+memory_follows (Err Memory) now stops memory = unchanged now stops

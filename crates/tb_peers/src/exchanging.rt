@@ -5,6 +5,7 @@ ghost use Rattle.tb_calls.specs.Keeping.{Only};
 ghost use Rattle.tb_http.specs.Inbox.{HasFault, IsUnfinished};
 ghost use Rattle.tb_http.specs.declared.fault.WireFault.{WireFault};
 ghost use Rattle.tb_peers.specs.Exchanging as exchanging;
+ghost use Rattle.tb_peers.specs.Following.{Follows, has_stopped};
 ghost use Rattle.tb_serve.specs.Serving.{Exchanges, Turns, reads_one};
 ghost use Rattle.tb_turns.specs.Turns.{sent_of};
 
@@ -28,13 +29,18 @@ fn exchange_next<K: Keep>(
     requires { inbox.old.is_closing ≡ false }
     ensures waits { IfNone result (IsUnfinished inbox.old.bytes
         × (inbox.new ≡ inbox.old) × (out.new.items ≡ out.old.items) × (desk.new ≡ desk.old)) }
-    ensures exchanges { (s : State) → K.holds desk.old s → Only s (K.after_stop desk.old) → IfSome result (λ exchange.
+    ensures exchanges { K.is_honest desk.new ≡ true → (s : State) → K.holds desk.old s
+        → Only s (K.after_stop desk.old) → IfSome result (λ exchange.
         Exchanges s (at ∷ []) inbox.old.messages inbox.old.bytes (Some out.old.items) (Some out.new.items) exchange
         (K.holds desk.new) (K.after_stop desk.new) (Some inbox.new.bytes) inbox.new.is_closing) }
+    ensures follows { IfSome result (λ exchange.
+        Follows (has_stopped (exchanging.outcome exchange.turn exchange.is_whole))
+        (K.holds desk.old) (K.after_stop desk.old) (K.holds desk.new) (K.after_stop desk.new)) }
     ensures refused { IfSome result (λ exchange. (fault : WireFault) → exchange.turn ≡ Turn.Unread fault
         → HasFault inbox.old.bytes fault × (inbox.new.bytes ≡ inbox.old.bytes) × (inbox.new.is_closing ≡ true)) }
     ensures counted { IfSome result (λ exchange.
         inbox.new.messages ≡ inbox.old.messages + reads_one exchange.turn) }
+    ensures honest { K.is_honest desk.new ≡ true → K.is_honest desk.old ≡ true }
     ensures failed { IfSome result (λ exchange.
         exchange.turn ≡ Turn.Failed KeepFault.Store → K.has_failed desk.new ≡ true) }
 {
@@ -82,14 +88,19 @@ pub(crate) fn answer_whole<K: Keep>(
     requires { inbox.old.is_closing ≡ false }
     ensures waits { IfNone result (IsUnfinished inbox.old.bytes
         × (inbox.new ≡ inbox.old) × (out.new.items ≡ out.old.items) × (desk.new ≡ desk.old)) }
-    ensures answers { (s : State) → K.holds desk.old s → Only s (K.after_stop desk.old) → IfSome result (λ exchange.
+    ensures answers { K.is_honest desk.new ≡ true → (s : State) → K.holds desk.old s
+        → Only s (K.after_stop desk.old) → IfSome result (λ exchange.
         (text : List ℕ) × (out.new.items ≡ out.old.items ++ sent_of exchange.is_whole text)
         × Turns s (at ∷ []) inbox.old.messages inbox.old.bytes exchange.turn text
         (K.holds desk.new) (K.after_stop desk.new) (Some inbox.new.bytes) inbox.new.is_closing) }
+    ensures follows { IfSome result (λ exchange.
+        Follows (has_stopped (exchanging.outcome exchange.turn exchange.is_whole))
+        (K.holds desk.old) (K.after_stop desk.old) (K.holds desk.new) (K.after_stop desk.new)) }
     ensures refused { IfSome result (λ exchange. (fault : WireFault) → exchange.turn ≡ Turn.Unread fault
         → HasFault inbox.old.bytes fault × (inbox.new.bytes ≡ inbox.old.bytes) × (inbox.new.is_closing ≡ true)) }
     ensures counted { IfSome result (λ exchange.
         inbox.new.messages ≡ inbox.old.messages + reads_one exchange.turn) }
+    ensures honest { K.is_honest desk.new ≡ true → K.is_honest desk.old ≡ true }
     ensures failed { IfSome result (λ exchange.
         exchange.turn ≡ Turn.Failed KeepFault.Store → K.has_failed desk.new ≡ true) }
 {

@@ -60,8 +60,12 @@ fn happen_to<K: Keep>(
     desk: &mut Desk<K>,
     happening: &Happening<'_>,
 ) -> Result<(), ServeFault>
-    ensures happens { (s : State) → K.holds desk.old s → Only s (K.after_stop desk.old)
+    ensures happens { K.is_honest desk.new ≡ true → (s : State) → K.holds desk.old s
+        → Only s (K.after_stop desk.old)
         → HappensTo result s (done_of happening.now) peer.old peer.new (K.holds desk.new) (K.after_stop desk.new) }
+    ensures follows { Follows (has_stopped result) (K.holds desk.old) (K.after_stop desk.old)
+        (K.holds desk.new) (K.after_stop desk.new) }
+    ensures honest { K.is_honest desk.new ≡ true → K.is_honest desk.old ≡ true }
     ensures failed { result ≡ Err ServeFault.Store → K.has_failed desk.new ≡ true }
 {
     match happening {
@@ -90,11 +94,13 @@ pub fn happen<K: Keep>(
     happening: &Happening<'_>,
 ) -> Result<(), ServeFault>
     requires { place < length peers.old }
-    ensures happens { (s : State) → K.holds desk.old s → Only s (K.after_stop desk.old)
+    ensures happens { K.is_honest desk.new ≡ true → (s : State) → K.holds desk.old s
+        → Only s (K.after_stop desk.old)
         → Happens result s place (done_of happening.now) (talk_at peers.old) (talk_at peers.new)
         (K.holds desk.new) (K.after_stop desk.new) }
     ensures follows { Follows (has_stopped result) (K.holds desk.old) (K.after_stop desk.old)
         (K.holds desk.new) (K.after_stop desk.new) }
+    ensures honest { K.is_honest desk.new ≡ true → K.is_honest desk.old ≡ true }
     ensures failed { result ≡ Err ServeFault.Store → K.has_failed desk.new ≡ true }
 {
     happen_to(alloc, tools, &mut peers[place], desk, happening)

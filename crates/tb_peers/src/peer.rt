@@ -4,6 +4,7 @@ ghost use Rattle.tb_calls.specs.Calls.{State};
 ghost use Rattle.tb_calls.specs.Keeping.{Only};
 ghost use Rattle.tb_http.specs.declared.begun.Begun.{Begun};
 ghost use Rattle.tb_http.specs.Inbox.{IsBegun};
+ghost use Rattle.tb_peers.specs.Following.{Follows, has_stopped};
 ghost use Rattle.tb_peers.specs.Happening.{HappensTo};
 ghost use Rattle.tb_turns.specs.Turns.{silent, turns};
 
@@ -153,8 +154,12 @@ impl Peer {
         desk: &mut Desk<K>,
         at: Option<Moment>,
     ) -> Result<(), ServeFault>
-        ensures happens { (s : State) → K.holds desk.old s → Only s (K.after_stop desk.old)
+        ensures happens { K.is_honest desk.new ≡ true → (s : State) → K.holds desk.old s
+            → Only s (K.after_stop desk.old)
             → HappensTo result s (turns at) self.old self.new (K.holds desk.new) (K.after_stop desk.new) }
+        ensures follows { Follows (has_stopped result) (K.holds desk.old) (K.after_stop desk.old)
+            (K.holds desk.new) (K.after_stop desk.new) }
+        ensures honest { K.is_honest desk.new ≡ true → K.is_honest desk.old ≡ true }
         ensures failed { result ≡ Err ServeFault.Store → K.has_failed desk.new ≡ true }
     {
         if self.is_closing {

@@ -20,13 +20,16 @@ fn play_one<K: Keep>(
     desk: &mut Desk<K>,
     entry: &(usize, Happening<'_>),
 ) -> Result<(), ServeFault>
-    ensures plays { (s : State) → K.holds desk.old s → Only s (K.after_stop desk.old)
+    ensures plays { K.is_honest desk.new ≡ true → (s : State) → K.holds desk.old s
+        → Only s (K.after_stop desk.old)
         → OnOk result (Plays s (done_at (length peers.old) (entry.now ∷ [])) (talk_at peers.old) (talk_at peers.new)
         (K.holds desk.new) (K.after_stop desk.new)) }
-    ensures stopped { (s : State) → K.holds desk.old s → Only s (K.after_stop desk.old)
+    ensures stopped { K.is_honest desk.new ≡ true → (s : State) → K.holds desk.old s
+        → Only s (K.after_stop desk.old)
         → OnErr result (IsStopped s (done_at (length peers.old) (entry.now ∷ [])) (talk_at peers.old) (talk_at peers.new)
         (K.holds desk.new) (K.after_stop desk.new)) }
     ensures fault { IfErr result (λ fault. fault ≡ ServeFault.Store) }
+    ensures honest { K.is_honest desk.new ≡ true → K.is_honest desk.old ≡ true }
     ensures failed { IsErr result → K.has_failed desk.new ≡ true }
     ensures count { length peers.new ≡ length peers.old }
 {
@@ -50,13 +53,16 @@ pub fn play<K: Keep>(
     desk: &mut Desk<K>,
     happenings: &[(usize, Happening<'_>)],
 ) -> Result<(), ServeFault>
-    ensures plays { (s : State) → K.holds desk.old s → Only s (K.after_stop desk.old)
+    ensures plays { K.is_honest desk.new ≡ true → (s : State) → K.holds desk.old s
+        → Only s (K.after_stop desk.old)
         → OnOk result (Plays s (done_at (length peers.old) happenings.now) (talk_at peers.old) (talk_at peers.new)
         (K.holds desk.new) (K.after_stop desk.new)) }
-    ensures stopped { (s : State) → K.holds desk.old s → Only s (K.after_stop desk.old)
+    ensures stopped { K.is_honest desk.new ≡ true → (s : State) → K.holds desk.old s
+        → Only s (K.after_stop desk.old)
         → OnErr result (IsStopped s (done_at (length peers.old) happenings.now) (talk_at peers.old) (talk_at peers.new)
         (K.holds desk.new) (K.after_stop desk.new)) }
     ensures fault { IfErr result (λ fault. fault ≡ ServeFault.Store) }
+    ensures honest { K.is_honest desk.new ≡ true → K.is_honest desk.old ≡ true }
     ensures failed { IsErr result → K.has_failed desk.new ≡ true }
 {
     for entry in happenings {

@@ -27,9 +27,10 @@ pub(crate) fn answer_line<K: Keep>(
     desk: &mut Desk<K>,
     line: &[u8],
 ) -> Result<Text, LinesFault>
-    ensures told { (s : State) → K.holds desk.old s → IfOk result (λ text. text ≡ (answered s (request_of line.now)).text) }
-    ensures left { (s : State) → K.holds desk.old s → OnOk result (K.holds desk.new (answered s (request_of line.now)).state) }
-    ensures held { (s : State) → K.holds desk.old s → K.holds desk.new s ⊎ K.holds desk.new (answered s (request_of line.now)).state }
+    ensures told { K.is_honest desk.new ≡ true → (s : State) → K.holds desk.old s → IfOk result (λ text. text ≡ (answered s (request_of line.now)).text) }
+    ensures left { K.is_honest desk.new ≡ true → (s : State) → K.holds desk.old s → OnOk result (K.holds desk.new (answered s (request_of line.now)).state) }
+    ensures held { K.is_honest desk.new ≡ true → (s : State) → K.holds desk.old s → K.holds desk.new s ⊎ K.holds desk.new (answered s (request_of line.now)).state }
+    ensures honest { K.is_honest desk.new ≡ true → K.is_honest desk.old ≡ true }
     ensures failed { K.has_failed desk.new ≡ (is_store result || K.has_failed desk.old) }
 {
     match read_request(alloc, line) {
@@ -65,9 +66,10 @@ fn readable(line: &[u8]) -> Option<&str>
 
 #[tactic(auto, unfolding(crate::specs::Answer::carried_out))]
 fn carry_out<K: Keep>(alloc: Global, desk: &mut Desk<K>, asked: &Asked) -> Result<Text, LinesFault>
-    ensures told { (s : State) → K.holds desk.old s → IfOk result (λ text. text ≡ (carried_out s asked.now).text) }
-    ensures left { (s : State) → K.holds desk.old s → OnOk result (K.holds desk.new (carried_out s asked.now).state) }
-    ensures held { (s : State) → K.holds desk.old s → K.holds desk.new s ⊎ K.holds desk.new (carried_out s asked.now).state }
+    ensures told { K.is_honest desk.new ≡ true → (s : State) → K.holds desk.old s → IfOk result (λ text. text ≡ (carried_out s asked.now).text) }
+    ensures left { K.is_honest desk.new ≡ true → (s : State) → K.holds desk.old s → OnOk result (K.holds desk.new (carried_out s asked.now).state) }
+    ensures held { K.is_honest desk.new ≡ true → (s : State) → K.holds desk.old s → K.holds desk.new s ⊎ K.holds desk.new (carried_out s asked.now).state }
+    ensures honest { K.is_honest desk.new ≡ true → K.is_honest desk.old ≡ true }
     ensures failed { K.has_failed desk.new ≡ (is_store result || K.has_failed desk.old) }
 {
     match asked {
@@ -77,9 +79,10 @@ fn carry_out<K: Keep>(alloc: Global, desk: &mut Desk<K>, asked: &Asked) -> Resul
 }
 
 fn answer_call<K: Keep>(alloc: Global, desk: &mut Desk<K>, call: &Call) -> Result<Text, LinesFault>
-    ensures told { (s : State) → K.holds desk.old s → IfOk result (λ text. text ≡ reply_text (reply s [] call.now)) }
-    ensures left { (s : State) → K.holds desk.old s → OnOk result (K.holds desk.new (plain s (once s (call.now ∷ [])))) }
-    ensures held { (s : State) → K.holds desk.old s → K.holds desk.new s ⊎ K.holds desk.new (plain s (once s (call.now ∷ []))) }
+    ensures told { K.is_honest desk.new ≡ true → (s : State) → K.holds desk.old s → IfOk result (λ text. text ≡ reply_text (reply s [] call.now)) }
+    ensures left { K.is_honest desk.new ≡ true → (s : State) → K.holds desk.old s → OnOk result (K.holds desk.new (plain s (once s (call.now ∷ [])))) }
+    ensures held { K.is_honest desk.new ≡ true → (s : State) → K.holds desk.old s → K.holds desk.new s ⊎ K.holds desk.new (plain s (once s (call.now ∷ []))) }
+    ensures honest { K.is_honest desk.new ≡ true → K.is_honest desk.old ≡ true }
     ensures failed { K.has_failed desk.new ≡ (is_store result || K.has_failed desk.old) }
 {
     let reply = desk.handle(alloc, call)?;
@@ -87,8 +90,9 @@ fn answer_call<K: Keep>(alloc: Global, desk: &mut Desk<K>, call: &Call) -> Resul
 }
 
 fn answer_view<K: Keep>(alloc: Global, desk: &mut Desk<K>, look: &Look) -> Result<Text, LinesFault>
-    ensures told { (s : State) → K.holds desk.old s → IfOk result (λ text. text ≡ view_text look.now.view (shown_in s look.now.member look.now.key look.now.view look.now.at)) }
-    ensures same { (s : State) → K.holds desk.old s → K.holds desk.new s }
+    ensures told { K.is_honest desk.new ≡ true → (s : State) → K.holds desk.old s → IfOk result (λ text. text ≡ view_text look.now.view (shown_in s look.now.member look.now.key look.now.view look.now.at)) }
+    ensures same { K.is_honest desk.new ≡ true → (s : State) → K.holds desk.old s → K.holds desk.new s }
+    ensures honest { K.is_honest desk.new ≡ true → K.is_honest desk.old ≡ true }
     ensures failed { K.has_failed desk.new ≡ (is_store result || K.has_failed desk.old) }
 {
     let reply = desk.view(alloc, &look.member, &look.key, &look.view, look.at)?;

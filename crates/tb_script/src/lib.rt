@@ -15,7 +15,7 @@ mod replies;
 mod session;
 mod words;
 
-ghost use Rattle.std.specs.Prelude.{◌≡◌, ◌≢◌, ◌||◌, false, Err, IfOk, OnOk, OnErr, IfSome};
+ghost use Rattle.std.specs.Prelude.{◌≡◌, ◌≢◌, ◌||◌, false, true, Err, IfOk, OnOk, OnErr, IfSome};
 ghost use Rattle.std.specs.Io.KnownBytes.{Appends};
 ghost use Rattle.tb_calls.specs.Calls.{State};
 ghost use Rattle.tb_values.specs.Appends.{AppendsFront};
@@ -62,12 +62,13 @@ pub fn run_lines_on<R: Read + Drop, W: Write, K: Keep>(
     writer: &mut W,
     desk: &mut Desk<K>,
 ) -> Result<(), LinesFault>
-    ensures answers { (s : State) → K.holds desk.old s → OnOk result (IfSome (R.remaining reader) (λ script.
+    ensures answers { K.is_honest desk.new ≡ true → (s : State) → K.holds desk.old s → OnOk result (IfSome (R.remaining reader) (λ script.
         Appends (W.contents writer.old) (W.contents writer.new) (answers_from answer s script))) }
-    ensures left { (s : State) → K.holds desk.old s → OnOk result (IfSome (R.remaining reader) (λ script.
+    ensures left { K.is_honest desk.new ≡ true → (s : State) → K.holds desk.old s → OnOk result (IfSome (R.remaining reader) (λ script.
         K.holds desk.new (after_lines s (lines_of script)))) }
-    ensures front { (s : State) → K.holds desk.old s → OnErr result (IfSome (R.remaining reader) (λ script.
+    ensures front { K.is_honest desk.new ≡ true → (s : State) → K.holds desk.old s → OnErr result (IfSome (R.remaining reader) (λ script.
         LeavesSome s (lines_of script) (W.contents writer.old) (W.contents writer.new) (K.holds desk.new))) }
+    ensures honest { K.is_honest desk.new ≡ true → K.is_honest desk.old ≡ true }
     ensures failed { K.has_failed desk.new ≡ (is_store result || K.has_failed desk.old) }
 {
     let mut session = Session::new(alloc);

@@ -38,9 +38,10 @@ impl Session {
         output: &mut Vec<u8>,
     ) -> Result<(), LinesFault>
         ensures line { (s : State) → OnOk result (self.new.line.items ≡ (fed (from s self.old.line.items output.old.items) chunk.now).line) }
-        ensures told { (s : State) → K.holds desk.old s → OnOk result (output.new.items ≡ (fed (from s self.old.line.items output.old.items) chunk.now).told) }
-        ensures left { (s : State) → K.holds desk.old s → OnOk result (K.holds desk.new (fed (from s self.old.line.items output.old.items) chunk.now).state) }
-        ensures held { (s : State) → K.holds desk.old s → (n : ℕ) × K.holds desk.new (fed (from s self.old.line.items output.old.items) (take n chunk.now)).state }
+        ensures told { K.is_honest desk.new ≡ true → (s : State) → K.holds desk.old s → OnOk result (output.new.items ≡ (fed (from s self.old.line.items output.old.items) chunk.now).told) }
+        ensures left { K.is_honest desk.new ≡ true → (s : State) → K.holds desk.old s → OnOk result (K.holds desk.new (fed (from s self.old.line.items output.old.items) chunk.now).state) }
+        ensures held { K.is_honest desk.new ≡ true → (s : State) → K.holds desk.old s → (n : ℕ) × K.holds desk.new (fed (from s self.old.line.items output.old.items) (take n chunk.now)).state }
+        ensures honest { K.is_honest desk.new ≡ true → K.is_honest desk.old ≡ true }
         ensures failed { K.has_failed desk.new ≡ (is_store result || K.has_failed desk.old) }
     {
         for byte in chunk {
@@ -56,10 +57,11 @@ impl Session {
         output: &mut Vec<u8>,
     ) -> Result<(), LinesFault>
         ensures line { (s : State) → OnOk result (self.new.line.items ≡ (fed_byte (from s self.old.line.items output.old.items) byte).line) }
-        ensures told { (s : State) → K.holds desk.old s → OnOk result (output.new.items ≡ (fed_byte (from s self.old.line.items output.old.items) byte).told) }
-        ensures left { (s : State) → K.holds desk.old s → OnOk result (K.holds desk.new (fed_byte (from s self.old.line.items output.old.items) byte).state) }
-        ensures held { (s : State) → K.holds desk.old s
+        ensures told { K.is_honest desk.new ≡ true → (s : State) → K.holds desk.old s → OnOk result (output.new.items ≡ (fed_byte (from s self.old.line.items output.old.items) byte).told) }
+        ensures left { K.is_honest desk.new ≡ true → (s : State) → K.holds desk.old s → OnOk result (K.holds desk.new (fed_byte (from s self.old.line.items output.old.items) byte).state) }
+        ensures held { K.is_honest desk.new ≡ true → (s : State) → K.holds desk.old s
             → K.holds desk.new s ⊎ K.holds desk.new (fed_byte (from s self.old.line.items output.old.items) byte).state }
+        ensures honest { K.is_honest desk.new ≡ true → K.is_honest desk.old ≡ true }
         ensures failed { K.has_failed desk.new ≡ (is_store result || K.has_failed desk.old) }
     {
         if byte == LINE_FEED {
@@ -79,9 +81,10 @@ impl Session {
         output: &mut Vec<u8>,
     ) -> Result<(), LinesFault>
         ensures line { OnOk result (self.new.line.items ≡ self.old.line.items) }
-        ensures told { (s : State) → K.holds desk.old s → OnOk result (output.new.items ≡ output.old.items ++ (answer s self.old.line.items).text) }
-        ensures left { (s : State) → K.holds desk.old s → OnOk result (K.holds desk.new (answer s self.old.line.items).state) }
-        ensures held { (s : State) → K.holds desk.old s → K.holds desk.new s ⊎ K.holds desk.new (answer s self.old.line.items).state }
+        ensures told { K.is_honest desk.new ≡ true → (s : State) → K.holds desk.old s → OnOk result (output.new.items ≡ output.old.items ++ (answer s self.old.line.items).text) }
+        ensures left { K.is_honest desk.new ≡ true → (s : State) → K.holds desk.old s → OnOk result (K.holds desk.new (answer s self.old.line.items).state) }
+        ensures held { K.is_honest desk.new ≡ true → (s : State) → K.holds desk.old s → K.holds desk.new s ⊎ K.holds desk.new (answer s self.old.line.items).state }
+        ensures honest { K.is_honest desk.new ≡ true → K.is_honest desk.old ≡ true }
         ensures failed { K.has_failed desk.new ≡ (is_store result || K.has_failed desk.old) }
     {
         if self.line.is_empty() {

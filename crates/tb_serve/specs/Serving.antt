@@ -90,7 +90,13 @@ Handles s at closes message (Failed fault) text now may_leave =
     (text ≡ failed_text fault (takes_body message)) × FailedAt fault s (calls_in message at) now may_leave
 Handles s at closes message (Unread fault) text now may_leave = ⊥
 
--- the same, with what was written of the text
+-- what stands behind a message that was read, whatever it was told
+abbrev pub Settles : State → Option ℕ → Message → Turn → (State → Type 0) → (State → Type 0) → Type 0
+Settles s at message Told now may_leave = StandsAt (after s (calls_in message at)) now may_leave
+Settles s at message (Failed fault) now may_leave = FailedAt fault s (calls_in message at) now may_leave
+Settles s at message (Unread fault) now may_leave = ⊥
+
+-- Handled, with what was written of the text.
 abbrev pub HandlesMessage : State → Option ℕ → Bool → Message → Option (List ℕ) → Option (List ℕ) → Turn → Bool → (State → Type 0) → (State → Type 0) → Type 0
 HandlesMessage s at closes message old new turn is_whole now may_leave =
     (text : List ℕ) × Sends old new [] text is_whole × Handles s at closes message turn text now may_leave

@@ -4,7 +4,7 @@ ghost use Rattle.tb_calls.specs.Calls.{State};
 ghost use Rattle.tb_calls.specs.Keeping.{Only};
 ghost use Rattle.tb_http.specs.Answer.{answer_text};
 ghost use Rattle.tb_http.specs.Closing.{message_limit};
-ghost use Rattle.tb_serve.specs.Serving.{Exchanges, HandlesMessage, IsServed, Sends, answers_one, ended_by, exchange_fault, goes_on, owes_one, reads_one, turn_fault, unread_text};
+ghost use Rattle.tb_serve.specs.Serving.{Exchanges, HandlesMessage, IsServed, Sends, Settles, answers_one, ended_by, exchange_fault, goes_on, owes_one, reads_one, turn_fault, unread_text};
 ghost use Rattle.tb_serve.specs.Telling as telling;
 
 use crate::clock::Clock;
@@ -207,10 +207,14 @@ pub fn handle_message<W: Write, K: Keep>(
     at: Option<Moment>,
     is_last: bool,
 ) -> Exchange
-    ensures handles { (s : State) → K.holds desk.old s → Only s (K.after_stop desk.old)
-        → HandlesMessage s at is_last message.now (W.contents writer.old) (W.contents writer.new) result.turn result.is_whole
-        (K.holds desk.new) (K.after_stop desk.new) }
+    ensures handles { K.is_honest desk.new ≡ true → (s : State) → K.holds desk.old s
+        → Only s (K.after_stop desk.old)
+        → HandlesMessage s at is_last message.now (W.contents writer.old) (W.contents writer.new)
+        result.turn result.is_whole (K.holds desk.new) (K.after_stop desk.new) }
+    ensures stands { (s : State) → K.holds desk.old s → Only s (K.after_stop desk.old)
+        → Settles s at message.now result.turn (K.holds desk.new) (K.after_stop desk.new) }
     ensures read { reads_one result.turn ≡ 1 }
+    ensures honest { K.is_honest desk.new ≡ true → K.is_honest desk.old ≡ true }
     ensures failed { result.turn ≡ Turn.Failed KeepFault.Store → K.has_failed desk.new ≡ true }
 {
     match tell(alloc, routes, desk, message, at) {
@@ -239,10 +243,12 @@ fn serve_message<R: Read + Drop, W: Write, K: Keep, C: Clock>(
     clock: &mut C,
 ) -> Exchange
     requires { reader.old.is_closing ≡ false }
-    ensures exchanges { (s : State) → K.holds desk.old s → Only s (K.after_stop desk.old)
+    ensures exchanges { K.is_honest desk.new ≡ true → (s : State) → K.holds desk.old s
+        → Only s (K.after_stop desk.old)
         → IfSome reader.old.bytes (λ bytes. IfSome (C.answers clock.old) (λ moments.
         Exchanges s moments reader.old.messages bytes (W.contents writer.old) (W.contents writer.new) result
         (K.holds desk.new) (K.after_stop desk.new) reader.new.bytes reader.new.is_closing)) }
+    ensures honest { K.is_honest desk.new ≡ true → K.is_honest desk.old ≡ true }
     ensures failed { result.turn ≡ Turn.Failed KeepFault.Store → K.has_failed desk.new ≡ true }
     ensures clock { IfSome (C.answers clock.old) (λ moments. C.answers clock.new ≡ Some (drop (reads_one result.turn) moments)) }
     ensures counted { result.turn ≡ Turn.Told → reader.new.messages ≡ reader.old.messages + 1 }
@@ -273,9 +279,11 @@ fn serve_all<R: Read + Drop, W: Write, K: Keep, C: Clock>(
 ) -> ServeEnd
     requires goes_on { reader.old.is_closing ≡ false }
     requires first { reader.old.messages ≡ 0 }
-    ensures served { (s : State) → K.holds desk.old s → Only s (K.after_stop desk.old)
+    ensures served { K.is_honest desk.new ≡ true → (s : State) → K.holds desk.old s
+        → Only s (K.after_stop desk.old)
         → IfSome reader.old.bytes (λ bytes. IfSome (C.answers clock.old) (λ moments.
         IsServed s moments bytes (W.contents writer.old) (W.contents writer.new) (K.holds desk.new) (K.after_stop desk.new) result)) }
+    ensures honest { K.is_honest desk.new ≡ true → K.is_honest desk.old ≡ true }
     ensures failed { result.fault ≡ Some ServeFault.Store → K.has_failed desk.new ≡ true }
     ensures clock { IfSome (C.answers clock.old) (λ moments. C.answers clock.new ≡ Some (drop result.messages moments)) }
 {
@@ -303,9 +311,11 @@ pub fn serve<R: Read + Drop, W: Write, K: Keep, C: Clock>(
     desk: &mut Desk<K>,
     clock: &mut C,
 ) -> ServeEnd
-    ensures served { (s : State) → K.holds desk.old s → Only s (K.after_stop desk.old)
+    ensures served { K.is_honest desk.new ≡ true → (s : State) → K.holds desk.old s
+        → Only s (K.after_stop desk.old)
         → IfSome (R.remaining source) (λ bytes. IfSome (C.answers clock.old) (λ moments.
         IsServed s moments bytes (W.contents writer.old) (W.contents writer.new) (K.holds desk.new) (K.after_stop desk.new) result)) }
+    ensures honest { K.is_honest desk.new ≡ true → K.is_honest desk.old ≡ true }
     ensures failed { result.fault ≡ Some ServeFault.Store → K.has_failed desk.new ≡ true }
     ensures clock { IfSome (C.answers clock.old) (λ moments. C.answers clock.new ≡ Some (drop result.messages moments)) }
 {

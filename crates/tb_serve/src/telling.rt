@@ -26,9 +26,11 @@ pub(crate) fn tell<K: Keep>(
     message: &Message,
     at: Option<Moment>,
 ) -> Result<Told, KeepFault>
-    ensures told { (s : State) → K.holds desk.old s → IfOk result (λ told. told ≡ told_at s message.now at) }
+    ensures told { K.is_honest desk.new ≡ true → (s : State) → K.holds desk.old s
+        → IfOk result (λ told. told ≡ told_at s message.now at) }
     ensures stands { (s : State) → K.holds desk.old s → Only s (K.after_stop desk.old)
         → ReachesAt result s (calls_in message.now at) (K.holds desk.new) (K.after_stop desk.new) }
+    ensures honest { K.is_honest desk.new ≡ true → K.is_honest desk.old ≡ true }
     ensures failed { IsErrOf result KeepFault.Store → K.has_failed desk.new ≡ true }
 {
     match at {
@@ -51,9 +53,11 @@ fn tell_at<K: Keep>(
     message: &Message,
     at: Moment,
 ) -> Result<Told, KeepFault>
-    ensures told { (s : State) → K.holds desk.old s → IfOk result (λ told. told ≡ told_by s at (asked_of message.now at)) }
+    ensures told { K.is_honest desk.new ≡ true → (s : State) → K.holds desk.old s
+        → IfOk result (λ told. told ≡ told_by s at (asked_of message.now at)) }
     ensures stands { (s : State) → K.holds desk.old s → Only s (K.after_stop desk.old)
         → ReachesAt result s (called_by (asked_of message.now at)) (K.holds desk.new) (K.after_stop desk.new) }
+    ensures honest { K.is_honest desk.new ≡ true → K.is_honest desk.old ≡ true }
     ensures failed { IsErrOf result KeepFault.Store → K.has_failed desk.new ≡ true }
 {
     match ask(alloc, routes, message, at) {
@@ -69,9 +73,11 @@ fn tell_asked<K: Keep>(
     asked: &Asked,
     at: Moment,
 ) -> Result<Told, KeepFault>
-    ensures told { (s : State) → K.holds desk.old s → IfOk result (λ told. told ≡ told_asked s at asked.now) }
+    ensures told { K.is_honest desk.new ≡ true → (s : State) → K.holds desk.old s
+        → IfOk result (λ told. told ≡ told_asked s at asked.now) }
     ensures stands { (s : State) → K.holds desk.old s → Only s (K.after_stop desk.old)
         → ReachesAt result s (called_by (Ok asked.now)) (K.holds desk.new) (K.after_stop desk.new) }
+    ensures honest { K.is_honest desk.new ≡ true → K.is_honest desk.old ≡ true }
     ensures failed { IsErrOf result KeepFault.Store → K.has_failed desk.new ≡ true }
 {
     match asked {
@@ -89,9 +95,11 @@ fn unknown_sender(alloc: Global) -> Result<Told, AllocError>
 }
 
 fn tell_call<K: Keep>(alloc: Global, desk: &mut Desk<K>, call: &Call) -> Result<Told, KeepFault>
-    ensures told { (s : State) → K.holds desk.old s → IfOk result (λ told. told ≡ told_reply ContentType.Json (reply s [] call.now)) }
+    ensures told { K.is_honest desk.new ≡ true → (s : State) → K.holds desk.old s
+        → IfOk result (λ told. told ≡ told_reply ContentType.Json (reply s [] call.now)) }
     ensures stands { (s : State) → K.holds desk.old s → Only s (K.after_stop desk.old)
         → ReachesAt result s (call.now ∷ []) (K.holds desk.new) (K.after_stop desk.new) }
+    ensures honest { K.is_honest desk.new ≡ true → K.is_honest desk.old ≡ true }
     ensures failed { IsErrOf result KeepFault.Store → K.has_failed desk.new ≡ true }
 {
     let reply = desk.handle(alloc, call)?;
@@ -105,10 +113,11 @@ fn tell_view<K: Keep>(
     view: &View,
     at: Moment,
 ) -> Result<Told, KeepFault>
-    ensures told { (s : State) → K.holds desk.old s → IfOk result (λ told. told
-        ≡ told_view view.now (shown_in s sender.now.name sender.now.key view.now at)) }
+    ensures told { K.is_honest desk.new ≡ true → (s : State) → K.holds desk.old s
+        → IfOk result (λ told. told ≡ told_view view.now (shown_in s sender.now.name sender.now.key view.now at)) }
     ensures stands { (s : State) → K.holds desk.old s → Only s (K.after_stop desk.old)
         → ReachesAt result s [] (K.holds desk.new) (K.after_stop desk.new) }
+    ensures honest { K.is_honest desk.new ≡ true → K.is_honest desk.old ≡ true }
     ensures failed { IsErrOf result KeepFault.Store → K.has_failed desk.new ≡ true }
 {
     match desk.view(alloc, &sender.name, &sender.key, view, at) {

@@ -58,32 +58,35 @@ none_there count place timed past = ap (λ b. cond b ((place, timed) ∷ []) [])
 
 -- one thing was done, at a place that there is, to the connections as they were lent
 pub one_served : {T : Type 0} (r : Result T ServeFault) (stopped : Bool) (place : ℕ) (one : Done) (timed : Happening (Option ℕ)) (talks lent later : List Talk)
-    (old old_stops now stops : State → Type 0)
+    (was_honest is_honest : Bool) (old old_stops now stops : State → Type 0)
     → has_stopped r ≡ stopped → place < length talks → length later ≡ length talks → lent ≡ talks → IsTimed one timed
-    → ((s : State) → old s → Only s old_stops → Happens r s place timed (talk_at lent) (talk_at later) now stops)
+    → (is_honest ≡ true → was_honest ≡ true)
+    → (is_honest ≡ true → (s : State) → old s → Only s old_stops → Happens r s place timed (talk_at lent) (talk_at later) now stops)
     → Follows (has_stopped r) old old_stops now stops
-    → Serves stopped ((place, one) ∷ []) talks later old old_stops now stops
-one_served r stopped place one timed talks lent later old old_stops now stops is inside places same fits happens follows =
-    subst (λ (b : Bool). Serves b ((place, one) ∷ []) talks later old old_stops now stops) is (record {
+    → Serves stopped ((place, one) ∷ []) talks later was_honest is_honest old old_stops now stops
+one_served r stopped place one timed talks lent later was_honest is_honest old old_stops now stops is inside places same fits honest happens follows =
+    subst (λ (b : Bool). Serves b ((place, one) ∷ []) talks later was_honest is_honest old old_stops now stops) is (record {
       places = places;
       calls = follows;
       timed = (place, timed) ∷ [];
       fits = (refl, fits, tt);
-      run = λ s held only. subst (λ (l : List (ℕ × Happening (Option ℕ))). Makes (has_stopped r) s l (talk_at talks) (talk_at later) now stops)
+      honest = honest;
+      run = λ y s held only. subst (λ (l : List (ℕ × Happening (Option ℕ))). Makes (has_stopped r) s l (talk_at talks) (talk_at later) now stops)
           (sym (one_there (length talks) place timed inside))
           (happens_makes r s place timed (talk_at talks) (talk_at later) now stops
-          (subst (λ (l : List Talk). Happens r s place timed (talk_at l) (talk_at later) now stops) same (happens s held only)));
+          (subst (λ (l : List Talk). Happens r s place timed (talk_at l) (talk_at later) now stops) same (happens y s held only)));
     })
 
 -- there is no such place
-pub passed : (place : ℕ) (one : Done) (timed : Happening (Option ℕ)) (talks : List Talk) (now stops : State → Type 0)
-    → length talks ≤ place → IsTimed one timed → Serves false ((place, one) ∷ []) talks talks now stops now stops
-passed place one timed talks now stops past fits = record {
+pub passed : (place : ℕ) (one : Done) (timed : Happening (Option ℕ)) (talks : List Talk) (is_honest : Bool) (now stops : State → Type 0)
+    → length talks ≤ place → IsTimed one timed → Serves false ((place, one) ∷ []) talks talks is_honest is_honest now stops now stops
+passed place one timed talks is_honest now stops past fits = record {
   places = refl;
   calls = following.unchanged now stops;
   timed = (place, timed) ∷ [];
   fits = (refl, fits, tt);
-  run = λ s held only. subst (λ (l : List (ℕ × Happening (Option ℕ))). Makes false s l (talk_at talks) (talk_at talks) now stops)
+  honest = λ y. y;
+  run = λ y s held only. subst (λ (l : List (ℕ × Happening (Option ℕ))). Makes false s l (talk_at talks) (talk_at talks) now stops)
       (sym (none_there (length talks) place timed past))
       (plays_none s (talk_at talks) now stops held only);
 }

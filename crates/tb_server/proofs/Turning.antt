@@ -1,5 +1,5 @@
 -- What a run of the connections says of the desk, and of each connection.
-use Rattle.std.proofs.Common.{List, subst}
+use Rattle.std.proofs.Common.{Bool, List, subst}
 use Rattle.tb_calls.specs.Calls.{State}
 use Rattle.tb_peers.specs.Happening.{talk_at}
 use Rattle.tb_peers.proofs.Serving.{any_turns}
@@ -7,8 +7,9 @@ use Rattle.tb_serve.specs.Telling.{StandsAt}
 use Rattle.tb_server.specs.Laws.{MakesTurns}
 use Rattle.tb_turns.specs.Turns.{Talk}
 
-pub makes_turns : (talks later : List Talk) (old old_stops now stops : State → Type 0) → MakesTurns talks later old old_stops now stops
-makes_turns talks later old old_stops now stops history serves s held only =
-    let run = serves.run s held only in
+pub makes_turns : (talks later : List Talk) (was_honest is_honest : Bool) (old old_stops now stops : State → Type 0)
+    → MakesTurns talks later was_honest is_honest old old_stops now stops
+makes_turns talks later was_honest is_honest old old_stops now stops history serves honest s held only =
+    let run = serves.run honest s held only in
     let turns = any_turns s (talk_at talks) run.0 run.1 (talk_at later) run.3 in
     (run.0, run.2, subst (λ (t : State). StandsAt t now stops) turns.0 run.4, turns.1)

@@ -44,28 +44,33 @@ makes_then true s done more talks middle later now stops next next_stops first g
     }
 
 -- nothing was done
-pub serves_none : (talks : List Talk) (now stops : State → Type 0) → Serves false [] talks talks now stops now stops
-serves_none talks now stops = record {
+pub serves_none : (talks : List Talk) (is_honest : Bool) (now stops : State → Type 0)
+    → Serves false [] talks talks is_honest is_honest now stops now stops
+serves_none talks is_honest now stops = record {
   places = refl;
   calls = following.unchanged now stops;
   timed = [];
   fits = tt;
-  run = λ s held only. plays_none s (talk_at talks) now stops held only;
+  honest = λ honest. honest;
+  run = λ honest s held only. plays_none s (talk_at talks) now stops held only;
 }
 
-pub serves_then : (stopped : Bool) (first more : List (ℕ × Done)) (talks middle later : List Talk) (old old_stops mid mid_stops now stops : State → Type 0)
-    → Serves false first talks middle old old_stops mid mid_stops → Serves stopped more middle later mid mid_stops now stops
-    → Serves stopped (first ++ more) talks later old old_stops now stops
-serves_then stopped first more talks middle later old old_stops mid mid_stops now stops one two = record {
+pub serves_then : (stopped : Bool) (first more : List (ℕ × Done)) (talks middle later : List Talk) (was_honest between is_honest : Bool)
+    (old old_stops mid mid_stops now stops : State → Type 0)
+    → Serves false first talks middle was_honest between old old_stops mid mid_stops
+    → Serves stopped more middle later between is_honest mid mid_stops now stops
+    → Serves stopped (first ++ more) talks later was_honest is_honest old old_stops now stops
+serves_then stopped first more talks middle later was_honest between is_honest old old_stops mid mid_stops now stops one two = record {
   places = two.places ∙ one.places;
   calls = following.joined stopped old old_stops mid mid_stops now stops one.calls two.calls;
   timed = one.timed ++ two.timed;
   fits = timed_then first more one.timed two.timed one.fits two.fits;
-  run = λ s held only.
+  honest = λ honest. one.honest (two.honest honest);
+  run = λ honest s held only.
       let count = length talks in
       subst (λ (done : List (ℕ × Happening (Option ℕ))). Makes stopped s done (talk_at talks) (talk_at later) now stops)
       (sym (filter-append (λ place. nat_lt place.0 count) one.timed two.timed))
       (makes_then stopped s (at_places count one.timed) (at_places count two.timed) (talk_at talks) (talk_at middle) (talk_at later) mid mid_stops now stops
-      (one.run s held only)
-      (λ t kept alone. subst (λ (n : ℕ). Makes stopped t (at_places n two.timed) (talk_at middle) (talk_at later) now stops) one.places (two.run t kept alone)));
+      (one.run (two.honest honest) s held only)
+      (λ t kept alone. subst (λ (n : ℕ). Makes stopped t (at_places n two.timed) (talk_at middle) (talk_at later) now stops) one.places (two.run honest t kept alone)));
 }

@@ -47,8 +47,9 @@ Makes false s timed talks later now stops = Plays s timed talks later now stops
 Makes true s timed talks later now stops = StopsAtLast s timed talks later now stops
 
 -- What was done to the connections of a server, one thing after the other, and what it made of them and of the desk:
--- nothing but this is done to any of them, and to what the desk holds.
-pub record Serves (stopped : Bool) (history : List (ℕ × Done)) (talks later : List Talk)
+-- nothing but this is done to any of them, and to what the desk holds. What connections are told is said of a store that
+-- is honest to the end.
+pub record Serves (stopped : Bool) (history : List (ℕ × Done)) (talks later : List Talk) (was_honest is_honest : Bool)
     (old old_stops now stops : State → Type 0) : Type 0 where
   -- no place came or went
   pub places : length later ≡ length talks
@@ -57,7 +58,8 @@ pub record Serves (stopped : Bool) (history : List (ℕ × Done)) (talks later :
   -- each turn came at some moment
   pub timed : List (ℕ × Happening (Option ℕ))
   pub fits : AreTimed history timed
+  pub honest : is_honest ≡ true → was_honest ≡ true
   -- These very bytes came, these turns were had, this much was sent. The calls are those of the messages that the bytes
   -- bring, by the law of any turns of `tb_peers`.
-  pub run : (s : State) → old s → Only s old_stops
+  pub run : is_honest ≡ true → (s : State) → old s → Only s old_stops
       → Makes stopped s (at_places (length talks) timed) (talk_at talks) (talk_at later) now stops

@@ -79,6 +79,7 @@ fn at_moment<'a, C: Clock>(clock: &mut C, happening: &Happening<'a>) -> PeerHapp
 
 impl<K: Keep, C: Clock> Service for Server<K, C> {
     ghost follows = { λ stopped history old new. Serves stopped history old.peers.items new.peers.items
+        (K.is_honest old.desk) (K.is_honest new.desk)
         (K.holds old.desk) (K.after_stop old.desk) (K.holds new.desk) (K.after_stop new.desk) };
 
     ghost has_failed = { λ server. K.has_failed server.desk };
@@ -89,9 +90,11 @@ impl<K: Keep, C: Clock> Service for Server<K, C> {
 
     ghost closes_at = { λ server place. (talk_at server.peers.items place).is_closing };
 
-    ghost unchanged = { λ s. serves_none s.peers.items (K.holds s.desk) (K.after_stop s.desk) };
+    ghost unchanged = { λ s. serves_none s.peers.items (K.is_honest s.desk)
+        (K.holds s.desk) (K.after_stop s.desk) };
 
     ghost joined = { λ stopped first more a b c. serves_then stopped first more a.peers.items b.peers.items c.peers.items
+        (K.is_honest a.desk) (K.is_honest b.desk) (K.is_honest c.desk)
         (K.holds a.desk) (K.after_stop a.desk) (K.holds b.desk) (K.after_stop b.desk) (K.holds c.desk) (K.after_stop c.desk) };
 
     fn happen(&mut self, place: usize, happening: &Happening<'_>) -> Result<(), StoreFailed> {

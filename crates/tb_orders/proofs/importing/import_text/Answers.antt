@@ -7,19 +7,19 @@ use Rattle.tb_orders.proofs.Standing.{untouched}
 use Rattle.tb_orders.proofs.importing.import_text.Goals as goal
 
 pub returns-in-Ok-Call-clause-front : goal.returns-in-Ok-Call-clause-front
-returns-in-Ok-Call-clause-front g c s held call asks =
+returns-in-Ok-Call-clause-front g c y s held call asks =
     let read = c.in-Ok-Call.ensures in
     let same : c.in-Ok-Call.call ≡ call = cc in
     let P : Call → Type 0 = λ made. OnErr c.make_call.result
     (AppendsFront (g.W.Write.contents c.args.writer.now) (g.W.Write.contents c.make_call.new.writer) (line_text (reply s [] made))) in
-    subst P same (c.make_call.ensures.front s held)
+    subst P same (c.make_call.ensures.front y s held)
 
 pub returns-in-Ok-Call-clause-ending : goal.returns-in-Ok-Call-clause-ending
-returns-in-Ok-Call-clause-ending g c s held call asks =
+returns-in-Ok-Call-clause-ending g c y s held call asks =
     let read = c.in-Ok-Call.ensures in
     let same : c.in-Ok-Call.call ≡ call = cc in
     let P : Call → Type 0 = λ made. IfOk c.make_call.result (λ ending. ending ≡ ending_of (reply s [] made)) in
-    subst P same (c.make_call.ensures.ending s held)
+    subst P same (c.make_call.ensures.ending y s held)
 
 pub returns-in-Ok-Call-clause-unasked : goal.returns-in-Ok-Call-clause-unasked
 returns-in-Ok-Call-clause-unasked g c none =

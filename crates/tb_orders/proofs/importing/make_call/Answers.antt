@@ -7,10 +7,10 @@ use Rattle.tb_orders.proofs.Standing.{answered, unanswered}
 use Rattle.tb_orders.proofs.importing.make_call.Goals as goal
 
 pub returns-in-Ok-clause-front : goal.returns-in-Ok-clause-front
-returns-in-Ok-clause-front g c s held =
+returns-in-Ok-clause-front g c y s held =
     let P : Reply → Type 0 = λ told. OnErr c.print_reply.result
     (AppendsFront (g.W.Write.contents c.args.writer.now) (g.W.Write.contents c.print_reply.new.writer) (line_text told)) in
-    subst P (c.in-Ok.ensures.told s held) c.print_reply.ensures.front
+    subst P (c.in-Ok.ensures.told y s held) c.print_reply.ensures.front
 
 pub returns-in-Ok-clause-stands : goal.returns-in-Ok-clause-stands
 returns-in-Ok-clause-stands g c s held only =

@@ -7,8 +7,8 @@ pub returns-in-Ok-clause-made : goal.returns-in-Ok-clause-made
 returns-in-Ok-clause-made g c s held =
     let read = c.in-Ok.ensures.read in
     let did = c.import_text.ensures in
-    made_by c.import_text.result c.args.order.now read.0 _ _ _ s _ _ _ read.2 read.1
-    (did.told s held) (did.left s held) (did.ending s held) (λ none. (did.unasked none).0)
+    made_by c.import_text.result c.args.order.now read.0 _ _ _ s _ _ _ _ read.2 read.1
+    (λ honest. did.told honest s held) (did.left s held) (λ honest. did.ending honest s held) (λ none. (did.unasked none).0)
 
 pub returns-in-Ok-clause-stands : goal.returns-in-Ok-clause-stands
 returns-in-Ok-clause-stands g c s held only =

@@ -1,4 +1,4 @@
-use Rattle.std.proofs.Common.{◌+◌, ◌<◌, ◌≤◌, ◌∷◌, [], List, ℕ, Option, length, take, drop, arith, ap, refl, ◌∙◌, subst}
+use Rattle.std.proofs.Common.{◌≡◌, true, ◌+◌, ◌<◌, ◌≤◌, ◌∷◌, [], List, ℕ, Option, length, take, drop, arith, ap, refl, ◌∙◌, subst}
 use Rattle.std.proofs.lemmas.List.{take_all}
 use Rattle.tb_calls.specs.Calls.{State}
 use Rattle.tb_calls.specs.Keeping.{Only}
@@ -8,7 +8,7 @@ use Rattle.tb_turns.specs.Turns.{Happening}
 use Rattle.tb_peers.proofs.playing.play.Goals as goal
 
 pub returns-in_err-play_one-clause-stopped : goal.returns-in_err-play_one-clause-stopped
-returns-in_err-play_one-clause-stopped g c s held only =
+returns-in_err-play_one-clause-stopped g c y s held only =
     let i = c.loop-entry.invariant in
     let n = c.loop-entry.entry-index in
     let hs = c.args.happenings.now in
@@ -23,11 +23,11 @@ returns-in_err-play_one-clause-stopped g c s held only =
     let middle = talk_at c.loop-entry.peers in
     let later = talk_at c.play_one.new.peers in
     let last : (t : State) → now t → Only t stops → IsStopped t (done_at count (item ∷ [])) middle later next next_stops =
-    λ t h o. subst (λ (k : ℕ). IsStopped t (done_at k (item ∷ [])) middle later next next_stops) i.count (c.in_err-play_one.ensures.stopped t h o) in
+    λ t h o. subst (λ (k : ℕ). IsStopped t (done_at k (item ∷ [])) middle later next next_stops) i.count (c.in_err-play_one.ensures.stopped y t h o) in
     let all : IsStopped s (done_at count hs) talks later next next_stops =
     subst (λ (done : List (ℕ × Happening (Option ℕ))). IsStopped s done talks later next next_stops) (done_split count hs n item within c.entry-item.is)
     (plays_stopped s (done_at count (take n hs)) (done_at count (item ∷ [])) (done_at count (drop (n + 1) hs)) talks middle later now stops next next_stops
-    (i.plays s held only) last) in
+    (i.plays (c.in_err-play_one.ensures.honest y) s held only) last) in
     on_err c.from_residual.result _ all
 
 pub loop-entry-preserved : goal.loop-entry-preserved
@@ -45,28 +45,30 @@ loop-entry-preserved g c =
     let talks = talk_at c.args.peers.now in
     let middle = talk_at c.loop-entry.peers in
     let later = talk_at c.play_one.new.peers in
-    let one : (t : State) → now t → Only t stops → Plays t (done_at count (item ∷ [])) middle later next next_stops =
-    λ t h o. subst (λ (k : ℕ). Plays t (done_at k (item ∷ [])) middle later next next_stops) i.count (c.in_ok-play_one.ensures.plays t h o) in
+    let one : g.K.Keep.is_honest c.play_one.new.desk ≡ true → (t : State) → now t → Only t stops → Plays t (done_at count (item ∷ [])) middle later next next_stops =
+    λ y t h o. subst (λ (k : ℕ). Plays t (done_at k (item ∷ [])) middle later next next_stops) i.count (c.in_ok-play_one.ensures.plays y t h o) in
     record {
       count = c.in_ok-play_one.ensures.count ∙ i.count;
-      plays = λ s held only.
+      honest = λ y. i.honest (c.in_ok-play_one.ensures.honest y);
+      plays = λ y s held only.
           subst (λ (done : List (ℕ × Happening (Option ℕ))). Plays s done talks later next next_stops) (done_more count hs n item within c.entry-item.is)
-          (plays_then s (done_at count (take n hs)) (done_at count (item ∷ [])) talks middle later now stops next next_stops (i.plays s held only) one);
+          (plays_then s (done_at count (take n hs)) (done_at count (item ∷ [])) talks middle later now stops next next_stops (i.plays (c.in_ok-play_one.ensures.honest y) s held only) (one y));
     }
 
 pub loop-entry-init : goal.loop-entry-init
 loop-entry-init g c = record {
   count = refl;
-  plays = λ s held only.
+  honest = λ y. y;
+  plays = λ y s held only.
       plays_none s (talk_at c.args.peers.now) (g.K.Keep.holds c.args.desk.now) (g.K.Keep.after_stop c.args.desk.now) held only;
 }
 
 pub returns-clause-plays : goal.returns-clause-plays
-returns-clause-plays g c s held only =
+returns-clause-plays g c y s held only =
     let n = c.loop-entry.entry-index in
     let hs = c.args.happenings.now in
     let count = length c.args.peers.now in
     let past : length hs ≤ n = omega arith in
     subst (λ (done : List (ℕ × Happening (Option ℕ))).
     Plays s done (talk_at c.args.peers.now) (talk_at c.loop-entry.peers) (g.K.Keep.holds c.loop-entry.desk) (g.K.Keep.after_stop c.loop-entry.desk))
-    (ap (done_at count) (take_all n hs past)) (c.loop-entry.invariant.plays s held only)
+    (ap (done_at count) (take_all n hs past)) (c.loop-entry.invariant.plays y s held only)

@@ -1,4 +1,4 @@
-use Rattle.std.proofs.Common.{◌≡◌, length, take}
+use Rattle.std.proofs.Common.{◌≡◌, length, take, true}
 use Rattle.tb_calls.specs.Calls.{State}
 use Rattle.tb_calls.specs.Keeping.{Only}
 use Rattle.tb_peers.specs.Happening.{Plays, done_at, talk_at}
@@ -10,7 +10,8 @@ invariant-loop-entry g l =
     let k = g.K.Keep in
     record {
       count : length l.peers ≡ length l.fn.peers;
-      plays : (s : State) → k.holds l.fn.desk s → Only s (k.after_stop l.fn.desk)
+      honest : k.is_honest l.desk ≡ true → k.is_honest l.fn.desk ≡ true;
+      plays : k.is_honest l.desk ≡ true → (s : State) → k.holds l.fn.desk s → Only s (k.after_stop l.fn.desk)
           → Plays s (done_at (length l.fn.peers) (take l.entry-index l.happenings)) (talk_at l.fn.peers) (talk_at l.peers)
           (k.holds l.desk) (k.after_stop l.desk);
     }

@@ -10,7 +10,8 @@ messages-init g c = record {
   counted = c.requires.first;
   goes_on = λ _. omega arith;
   taken = taken_none (g.C.Clock.answers c.args.clock.now) 0 refl;
-  runs = λ s held only. run_none s c.args.reader.now.bytes (g.C.Clock.answers c.args.clock.now) (g.W.Write.contents c.args.writer.now) _ _ c.args.reader.now.messages c.args.reader.now.is_closing
+  honest = λ y. y;
+  runs = λ y s held only. run_none s c.args.reader.now.bytes (g.C.Clock.answers c.args.clock.now) (g.W.Write.contents c.args.writer.now) _ _ c.args.reader.now.messages c.args.reader.now.is_closing
       c.requires.first c.requires.goes_on held only;
 }
 
@@ -28,17 +29,18 @@ messages-preserved g c =
       taken = taken_more (g.C.Clock.answers c.args.clock.now) (g.C.Clock.answers c.messages.clock) (g.C.Clock.answers c.serve_message-exchange.new.clock)
           c.messages.answered 1 _ refl c.messages.invariant.taken (subst (λ k. IfSome (g.C.Clock.answers c.messages.clock) (λ all. g.C.Clock.answers c.serve_message-exchange.new.clock ≡ Some (drop k all))) read clock);
       goes_on = λ goes. has_room _ _ (λ full. c.serve_message-exchange.ensures.limit told (omega (arith, count, full))) goes;
-      runs = λ s held only. run_more s c.args.reader.now.bytes (g.C.Clock.answers c.args.clock.now) c.messages.reader.bytes (g.C.Clock.answers c.messages.clock) (g.C.Clock.answers c.serve_message-exchange.new.clock)
+      honest = λ y. c.messages.invariant.honest (c.serve_message-exchange.ensures.honest y);
+      runs = λ y s held only. run_more s c.args.reader.now.bytes (g.C.Clock.answers c.args.clock.now) c.messages.reader.bytes (g.C.Clock.answers c.messages.clock) (g.C.Clock.answers c.serve_message-exchange.new.clock)
           (g.W.Write.contents c.args.writer.now) (g.W.Write.contents c.messages.writer) (g.W.Write.contents c.serve_message-exchange.new.writer)
           (g.K.Keep.holds c.messages.desk) (g.K.Keep.after_stop c.messages.desk) (g.K.Keep.holds c.serve_message-exchange.new.desk) (g.K.Keep.after_stop c.serve_message-exchange.new.desk)
           c.messages.reader.messages c.serve_message-exchange.new.reader.messages c.messages.reader.is_closing c.serve_message-exchange.new.reader.is_closing exchange c.serve_message-exchange.new.reader.bytes
-          (c.messages.invariant.runs s held only) c.serve_message-exchange.ensures.exchanges unclosed on
+          (c.messages.invariant.runs (c.serve_message-exchange.ensures.honest y) s held only) (c.serve_message-exchange.ensures.exchanges y) unclosed on
           (taken_one (g.C.Clock.answers c.messages.clock) (g.C.Clock.answers c.serve_message-exchange.new.clock) _ read clock)
           (c.serve_message-exchange.ensures.counted told);
     }
 
 pub returns-then-not-goes_on-clause-served : goal.returns-then-not-goes_on-clause-served
-returns-then-not-goes_on-clause-served g c s held only =
+returns-then-not-goes_on-clause-served g c y s held only =
     let exchange = c.serve_message-exchange.result in
     let cut = sym c.goes_on.ensures ∙ c.if-not-goes_on.true in
     let unclosed = sym c.closing.ensures ∙ c.messages-test.true in
@@ -47,16 +49,16 @@ returns-then-not-goes_on-clause-served g c s held only =
     (g.W.Write.contents c.args.writer.now) (g.W.Write.contents c.messages.writer) (g.W.Write.contents c.serve_message-exchange.new.writer)
     (g.K.Keep.holds c.messages.desk) (g.K.Keep.after_stop c.messages.desk) (g.K.Keep.holds c.serve_message-exchange.new.desk) (g.K.Keep.after_stop c.serve_message-exchange.new.desk)
     c.messages.reader.messages c.messages.reader.is_closing c.serve_message-exchange.new.reader.is_closing exchange c.serve_message-exchange.new.reader.bytes c.ends.result
-    (c.messages.invariant.runs s held only) c.serve_message-exchange.ensures.exchanges unclosed cut counts
+    (c.messages.invariant.runs (c.serve_message-exchange.ensures.honest y) s held only) (c.serve_message-exchange.ensures.exchanges y) unclosed cut counts
 
 pub returns-clause-served : goal.returns-clause-served
-returns-clause-served g c s held only =
+returns-clause-served g c y s held only =
     let closed = sym c.closing.ensures ∙ c.messages-test.false in
     run_closed s c.args.reader.now.bytes (g.C.Clock.answers c.args.clock.now) c.messages.reader.bytes (g.C.Clock.answers c.messages.clock)
     (g.W.Write.contents c.args.writer.now) (g.W.Write.contents c.messages.writer)
     (g.K.Keep.holds c.messages.desk) (g.K.Keep.after_stop c.messages.desk)
     c.messages.reader.messages c.messages.reader.is_closing _
-    (c.messages.invariant.runs s held only) closed (ap ended_well (sym c.messages.invariant.counted))
+    (c.messages.invariant.runs y s held only) closed (ap ended_well (sym c.messages.invariant.counted))
 
 pub returns-then-not-goes_on-clause-failed : goal.returns-then-not-goes_on-clause-failed
 returns-then-not-goes_on-clause-failed g c is =

@@ -1,4 +1,4 @@
-use Rattle.std.proofs.Common.{◌≡◌, ◌<◌, ◌-◌, false, drop, IfSome, Some}
+use Rattle.std.proofs.Common.{◌≡◌, ◌<◌, ◌-◌, false, true, drop, IfSome, Some}
 use Rattle.tb_calls.specs.Calls.{State}
 use Rattle.tb_calls.specs.Keeping.{Only}
 use Rattle.tb_serve.proofs.Connection.{Runs}
@@ -10,7 +10,8 @@ invariant-messages g l = record {
   counted : l.reader.messages ≡ l.answered;
   goes_on : l.reader.is_closing ≡ false → l.answered < 1000;
   taken : IfSome (g.C.Clock.answers l.fn.clock) (λ all. g.C.Clock.answers l.clock ≡ Some (drop l.answered all));
-  runs : (s : State) → g.K.Keep.holds l.fn.desk s → Only s (g.K.Keep.after_stop l.fn.desk)
+  honest : g.K.Keep.is_honest l.desk ≡ true → g.K.Keep.is_honest l.fn.desk ≡ true;
+  runs : g.K.Keep.is_honest l.desk ≡ true → (s : State) → g.K.Keep.holds l.fn.desk s → Only s (g.K.Keep.after_stop l.fn.desk)
       → Runs s l.fn.reader.bytes (g.C.Clock.answers l.fn.clock) l.reader.bytes (g.C.Clock.answers l.clock)
       (g.W.Write.contents l.fn.writer) (g.W.Write.contents l.writer) (g.K.Keep.holds l.desk) (g.K.Keep.after_stop l.desk)
       l.reader.messages l.reader.is_closing;

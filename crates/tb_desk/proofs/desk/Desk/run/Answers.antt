@@ -24,8 +24,9 @@ loop-call-preserved g c =
     let held = λ (s : State) (h : g.K.Keep.holds c.args.self.now s). subst (g.K.Keep.holds c.run_one.new.self) (next s) (e.left (after_all s (take n calls)) (i.held s h)) in
     record {
       count = e.count ∙ ap (λ m. m + 1) i.count;
-      told = λ s h. told_more s (after_all s (take n calls)) calls n c.call-item.result _ _ within c.call-item.is refl (i.told s h) (e.ok (after_all s (take n calls)) (i.held s h));
+      told = λ b s h. told_more s (after_all s (take n calls)) calls n c.call-item.result _ _ within c.call-item.is refl (i.told (e.honest b) s h) (e.ok b (after_all s (take n calls)) (i.held s h));
       held = held;
+      honest = λ b. i.honest (e.honest b);
       only = λ s h o. g.met.K.Keep.alone _ _ (held s h) e.fine;
       closed = λ f. absurd (true≢false (sym (e.closed (i.failing ∙ f))));
       failing = e.fine ∙ sym (unfailed (g.K.Keep.has_failed c.loop-call.self) (λ f. true≢false (sym (e.closed f)))) ∙ i.failing;

@@ -11,9 +11,10 @@ invariant-loop-call g l =
     let handled = take l.call-index l.calls in
     record {
       count : length l.replies.items ≡ l.call-index;
-      told : (s : State) → k.holds first s → l.replies.items ≡ replies_to s handled;
+      told : k.is_honest l.self ≡ true → (s : State) → k.holds first s → l.replies.items ≡ replies_to s handled;
       held : (s : State) → k.holds first s → k.holds l.self (plain s (once s handled));
       only : (s : State) → k.holds first s → Only s (k.after_stop first) → Only (plain s (once s handled)) (k.after_stop l.self);
+      honest : k.is_honest l.self ≡ true → k.is_honest first ≡ true;
       closed : k.has_failed first ≡ true → l.call-index ≡ 0;
       failing : k.has_failed l.self ≡ k.has_failed first;
       still : k.has_failed first ≡ true → (s : State) → k.holds first s → k.holds l.self s;

@@ -6,7 +6,7 @@ use Rattle.tb_calls.proofs.Names.{names_total}
 use Rattle.tb_desk.proofs.list_keep.ListKeepKeep.kept.Goals as goal
 
 pub returns-clause-answer : goal.returns-clause-answer
-returns-clause-answer c s held =
+returns-clause-answer c honest s held =
     c.in_ok-kept_in.ensures
     ∙ ap (λ name. find name_cmp name (map named c.args.self.now.kept.entries)) c.in_ok-name.ensures
     ∙ sym (get-from_entries names_total (map named c.args.self.now.kept.entries) (c.args.name.now, c.args.id))

@@ -1,4 +1,4 @@
-use Rattle.std.proofs.Common.{◌≡◌, ◌∙◌, ◌<◌, ◌+◌, ◌⊎◌, length, take, inl, inr, ap, subst, arith}
+use Rattle.std.proofs.Common.{true, ◌≡◌, ◌∙◌, ◌<◌, ◌+◌, ◌⊎◌, length, take, inl, inr, ap, subst, arith}
 use Rattle.std.proofs.lemmas.List.{take_all}
 use Rattle.tb_calls.specs.Calls.{State}
 use Rattle.tb_script.specs.Runs.{Progress, fed, from}
@@ -6,19 +6,20 @@ use Rattle.tb_script.proofs.Feeding.{next_byte, next_line}
 use Rattle.tb_script.proofs.session.Session.feed.Goals as goal
 
 pub returns-in_err-take_byte-clause-held : goal.returns-in_err-take_byte-clause-held
-returns-in_err-take_byte-clause-held g c s h =
+returns-in_err-take_byte-clause-held g c y s h =
+    let x = c.in_err-take_byte.ensures.honest y in
     let before = c.loop-byte.invariant in
     let line = c.args.self.now.line.items in
     let told = c.args.output.now.items in
     let chunk = c.args.chunk.now in
     let i = c.loop-byte.byte-index in
     let within : i < length chunk = omega arith in
-    elim (c.in_err-take_byte.ensures.held (fed (from s line told) (take i chunk)).state (before.held s h)) [
+    elim (c.in_err-take_byte.ensures.held y (fed (from s line told) (take i chunk)).state (before.held x s h)) [
       | inl same ↦ (i, same)
       | inr after ↦ (
         i + 1,
         subst (g.K.Keep.holds c.take_byte.new.desk)
-            (ap (λ (p : Progress). p.state) (next_byte s line told chunk i 0 c.loop-byte.self.line.items c.loop-byte.output.items within (before.line s) (before.told s h))) after,
+            (ap (λ (p : Progress). p.state) (next_byte s line told chunk i 0 c.loop-byte.self.line.items c.loop-byte.output.items within (before.line s) (before.told x s h))) after,
       )
     ]
 
@@ -31,11 +32,12 @@ loop-byte-preserved g c =
     let chunk = c.args.chunk.now in
     let i = c.loop-byte.byte-index in
     let within : i < length chunk = omega arith in
-    let next = λ (s : State) (h : g.K.Keep.holds c.args.desk.now s). next_byte s line told chunk i 0 c.loop-byte.self.line.items c.loop-byte.output.items within (before.line s) (before.told s h) in
+    let next = λ (y : g.K.Keep.is_honest c.take_byte.new.desk ≡ true) (s : State) (h : g.K.Keep.holds c.args.desk.now s). next_byte s line told chunk i 0 c.loop-byte.self.line.items c.loop-byte.output.items within (before.line s) (before.told (e.honest y) s h) in
     record {
       line = λ s. e.line s ∙ next_line s s line told chunk i 0 c.loop-byte.self.line.items c.loop-byte.output.items within (before.line s);
-      told = λ s h. e.told (fed (from s line told) (take i chunk)).state (before.held s h) ∙ ap (λ (p : Progress). p.told) (next s h);
-      held = λ s h. subst (g.K.Keep.holds c.take_byte.new.desk) (ap (λ (p : Progress). p.state) (next s h)) (e.left (fed (from s line told) (take i chunk)).state (before.held s h));
+      told = λ y s h. e.told y (fed (from s line told) (take i chunk)).state (before.held (e.honest y) s h) ∙ ap (λ (p : Progress). p.told) (next y s h);
+      held = λ y s h. subst (g.K.Keep.holds c.take_byte.new.desk) (ap (λ (p : Progress). p.state) (next y s h)) (e.left y (fed (from s line told) (take i chunk)).state (before.held (e.honest y) s h));
+      honest = λ y. before.honest (e.honest y);
       failed = e.failed ∙ before.failed;
     }
 

@@ -1,4 +1,4 @@
-use Rattle.std.proofs.Common.{◌≡◌, take}
+use Rattle.std.proofs.Common.{true, ◌≡◌, take}
 use Rattle.tb_calls.specs.Calls.{State}
 use Rattle.tb_script.specs.Runs.{Progress, fed, from}
 use Rattle.tb_script.proofs.session.Session.feed.Given as goal
@@ -9,7 +9,8 @@ invariant-loop-byte g l =
     let before = take l.byte-index l.chunk in
     record {
       line : (s : State) → l.self.line.items ≡ (fed (from s l.fn.self.line.items l.fn.output.items) before).line;
-      told : (s : State) → k.holds l.fn.desk s → l.output.items ≡ (fed (from s l.fn.self.line.items l.fn.output.items) before).told;
-      held : (s : State) → k.holds l.fn.desk s → k.holds l.desk (fed (from s l.fn.self.line.items l.fn.output.items) before).state;
+      told : k.is_honest l.desk ≡ true → (s : State) → k.holds l.fn.desk s → l.output.items ≡ (fed (from s l.fn.self.line.items l.fn.output.items) before).told;
+      held : k.is_honest l.desk ≡ true → (s : State) → k.holds l.fn.desk s → k.holds l.desk (fed (from s l.fn.self.line.items l.fn.output.items) before).state;
+      honest : k.is_honest l.desk ≡ true → k.is_honest l.fn.desk ≡ true;
       failed : k.has_failed l.desk ≡ k.has_failed l.fn.desk;
     }
