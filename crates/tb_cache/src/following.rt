@@ -1,0 +1,34 @@
+ghost use Rattle.std.specs.Prelude.{◌≡◌, IfOk};
+ghost use Rattle.tb_board.specs.Changes.{changed_on};
+ghost use Rattle.tb_cache.specs.Cached.{touched};
+
+use crate::replaying::changed_on;
+use std::alloc::{AllocError, Global};
+use tb_board::{Board, Change};
+use tb_values::Shared;
+
+/// The board whose tasks or gone places a change touches.
+pub(crate) fn touched(change: &Change) -> Option<u32>
+    ensures { result ≡ touched change.now }
+{
+    match change {
+        Change::PutTask { board, .. }
+        | Change::SetGone { board, .. }
+        | Change::TakeGone { board, .. } => Some(*board),
+        Change::AddPerson { .. } | Change::AddBoard { .. } | Change::SetRole { .. } => None,
+    }
+}
+
+/// A board after a change that names it. It is copied only where it has another owner.
+pub(crate) fn follow(
+    alloc: Global,
+    board: Shared<Board>,
+    change: &Change,
+) -> Result<Board, AllocError>
+    ensures { IfOk result (λ later. later ≡ changed_on board change.now) }
+{
+    match board.into_value() {
+        Ok(board) => changed_on(alloc, board, change),
+        Err(_) => Err(AllocError),
+    }
+}
