@@ -25,7 +25,8 @@ use Rattle.tb_sql.specs.declared.changes.RowChange.TheVariants.{AddBoard, SetLow
 use Rattle.tb_sql.specs.Changes.{is_board}
 use Rattle.tb_board.specs.Extends.{ExtendsBoard, ExtendsTask, IsFrontOf}
 use Rattle.tb_rows.specs.Rows.{board_row, board_gone, board_instances, board_links, board_tasks, gone_row, instance_rows, instance_rows_of, link_row, link_rows, rows_from, task_row}
-use Rattle.tb_rows.specs.Steps.{board_changes, gone_added, gone_changes, gone_removed, is_among, is_of_board, kept_board, later_board, low_changes, new_board, new_mask, new_task, put_task, task_changes, put_place, changed_templates}
+use Rattle.tb_rows.specs.Steps.{gone_added, gone_changes, gone_removed, is_among, is_of_board, kept_board, later_board, low_changes, new_mask, new_task, put_task, task_changes, put_place, changed_templates}
+use Rattle.tb_rows.proofs.WholeWorlds.{board_changes, new_board}
 use Rattle.tb_rows.proofs.Evolving.{change_on, replay}
 use Rattle.tb_rows.proofs.GoneRows.{IsGoneElsewhere}
 use Rattle.tb_rows.proofs.Places.{AreAt, IsBefore, IsElsewhere, Matches, turns_places}

@@ -18,7 +18,8 @@ use Rattle.tb_sql_tables.specs.declared.rows.InstanceRow.{InstanceRow}
 use Rattle.tb_sql_tables.specs.declared.rows.GoneRow.{GoneRow}
 use Rattle.tb_sql.specs.declared.changes.RowChange.{RowChange}
 use Rattle.tb_rows.specs.Rows.{board_row, board_gone, board_instances, board_links, board_tasks, gone_row, instance_rows, link_rows, rows_from, task_row}
-use Rattle.tb_rows.specs.Steps.{board_changes, kept_board, new_board, person_changes, role_changes, world_changes, Leads}
+use Rattle.tb_rows.specs.Steps.{kept_board, Leads}
+use Rattle.tb_rows.proofs.WholeWorlds.{board_changes, new_board, person_changes, role_changes, world_changes}
 use Rattle.tb_rows.proofs.BoardRows.{board_later, board_new, gone_later, gone_new, inert-boards, instance_at, instances_later, instances_new, kept_turns, LeavesTasks, link_at, links_later, links_new, tasks_later, tasks_new, weaker}
 use Rattle.tb_rows.proofs.Evolving.{evolved, replay}
 use Rattle.tb_rows.proofs.GoneRows.{gone_turns}

@@ -23,20 +23,20 @@ use Rattle.tb_sql.specs.declared.changes.RowChange.{RowChange}
 use Rattle.tb_sql.specs.declared.changes.RowChange.TheVariants.{AddPerson, AddRole, RemoveRole}
 use Rattle.tb_sql.specs.Changes.{is_role}
 use Rattle.tb_rows.specs.Rows.{person_row, role_row, rows_from}
-use Rattle.tb_rows.specs.Steps.{is_set, is_role_change, person_changes, role_added, role_changes, role_removed, sets_role}
+use Rattle.tb_rows.proofs.WholeWorlds.{is_set, is_role_change, person_changes, role_added, role_changes, role_removed, sets_role}
 use Rattle.tb_rows.proofs.Tables.{person_by, role_by, roles_unordered}
 use Rattle.tb_rows.proofs.Turning.{all_by, all_by-append, all-moved, inert-append, inert-flat_map, inert-if, inert-rows_from, inert_next, inert_none, IsInert}
 
 -- ---- people
 
-rows_from-append : {A B : Type 0} (f : ℕ → A → List B) (n : ℕ) (xs ys : List A) → rows_from f n (xs ++ ys) ≡ rows_from f n xs ++ rows_from f (n + length xs) ys
+pub rows_from-append : {A B : Type 0} (f : ℕ → A → List B) (n : ℕ) (xs ys : List A) → rows_from f n (xs ++ ys) ≡ rows_from f n xs ++ rows_from f (n + length xs) ys
 rows_from-append f n [] ys = let same : n ≡ n + 0 = omega arith in ap (λ m. rows_from f m ys) same
 rows_from-append f n (x ∷ xs) ys =
     let next : n + 1 + length xs ≡ n + suc (length xs) = omega arith in
     ap (λ l. f n x ++ l) (rows_from-append f (n + 1) xs ys ∙ ap (λ m. rows_from f (n + 1) xs ++ rows_from f m ys) next)
     ∙ sym (append_assoc (f n x) (rows_from f (n + 1) xs) (rows_from f (n + suc (length xs)) ys))
 
-old_people : (old n : ℕ) (ps : List Person) → n + length ps ≤ old → rows_from (person_changes old) n ps ≡ []
+pub old_people : (old n : ℕ) (ps : List Person) → n + length ps ≤ old → rows_from (person_changes old) n ps ≡ []
 old_people old n [] within = refl
 old_people old n (p ∷ ps) within = rw (lt-ltb n old (omega (arith, within)), old_people old (n + 1) ps (omega (arith, within))) refl
 

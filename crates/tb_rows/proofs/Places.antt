@@ -6,7 +6,8 @@ use Rattle.tb_board.specs.declared.board.Board.{Board}
 use Rattle.tb_board.specs.declared.change.Change.{Change}
 use Rattle.tb_sql.specs.declared.changes.RowChange.{RowChange}
 use Rattle.tb_rows.specs.Rows.{rows_from}
-use Rattle.tb_rows.specs.Steps.{board_changes, kept_board, new_board}
+use Rattle.tb_rows.specs.Steps.{kept_board}
+use Rattle.tb_rows.proofs.WholeWorlds.{board_changes, new_board}
 use Rattle.tb_rows.proofs.Turning.{inert_none, IsUnordered, Turns, turns_beside, turns_none}
 
 -- P holds of the items at each place of both lists, counted from n, and Q of the further ones of the second

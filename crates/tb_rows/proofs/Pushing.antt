@@ -81,18 +81,6 @@ marked_beyond place marks past =
 
 -- ---- rows that are made one by one
 
-pub map_next : {A B : Type 0} (f : A → B) (xs : List A) (k : ℕ) (x : A) (start now later : List B) → k < length xs → x ≡ get_or xs k x
-    → now ≡ start ++ map f (take k xs) → later ≡ now ++ f x ∷ [] → later ≡ start ++ map f (take (k + 1) xs)
-map_next f xs k x start now later within at is next =
-    let front : map f (take (k + 1) xs) ≡ map f (take k xs) ++ f x ∷ [] =
-    ap (map f) (take_more xs k x within ∙ ap (λ y. take k xs ++ y ∷ []) (sym at)) ∙ map-append f (take k xs) (x ∷ []) in
-    next ∙ ap (λ l. l ++ f x ∷ []) is ∙ append_assoc start (map f (take k xs)) (f x ∷ []) ∙ ap (λ l. start ++ l) (sym front)
-
--- rows in three parts
-pub three_parts : {A : Type 0} (start first second third now : List A) → now ≡ ((start ++ first) ++ second) ++ third → now ≡ start ++ (first ++ (second ++ third))
-three_parts start first second third now is =
-    is ∙ append_assoc (start ++ first) second third ∙ append_assoc start first (second ++ third)
-
 pub map_twice_next : {A B C : Type 0} (g : B → C) (f : A → B) (xs : List A) (k : ℕ) (x : A) (start now later : List C) → k < length xs → x ≡ get_or xs k x
     → now ≡ start ++ map g (map f (take k xs)) → later ≡ now ++ g (f x) ∷ [] → later ≡ start ++ map g (map f (take (k + 1) xs))
 map_twice_next g f xs k x start now later within at is next =

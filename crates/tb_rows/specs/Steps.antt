@@ -1,5 +1,5 @@
--- The changes of rows that follow from changes of a world.
-use Rattle.std.specs.Prelude.{◌≡◌, ℕ, ◌+◌, ◌^◌, ◌==◌, Bool, true, false, not, ◌&&◌, ◌||◌, List, [], ◌∷◌, ◌++◌, Option, Some, None, if◌then◌else◌, length, map, nat_lt}
+-- The changes of rows of a board that follow from changes of a world.
+use Rattle.std.specs.Prelude.{◌≡◌, ℕ, ◌+◌, ◌==◌, Bool, false, not, ◌||◌, List, [], ◌∷◌, ◌++◌, Option, Some, None, if◌then◌else◌, length, map, nat_lt}
 use Rattle.std.specs.List.{flat_map, list_any}
 use Rattle.tb_task.specs.declared.task.Task.{Task}
 use Rattle.tb_json.specs.Stored.{stored_text}
@@ -7,17 +7,15 @@ use Rattle.tb_board.specs.declared.board.Board.{Board}
 use Rattle.tb_board.specs.declared.change.Change.{Change}
 use Rattle.tb_board.specs.declared.change.Change.TheVariants.{PutTask, AddPerson as NewPerson, AddBoard as NewBoard, SetRole, SetGone, TakeGone}
 use Rattle.tb_board.specs.declared.gone.Gone.{Gone}
-use Rattle.tb_board.specs.declared.world.Person.{Person}
-use Rattle.tb_board.specs.declared.world.RoleOn.{RoleOn}
 use Rattle.tb_board.specs.declared.world.World.{World}
 use Rattle.tb_board.specs.Board.{ids}
 use Rattle.tb_board.specs.Links.{place_in, with_place}
 use Rattle.tb_board.specs.Numbers.{free}
 use Rattle.tb_sql_tables.specs.Content.{Content}
 use Rattle.tb_sql.specs.declared.changes.RowChange.{RowChange}
-use Rattle.tb_sql.specs.declared.changes.RowChange.TheVariants.{AddPerson, AddBoard, SetLow, AddRole, RemoveRole, AddTask, SetText, SetMask, AddLink, RemoveLinks, AddInstance, AddGone, RemoveGone}
+use Rattle.tb_sql.specs.declared.changes.RowChange.TheVariants.{SetLow, AddTask, SetText, SetMask, AddLink, RemoveLinks, AddInstance, AddGone, RemoveGone}
 use Rattle.tb_sql.specs.Writing.{changed_by_all}
-use Rattle.tb_rows.specs.Rows.{rows_from, person_row, board_row, role_row, mask_cell, task_row, link_rows, instance_rows, gone_row, board_gone, world_rows, HaveSameRows}
+use Rattle.tb_rows.specs.Rows.{rows_from, mask_cell, task_row, link_rows, instance_rows, gone_row, world_rows, HaveSameRows}
 
 -- ---- which tasks of a board are concerned, by their places from 0
 
@@ -112,60 +110,6 @@ later_board old b cs =
 
 abbrev pub kept_board : ℕ → Board → List Change → List RowChange
 kept_board old b cs = if list_any (is_of_board b.number) cs then later_board old b cs else []
-
-abbrev pub new_board : Board → List RowChange
-new_board b = AddBoard (board_row b) ∷ (rows_from (λ place t. new_task b (place + 1) t) 0 b.tasks ++ map AddGone (board_gone b))
-
--- of the boards that were and of those that are now
-abbrev pub board_changes : List Change → List Board → List Board → List RowChange
-board_changes cs earlier [] = []
-board_changes cs [] (b ∷ later) = new_board b ++ board_changes cs [] later
-board_changes cs (a ∷ earlier) (b ∷ later) = kept_board (length a.tasks) b cs ++ board_changes cs earlier later
-
--- ---- those of a world
-
-abbrev pub person_changes : ℕ → ℕ → Person → List RowChange
-person_changes old place p = if nat_lt place old then [] else AddPerson (person_row (place + 1) p) ∷ []
-
-abbrev pub is_role_change : Change → Bool
-is_role_change (PutTask m place t) = false
-is_role_change (NewPerson name key) = false
-is_role_change (NewBoard m title) = false
-is_role_change (SetRole board person role) = true
-is_role_change (SetGone m g) = false
-is_role_change (TakeGone m id k) = false
-
--- a change sets the role of the person on the board
-abbrev pub sets_role : ℕ → ℕ → Change → Bool
-sets_role board person (PutTask m place t) = false
-sets_role board person (NewPerson name key) = false
-sets_role board person (NewBoard m title) = false
-sets_role board person (SetRole m q role) = (board == m) && (person == q)
-sets_role board person (SetGone m g) = false
-sets_role board person (TakeGone m id k) = false
-
--- the changes set the role of this person on this board
-abbrev pub is_set : List Change → RoleOn → Bool
-is_set cs r = list_any (sets_role r.board r.person) cs
-
--- a person who has a number of 32 bits has no role on the board
-abbrev pub role_removed : Change → List RowChange
-role_removed (PutTask m place t) = []
-role_removed (NewPerson name key) = []
-role_removed (NewBoard m title) = []
-role_removed (SetRole m q role) = if nat_lt q (2 ^ 32) then RemoveRole m q ∷ [] else []
-role_removed (SetGone m g) = []
-role_removed (TakeGone m id k) = []
-
-abbrev pub role_added : List Change → RoleOn → List RowChange
-role_added cs r = if is_set cs r then (if nat_lt r.person (2 ^ 32) then AddRole (role_row r) ∷ [] else []) else []
-
--- of the roles after the changes: those that are set go, and come as they are now
-abbrev pub role_changes : List Change → List RoleOn → List RowChange
-role_changes cs roles = if list_any is_role_change cs then flat_map role_removed cs ++ flat_map (role_added cs) roles else []
-
-abbrev pub world_changes : World → World → List Change → List RowChange
-world_changes w v cs = rows_from (person_changes (length w.people)) 0 v.people ++ (board_changes cs w.boards v.boards ++ role_changes cs v.roles)
 
 -- Of tables with the rows of the first world the changes make tables with the rows of the second, and kept replies stay.
 pub record Leads (rows : List RowChange) (w v : World) : Type 0 where

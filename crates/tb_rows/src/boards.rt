@@ -1,63 +1,26 @@
 //! The changes of rows of boards.
 
-ghost use Rattle.std.specs.Prelude.{◌≡◌, ◌≤◌, ◌<◌, ◌++◌, true, IfOk, OnOk, length, slice_index_or};
-ghost use Rattle.std.specs.List.{flat_map, list_all};
+ghost use Rattle.std.specs.Prelude.{◌≡◌, ◌≤◌, ◌++◌, IfOk, OnOk, length};
+ghost use Rattle.std.specs.List.{flat_map};
 ghost use Rattle.tb_board.specs.Board.{ids};
 ghost use Rattle.tb_board.specs.Links.{ArePlaces};
+ghost use Rattle.tb_rows.specs.Part.{empty_board};
 ghost use Rattle.tb_rows.specs.Rows.{board_row};
-ghost use Rattle.tb_rows.specs.Small.{has_few_tasks};
-ghost use Rattle.tb_rows.specs.Steps.{board_changes, changed_templates, kept_board, later_board, low_changes, new_board, put_place};
+ghost use Rattle.tb_rows.specs.Steps.{changed_templates, kept_board, later_board, low_changes, put_place};
 
 use crate::concerned::{PlaceList, changed_templates, is_concerned, put_places};
-use crate::gone::{push_all_gone, push_gone_changes};
-use crate::tasks::{Concerned, push_new_tasks, push_tasks};
+use crate::gone::push_gone_changes;
+use crate::tasks::{Concerned, push_tasks};
 use std::alloc::{AllocError, Global};
 use std::collections::BTreeMap;
-use tb_board::{Board, Change, least_number, places_of};
+use tb_board::{Board, Change, Title, least_number, places_of};
 use tb_sql::changes::RowChange;
 use tb_sql_tables::rows::BoardRow;
 use tb_task::TaskId;
-use tb_values::{Items, Shared, Text};
-
-/// The changes of rows of the boards that were and of those that are now.
-pub(crate) fn push_boards(
-    alloc: Global,
-    rows: &mut Items<RowChange>,
-    earlier: &[Shared<Board>],
-    later: &[Shared<Board>],
-    changes: &[Change],
-) -> Result<(), AllocError>
-    requires { list_all has_few_tasks later.now ≡ true }
-    ensures { OnOk result (rows.new ≡ rows.old ++ board_changes changes.now earlier.now later.now) }
-{
-    for (place, board) in later.iter().enumerate() {
-        push_board(alloc, rows, earlier, place, board.get(), changes)?;
-    }
-    Ok(())
-}
-
-/// The changes of rows of the board at a place.
-fn push_board(
-    alloc: Global,
-    rows: &mut Items<RowChange>,
-    earlier: &[Shared<Board>],
-    place: usize,
-    board: &Board,
-    changes: &[Change],
-) -> Result<(), AllocError>
-    requires { length board.now.tasks ≤ 10000 }
-    ensures kept { place < length earlier.now → OnOk result (rows.new ≡ rows.old ++ kept_board (length (slice_index_or earlier.now place board.now).tasks) board.now changes.now) }
-    ensures new { length earlier.now ≤ place → OnOk result (rows.new ≡ rows.old ++ new_board board.now) }
-{
-    if place >= earlier.len() {
-        return push_new_board(alloc, rows, board);
-    }
-    let old = earlier[place].get().tasks.len();
-    push_kept_board(alloc, rows, old, board, changes)
-}
+use tb_values::{Items, Text};
 
 /// The changes of rows of a board that had so many tasks.
-fn push_kept_board(
+pub(crate) fn push_kept_board(
     alloc: Global,
     rows: &mut Items<RowChange>,
     old: usize,
@@ -133,30 +96,19 @@ fn push_low(
     Ok(())
 }
 
-/// The rows of a board that is new.
-fn push_new_board(
+/// The row of a board without tasks.
+#[tactic(auto, unfolding(tb_board::specs::Numbers::free))]
+pub(crate) fn empty_board_row(
     alloc: Global,
-    rows: &mut Items<RowChange>,
-    board: &Board,
-) -> Result<(), AllocError>
-    requires { length board.now.tasks ≤ 10000 }
-    ensures { OnOk result (rows.new ≡ rows.old ++ new_board board.now) }
+    number: u32,
+    title: &Title,
+) -> Result<BoardRow, AllocError>
+    ensures { IfOk result (λ row. row ≡ board_row (empty_board number title.now)) }
 {
-    let places = places_of(alloc, board.tasks.as_slice())?;
-    let row = board_row(alloc, board)?;
-    rows.push(RowChange::AddBoard(row))?;
-    push_new_tasks(alloc, rows, board, &places)?;
-    push_all_gone(alloc, rows, board, &places)
-}
-
-fn board_row(alloc: Global, board: &Board) -> Result<BoardRow, AllocError>
-    requires { length board.now.tasks ≤ 10000 }
-    ensures { IfOk result (λ row. row ≡ board_row board.now) }
-{
-    let low = least_number(alloc, board)?;
+    let title = Text::from_str(alloc, title.as_str())?;
     Ok(BoardRow {
-        id: board.number,
-        title: Text::from_str(alloc, board.title.as_str())?,
-        low,
+        id: number,
+        title,
+        low: 1,
     })
 }

@@ -1,11 +1,10 @@
 //! The changes of rows of gone places.
 
-ghost use Rattle.std.specs.Prelude.{◌≡◌, ◌≤◌, ◌++◌, IfOk, OnOk, length, map};
+ghost use Rattle.std.specs.Prelude.{◌≡◌, ◌≤◌, ◌++◌, IfOk, OnOk, length};
 ghost use Rattle.std.specs.List.{flat_map};
 ghost use Rattle.tb_board.specs.Board.{ids};
 ghost use Rattle.tb_board.specs.Links.{ArePlaces, place_in};
-ghost use Rattle.tb_sql.specs.declared.changes.RowChange.TheVariants.{AddGone};
-ghost use Rattle.tb_rows.specs.Rows.{board_gone, gone_row};
+ghost use Rattle.tb_rows.specs.Rows.{gone_row};
 ghost use Rattle.tb_rows.specs.Steps.{gone_added, gone_changes, gone_removed};
 
 use crate::linking::place_number;
@@ -35,24 +34,6 @@ fn gone_row(
         imask: gone.place,
         mark: Text::from_str(alloc, mask.as_str())?,
     })
-}
-
-/// The rows of all gone places of a board that is new.
-pub(crate) fn push_all_gone(
-    alloc: Global,
-    rows: &mut Items<RowChange>,
-    board: &Board,
-    places: &BTreeMap<TaskId, usize>,
-) -> Result<(), AllocError>
-    requires places { ArePlaces (ids board.now.tasks) places.now }
-    requires few { length board.now.tasks ≤ 10000 }
-    ensures { OnOk result (rows.new ≡ rows.old ++ map AddGone (board_gone board.now)) }
-{
-    for gone in board.gone.as_slice() {
-        let row = gone_row(alloc, board, places, gone)?;
-        rows.push(RowChange::AddGone(row))?;
-    }
-    Ok(())
 }
 
 /// The changes of rows where the changes take or leave gone places of a board.

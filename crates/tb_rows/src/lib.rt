@@ -8,11 +8,11 @@ mod concerned;
 mod gone;
 mod linking;
 mod opening;
+mod part;
 mod people;
 mod roles;
 mod tasks;
-mod worlds;
 
 pub use linking::{instance_row, link_row, place_number};
 pub use opening::opening_rows;
-pub use worlds::row_changes;
+pub use part::{BoardPart, part_changes, touched_board};

@@ -1,19 +1,20 @@
 ghost use Rattle.std.specs.Prelude.{◌≡◌, [], IfOk, codes};
 ghost use Rattle.tb_board.specs.World.{opening};
 ghost use Rattle.tb_sql.specs.Writing.{opening as made_by};
-ghost use Rattle.tb_rows.specs.Rows.{board_row, person_row, world_rows};
+ghost use Rattle.tb_rows.specs.Rows.{board_row, world_rows};
 
+use crate::people::person_row;
 use std::alloc::{AllocError, Global};
 use tb_board::{Key, Name};
 use tb_sql::changes::RowChange;
-use tb_sql_tables::rows::{BoardRow, PersonRow, RoleRow};
+use tb_sql_tables::rows::{BoardRow, RoleRow};
 use tb_values::{Items, Text};
 
 /// The rows of the world that a person begins with.
 pub fn opening_rows(alloc: Global, name: &Name, key: &Key) -> Result<Items<RowChange>, AllocError>
     ensures { IfOk result (λ rows. made_by rows ≡ world_rows (opening name.now key.now)) }
 {
-    let person = first_person(alloc, name, key)?;
+    let person = person_row(alloc, 0, name, key)?;
     let board = first_board(alloc)?;
     let mut rows = Items::new(alloc);
     rows.push(RowChange::AddPerson(person))?;
@@ -24,18 +25,6 @@ pub fn opening_rows(alloc: Global, name: &Name, key: &Key) -> Result<Items<RowCh
         kind: 1,
     }))?;
     Ok(rows)
-}
-
-fn first_person(alloc: Global, name: &Name, key: &Key) -> Result<PersonRow, AllocError>
-    ensures { IfOk result (λ row. row ≡ person_row 1 (record { name = name.now; key = key.now })) }
-{
-    let name = Text::from_str(alloc, name.as_str())?;
-    let secret = Text::from_str(alloc, key.as_str())?;
-    Ok(PersonRow {
-        id: 1,
-        name,
-        secret,
-    })
 }
 
 #[tactic(auto, unfolding(tb_board::specs::Numbers::free))]

@@ -1,47 +1,24 @@
-ghost use Rattle.std.specs.Prelude.{◌≡◌, ◌+◌, ◌<◌, ◌≤◌, ◌++◌, OnOk, length};
-ghost use Rattle.tb_rows.specs.Rows.{person_row, rows_from};
-ghost use Rattle.tb_rows.specs.Steps.{person_changes};
+ghost use Rattle.std.specs.Prelude.{◌≡◌, ◌+◌, ◌≤◌, IfOk};
+ghost use Rattle.tb_rows.specs.Rows.{person_row};
 
 use std::alloc::{AllocError, Global};
-use tb_board::Person;
-use tb_sql::changes::RowChange;
+use tb_board::{Key, Name};
 use tb_sql_tables::rows::PersonRow;
-use tb_values::{Items, Text};
+use tb_values::Text;
 
-/// The rows of people who are new, where there were so many.
-pub(crate) fn push_people(
+/// The row of a person who comes in where there were so many.
+pub(crate) fn person_row(
     alloc: Global,
-    rows: &mut Items<RowChange>,
-    people: &[Person],
-    old: usize,
-) -> Result<(), AllocError>
-    requires { length people.now ≤ 10000 }
-    ensures { OnOk result (rows.new ≡ rows.old ++ rows_from (person_changes old) 0 people.now) }
+    people: usize,
+    name: &Name,
+    key: &Key,
+) -> Result<PersonRow, AllocError>
+    requires { people ≤ 10000 }
+    ensures { IfOk result (λ row. row ≡ person_row (people + 1) (record { name = name.now; key = key.now })) }
 {
-    for (place, person) in people.iter().enumerate() {
-        push_person(alloc, rows, person, place, old)?;
-    }
-    Ok(())
-}
-
-fn push_person(
-    alloc: Global,
-    rows: &mut Items<RowChange>,
-    person: &Person,
-    place: usize,
-    old: usize,
-) -> Result<(), AllocError>
-    requires { place < 10000 }
-    ensures { OnOk result (rows.new ≡ rows.old ++ person_changes old place person.now) }
-{
-    if place < old {
-        return Ok(());
-    }
-    let row = PersonRow {
-        id: place as u32 + 1,
-        name: Text::from_str(alloc, person.name.as_str())?,
-        secret: Text::from_str(alloc, person.key.as_str())?,
-    };
-    rows.push(RowChange::AddPerson(row))?;
-    Ok(())
+    Ok(PersonRow {
+        id: people as u32 + 1,
+        name: Text::from_str(alloc, name.as_str())?,
+        secret: Text::from_str(alloc, key.as_str())?,
+    })
 }

@@ -1,6 +1,6 @@
 //! The changes of rows of a board's tasks.
 
-ghost use Rattle.std.specs.Prelude.{◌≡◌, ◌≤◌, ◌<◌, ◌+◌, [], ◌∷◌, ◌++◌, IfOk, OnOk, length, map};
+ghost use Rattle.std.specs.Prelude.{◌≡◌, ◌≤◌, ◌<◌, ◌++◌, IfOk, OnOk, length, map};
 ghost use Rattle.tb_board.specs.Board.{ids};
 ghost use Rattle.tb_board.specs.Links.{ArePlaces};
 ghost use Rattle.tb_sql.specs.declared.changes.RowChange.TheVariants.{AddInstance, AddLink};
@@ -94,23 +94,6 @@ fn push_task(
     }
     if concerned.templates.has(place) {
         return push_new_mask(alloc, rows, board, number, task);
-    }
-    Ok(())
-}
-
-/// The changes of rows of all tasks of a board that is new.
-pub(crate) fn push_new_tasks(
-    alloc: Global,
-    rows: &mut Items<RowChange>,
-    board: &Board,
-    places: &BTreeMap<TaskId, usize>,
-) -> Result<(), AllocError>
-    requires places { ArePlaces (ids board.now.tasks) places.now }
-    requires few { length board.now.tasks ≤ 10000 }
-    ensures { OnOk result (rows.new ≡ rows.old ++ rows_from (λ place t. new_task board.now (place + 1) t) 0 board.now.tasks) }
-{
-    for (place, task) in board.tasks.as_slice().iter().enumerate() {
-        push_new_task(alloc, rows, board, places, place as u32 + 1, task.get())?;
     }
     Ok(())
 }

@@ -28,11 +28,11 @@ use Rattle.tb_sql_tables.proofs.Effects.{each, all_left, keyed_shown, found, fou
 use Rattle.tb_sql_tables.proofs.Inserts.{cast_integer, cast_null}
 use Rattle.tb_sql_tables.proofs.Inside.{shown_open}
 use Rattle.tb_sql_tables.proofs.Keyed.{keyed_put}
-use Rattle.tb_sql_tables.proofs.KeyTests.{equal, equal_texts}
+use Rattle.tb_sql_tables.proofs.KeyTests.{equal, equal_numbers, equal_texts}
 use Rattle.tb_sql_tables.proofs.Queries.{query_of, output_at}
 use Rattle.tb_sql_tables.proofs.SqlTests.{and_true}
 use Rattle.tb_sql_tables.proofs.Statements.{Means, Asks, row_inserted}
-use Rattle.tb_sql.specs.Changes.{with_person, is_named, IsPersonBefore}
+use Rattle.tb_sql.specs.Changes.{with_person, is_named, is_person, IsPersonBefore}
 
 -- ---- a row goes in
 
@@ -111,4 +111,25 @@ find_person old new name rows shown = record {
       let same = each (λ (row : PersonRow). and_true _ ∙ equal_texts row.name name) content.people in
       let answer = keyed_shown person_row (is_named name) content.people person_tree refl find_text by_name shown_terms [] asks_one old new params rows is.schema shown same is.rows.tables.people in
       found_one person_of (query_of person_tree by_name shown_terms []) (λ row. output_at person_tree refl by_name shown_terms [] params (person_row row)) _ rows (each (λ row. refl) _) answer;
+}
+
+abbrev pub find_at_text : List ℕ
+find_at_text = codes "SELECT id, name, secret FROM person WHERE id = ?1"
+
+abbrev by_id : List Term
+by_id = equal 0 0 ∷ []
+
+asks_one_at : Asks find_at_text person_tree by_id shown_terms []
+unfolding understood everything
+asks_one_at = record { names = names; means = record { is = refl; bare = (refl, refl) }; unlisted = refl }
+
+pub find_person_at : (old new : State) (id : ℕ) (rows : List Row) → Shown find_at_text (Int (pos id) ∷ []) old new rows
+    → Finds (λ content. IsOneOf (filter (is_person id) content.people) (option_map person_of (slice_get rows 0))) old
+find_person_at old new id rows shown = record {
+  was_open = shown_open find_at_text _ old new rows shown;
+  found = λ content is.
+      let params = Int (pos id) ∷ [] in
+      let same = each (λ (row : PersonRow). and_true _ ∙ equal_numbers row.id id) content.people in
+      let answer = keyed_shown person_row (is_person id) content.people person_tree refl find_at_text by_id shown_terms [] asks_one_at old new params rows is.schema shown same is.rows.tables.people in
+      found_one person_of (query_of person_tree by_id shown_terms []) (λ row. output_at person_tree refl by_id shown_terms [] params (person_row row)) _ rows (each (λ row. refl) _) answer;
 }

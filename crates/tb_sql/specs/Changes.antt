@@ -41,6 +41,9 @@ with_kept kept content = record content { kept = kept ∷ content.kept }
 abbrev pub is_board : ℕ → BoardRow → Bool
 is_board id board = board.id == id
 
+abbrev pub is_person : ℕ → PersonRow → Bool
+is_person id person = person.id == id
+
 abbrev pub is_named : List ℕ → PersonRow → Bool
 is_named name person = bytes_eq person.name name
 

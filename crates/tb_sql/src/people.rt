@@ -5,7 +5,7 @@ ghost use Rattle.sqlite.specs.Held.{state};
 ghost use Rattle.sqlite.specs.State.{HasCleanDisk, KeepsCommit, Survives};
 ghost use Rattle.tb_sql_tables.specs.Content.{Changes, Finds};
 ghost use Rattle.tb_sql_tables.specs.Found.{AreFound, IsOneOf};
-ghost use Rattle.tb_sql.specs.Changes.{with_person, is_named, IsPersonBefore};
+ghost use Rattle.tb_sql.specs.Changes.{with_person, is_named, is_person, IsPersonBefore};
 
 use sqlite::{Alter, Error, Transaction, params};
 use tb_sql_tables::read::{read_all, read_first};
@@ -60,6 +60,26 @@ pub fn find_person<S: Alter>(
         tx,
         "SELECT id, name, secret FROM person WHERE name = ?1",
         params![name],
+    )?;
+    read_first(&rows)
+}
+
+/// The person of a number.
+pub fn find_person_at<S: Alter>(
+    tx: &mut Transaction<'_, S>,
+    id: u32,
+) -> Result<Option<PersonRow>, Error>
+    ensures same_reference { tx.new.conn.ghost_name ≡ tx.old.conn.ghost_name }
+    ensures found { HasCleanDisk (state S.Store tx.new.conn.now)
+        → IfOk result (λ person. Finds (λ content. IsOneOf (filter (is_person id) content.people) person) (state S.Store tx.old.conn.now)) }
+    ensures kept { HasCleanDisk (state S.Store tx.new.conn.now) → IsTrue (state S.Store tx.old.conn.now).in_transaction
+        → KeepsCommit (state S.Store tx.old.conn.now) (state S.Store tx.new.conn.now) }
+    ensures survives { Survives (state S.Store tx.old.conn.now) (state S.Store tx.new.conn.now) (λ _. ⊥) }
+{
+    let rows = find_rows(
+        tx,
+        "SELECT id, name, secret FROM person WHERE id = ?1",
+        params![id],
     )?;
     read_first(&rows)
 }

@@ -58,6 +58,7 @@ pub fn write_rows<S: Alter>(
 ) -> Result<(), StoreFault>
     requires { conn.old.in_transaction ≡ false }
     ensures idle { conn.new.in_transaction ≡ false }
+    ensures clean { HasCleanDisk (state S.Store conn.new) → HasCleanDisk (state S.Store conn.old) }
     ensures done { OnOk result ((content : Content) → Stands content (state S.Store conn.old) → Stands (written changes.now kept.now content) (state S.Store conn.new)) }
     ensures memory { result ≡ Err StoreFault.Memory → (content : Content) → Stands content (state S.Store conn.old) → Stands content (state S.Store conn.new) }
     ensures store { result ≡ Err StoreFault.Store → (content : Content) → Stands content (state S.Store conn.old) → StandsAsEither content (written changes.now kept.now content) (state S.Store conn.new) }

@@ -1,0 +1,28 @@
+use Rattle.std.proofs.Common.{arith, subst, sym, ◌∙◌}
+use Rattle.std.proofs.lemmas.Bool.{both_ways}
+use Rattle.std.proofs.lemmas.Result.{IfOk-weaker}
+use Rattle.tb_board.specs.Changes.{changed}
+use Rattle.tb_rows.specs.Steps.{Leads}
+use Rattle.tb_rows.proofs.Parts.{few_people, part_leads, small_part}
+use Rattle.tb_rows.proofs.part.part_changes.Goals.{else-people-le-MOST-via-then-people-le-MOST+else-is_small, else-people-le-MOST-via-else-people-le-MOST}
+use Rattle.tb_rows.proofs.part.part_changes.Goals as goal
+
+pub returns-then-is_small : goal.returns-then-is_small
+returns-then-is_small c = record {
+  leads = IfOk-weaker c.rows_of_part.result _ _
+      (λ rows is w of. subst (λ xs. Leads xs w (changed w c.args.changes.now)) (sym is) (part_leads w c.args.people c.args.part c.args.changes.now of))
+      c.rows_of_part.ensures;
+  steps = IfOk-weaker c.rows_of_part.result _ _ (λ rows is few small. is) c.rows_of_part.ensures;
+}
+
+pub returns : goal.returns
+returns c = elim c.else-people-le-MOST.branch [
+  | else-people-le-MOST-via-then-people-le-MOST+else-is_small u ↦ record {
+    leads = λ w of. absurd (both_ways u.is_small.result u.if-is_small.false (u.is_small.ensures ∙ small_part w c.args.people c.args.part c.args.changes.now of));
+    steps = λ few small. absurd (both_ways u.is_small.result u.if-is_small.false (u.is_small.ensures ∙ small));
+  }
+  | else-people-le-MOST-via-else-people-le-MOST u ↦ record {
+    leads = λ w of. absurd (omega (arith, u.if-people-le-MOST.false, few_people w c.args.people c.args.part c.args.changes.now of));
+    steps = λ few small. absurd (omega (arith, u.if-people-le-MOST.false, few));
+  }
+]

@@ -1,0 +1,90 @@
+-- The part of a world that the changes of one decision touch, and the changes of rows that follow from it alone.
+use Rattle.std.specs.Prelude.{◌≡◌, ℕ, ◌+◌, ◌^◌, Bool, true, List, [], ◌∷◌, ◌++◌, Option, Some, None, if◌then◌else◌, length, nat_lt}
+use Rattle.std.specs.List.{flat_map}
+use Rattle.tb_board.specs.declared.board.Board.{Board}
+use Rattle.tb_board.specs.declared.change.Change.{Change}
+use Rattle.tb_board.specs.declared.change.Change.TheVariants.{PutTask, AddPerson as NewPerson, AddBoard as NewBoard, SetRole, SetGone, TakeGone}
+use Rattle.tb_board.specs.declared.world.Role.{Role}
+use Rattle.tb_board.specs.declared.world.World.{World}
+use Rattle.tb_board.specs.Changes.{changed, replayed}
+use Rattle.tb_board.specs.Extends.{Extends}
+use Rattle.tb_board.specs.World.{find_board}
+use Rattle.tb_core.specs.GoodWorld.{IsGoodWorld}
+use Rattle.tb_core.specs.Shapes.{AreOfOne}
+use Rattle.tb_sql.specs.declared.changes.RowChange.{RowChange}
+use Rattle.tb_sql.specs.declared.changes.RowChange.TheVariants.{AddPerson, AddBoard, AddRole, RemoveRole}
+use Rattle.tb_rows.specs.declared.part.BoardPart.{BoardPart}
+use Rattle.tb_rows.specs.Rows.{board_row, person_row, role_row}
+use Rattle.tb_rows.specs.Small.{has_few_tasks}
+use Rattle.tb_rows.specs.Steps.{kept_board}
+
+-- ---- the part
+
+-- the board whose tasks or gone places a change changes
+abbrev pub board_of : Change → Option ℕ
+board_of (PutTask m place t) = Some m
+board_of (NewPerson name key) = None
+board_of (NewBoard m title) = None
+board_of (SetRole m person role) = None
+board_of (SetGone m g) = Some m
+board_of (TakeGone m id k) = Some m
+
+-- the board that the first of the changes changes
+abbrev pub touched_board : List Change → Option ℕ
+touched_board [] = None
+touched_board (c ∷ cs) = board_of c
+
+abbrev pub board_in : World → Option ℕ → Option Board
+board_in w None = None
+board_in w (Some n) = find_board w n
+
+abbrev pub part_of_board : Option Board → List Change → Option BoardPart
+part_of_board None cs = None
+part_of_board (Some b) cs = Some (record { tasks_before = length b.tasks; later = replayed b cs })
+
+-- the touched board, where the world has it
+abbrev pub part_of : World → List Change → Option BoardPart
+part_of w cs = part_of_board (board_in w (touched_board cs)) cs
+
+-- so many people and the part are those of a good world, which the changes of one decision leave good
+pub record IsPartOf (w : World) (people : ℕ) (part : Option BoardPart) (cs : List Change) : Type 0 where
+  pub good : IsGoodWorld w
+  pub later : IsGoodWorld (changed w cs)
+  pub extends : Extends w (changed w cs)
+  pub shape : AreOfOne cs
+  pub people_are : people ≡ length w.people
+  pub touched : part ≡ part_of w cs
+
+abbrev pub is_small_part : Option BoardPart → Bool
+is_small_part None = true
+is_small_part (Some p) = has_few_tasks p.later
+
+-- ---- the changes of rows
+
+abbrev pub part_board : Option BoardPart → List Change → List RowChange
+part_board None cs = []
+part_board (Some p) cs = kept_board p.tasks_before p.later cs
+
+-- the role that a person has instead of any before
+abbrev pub role_given : ℕ → ℕ → Option Role → List RowChange
+role_given m q None = []
+role_given m q (Some role) = AddRole (role_row (record { board = m; person = q; role = role })) ∷ []
+
+-- of a person who has a number of 32 bits
+abbrev pub role_set : ℕ → ℕ → Option Role → List RowChange
+role_set m q role = if nat_lt q (2 ^ 32) then RemoveRole m q ∷ role_given m q role else []
+
+abbrev pub empty_board : ℕ → List ℕ → Board
+empty_board n title = record { number = n; title = title; tasks = []; gone = [] }
+
+-- those that follow from a change by itself, where there were so many people
+abbrev pub single_changes : ℕ → Change → List RowChange
+single_changes people (PutTask m place t) = []
+single_changes people (NewPerson name key) = AddPerson (person_row (people + 1) (record { name = name; key = key })) ∷ []
+single_changes people (NewBoard m title) = AddBoard (board_row (empty_board m title)) ∷ []
+single_changes people (SetRole m q role) = role_set m q role
+single_changes people (SetGone m g) = []
+single_changes people (TakeGone m id k) = []
+
+abbrev pub rows_of_part : ℕ → Option BoardPart → List Change → List RowChange
+rows_of_part people part cs = part_board part cs ++ flat_map (single_changes people) cs

@@ -1,0 +1,144 @@
+//! The changes of rows that follow from the changes of one decision, by the part of a world that they touch.
+
+ghost use Rattle.std.specs.Prelude.{◌≡◌, ◌≤◌, ◌++◌, true, IfOk, OnOk};
+ghost use Rattle.std.specs.List.{flat_map};
+ghost use Rattle.tb_board.specs.Changes.{changed};
+ghost use Rattle.tb_board.specs.declared.world.World.{World};
+ghost use Rattle.tb_rows.specs.Part.{IsPartOf, is_small_part, part_board, rows_of_part, single_changes, touched_board};
+ghost use Rattle.tb_rows.specs.Steps.{Leads};
+
+use crate::boards::{empty_board_row, push_kept_board};
+use crate::people::person_row;
+use crate::roles::push_role;
+use std::alloc::{AllocError, Global};
+use tb_board::{Board, Change};
+use tb_sql::changes::RowChange;
+use tb_values::Items;
+
+/// A good world has no more people, and none of its boards more tasks.
+const MOST: usize = 10000;
+
+/// A board that changes touch: how many tasks it had, and what it is after them.
+#[derive(Drop)]
+pub struct BoardPart {
+    pub tasks_before: usize,
+    pub later: Board,
+}
+
+/// The board whose tasks or gone places the first of a decision's changes changes: the one that a store has
+/// to look up for `part_changes`.
+pub fn touched_board(changes: &[Change]) -> Option<u32>
+    ensures { result ≡ touched_board changes.now }
+{
+    match changes.first()? {
+        Change::PutTask { board, .. } => Some(*board),
+        Change::SetGone { board, .. } => Some(*board),
+        Change::TakeGone { board, .. } => Some(*board),
+        _ => None,
+    }
+}
+
+/// The changes of rows that lead from the rows of a good world to those of the good world that the changes
+/// of one decision make of it. Of the world only the number of its people and the touched board are needed,
+/// the latter where the world has it. Only rows of people, boards, roles and tasks that are new or changed are
+/// touched, and the masks of templates of which an instance or a gone place is changed.
+pub fn part_changes(
+    alloc: Global,
+    people: usize,
+    part: Option<BoardPart>,
+    changes: &[Change],
+) -> Result<Items<RowChange>, AllocError>
+    ensures leads { IfOk result (λ rows. (w : World) → IsPartOf w people part changes.now → Leads rows w (changed w changes.now)) }
+    ensures steps { IfOk result (λ rows. people ≤ 10000 → is_small_part part ≡ true → rows ≡ rows_of_part people part changes.now) }
+{
+    if people <= MOST && is_small(&part) {
+        return rows_of_part(alloc, people, &part, changes);
+    }
+    Ok(Items::new(alloc))
+}
+
+fn is_small(part: &Option<BoardPart>) -> bool
+    ensures { result ≡ is_small_part part.now }
+{
+    match part {
+        Some(part) => part.later.tasks.len() <= MOST,
+        None => true,
+    }
+}
+
+fn rows_of_part(
+    alloc: Global,
+    people: usize,
+    part: &Option<BoardPart>,
+    changes: &[Change],
+) -> Result<Items<RowChange>, AllocError>
+    requires people { people ≤ 10000 }
+    requires small { is_small_part part.now ≡ true }
+    ensures { IfOk result (λ rows. rows ≡ rows_of_part people part.now changes.now) }
+{
+    let mut rows = Items::new(alloc);
+    push_part(alloc, &mut rows, part, changes)?;
+    push_singles(alloc, &mut rows, people, changes)?;
+    Ok(rows)
+}
+
+/// The changes of rows of the touched board.
+fn push_part(
+    alloc: Global,
+    rows: &mut Items<RowChange>,
+    part: &Option<BoardPart>,
+    changes: &[Change],
+) -> Result<(), AllocError>
+    requires { is_small_part part.now ≡ true }
+    ensures { OnOk result (rows.new ≡ rows.old ++ part_board part.now changes.now) }
+{
+    match part {
+        Some(part) => push_kept_board(alloc, rows, part.tasks_before, &part.later, changes),
+        None => Ok(()),
+    }
+}
+
+/// What follows from each change by itself.
+fn push_singles(
+    alloc: Global,
+    rows: &mut Items<RowChange>,
+    people: usize,
+    changes: &[Change],
+) -> Result<(), AllocError>
+    requires { people ≤ 10000 }
+    ensures { OnOk result (rows.new ≡ rows.old ++ flat_map (single_changes people) changes.now) }
+{
+    for change in changes {
+        push_single(alloc, rows, people, change)?;
+    }
+    Ok(())
+}
+
+fn push_single(
+    alloc: Global,
+    rows: &mut Items<RowChange>,
+    people: usize,
+    change: &Change,
+) -> Result<(), AllocError>
+    requires { people ≤ 10000 }
+    ensures { OnOk result (rows.new ≡ rows.old ++ single_changes people change.now) }
+{
+    match change {
+        Change::AddPerson { name, key } => {
+            let person = person_row(alloc, people, name, key)?;
+            rows.push(RowChange::AddPerson(person))?;
+            Ok(())
+        }
+        Change::AddBoard { number, title } => {
+            let board = empty_board_row(alloc, *number, title)?;
+            rows.push(RowChange::AddBoard(board))?;
+            Ok(())
+        }
+        Change::SetRole {
+            board,
+            person,
+            role,
+        } => push_role(rows, *board, *person, *role),
+        _ => Ok(()),
+    }
+}
