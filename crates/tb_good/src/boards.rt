@@ -16,8 +16,9 @@ use std::collections::BTreeMap;
 use tb_board::{Board, is_acyclic_board, places_of};
 use tb_task::TaskId;
 
-/// Whether the board is good.
-pub(crate) fn is_good_board(alloc: Global, board: &Board) -> Result<bool, AllocError>
+/// Whether the board by itself keeps all that every command keeps of one: its tasks, their links, its instances and its gone places.
+/// Roles on it, and its number, are no part of that.
+pub fn is_good_board(alloc: Global, board: &Board) -> Result<bool, AllocError>
     ensures { IfOk result (λ answer. IsTrue answer ↔ IsGood board.now) }
 {
     if !has_good_tasks(alloc, board)? {

@@ -16,4 +16,5 @@ mod runs;
 mod tasks;
 mod worlds;
 
+pub use boards::is_good_board;
 pub use worlds::is_good_world;

@@ -1,0 +1,108 @@
+-- The row of a number is that of the board of the number.
+use Rattle.std.proofs.Common.{◌≡◌, ◌∙◌, ◌+◌, ◌<◌, ◌≤◌, ◌==◌, ℕ, Bool, true, false, List, [], ◌∷◌, Option, Some, None, filter, find, map, length, refl, sym, ap, subst, arith, inl, inr}
+use Rattle.std.specs.Prelude.{is_some}
+use Rattle.std.specs.List.{AllByRecursion}
+use Rattle.std.specs.Option.{option_map}
+use Rattle.std.proofs.lemmas.Bool.{cases_Bool, eqb-true, eqb-false}
+use Rattle.std.proofs.lemmas.Bool.Decides.{eqb_tells}
+use Rattle.sqlite.specs.State.{State as Database}
+use Rattle.tb_board.specs.declared.board.Board.{Board}
+use Rattle.tb_board.specs.World.{find_board, has_number}
+use Rattle.tb_calls.specs.Calls.{State}
+use Rattle.tb_reopen.specs.Laws.{AreFoundAgain, IsBoardRead}
+use Rattle.tb_reopen.proofs.Joined.{numbered_from, AreNumberedFrom}
+use Rattle.tb_reopen.proofs.Lists.{differ}
+use Rattle.tb_rows.specs.Rows.{board_row}
+use Rattle.tb_sql.specs.Changes.{is_board}
+use Rattle.tb_sql.specs.Opening.{IsAsBefore}
+use Rattle.tb_sql_tables.specs.declared.rows.BoardRow.{BoardRow}
+use Rattle.tb_sql_tables.specs.Content.{Content}
+use Rattle.tb_sql_tables.specs.Found.{IsOneOf}
+use Rattle.tb_stored.specs.Reopening.{OfBoard, OfContent, OfState}
+use Rattle.tb_stored.specs.Stored.{AreRowsOf}
+use Rattle.tb_stored.proofs.Reopened.{world_is_read}
+use Rattle.tb_stored.proofs.Standing.{stood}
+use Rattle.tb_lookup.specs.Counting.{IsWithin}
+use Rattle.tb_lookup.proofs.OneOf.{none_found, one_found}
+
+-- ---- the row of a number
+
+none_later : (k n : ℕ) (bs : List Board) → k < n → AreNumberedFrom n bs → filter (is_board k) (map board_row bs) ≡ []
+none_later k n [] below numbered = refl
+none_later k n (b ∷ bs) below numbered = rw (differ b.number k (λ same. omega (arith, numbered.0))) (none_later k (n + 1) bs (omega arith) numbered.1)
+
+-- no row has a number that no board has, and one row has that of a board
+abbrev AreAt : List BoardRow → Option Board → Type 0
+AreAt rows None = rows ≡ []
+AreAt rows (Some b) = rows ≡ board_row b ∷ []
+
+rows_at : (k n : ℕ) (bs : List Board) → AreNumberedFrom n bs → AreAt (filter (is_board k) (map board_row bs)) (find (has_number k) bs)
+rows_at k n [] numbered = refl
+rows_at k n (b ∷ bs) numbered = elim (cases_Bool (b.number == k)) [
+  | inl here ↦ rw here (ap (λ l. board_row b ∷ l) (none_later k (n + 1) bs (omega (arith, numbered.0, eqb-true b.number k here)) numbered.1))
+  | inr other ↦ rw other (rows_at k (n + 1) bs numbered.1)
+]
+
+row_found : (s : State) (c : Content) → AreRowsOf s c → (k : ℕ) (row : Option BoardRow) → IsOneOf (filter (is_board k) c.boards) row → row ≡ option_map board_row (find_board s.world k)
+row_found s c of_s k row is = go (find_board s.world k) (rows_at k 1 s.world.boards (numbered_from 1 s.world.boards of_s.good.numbered))
+  where
+    go : (b : Option Board) → AreAt (filter (is_board k) (map board_row s.world.boards)) b → row ≡ option_map board_row b
+    go None none = none_found (is_board k) c.boards (map board_row s.world.boards) of_s.same.tables.boards row none is
+    go (Some b) one = one_found (is_board k) c.boards (map board_row s.world.boards) of_s.same.tables.boards row (board_row b) one is
+
+-- ---- the board of a row
+
+-- what holds of each holds of the one that is found
+found_has : {X : Type 0} (P : X → Type 0) (p : X → Bool) (xs : List X) (x : X) → AllByRecursion P xs → find p xs ≡ Some x → P x
+found_has P p [] x all is = absurd (cc)
+found_has P p (y ∷ ys) x all is = elim (cases_Bool (p y)) [
+  | inl here ↦ let same : Some y ≡ Some x = rw here at is in let it : y ≡ x = cc in subst P it all.0
+  | inr other ↦ found_has P p ys x all.1 (rw other at is)
+]
+
+pub none_stored : (old new : Database) (k : ℕ) → OfContent old new (λ c. IsOneOf (filter (is_board k) c.boards) None) → OfState old new (λ s. None ≡ find_board s.world k)
+none_stored old new k found clean s stored = go (find_board s.world k) (row_found s stored.content stored.rows k None (found clean stored.content stored.stands))
+  where
+    go : (b : Option Board) → None ≡ option_map board_row b → None ≡ b
+    go None is = refl
+    go (Some b) is = absurd (cc)
+
+pub board_stored : AreFoundAgain → (old mid new : Database) (k : ℕ) (row : BoardRow) (b : Board) → OfContent old mid (λ c. IsOneOf (filter (is_board k) c.boards) (Some row)) → OfBoard mid new (λ w d. row ≡ board_row d → b ≡ d)
+    → IsAsBefore old mid → IsAsBefore mid new → OfState old new (λ s. Some b ≡ find_board s.world k)
+board_stored law old mid new k row b found read one two clean s stored =
+    go (find_board s.world k) refl (row_found s stored.content stored.rows k (Some row) (found (two.clean clean) stored.content stored.stands))
+  where
+    go : (d : Option Board) → find_board s.world k ≡ d → Some row ≡ option_map board_row d → Some b ≡ find_board s.world k
+    go None at is = absurd (cc)
+    go (Some d) at is =
+        let each = found_has (IsBoardRead s.world stored.content) (has_number k) s.world.boards d (world_is_read law s stored.content stored.rows).each at in
+        let row_is : row ≡ board_row d = cc in
+        ap Some (read clean s.world stored.content d each (stood stored.content old mid stored.stands one) row_is) ∙ sym at
+
+-- ---- the numbers of boards
+
+-- a board's number is below the end, and none is below it that no board has
+abbrev Tells : ℕ → ℕ → ℕ → Option Board → Type 0
+Tells k n end None = n ≤ k → end ≤ k
+Tells k n end (Some b) = k < end
+
+told : (k n : ℕ) (bs : List Board) → AreNumberedFrom n bs → Tells k n (n + length bs) (find (has_number k) bs)
+told k n [] numbered = λ le. omega (arith, le)
+told k n (b ∷ bs) numbered = elim (cases_Bool (b.number == k)) [
+  | inl here ↦ rw here (omega (arith, numbered.0, eqb-true b.number k here))
+  | inr other ↦ rw other (go (find (has_number k) bs) (elim (eqb_tells b.number k) [ inl same ↦ absurd (eqb-false b.number k other same.1) | inr apart ↦ λ is. apart.1 (numbered.0 ∙ is) ]) (told k (n + 1) bs numbered.1))
+]
+  where
+    go : (d : Option Board) → (n ≡ k → ⊥) → Tells k (n + 1) (n + 1 + length bs) d → Tells k n (n + length (b ∷ bs)) d
+    go None apart h = λ le. let later : n + 1 + length bs ≤ k = h (omega (arith, apart, le)) in omega (arith, later)
+    go (Some d) apart h = omega (arith, h)
+
+pub board_within : (old new : Database) (k : ℕ) (row : Option BoardRow) → 1 ≤ k → OfContent old new (λ c. IsOneOf (filter (is_board k) c.boards) row) → OfState old new (λ s. IsWithin k (length s.world.boards) (is_some row))
+board_within old new k row from found clean s stored =
+    go row (find_board s.world k) (row_found s stored.content stored.rows k row (found clean stored.content stored.stands)) (told k 1 s.world.boards (numbered_from 1 s.world.boards stored.rows.good.numbered))
+  where
+    go : (row : Option BoardRow) (b : Option Board) → row ≡ option_map board_row b → Tells k 1 (1 + length s.world.boards) b → IsWithin k (length s.world.boards) (is_some row)
+    go None None is h = let over = h from in omega (arith, over)
+    go None (Some b) is h = absurd (cc)
+    go (Some r) None is h = absurd (cc)
+    go (Some r) (Some b) is h = omega (arith, h)

@@ -1,0 +1,4 @@
+pub mod Counting
+pub mod People
+pub mod Replies
+pub mod Roles

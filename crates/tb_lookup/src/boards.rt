@@ -1,0 +1,124 @@
+//! Boards, as the tables tell them.
+
+ghost use Rattle.std.specs.Prelude.{◌≡◌, ◌≤◌, false, length, Err, IfOk, IfSome};
+ghost use Rattle.sqlite.specs.Held.{state};
+ghost use Rattle.tb_board.specs.Good.{IsGood};
+ghost use Rattle.tb_board.specs.World.{find_board};
+ghost use Rattle.tb_rows.specs.Rows.{board_row};
+ghost use Rattle.tb_sql.specs.Opening.{IsAsBefore};
+ghost use Rattle.tb_stored.specs.Reopening.{OfBoard, OfState};
+ghost use Rattle.tb_lookup.specs.Counting.{IsWithin};
+
+use sqlite::{Alter, Connection};
+use std::alloc::Global;
+use tb_board::Board;
+use tb_good::is_good_board;
+use tb_reopen::laws::rows_are_found_again;
+use tb_reopen::read_board;
+use tb_sql::store::StoreFault;
+use tb_sql_tables::rows::BoardRow;
+use tb_stored::by_key::board_row_at;
+use tb_stored::faults::fault_of;
+use tb_stored::reading::{gone_rows, task_rows};
+use tb_values::Shared;
+
+/// The board of a number, if there is one. What is answered is good and has that number, whatever the rows are:
+/// rows of another board, or of one that isn't good, are a failure of the store.
+pub fn stored_board<S: Alter>(
+    alloc: Global,
+    conn: &mut Connection<S>,
+    number: u32,
+) -> Result<Option<Shared<Board>>, StoreFault>
+    requires { conn.old.in_transaction ≡ false }
+    ensures idle { conn.new.in_transaction ≡ false }
+    ensures found { IfOk result (λ board. OfState (state S.Store conn.old) (state S.Store conn.new)
+        (λ s. board ≡ find_board s.world number)) }
+    ensures good { IfOk result (λ board. IfSome board IsGood) }
+    ensures numbered { IfOk result (λ board. IfSome board (λ b. b.number ≡ number)) }
+    ensures same { IsAsBefore (state S.Store conn.old) (state S.Store conn.new) }
+{
+    rows_are_found_again();
+    let Some(row) = board_row_at(conn, number)? else {
+        return Ok(None);
+    };
+    let board = read_good(alloc, conn, &row)?;
+    if board.get().number != number {
+        return Err(StoreFault::Store);
+    }
+    Ok(Some(board))
+}
+
+/// The board of a row, with the tasks and the gone places that are stored for it.
+fn read_good<S: Alter>(
+    alloc: Global,
+    conn: &mut Connection<S>,
+    row: &BoardRow,
+) -> Result<Shared<Board>, StoreFault>
+    requires { conn.old.in_transaction ≡ false }
+    ensures idle { conn.new.in_transaction ≡ false }
+    ensures found { IfOk result (λ board. OfBoard (state S.Store conn.old) (state S.Store conn.new)
+        (λ w b. row.now ≡ board_row b → board ≡ b)) }
+    ensures good { IfOk result IsGood }
+    ensures same { IsAsBefore (state S.Store conn.old) (state S.Store conn.new) }
+{
+    let tasks = task_rows(conn, row.id)?;
+    let gone = gone_rows(conn, row.id)?;
+    match read_board(alloc, row, tasks.as_slice(), gone.as_slice()) {
+        Ok(board) => hold_to_good(alloc, board),
+        Err(fault) => Err(fault_of(fault)),
+    }
+}
+
+/// A board that isn't good by itself is a failure of the store.
+fn hold_to_good(alloc: Global, board: Board) -> Result<Shared<Board>, StoreFault>
+    ensures same { IfOk result (λ held. held ≡ board) }
+    ensures good { IfOk result IsGood }
+    ensures refused { result ≡ Err StoreFault.Store → IsGood board → ⊥ }
+{
+    match is_good_board(alloc, &board) {
+        Ok(true) => {}
+        Ok(false) => return Err(StoreFault::Store),
+        Err(_) => return Err(StoreFault::Memory),
+    }
+    match Shared::new(alloc, board) {
+        Ok(board) => Ok(board),
+        Err(_) => Err(StoreFault::Memory),
+    }
+}
+
+/// One more than the most boards of a world.
+const ABOVE_MOST: u32 = 10001;
+
+/// How many boards there are. They are numbered from 1, so that their number is found by halves.
+pub fn count_boards<S: Alter>(conn: &mut Connection<S>) -> Result<usize, StoreFault>
+    requires { conn.old.in_transaction ≡ false }
+    ensures idle { conn.new.in_transaction ≡ false }
+    ensures found { IfOk result (λ count. OfState (state S.Store conn.old) (state S.Store conn.new)
+        (λ s. count ≡ length s.world.boards)) }
+    ensures same { IsAsBefore (state S.Store conn.old) (state S.Store conn.new) }
+{
+    let mut low = 0;
+    let mut above = ABOVE_MOST;
+    while low + 1 < above {
+        let middle = low + (above - low) / 2;
+        if has_board(conn, middle)? {
+            low = middle;
+        } else {
+            above = middle;
+        }
+    }
+    Ok(low as usize)
+}
+
+/// Whether there is a board of this number.
+fn has_board<S: Alter>(conn: &mut Connection<S>, number: u32) -> Result<bool, StoreFault>
+    requires idle { conn.old.in_transaction ≡ false }
+    requires from_one { 1 ≤ number }
+    ensures idle { conn.new.in_transaction ≡ false }
+    ensures found { IfOk result (λ there. OfState (state S.Store conn.old) (state S.Store conn.new)
+        (λ s. IsWithin number (length s.world.boards) there)) }
+    ensures same { IsAsBefore (state S.Store conn.old) (state S.Store conn.new) }
+{
+    let row = board_row_at(conn, number)?;
+    Ok(row.is_some())
+}

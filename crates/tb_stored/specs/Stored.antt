@@ -1,0 +1,98 @@
+-- When the tables are the rows of a state, and what a stop may leave.
+use Rattle.std.specs.Prelude.{◌≡◌, ℕ, ◌-◌, false, List, [], map, IsSome, slice_index_or}
+use Rattle.std.specs.List.{AllByRecursion}
+use Rattle.std.specs.Option.{unwrap_or}
+use Rattle.std.specs.FinMap.{entries}
+use Rattle.sqlite_trees.specs.Tree.{Trees}
+use Rattle.sqlite.specs.State.{HasCleanDisk, State as Database}
+use Rattle.tb_board.specs.declared.world.Person.{Person}
+use Rattle.tb_board.specs.declared.world.World.{World}
+use Rattle.tb_board.specs.World.{key_of, number_of}
+use Rattle.tb_core.specs.GoodWorld.{IsGoodWorld}
+use Rattle.tb_calls.specs.declared.call.KeptReply.{KeptReply}
+use Rattle.tb_calls.specs.Calls.{CallName, State}
+use Rattle.tb_reopen.specs.Forms.{HasForm}
+use Rattle.tb_reopen.specs.Laws.{AreApart}
+use Rattle.tb_rows.specs.Rows.{world_rows, IsSameContent}
+use Rattle.tb_sql_tables.specs.declared.rows.KeptRow.{KeptRow}
+use Rattle.tb_sql_tables.specs.Content.{AreRows, Content, Stands, StandsAsEither, StandsEmptyOr}
+
+-- ---- the rows of a state
+
+-- a kept reply, under the number of its person
+abbrev pub kept_row : World → CallName × KeptReply → KeptRow
+kept_row w e = record {
+  person = unwrap_or (number_of w e.0.0) 0;
+  id = e.0.1;
+  content = e.1.content;
+  number = e.1.reply.number;
+  status = e.1.reply.status;
+  body = e.1.reply.body;
+}
+
+-- the name of the person of a number
+abbrev pub name_at : List Person → ℕ → List ℕ
+name_at people n = slice_index_or (map (λ (p : Person). p.name) people) (n - 1) []
+
+-- what is kept by a row
+abbrev pub reply_in : KeptRow → KeptReply
+reply_in row = record { content = row.content; reply = record { number = row.number; status = row.status; body = row.body } }
+
+-- that, and its name
+abbrev pub entry_of : List Person → KeptRow → CallName × KeptReply
+entry_of people row = ((name_at people row.person, row.id), reply_in row)
+
+abbrev pub state_rows : State → Content
+state_rows s = record (world_rows s.world) { kept = map (kept_row s.world) (entries s.kept) }
+
+-- the entry is kept for a person of the world
+abbrev pub IsKnown : World → CallName × KeptReply → Type 0
+IsKnown w e = IsSome (key_of w e.0.0)
+
+abbrev pub AreOfPeople : State → Type 0
+AreOfPeople s = AllByRecursion (IsKnown s.world) (entries s.kept)
+
+-- the content is the rows of the state, in any order
+pub record AreRowsOf (s : State) (content : Content) : Type 0 where
+  -- no two good worlds have the same rows: a law, which is kept here for the laws of a keeper
+  pub apart : AreApart
+  pub good : IsGoodWorld s.world
+  pub form : HasForm s.world
+  pub people : AreOfPeople s
+  pub same : IsSameContent content (state_rows s)
+
+-- the trees are the rows of the state
+pub record AreTreesOf (s : State) (db : Trees) : Type 0 where
+  pub content : Content
+  pub rows : AreRowsOf s content
+  pub stored : AreRows content db
+
+-- ---- a database that holds them
+
+-- the database holds the rows of the state, and a stop leaves them
+pub record IsStored (s : State) (d : Database) : Type 0 where
+  pub content : Content
+  pub rows : AreRowsOf s content
+  pub stands : Stands content d
+  pub idle : d.in_transaction ≡ false
+
+-- it holds the rows of one of the two states, and a stop leaves those of one
+pub record IsStoredAsEither (s t : State) (d : Database) : Type 0 where
+  pub before : Content
+  pub after : Content
+  pub rows_before : AreRowsOf s before
+  pub rows_after : AreRowsOf t after
+  pub stands : StandsAsEither before after d
+
+-- there is no table, or it holds the rows of the state
+pub record IsEmptyOrStored (s : State) (d : Database) : Type 0 where
+  pub content : Content
+  pub rows : AreRowsOf s content
+  pub stands : StandsEmptyOr content d
+
+-- while its disk returns what was written, a stop may leave the rows of the state
+pub record MayLeave (d : Database) (t : State) : Type 0 where
+  pub clean : HasCleanDisk d
+  pub trees : Trees
+  pub left : d.may_leave trees
+  pub stored : AreTreesOf t trees

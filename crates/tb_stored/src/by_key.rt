@@ -1,0 +1,97 @@
+//! The row of a key. Each query stands in a transaction that is dropped, and leaves everything as it was.
+
+ghost use Rattle.std.specs.Prelude.{◌≡◌, false, filter, IfOk};
+ghost use Rattle.sqlite.specs.Held.{state};
+ghost use Rattle.tb_sql.specs.Changes.{is_board, is_kept, is_named, is_person};
+ghost use Rattle.tb_sql.specs.Opening.{IsAsBefore};
+ghost use Rattle.tb_sql_tables.specs.Found.{IsOneOf};
+ghost use Rattle.tb_stored.specs.Reopening.{OfContent};
+
+use sqlite::{Alter, Connection};
+use tb_sql::boards::find_board;
+use tb_sql::kept::find_kept;
+use tb_sql::people::{find_person, find_person_at};
+use tb_sql::store::StoreFault;
+use tb_sql_tables::rows::{BoardRow, KeptRow, PersonRow};
+use tb_task::TaskId;
+
+/// The person of a name.
+pub fn person_row_named<S: Alter>(
+    conn: &mut Connection<S>,
+    name: &str,
+) -> Result<Option<PersonRow>, StoreFault>
+    requires { conn.old.in_transaction ≡ false }
+    ensures idle { conn.new.in_transaction ≡ false }
+    ensures found { IfOk result (λ row. OfContent (state S.Store conn.old) (state S.Store conn.new)
+        (λ content. IsOneOf (filter (is_named name.now) content.people) row)) }
+    ensures same { IsAsBefore (state S.Store conn.old) (state S.Store conn.new) }
+{
+    let mut tx = conn.transaction();
+    let found = find_person(&mut tx, name);
+    drop(tx);
+    match found {
+        Ok(row) => Ok(row),
+        Err(error) => Err(StoreFault::before_commit(&error)),
+    }
+}
+
+/// The person of a number.
+pub fn person_row_at<S: Alter>(
+    conn: &mut Connection<S>,
+    id: u32,
+) -> Result<Option<PersonRow>, StoreFault>
+    requires { conn.old.in_transaction ≡ false }
+    ensures idle { conn.new.in_transaction ≡ false }
+    ensures found { IfOk result (λ row. OfContent (state S.Store conn.old) (state S.Store conn.new)
+        (λ content. IsOneOf (filter (is_person id) content.people) row)) }
+    ensures same { IsAsBefore (state S.Store conn.old) (state S.Store conn.new) }
+{
+    let mut tx = conn.transaction();
+    let found = find_person_at(&mut tx, id);
+    drop(tx);
+    match found {
+        Ok(row) => Ok(row),
+        Err(error) => Err(StoreFault::before_commit(&error)),
+    }
+}
+
+/// The board of a number.
+pub fn board_row_at<S: Alter>(
+    conn: &mut Connection<S>,
+    id: u32,
+) -> Result<Option<BoardRow>, StoreFault>
+    requires { conn.old.in_transaction ≡ false }
+    ensures idle { conn.new.in_transaction ≡ false }
+    ensures found { IfOk result (λ row. OfContent (state S.Store conn.old) (state S.Store conn.new)
+        (λ content. IsOneOf (filter (is_board id) content.boards) row)) }
+    ensures same { IsAsBefore (state S.Store conn.old) (state S.Store conn.new) }
+{
+    let mut tx = conn.transaction();
+    let found = find_board(&mut tx, id);
+    drop(tx);
+    match found {
+        Ok(row) => Ok(row),
+        Err(error) => Err(StoreFault::before_commit(&error)),
+    }
+}
+
+/// The reply that is kept under the number of a person and an identifier.
+pub fn kept_row_at<S: Alter>(
+    conn: &mut Connection<S>,
+    person: u32,
+    id: TaskId,
+) -> Result<Option<KeptRow>, StoreFault>
+    requires { conn.old.in_transaction ≡ false }
+    ensures idle { conn.new.in_transaction ≡ false }
+    ensures found { IfOk result (λ row. OfContent (state S.Store conn.old) (state S.Store conn.new)
+        (λ content. IsOneOf (filter (is_kept person id) content.kept) row)) }
+    ensures same { IsAsBefore (state S.Store conn.old) (state S.Store conn.new) }
+{
+    let mut tx = conn.transaction();
+    let found = find_kept(&mut tx, person, id);
+    drop(tx);
+    match found {
+        Ok(row) => Ok(row),
+        Err(error) => Err(StoreFault::before_commit(&error)),
+    }
+}
