@@ -2,43 +2,62 @@
 use Rattle.std.proofs.Common.{◌≡◌, ℕ, Bool, true, false, List, length, take, inl, inr}
 use Rattle.sqlite.specs.State.{HasCleanDisk, State as Database}
 use Rattle.sqlite_trees.specs.Tree.{Trees}
+use Rattle.sqlite_trees.proofs.Doubt.{clean_of, no_doubt}
+use Rattle.tb_board.specs.declared.board.Board.{Board}
 use Rattle.tb_calls.specs.declared.call.Call.{Call}
 use Rattle.tb_calls.specs.Calls.{State, replies_to}
 use Rattle.tb_calls.specs.Keeping.{StandsAfter}
-use Rattle.tb_keeper.specs.Stored.{AreTreesOf, Holds, MayLeave}
-use Rattle.tb_reply.specs.declared.reply.Reply.{Reply}
+use Rattle.tb_core.specs.GoodWorld.{IsGoodWorld}
+use Rattle.tb_keeper.specs.Holds.{Holds, Kept}
 use Rattle.tb_keeper.specs.Laws.{alone}
+use Rattle.tb_reply.specs.declared.reply.Reply.{Reply}
+use Rattle.tb_stored.specs.Stored.{AreTreesOf, MayLeave}
 use Rattle.tb_headline.specs.Sessions.{IsAt, IsSession, Leaves}
 
-left_rows : (failed : Bool) (held : State) (d : Database) (s : State) → Holds failed held d s → HasCleanDisk d → (db : Trees) → d.may_leave db → (t : State) × AreTreesOf t db
-left_rows false held d s holds clean db left =
-    let stored = holds.1 in
+-- a keeper is honest while its disk returns what was written
+pub honest : (d : Database) → HasCleanDisk d → d.is_clean ≡ true
+honest d clean = clean_of d.is_clean clean
+
+pub clean_before : (old new : Database) → (new.is_clean ≡ true → old.is_clean ≡ true) → HasCleanDisk new → HasCleanDisk old
+clean_before old new before clean = no_doubt old.is_clean (before (honest new clean))
+
+left_rows : (failed : Bool) (people boards : ℕ) (es : List (ℕ × Board)) (d : Database) (s : State) → Kept failed people boards es d s
+    → HasCleanDisk d → (db : Trees) → d.may_leave db → (t : State) × AreTreesOf t db
+left_rows false people boards es d s kept clean db left =
+    let stored = kept.0 in
     (s, record { content = stored.content; rows = stored.rows; stored = stored.stands.left clean db left })
-left_rows true held d s holds clean db left =
-    let either = holds.1 in
+left_rows true people boards es d s kept clean db left =
+    let either = kept.1 in
     elim (either.stands.left clean db left) [
       | inl is ↦ (s, record { content = either.before; rows = either.rows_before; stored = is })
-      | inr is ↦ (holds.0, record { content = either.after; rows = either.rows_after; stored = is })
+      | inr is ↦ (kept.0, record { content = either.after; rows = either.rows_after; stored = is })
     ]
 
--- a store that hasn't failed is at the state that it holds
-pub at : (failed : Bool) (held : State) (d : Database) (s : State) → Holds failed held d s → failed ≡ false → IsAt s (Holds failed held d) (MayLeave d)
-at failed held d s holds fine = record { held = holds; only = λ t left. alone failed held d s t holds fine left }
+module _ (failed : Bool) (people boards : ℕ) (es : List (ℕ × Board)) (d : Database) where
+  abbrev now : State → Type 0
+  now = Holds failed people boards es d
 
--- what a stop leaves on a clean disk
-pub leaves : (failed : Bool) (held : State) (d : Database) (s : State) (calls : List Call) (answered : ℕ)
-    → StandsAfter s calls answered (Holds failed held d) (MayLeave d) → Leaves s calls answered d
-leaves failed held d s calls answered stands clean db left =
-    let rows = left_rows failed held d stands.held.0 stands.held.1 clean db left in
-    (rows.0, rows.1, stands.stops rows.0 (record { clean = clean; trees = db; left = left; stored = rows.1 }))
+  -- a store that hasn't failed is at the state that it holds
+  pub at : (s : State) → now s → failed ≡ false → IsAt s now (MayLeave d)
+  at s holds fine = record { held = holds; only = λ t left. alone failed people boards es d s t holds fine left }
 
--- a run over a store is a session
-pub session : (failed : Bool) (held : State) (d : Database) (s : State) (calls : List Call) (replies : List Reply)
-    → replies ≡ replies_to s (take (length replies) calls)
-    → StandsAfter s calls (length replies) (Holds failed held d) (MayLeave d)
-    → IsSession s calls replies (Holds failed held d) d
-session failed held d s calls replies told stands = record {
-  told = told;
-  held = stands.held;
-  leaves = leaves failed held d s calls (length replies) stands;
-}
+  -- what is held is said of a clean disk alone
+  pub held_clean : (s : State) → IsGoodWorld s.world → (HasCleanDisk d → now s) → now s
+  held_clean s good held = record { good = good; kept = λ clean. (held clean).kept clean }
+
+  -- what a stop leaves on a clean disk
+  pub leaves : HasCleanDisk d → (s : State) (calls : List Call) (answered : ℕ)
+      → StandsAfter s calls answered now (MayLeave d) → Leaves s calls answered d
+  leaves clean s calls answered stands db left =
+      let rows = left_rows failed people boards es d stands.held.0 (stands.held.1.kept clean) clean db left in
+      (rows.0, rows.1, stands.stops rows.0 (record { clean = clean; trees = db; left = left; stored = rows.1 }))
+
+  -- a run over a store is a session
+  pub session : HasCleanDisk d → (s : State) (calls : List Call) (replies : List Reply)
+      → replies ≡ replies_to s (take (length replies) calls)
+      → StandsAfter s calls (length replies) now (MayLeave d) → IsSession s calls replies now d
+  session clean s calls replies told stands = record {
+    told = told;
+    held = stands.held;
+    leaves = leaves clean s calls (length replies) stands;
+  }

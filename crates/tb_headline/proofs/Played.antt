@@ -1,14 +1,16 @@
 -- A session that serves connections: what was handled stands, in the order in which it was handled.
 use Rattle.std.proofs.Common.{◌≡◌, ℕ, ◌+◌, Bool, List, ◌++◌, length, take, Option, Result, Ok, Err, arith, sym, ap, ◌∙◌, subst}
 use Rattle.std.specs.Prelude.{OnErr, OnOk}
-use Rattle.sqlite.specs.State.{State as Database}
+use Rattle.sqlite.specs.State.{HasCleanDisk, State as Database}
+use Rattle.tb_board.specs.declared.board.Board.{Board}
 use Rattle.tb_calls.specs.declared.call.Call.{Call}
 use Rattle.tb_calls.specs.Calls.{State}
 use Rattle.tb_calls.specs.Keeping.{StandsAfter}
 use Rattle.tb_desk.proofs.Resumed.{take_whole}
 use Rattle.tb_headline.proofs.Left.{leaves}
 use Rattle.tb_headline.specs.Sessions.{IsCut, IsPlayed, calls_handled}
-use Rattle.tb_keeper.specs.Stored.{Holds, MayLeave}
+use Rattle.tb_keeper.specs.Holds.{Holds}
+use Rattle.tb_stored.specs.Stored.{MayLeave}
 use Rattle.tb_peers.proofs.Following.{stands_behind}
 use Rattle.tb_peers.proofs.Serving.{any_turns}
 use Rattle.tb_peers.specs.Happening.{IsStopped, Plays, Stops}
@@ -33,11 +35,12 @@ one_more s calls more now stops stood =
     let none : length calls + 0 ≡ length calls = omega arith in
     subst (λ (n : ℕ). StandsAfter s (calls ++ more) n now stops) none (stands_behind s calls more 0 now stops stood)
 
-pub played : (failed : Bool) (held : State) (d : Database) (s : State) (done : List (ℕ × Happening (Option ℕ)))
-    (talks later : ℕ → Talk) → Plays s done talks later (Holds failed held d) (MayLeave d)
-    → IsPlayed s done talks later (Holds failed held d) (MayLeave d) d
-played failed held d s done talks later (steps, end, done_is, run, stands) =
-    let now = Holds failed held d in
+pub played : (failed : Bool) (people boards : ℕ) (es : List (ℕ × Board)) (d : Database) → HasCleanDisk d
+    → (s : State) (done : List (ℕ × Happening (Option ℕ))) (talks later : ℕ → Talk)
+    → Plays s done talks later (Holds failed people boards es d) (MayLeave d)
+    → IsPlayed s done talks later (Holds failed people boards es d) (MayLeave d) d
+played failed people boards es d clean s done talks later (steps, end, done_is, run, stands) =
+    let now = Holds failed people boards es d in
     let turns = any_turns s talks steps end later run in
     let calls = calls_handled steps in
     let here : StandsAt (after s calls) now (MayLeave d) =
@@ -48,14 +51,15 @@ played failed held d s done talks later (steps, end, done_is, run, stands) =
       run = subst (λ (u : State). Run server s talks steps u later) turns.0 run;
       served = turns.1;
       at = record { held = here.held; only = here.stops };
-      leaves = leaves failed held d s calls (length calls) (all_stand s calls now (MayLeave d) here);
+      leaves = leaves failed people boards es d clean s calls (length calls) (all_stand s calls now (MayLeave d) here);
     }
 
-pub cut : (failed : Bool) (held : State) (d : Database) (s : State) (done : List (ℕ × Happening (Option ℕ)))
-    (talks later : ℕ → Talk) → IsStopped s done talks later (Holds failed held d) (MayLeave d)
-    → IsCut s done talks later (Holds failed held d) (MayLeave d) d
-cut failed held d s done talks later is =
-    let now = Holds failed held d in
+pub cut : (failed : Bool) (people boards : ℕ) (es : List (ℕ × Board)) (d : Database) → HasCleanDisk d
+    → (s : State) (done : List (ℕ × Happening (Option ℕ))) (talks later : ℕ → Talk)
+    → IsStopped s done talks later (Holds failed people boards es d) (MayLeave d)
+    → IsCut s done talks later (Holds failed people boards es d) (MayLeave d) d
+cut failed people boards es d clean s done talks later is =
+    let now = Holds failed people boards es d in
     let turns = any_turns s talks is.ks is.end is.middle is.run in
     let calls = calls_handled is.ks in
     let last : Stops (after s calls) is.last (is.middle is.place) (later is.place) now (MayLeave d) =
@@ -71,7 +75,7 @@ cut failed held d s done talks later is =
       served = turns.1;
       failed = last;
       others = is.others;
-      leaves = leaves failed held d s (calls ++ calls_at last.0) (length calls)
+      leaves = leaves failed people boards es d clean s (calls ++ calls_at last.0) (length calls)
           (one_more s calls (calls_at last.0) now (MayLeave d) last.5);
     }
 

@@ -5,7 +5,7 @@ use Rattle.sqlite_trees.specs.Tree.{Trees}
 use Rattle.tb_calls.specs.declared.call.Call.{Call}
 use Rattle.tb_calls.specs.Calls.{State, replies_to}
 use Rattle.tb_calls.specs.Keeping.{IsAfterSome, Only}
-use Rattle.tb_keeper.specs.Stored.{AreTreesOf}
+use Rattle.tb_stored.specs.Stored.{AreTreesOf}
 use Rattle.tb_peers.specs.Happening.{Stops}
 use Rattle.tb_peers.specs.Server.{Timed, calls_among, calls_at, server}
 use Rattle.tb_reply.specs.declared.reply.Reply.{Reply}
@@ -18,10 +18,15 @@ pub record IsAt (s : State) (now : State → Type 0) (may_leave : State → Type
   pub held : now s
   pub only : Only s may_leave
 
--- While the disk returns what was written, each content that a stop may leave is the rows of a state after some of the calls,
--- all that were answered among them, and one more at most.
+-- The one premise of what is promised of a session over a file: the disk returned what was written, wherever one looked,
+-- to the end of the session.
+abbrev pub WhileHonest : Database → Type 0 → Type 0
+WhileHonest d promise = HasCleanDisk d → promise
+
+-- Each content that a stop may leave is the rows of a state after some of the calls, all that were answered among them,
+-- and one more at most.
 abbrev pub Leaves : State → List Call → ℕ → Database → Type 0
-Leaves s calls answered d = HasCleanDisk d → (db : Trees) → d.may_leave db → (t : State) × AreTreesOf t db × IsAfterSome s calls answered t
+Leaves s calls answered d = (db : Trees) → d.may_leave db → (t : State) × AreTreesOf t db × IsAfterSome s calls answered t
 
 -- the first calls are answered as if nothing ever stopped, and so is what is held and what a stop leaves
 pub record IsSession (s : State) (calls : List Call) (replies : List Reply) (now : State → Type 0) (d : Database) : Type 0 where

@@ -6,8 +6,8 @@ ghost use Rattle.sqlite.specs.State.{HasCleanDisk, Opens};
 ghost use Rattle.tb_calls.specs.declared.fault.KeepFault.TheVariants.{Store};
 ghost use Rattle.tb_calls.specs.Calls.{State, once, plain};
 ghost use Rattle.tb_calls.specs.Opening.{opening};
-ghost use Rattle.tb_headline.specs.Sessions.{IsAt, IsCut, IsPlayed, IsSession};
-ghost use Rattle.tb_keeper.specs.Stored.{AreTreesOf};
+ghost use Rattle.tb_headline.specs.Sessions.{IsAt, IsCut, IsPlayed, IsSession, WhileHonest};
+ghost use Rattle.tb_stored.specs.Stored.{AreTreesOf};
 ghost use Rattle.tb_peers.specs.Happening.{done_at, talk_at};
 
 use sqlite::{Alter, Connection};
@@ -44,7 +44,7 @@ pub fn resume<S: Alter>(
     conn: Connection<S>,
 ) -> Result<Desk<SqlKeep<S>>, (Connection<S>, OpenFault)>
     requires { conn.in_transaction ≡ false }
-    ensures begun { IfOk result (λ desk. HasCleanDisk (state S.Store desk.conn) → Opens (state S.Store conn)
+    ensures begun { IfOk result (λ desk. Opens (state S.Store conn)
         → (s : State) → AreTreesOf s (state S.Store conn).now.trees
         → IsAt s (⟦<SqlKeep<S> as Keep>⟧.holds desk) (⟦<SqlKeep<S> as Keep>⟧.after_stop desk)) }
 {
@@ -57,9 +57,10 @@ pub fn resume<S: Alter>(
 /// Handles calls in order, up to the first fault: whenever the session stops then, what is left is the rows of a state after some
 /// first calls, no fewer than were answered.
 pub fn run<S: Alter>(alloc: Global, desk: &mut Desk<SqlKeep<S>>, calls: &[Call]) -> RunEnd
-    ensures session { (s : State)
+    ensures session { WhileHonest (state S.Store desk.new.conn) ((s : State)
         → IsAt s (⟦<SqlKeep<S> as Keep>⟧.holds desk.old) (⟦<SqlKeep<S> as Keep>⟧.after_stop desk.old)
-        → IsSession s calls.now result.replies (⟦<SqlKeep<S> as Keep>⟧.holds desk.new) (state S.Store desk.new.conn) }
+        → IsSession s calls.now result.replies (⟦<SqlKeep<S> as Keep>⟧.holds desk.new) (state S.Store desk.new.conn)) }
+    ensures honest { HasCleanDisk (state S.Store desk.new.conn) → HasCleanDisk (state S.Store desk.old.conn) }
     ensures all { result.fault ≡ None → length result.replies ≡ length calls.now }
     ensures left { (s : State) → ⟦<SqlKeep<S> as Keep>⟧.holds desk.old s → result.fault ≢ Some Store
         → ⟦<SqlKeep<S> as Keep>⟧.holds desk.new (plain s (once s (take (length result.replies) calls.now))) }
@@ -79,14 +80,15 @@ pub fn serve<S: Alter>(
     desk: &mut Desk<SqlKeep<S>>,
     happenings: &[(usize, Happening<'_>)],
 ) -> Result<(), ServeFault>
-    ensures played { (s : State)
+    ensures played { WhileHonest (state S.Store desk.new.conn) ((s : State)
         → IsAt s (⟦<SqlKeep<S> as Keep>⟧.holds desk.old) (⟦<SqlKeep<S> as Keep>⟧.after_stop desk.old)
         → OnOk result (IsPlayed s (done_at (length peers.old) happenings.now) (talk_at peers.old) (talk_at peers.new)
-        (⟦<SqlKeep<S> as Keep>⟧.holds desk.new) (⟦<SqlKeep<S> as Keep>⟧.after_stop desk.new) (state S.Store desk.new.conn)) }
-    ensures cut { (s : State)
+        (⟦<SqlKeep<S> as Keep>⟧.holds desk.new) (⟦<SqlKeep<S> as Keep>⟧.after_stop desk.new) (state S.Store desk.new.conn))) }
+    ensures cut { WhileHonest (state S.Store desk.new.conn) ((s : State)
         → IsAt s (⟦<SqlKeep<S> as Keep>⟧.holds desk.old) (⟦<SqlKeep<S> as Keep>⟧.after_stop desk.old)
         → OnErr result (IsCut s (done_at (length peers.old) happenings.now) (talk_at peers.old) (talk_at peers.new)
-        (⟦<SqlKeep<S> as Keep>⟧.holds desk.new) (⟦<SqlKeep<S> as Keep>⟧.after_stop desk.new) (state S.Store desk.new.conn)) }
+        (⟦<SqlKeep<S> as Keep>⟧.holds desk.new) (⟦<SqlKeep<S> as Keep>⟧.after_stop desk.new) (state S.Store desk.new.conn))) }
+    ensures honest { HasCleanDisk (state S.Store desk.new.conn) → HasCleanDisk (state S.Store desk.old.conn) }
     ensures fault { IfErr result (λ fault. fault ≡ ServeFault.Store) }
     ensures failed { IsErr result → ⟦<SqlKeep<S> as Keep>⟧.has_failed desk.new ≡ true }
 {

@@ -1,5 +1,5 @@
--- What an audit tells of a state, and what it leaves.
-use Rattle.std.proofs.Common.{◌≡◌, ◌∙◌, ◌+◌, ◌==◌, ℕ, Bool, true, false, List, [], ◌∷◌, ◌++◌, Option, Some, None, Result, Ok, Err, filter, map, flat_map, true≢false, refl, sym, ap, subst, inl, inr, IsPermutation}
+-- What an audit tells of a state.
+use Rattle.std.proofs.Common.{◌≡◌, ◌+◌, ◌==◌, ℕ, List, [], ◌∷◌, Option, Some, None, Result, Ok, Err, filter, map, flat_map, refl, ap, subst, IsPermutation}
 use Rattle.std.specs.Prelude.{IfOk}
 use Rattle.std.specs.List.{AllByRecursion}
 use Rattle.std.proofs.lemmas.List.Sorted.{IsPermutation-map}
@@ -10,9 +10,8 @@ use Rattle.tb_board.specs.declared.board.Board.{Board}
 use Rattle.tb_board.specs.declared.world.World.{World}
 use Rattle.tb_core.specs.GoodWorld.{IsGoodWorld}
 use Rattle.tb_calls.specs.Calls.{State}
-use Rattle.tb_calls.specs.Keeping.{IsStill}
 use Rattle.tb_reopen.specs.Forms.{HasForm}
-use Rattle.tb_reopen.proofs.Joined.{AreNumberedFrom, numbered_from, own_rows}
+use Rattle.tb_reopen.proofs.Joined.{numbered_from, own_rows}
 use Rattle.tb_reopen.proofs.ReadBoards.{own_tasks}
 use Rattle.tb_rows.specs.Rows.{rows_from, world_rows, board_row, board_tasks, board_links, board_instances, link_row, link_rows, instance_rows, instance_rows_of, HaveSameRows}
 use Rattle.tb_sql.specs.Changes.{is_board, IsBoardBefore}
@@ -22,14 +21,14 @@ use Rattle.tb_sql_tables.specs.declared.rows.BoardRow.{BoardRow}
 use Rattle.tb_sql_tables.specs.declared.rows.TaskRow.{TaskRow}
 use Rattle.tb_sql_tables.specs.declared.rows.LinkRow.{LinkRow}
 use Rattle.tb_sql_tables.specs.declared.rows.InstanceRow.{InstanceRow}
-use Rattle.tb_sql_tables.specs.Content.{AreRows, Content, IsContent, Stands, StandsAsEither}
+use Rattle.tb_sql_tables.specs.Content.{AreRows, Content, IsContent, Stands}
 use Rattle.tb_sql_tables.specs.Found.{AreFound}
 use Rattle.tb_keeper.specs.declared.auditing.Audit.{Audit}
-use Rattle.tb_keeper.specs.Auditing.{is_instance_on, is_link_on, sound, without_low, without_mask, AreFaults, HasBoardsOf, HasItsRows, OfContent, StandFor, Tells}
-use Rattle.tb_keeper.specs.Stored.{state_rows, AreRowsOf, Holds, IsStored, IsStoredAsEither, MayLeave}
+use Rattle.tb_keeper.specs.Auditing.{is_instance_on, is_link_on, sound, without_low, without_mask, HasBoardsOf, HasItsRows, StandFor, Tells}
+use Rattle.tb_stored.specs.Reopening.{OfContent}
+use Rattle.tb_stored.specs.Stored.{AreRowsOf, IsStored}
 use Rattle.tb_keeper.proofs.Counting.{no_faults}
 use Rattle.tb_keeper.proofs.FoundBoards.{boards_stand}
-use Rattle.tb_keeper.proofs.Standing.{stored_again}
 
 -- two facts of what is answered give a third
 pub both_ok : {X E : Type 0} (r : Result X E) (P Q R : X → Type 0) → IfOk r P → IfOk r Q → ((x : X) → P x → Q x → R x) → IfOk r R
@@ -103,52 +102,6 @@ audit_sound old new audit counted clean s stored =
     λ i.
     let is : Audit = record { boards = tells.boards_are i; tasks = tells.tasks_are i; faults = none i } in
     is
-
--- ---- what a look leaves
-
-may_before : (old new : Database) (t : State) → IsAsBefore old new → MayLeave new t → MayLeave old t
-may_before old new t before may = record { clean = before.clean may.clean; trees = may.trees; left = before.left may.clean may.trees may.left; stored = may.stored }
-
-stored_of : (failed : Bool) (held : State) (d : Database) (s : State) → failed ≡ false → Holds failed held d s → (held ≡ s) × IsStored s d
-stored_of false held d s fine holds = holds
-stored_of true held d s fine holds = absurd (true≢false fine)
-
-held_of : (failed : Bool) (held : State) (d : Database) (s : State) → failed ≡ false → (held ≡ s) × IsStored s d → Holds failed held d s
-held_of failed held d s fine is = subst (λ b. Holds b held d s) (sym fine) is
-
-stored_as_either : (s : State) (d : Database) → IsStored s d → IsStoredAsEither s s d
-stored_as_either s d stored = record {
-  before = stored.content;
-  after = stored.content;
-  rows_before = stored.rows;
-  rows_after = stored.rows;
-  stands = record {
-    seen = λ clean is_open. let at = stored.stands.seen clean is_open in (inl at.0, at.1);
-    left = λ clean db may. inl (stored.stands.left clean db may);
-  };
-}
-
-module _ (failed : Bool) (held : State) (old new : Database) (fine : failed ≡ false) (before : IsAsBefore old new) (idle : new.in_transaction ≡ false) where
-  -- a look leaves what is held
-  pub look_leaves : IsStill (λ s. Holds failed held old s) (λ t. MayLeave old t) (λ s. Holds failed held new s) (λ t. MayLeave new t)
-  look_leaves = record {
-    held = λ s holds. let was = stored_of failed held old s fine holds in held_of failed held new s fine (was.0, stored_again s old new was.1 before idle);
-    stops = λ s t holds may. may_before old new t before may;
-  }
-
-  -- and so does one that fails
-  pub failure_leaves : (other : State) → IsStill (λ s. Holds failed held old s) (λ t. MayLeave old t) (λ s. Holds true other new s) (λ t. MayLeave new t)
-  failure_leaves other = record {
-    held = λ s holds. let was = stored_of failed held old s fine holds in (s, stored_as_either s new (stored_again s old new was.1 before idle));
-    stops = λ s t holds may. may_before old new t before may;
-  }
-
--- nothing is held by a connection in a transaction
-pub never_inside : (failed : Bool) (held other : State) (d : Database) → failed ≡ false → d.in_transaction ≡ true → IsStill (λ s. Holds failed held d s) (λ t. MayLeave d t) (λ s. Holds true other d s) (λ t. MayLeave d t)
-never_inside failed held other d fine inside = record {
-  held = λ s holds. absurd (true≢false (sym inside ∙ (stored_of failed held d s fine holds).1.idle));
-  stops = λ s t holds may. may;
-}
 
 -- the boards of the rows that are found are those of the world
 pub counted_all : IsRead → (old mid new : Database) (rows : List BoardRow) → IsAsBefore old mid → (HasCleanDisk mid → (c : Content) → Stands c old → AreFound IsBoardBefore c.boards rows) → IsAsBefore mid new

@@ -1,5 +1,5 @@
 -- Changes that have their forms leave a world that has.
-use Rattle.std.proofs.Common.{◌≡◌, ℕ, suc, zero, Bool, true, false, cond, List, [], ◌∷◌, ◌++◌, Option, Some, None, refl, length}
+use Rattle.std.proofs.Common.{◌≡◌, ℕ, suc, zero, Bool, true, false, cond, List, [], ◌∷◌, ◌++◌, Some, None, refl, length}
 use Rattle.std.specs.Prelude.{nat_lt, slice_set, filter}
 use Rattle.std.specs.List.{AllByRecursion}
 use Rattle.tb_task.specs.declared.task.Task.{Task}
@@ -9,7 +9,6 @@ use Rattle.tb_task.specs.Storable.{IsStorable, IsStorableExtra}
 use Rattle.tb_board.specs.declared.board.Board.{Board}
 use Rattle.tb_board.specs.declared.change.Change.{Change}
 use Rattle.tb_board.specs.declared.change.Change.TheVariants.{PutTask, AddPerson, AddBoard, SetRole, SetGone, TakeGone}
-use Rattle.tb_board.specs.declared.gone.Gone.{Gone}
 use Rattle.tb_board.specs.declared.world.World.{World}
 use Rattle.tb_board.specs.Changes.{changed, changed_by, change_board, put, with_gone, with_task_at, without_gone}
 use Rattle.tb_board.specs.Names.{is_key, is_name, is_title, read_key, read_name, read_title}

@@ -1,42 +1,64 @@
 -- What a commit leaves.
-use Rattle.std.proofs.Common.{◌≡◌, ◌∙◌, inl, inr, Bool, cond, Option, Some, None, Ordering, List, ◌∷◌, map, true, false, refl, ap, sym, subst, IsPermutation}
+use Rattle.std.proofs.Common.{◌≡◌, ◌∙◌, ◌⊎◌, inl, inr, ℕ, Bool, false, true, List, ◌∷◌, map, length, unwrap_or, Option, Some, Result, Ok, Err, sym, ap, subst, IsPermutation}
+use Rattle.std.specs.Prelude.{OnOk}
 use Rattle.std.specs.List.{AllByRecursion}
-use Rattle.std.specs.FinMap.{FinMap, entries, get, get-insert, get-remove, insert, remove, same_map}
-use Rattle.std.specs.Ordering.{eq_by_cmp, is_eq}
-use Rattle.std.specs.declared.cmp.Ordering.TheVariants.{Less, Equal, Greater}
-use Rattle.tb_calls.proofs.Names.{names_exact, names_total}
-use Rattle.sqlite.specs.State.{State as Database}
+use Rattle.std.specs.FinMap.{entries, insert}
+use Rattle.sqlite.specs.State.{HasCleanDisk, State as Database}
+use Rattle.tb_board.specs.declared.board.Board.{Board}
 use Rattle.tb_board.specs.declared.change.Change.{Change}
 use Rattle.tb_board.specs.declared.world.World.{World}
 use Rattle.tb_board.specs.Changes.{changed}
-use Rattle.tb_board.specs.Extends.{Extends}
+use Rattle.tb_board.specs.World.{number_of}
+use Rattle.tb_cache.specs.Cached.{AreOf}
 use Rattle.tb_core.specs.GoodWorld.{IsGoodWorld}
 use Rattle.tb_calls.specs.declared.call.Call.{Call}
 use Rattle.tb_calls.specs.declared.call.KeptReply.{KeptReply}
-use Rattle.tb_calls.specs.Calls.{CallName, State, name_cmp, name_of}
+use Rattle.tb_calls.specs.Calls.{State, name_of}
 use Rattle.tb_calls.specs.Keeping.{HoldsEither, MayCommit, with_reply}
 use Rattle.tb_reply.specs.declared.reply.Reply.{Reply}
+use Rattle.tb_reopen.specs.Forms.{HasForm}
+use Rattle.tb_rows.specs.Part.{IsPartOf, part_of}
+use Rattle.tb_rows.specs.declared.part.BoardPart.{BoardPart}
 use Rattle.tb_rows.specs.Rows.{world_rows, HaveSameRows, IsSameContent}
+use Rattle.tb_rows.specs.Steps.{Leads}
 use Rattle.tb_sql.specs.declared.changes.RowChange.{RowChange}
 use Rattle.tb_sql.specs.Changes.{with_kept}
-use Rattle.tb_rows.specs.Steps.{Leads}
+use Rattle.tb_sql.specs.Opening.{IsAsBefore}
 use Rattle.tb_sql.specs.Writing.{written}
 use Rattle.tb_sql_tables.specs.declared.rows.KeptRow.{KeptRow}
 use Rattle.tb_sql_tables.specs.Content.{Content, Stands, StandsAsEither}
-use Rattle.tb_reopen.specs.Forms.{HasForm}
+use Rattle.tb_lookup.specs.declared.people.StoredPerson.{StoredPerson}
+use Rattle.tb_lookup.specs.People.{IsPersonFound}
+use Rattle.tb_stored.specs.KeptRows.{with_reply_known, with_reply_rows}
+use Rattle.tb_stored.specs.Reopening.{OfState}
+use Rattle.tb_stored.specs.States.{either_alone, stored_alone}
+use Rattle.tb_stored.specs.Stored.{kept_row, state_rows, AreRowsOf, IsStored, IsStoredAsEither, MayLeave}
+use Rattle.tb_stored.proofs.Standing.{stored_again}
 use Rattle.tb_keeper.specs.Forms.{HasChangeForm}
-use Rattle.tb_keeper.specs.Stored.{kept_row, state_rows, AreRowsOf, Holds, IsStored, IsStoredAsEither, MayLeave}
-use Rattle.tb_keeper.specs.States.{either_alone, held_alone}
+use Rattle.tb_keeper.specs.Holds.{Holds, IsAtHand}
+use Rattle.tb_keeper.specs.Laws.{alone}
 use Rattle.tb_keeper.proofs.ChangedForms.{changes_kept}
-use Rattle.tb_keeper.specs.KeptRows.{with_reply_known, with_reply_rows}
-
-equal_of : (r : Ordering) → is_eq r ≡ true → r ≡ Equal
-equal_of Less h = absurd (cc)
-equal_of Equal h = refl
-equal_of Greater h = absurd (cc)
+use Rattle.tb_keeper.proofs.Holding.{as_either, held_of, holds_of}
 
 abbrev kept_of : Call → Reply → KeptReply
 kept_of call reply = record { content = call.content; reply = reply }
+
+-- the row of a reply, by what is found of its person
+pub row_found : (w : World) (call : Call) (reply : Reply) (person : StoredPerson) (number : ℕ) (row : KeptRow) → IsPersonFound w call.member (Some person) → number ≡ person.number
+    → row ≡ record { person = number; id = call.id; content = call.content; number = reply.number; status = reply.status; body = reply.body } → row ≡ kept_row w (name_of call, kept_of call reply)
+row_found w call reply person number row found is made =
+    let known : number ≡ unwrap_or (number_of w call.member) 0 = is ∙ ap (λ o. unwrap_or o 0) (sym found.0) in
+    made ∙ (λ i.
+    let now : KeptRow = record { person = known i; id = call.id; content = call.content; number = reply.number; status = reply.status; body = reply.body } in
+    now)
+
+-- the changes of rows lead to the rows of the later world
+pub part_leads : (s : State) (people : ℕ) (part : Option BoardPart) (changes : List Change) (rows : List RowChange) (call : Call) → IsGoodWorld s.world → MayCommit s changes call → part ≡ part_of s.world changes → people ≡ length s.world.people
+    → ((w : World) → IsPartOf w people part changes → Leads rows w (changed w changes)) → Leads rows s.world (changed s.world changes)
+part_leads s people part changes rows call good may is are leads =
+    leads s.world (record { good = good; later = may.good; extends = may.extends; shape = may.shape; people_are = are; touched = is })
+
+-- ---- the rows that are written
 
 -- the rows before, with a reply more
 with_one : (s : State) (kept : KeptRow) (content : Content) → HaveSameRows content (state_rows s) → HaveSameRows (with_kept kept content) (world_rows s.world)
@@ -69,7 +91,7 @@ module _ (s : State) (changes : List Change) (call : Call) (reply : Reply) (rows
 module _ (s : State) (old new : Database) (changes : List Change) (call : Call) (reply : Reply) (rows : List RowChange) (kept : KeptRow)
     (may : MayCommit s changes call) (form : HasForm (changed s.world changes))
     (follow : Leads rows s.world (changed s.world changes)) (row : kept ≡ kept_row s.world (name_of call, kept_of call reply)) (stored : IsStored s old) where
-  pub commit_done : ((content : Content) → Stands content old → Stands (written rows kept content) new) → new.in_transaction ≡ false → IsStored (with_reply s changes call reply) new
+  commit_done : ((content : Content) → Stands content old → Stands (written rows kept content) new) → new.in_transaction ≡ false → IsStored (with_reply s changes call reply) new
   commit_done done idle = record {
     content = written rows kept stored.content;
     rows = rows_written s changes call reply rows kept stored.content may form follow row stored.rows;
@@ -77,7 +99,7 @@ module _ (s : State) (old new : Database) (changes : List Change) (call : Call) 
     idle = idle;
   }
 
-  pub commit_failed : ((content : Content) → Stands content old → StandsAsEither content (written rows kept content) new) → IsStoredAsEither s (with_reply s changes call reply) new
+  commit_failed : ((content : Content) → Stands content old → StandsAsEither content (written rows kept content) new) → IsStoredAsEither s (with_reply s changes call reply) new
   commit_failed failed = record {
     before = stored.content;
     after = written rows kept stored.content;
@@ -87,92 +109,88 @@ module _ (s : State) (old new : Database) (changes : List Change) (call : Call) 
   }
 
 -- before the commit nothing has changed
-pub commit_undone : (s : State) (old new : Database) → IsStored s old → ((content : Content) → Stands content old → Stands content new) → new.in_transaction ≡ false → IsStored s new
+commit_undone : (s : State) (old new : Database) → IsStored s old → ((content : Content) → Stands content old → Stands content new) → new.in_transaction ≡ false → IsStored s new
 commit_undone s old new stored stays idle = record { content = stored.content; rows = stored.rows; stands = stays stored.content stored.stands; idle = idle }
 
-module _ (s : State) (old new : Database) (before after : World) (changes : List Change) (call : Call) (reply : Reply) (rows : List RowChange) (kept : KeptRow)
-    (stored : IsStored s old) (was : before ≡ s.world) (made : after ≡ changed s.world changes) (may : MayCommit s changes call) (formed : AllByRecursion HasChangeForm changes)
-    (follow : IsGoodWorld before → IsGoodWorld after → Extends before after → after ≡ changed before changes → Leads rows before after) (row : kept ≡ kept_row before (name_of call, kept_of call reply)) where
-  follows : Leads rows s.world (changed s.world changes)
-  follows =
-      subst (λ (w : World). IsGoodWorld w → IsGoodWorld (changed s.world changes) → Extends w (changed s.world changes) → changed s.world changes ≡ changed w changes → Leads rows w (changed s.world changes)) was
-      (subst (λ (v : World). IsGoodWorld before → IsGoodWorld v → Extends before v → v ≡ changed before changes → Leads rows before v) made follow)
-      stored.rows.good may.good may.extends refl
+-- the rows are looked up, then the row of the reply, and both are written
+module _ (old planned kept_found new : Database) (people boards : ℕ) (cached : List (ℕ × Board)) (changes : List Change) (call : Call) (reply : Reply) (rows : List RowChange) (kept : KeptRow)
+    (one : IsAsBefore old planned) (idle_one : planned.in_transaction ≡ false) (two : IsAsBefore planned kept_found) (idle_two : kept_found.in_transaction ≡ false)
+    (clean_last : HasCleanDisk new → HasCleanDisk kept_found) where
+  at_planned : (s : State) → IsStored s old → IsStored s planned
+  at_planned s stored = stored_again s old planned stored one idle_one
 
-  row_is : kept ≡ kept_row s.world (name_of call, kept_of call reply)
-  row_is = row ∙ ap (λ (w : World). kept_row w (name_of call, kept_of call reply)) was
+  at_found : (s : State) → IsStored s old → IsStored s kept_found
+  at_found s stored = stored_again s planned kept_found (at_planned s stored) two idle_two
 
-  form : HasForm (changed s.world changes)
-  form = changes_kept s.world changes stored.rows.form formed
+  pub write_undone : ((content : Content) → Stands content kept_found → Stands content new) → new.in_transaction ≡ false → OfState old new (λ s. IsStored s new)
+  write_undone stays idle clean s stored = commit_undone s kept_found new (at_found s stored) stays idle
 
-  pub write_done : ((content : Content) → Stands content old → Stands (written rows kept content) new) → new.in_transaction ≡ false → IsStored (with_reply s changes call reply) new
-  write_done done idle = commit_done s old new changes call reply rows kept may form follows row_is stored done idle
+  module _ (formed : AllByRecursion HasChangeForm changes)
+      (leads : OfState old planned (λ s. AreOf s.world cached → people ≡ length s.world.people → (k : Call) → MayCommit s changes k → Leads rows s.world (changed s.world changes)))
+      (row : OfState planned kept_found (λ s. kept ≡ kept_row s.world (name_of call, kept_of call reply))) where
+    pub write_done : ((content : Content) → Stands content kept_found → Stands (written rows kept content) new) → new.in_transaction ≡ false
+        → OfState old new (λ s. IsAtHand people boards cached s.world → MayCommit s changes call → IsStored (with_reply s changes call reply) new)
+    write_done done idle clean s stored hand may =
+        let clean_found = clean_last clean in
+        commit_done s kept_found new changes call reply rows kept may (changes_kept s.world changes stored.rows.form formed)
+        (leads (two.clean clean_found) s stored hand.cached_are hand.people_are call may) (row clean_found s (at_planned s stored)) (at_found s stored) done idle
 
-  pub write_failed : ((content : Content) → Stands content old → StandsAsEither content (written rows kept content) new) → IsStoredAsEither s (with_reply s changes call reply) new
-  write_failed failed = commit_failed s old new changes call reply rows kept may form follows row_is stored failed
+    pub write_failed : ((content : Content) → Stands content kept_found → StandsAsEither content (written rows kept content) new)
+        → OfState old new (λ s. IsAtHand people boards cached s.world → MayCommit s changes call → IsStored s new ⊎ IsStoredAsEither s (with_reply s changes call reply) new)
+    write_failed failed clean s stored hand may =
+        let clean_found = clean_last clean in
+        inr (commit_failed s kept_found new changes call reply rows kept may (changes_kept s.world changes stored.rows.form formed)
+        (leads (two.clean clean_found) s stored hand.cached_are hand.people_are call may) (row clean_found s (at_planned s stored)) (at_found s stored) failed)
 
 -- ---- what a keeper holds after that
 
-pub either_first : (failed : Bool) (held : State) (d : Database) (s after : State) → Holds failed held d s → failed ≡ false → HoldsEither s after (Holds failed held d) (MayLeave d)
-either_first failed held d s after holds fine = record { held = inl holds; stops = λ t left. inl (held_alone failed held d s t holds fine left) }
+module _ (failed : Bool) (people boards : ℕ) (cached : List (ℕ × Board)) (d : Database) (s after : State) (fine : failed ≡ false) where
+  -- nothing was written
+  pub either_first : Holds failed people boards cached d s → HoldsEither s after (λ t. Holds failed people boards cached d t) (λ t. MayLeave d t)
+  either_first holds = record { held = inl holds; stops = λ t left. inl (alone failed people boards cached d s t holds fine left) }
 
-pub either_second : (failed : Bool) (held : State) (d : Database) (s after : State) → Holds failed held d after → failed ≡ false → HoldsEither s after (Holds failed held d) (MayLeave d)
-either_second failed held d s after holds fine = record { held = inr holds; stops = λ t left. inr (held_alone failed held d after t holds fine left) }
+  -- all is written
+  pub either_second : Holds failed people boards cached d after → HoldsEither s after (λ t. Holds failed people boards cached d t) (λ t. MayLeave d t)
+  either_second holds = record { held = inr holds; stops = λ t left. inr (alone failed people boards cached d after t holds fine left) }
 
-pub either_of_two : (held : State) (d : Database) (s after : State) → IsStoredAsEither s after d → HoldsEither s after (Holds true held d) (MayLeave d)
-either_of_two held d s after stored = record { held = inl (after, stored); stops = λ t left. either_alone s after t d stored left }
+module _ (failed : Bool) (people boards : ℕ) (cached : List (ℕ × Board)) (old : Database) (s : State) (changes : List Change) (call : Call) (fine : failed ≡ false) (held : Holds failed people boards cached old s) (may : MayCommit s changes call)
+    (new : Database) (failed_then : Bool) (people_then boards_then : ℕ) (now : List (ℕ × Board)) (same_failed : failed_then ≡ failed) (same_people : people_then ≡ people) (same_boards : boards_then ≡ boards)
+    (before : HasCleanDisk new → HasCleanDisk old) (of : OfState old new (λ t. AreOf t.world cached → AreOf t.world now)) where
+  was : HasCleanDisk new → IsStored s old × IsAtHand people boards cached s.world
+  was clean = held_of failed people boards cached old s fine (before clean) held
 
-pub held_as : (failed : Bool) (held other : State) (d : Database) (s : State) → Holds failed held d s → other ≡ held → Holds failed other d s
-held_as failed held other d s holds is = subst (λ (h : State). Holds failed h d s) (sym is) holds
+  at_hand : HasCleanDisk new → IsAtHand people_then boards_then now s.world
+  at_hand clean = let both = was clean in record { people_are = same_people ∙ both.1.people_are; boards_are = same_boards ∙ both.1.boards_are; cached_are = of clean s both.0 both.1.cached_are }
 
-abbrev Kept : Type 0
-Kept = FinMap name_cmp KeptReply
+  pub commit_memory : OfState old new (λ t. IsStored t new) → Holds failed_then people_then boards_then now new s
+  commit_memory stays = holds_of failed_then people_then boards_then now new s (same_failed ∙ fine) (record { good = held.good; kept = λ clean. (stays clean s (was clean).0, at_hand clean) })
 
--- to take out what was put in leaves what was there
-taken_out : (m : Kept) (k : CallName) (v : KeptReply) → get m k ≡ None → remove (insert m k v) k ≡ m
-taken_out m k v new = same_map names_total names_exact _ _ at
-  where
-    go : (b : Bool) (was : Option KeptReply) → (b ≡ true → was ≡ None) → cond b None (cond b (Some v) was) ≡ was
-    go true was none = sym (none refl)
-    go false was none = refl
+  pub commit_ok : (reply : Reply) (failed_later : Bool) (later_people later_boards : ℕ) (later : List (ℕ × Board)) (d : Database) → failed_later ≡ failed_then → d ≡ new
+      → OfState old new (λ t. IsAtHand people boards cached t.world → MayCommit t changes call → IsStored (with_reply t changes call reply) new)
+      → ((w : World) → IsAtHand people_then boards_then now w → IsGoodWorld (changed w changes) → IsAtHand later_people later_boards later (changed w changes))
+      → Holds failed_later later_people later_boards later d (with_reply s changes call reply)
+  commit_ok reply failed_later later_people later_boards later d same_later same_d done follows =
+      subst (λ (x : Database). Holds failed_later later_people later_boards later x (with_reply s changes call reply)) (sym same_d) (holds_of failed_later later_people later_boards later new (with_reply s changes call reply) (same_later ∙ same_failed ∙ fine) (record {
+        good = may.good;
+        kept = λ clean. let both = was clean in (done clean s both.0 both.1 may, follows s.world (at_hand clean) may.good);
+      }))
 
-    at : (q : CallName) → get (remove (insert m k v) k) q ≡ get m q
-    at q =
-        get-remove names_total (insert m k v) k q ∙ ap (cond (eq_by_cmp name_cmp q k) None) (get-insert names_total m k v q)
-        ∙ go (eq_by_cmp name_cmp q k) (get m q) (λ tied. ap (get m) (names_exact q k (equal_of _ tied)) ∙ new)
+  pub commit_store : (reply : Reply)
+      → OfState old new (λ t. IsAtHand people boards cached t.world → MayCommit t changes call → IsStored t new ⊎ IsStoredAsEither t (with_reply t changes call reply) new)
+      → HoldsEither s (with_reply s changes call reply) (λ t. Holds true people_then boards_then now new t) (λ t. MayLeave new t)
+  commit_store reply fails = record {
+    held = inl (record { good = held.good; kept = λ clean. kept_as (fails clean s (was clean).0 (was clean).1 may) });
+    stops = λ t left. left_as t left (fails left.clean s (was left.clean).0 (was left.clean).1 may);
+  }
+    where
+      kept_as : IsStored s new ⊎ IsStoredAsEither s (with_reply s changes call reply) new → (t : State) × IsStoredAsEither s t new
+      kept_as (inl stored) = (s, as_either s new stored)
+      kept_as (inr either) = (with_reply s changes call reply, either)
 
-module _ (failed : Bool) (w : World) (m : Kept) (d : Database) (s : State) (changes : List Change) (call : Call) (fine : failed ≡ false) (holds : Holds failed (record { world = w; kept = m }) d s) (may : MayCommit s changes call) where
-  held_state : record { world = w; kept = m } ≡ s
-  held_state = (subst (λ b. Holds b (record { world = w; kept = m }) d s) fine holds).0
+      left_as : (t : State) → MayLeave new t → IsStored s new ⊎ IsStoredAsEither s (with_reply s changes call reply) new → (t ≡ s) ⊎ (t ≡ with_reply s changes call reply)
+      left_as t left (inl stored) = inl (stored_alone s t new stored left)
+      left_as t left (inr either) = either_alone s (with_reply s changes call reply) t new either left
 
-  is_stored : IsStored s d
-  is_stored = (subst (λ b. Holds b (record { world = w; kept = m }) d s) fine holds).1
-
-  was_world : w ≡ s.world
-  was_world = ap (λ (t : State). t.world) held_state
-
-  was_kept : m ≡ s.kept
-  was_kept = ap (λ (t : State). t.kept) held_state
-
-  pub commit_memory : (m1 m2 : Kept) (k k2 : CallName) (v : KeptReply) (d2 : Database) → m1 ≡ insert m k v → m2 ≡ remove m1 k2 → k ≡ name_of call → k2 ≡ name_of call → (IsStored s d → IsStored s d2)
-      → Holds failed (record { world = w; kept = m2 }) d2 s
-  commit_memory m1 m2 k k2 v d2 put_in out is is2 stays =
-      let new : get m k ≡ None = ap (get m) is ∙ ap (λ x. get x (name_of call)) was_kept ∙ may.new in
-      let back : m2 ≡ m = out ∙ ap (remove m1) (is2 ∙ sym is) ∙ ap (λ x. remove x k) put_in ∙ taken_out m k v new in
-      let same : record { world = w; kept = m2 } ≡ s = (λ i. record { world = w; kept = back i }) ∙ held_state in
-      subst (λ b. Holds b (record { world = w; kept = m2 }) d2 s) (sym fine) (same, stays is_stored)
-
-  pub commit_store : (later : World) (held : State) (reply : Reply) (d2 : Database) → later ≡ changed w changes
-      → ((t : State) → IsStored t d → w ≡ t.world → later ≡ changed t.world changes → MayCommit t changes call → IsStoredAsEither t (with_reply t changes call reply) d2)
-      → HoldsEither s (with_reply s changes call reply) (Holds true held d2) (MayLeave d2)
-  commit_store later held reply d2 made stored =
-      either_of_two held d2 s (with_reply s changes call reply) (stored s is_stored was_world (made ∙ ap (λ x. changed x changes) was_world) may)
-
-  pub commit_ok : (later : World) (m1 : Kept) (k : CallName) (v : KeptReply) (reply : Reply) (d2 : Database) → later ≡ changed w changes → m1 ≡ insert m k v → k ≡ name_of call → v ≡ kept_of call reply
-      → ((t : State) → IsStored t d → w ≡ t.world → later ≡ changed t.world changes → MayCommit t changes call → IsStored (with_reply t changes call reply) d2)
-      → Holds failed (record { world = later; kept = m1 }) d2 (with_reply s changes call reply)
-  commit_ok later m1 k v reply d2 made put_in is is_v stored =
-      let world_is = made ∙ ap (λ x. changed x changes) was_world in
-      let kept_is : m1 ≡ insert s.kept (name_of call) (kept_of call reply) = put_in ∙ ap (λ x. insert x k v) was_kept ∙ ap (λ x. insert s.kept x v) is ∙ ap (insert s.kept (name_of call)) is_v in
-      let same : record { world = later; kept = m1 } ≡ with_reply s changes call reply = λ i. record { world = world_is i; kept = kept_is i } in
-      subst (λ b. Holds b (record { world = later; kept = m1 }) d2 (with_reply s changes call reply)) (sym fine) (same, stored s is_stored was_world world_is may)
+pub on_ok : {X E : Type 0} (r : Result X E) (A B : Type 0) → (A → B) → OnOk r A → OnOk r B
+on_ok (Ok x) A B f is = f is
+on_ok (Err e) A B f is = tt

@@ -2,7 +2,6 @@
 use Rattle.std.proofs.Common.{◌≡◌, ◌∙◌, ◌+◌, ◌<◌, ◌≤◌, ℕ, Bool, true, false, cond, List, [], ◌∷◌, ◌++◌, Ok, map, drop, filter, length, get_or, true≢false, refl, sym, ap, ap₂, subst, arith, inl, inr, IsPermutation}
 use Rattle.std.specs.Prelude.{◌↔◌, IsTrue}
 use Rattle.std.specs.List.{AllByRecursion}
-use Rattle.std.proofs.lemmas.Bool.{cases_Bool}
 use Rattle.std.proofs.lemmas.List.{append-nil, append_assoc, drop_all, drop_more}
 use Rattle.std.proofs.lemmas.List.Elements.{All-from_recursion, recursion_from_All}
 use Rattle.std.proofs.lemmas.List.Sorted.{All-permutation, IsPermutation-sym, IsPermutation-trans}
@@ -11,7 +10,7 @@ use Rattle.tb_audit.specs.Stored.{masks_of, AreAsStored}
 use Rattle.tb_board.specs.declared.board.Board.{Board}
 use Rattle.tb_reopen.specs.Reading.{board_of, is_gone_on, is_task_on}
 use Rattle.tb_reopen.proofs.Rising.{tasks_rise}
-use Rattle.tb_rows.specs.Rows.{board_instances, board_links, board_row, board_tasks}
+use Rattle.tb_rows.specs.Rows.{board_row, board_tasks}
 use Rattle.tb_sql.specs.Changes.{is_board, IsGoneBefore, IsInstanceBefore, IsLinkBefore, IsTaskBefore}
 use Rattle.tb_sql.specs.Opening.{IsAsBefore}
 use Rattle.tb_sql.proofs.Opened.{stands_again}
@@ -20,11 +19,12 @@ use Rattle.tb_sql_tables.specs.declared.rows.TaskRow.{TaskRow}
 use Rattle.tb_sql_tables.specs.declared.rows.LinkRow.{LinkRow}
 use Rattle.tb_sql_tables.specs.declared.rows.InstanceRow.{InstanceRow}
 use Rattle.tb_sql_tables.specs.declared.rows.GoneRow.{GoneRow}
-use Rattle.tb_sql_tables.specs.Content.{AreRows, Content, IsContent, Stands}
+use Rattle.tb_sql_tables.specs.Content.{AreRows, Content, IsContent}
 use Rattle.tb_sql_tables.specs.Found.{AreFound}
 use Rattle.tb_keeper.specs.declared.auditing.Audit.{Audit}
 use Rattle.tb_keeper.specs.declared.auditing.Checked.{Checked}
-use Rattle.tb_keeper.specs.Auditing.{is_instance_on, is_link_on, task_count, without_mask, AreFaults, HasItsRows, IsCheckOf, OfContent, StandFor, StandsFor, Tells}
+use Rattle.tb_keeper.specs.Auditing.{is_instance_on, is_link_on, task_count, without_mask, AreFaults, HasItsRows, IsCheckOf, StandFor, StandsFor, Tells}
+use Rattle.tb_stored.specs.Reopening.{OfContent}
 
 -- ---- what is found tells whether the content has the rows of a board
 

@@ -1,8 +1,8 @@
 -- The rows of the opening state.
-use Rattle.std.proofs.Common.{◌≡◌, ◌∙◌, ℕ, true, List, [], ◌∷◌, map, length, codes, refl, sym, ap, subst, IsPermutation, arith}
+use Rattle.std.proofs.Common.{◌≡◌, ◌∙◌, ℕ, true, List, [], ◌∷◌, map, length, codes, refl, sym, subst, IsPermutation, arith}
 use Rattle.std.proofs.lemmas.List.Sorted.{IsPermutation-refl}
 use Rattle.std.specs.List.{AllByRecursion}
-use Rattle.std.specs.FinMap.{FinMap, empty, entries, len-empty, len-entries}
+use Rattle.std.specs.FinMap.{empty, entries, len-empty, len-entries}
 use Rattle.tb_board.specs.Names.{is_key, is_name, is_title}
 use Rattle.tb_board.specs.World.{opening as opening_world}
 use Rattle.tb_core.proofs.Opening.{opens}
@@ -14,7 +14,7 @@ use Rattle.tb_rows.specs.Rows.{world_rows, HaveSameRows, IsSameContent}
 use Rattle.tb_sql.specs.declared.changes.RowChange.{RowChange}
 use Rattle.tb_sql.specs.Writing.{opening as content_of}
 use Rattle.tb_sql_tables.specs.Content.{Content}
-use Rattle.tb_keeper.specs.Stored.{kept_row, state_rows, AreRowsOf, IsKnown}
+use Rattle.tb_stored.specs.Stored.{kept_row, state_rows, AreRowsOf, IsKnown}
 
 none : (es : List (CallName × KeptReply)) → length es ≡ 0 → es ≡ []
 none [] e = refl

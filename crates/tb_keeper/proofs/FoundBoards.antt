@@ -1,7 +1,7 @@
 -- The rows of boards that are found stand for the boards of the world, whatever the lows, masks, links and instances.
-use Rattle.std.proofs.Common.{◌≡◌, ◌+◌, List, [], ◌∷◌, ◌++◌, Result, Ok, filter, length, map, refl, sym, ap, ap₂, ◌∙◌, subst, arith, IsPermutation}
+use Rattle.std.proofs.Common.{◌≡◌, ◌+◌, List, [], ◌∷◌, ◌++◌, Result, Ok, filter, length, map, refl, sym, ap, ◌∙◌, subst, IsPermutation}
 use Rattle.std.specs.List.{AllByRecursion}
-use Rattle.std.proofs.lemmas.List.Sorted.{IsPermutation-sym, IsPermutation-trans}
+use Rattle.std.proofs.lemmas.List.Sorted.{IsPermutation-sym}
 use Rattle.sqlite_trees.specs.Tree.{IsAscending}
 use Rattle.sqlite_keyed.proofs.ListLemmas.{ascending-map, ascending_from_map, filter-map, IsPermutation-filter}
 use Rattle.tb_values.specs.Outcome.{◌>>=◌}
@@ -9,7 +9,6 @@ use Rattle.tb_task.specs.TaskId.{IsRead}
 use Rattle.tb_task.specs.declared.task.Task.{Task}
 use Rattle.tb_board.specs.Good.{IsGood}
 use Rattle.tb_board.specs.declared.board.Board.{Board}
-use Rattle.tb_board.specs.declared.gone.Gone.{Gone}
 use Rattle.tb_board.specs.declared.world.World.{World}
 use Rattle.tb_core.specs.GoodWorld.{IsGoodWorld}
 use Rattle.tb_sql_tables.specs.Content.{Content}
@@ -24,7 +23,7 @@ use Rattle.tb_reopen.specs.Outcome.{readable}
 use Rattle.tb_reopen.specs.Reading.{board_of, gone_in, is_gone_on, is_task_on, task_at, tasks_in}
 use Rattle.tb_reopen.specs.declared.fault.ReopenFault.{ReopenFault}
 use Rattle.tb_board.specs.Names.{read_title}
-use Rattle.tb_reopen.proofs.Joined.{AreNumberedFrom, numbered_from}
+use Rattle.tb_reopen.proofs.Joined.{numbered_from}
 use Rattle.tb_reopen.proofs.Orders.{GoneRise, in_order}
 use Rattle.tb_reopen.proofs.ReadBoards.{FindsOwn, board_read, finds_own}
 use Rattle.tb_reopen.proofs.Rising.{boards_rise, tasks_rise}

@@ -17,9 +17,10 @@ use Rattle.tb_sql_tables.specs.Content.{Content}
 use Rattle.tb_sql_tables.specs.Found.{AreFound}
 use Rattle.tb_keeper.specs.declared.auditing.Audit.{Audit}
 use Rattle.tb_keeper.specs.declared.auditing.Checked.{Checked}
-use Rattle.tb_keeper.specs.Auditing.{differs, is_instance_on, is_link_on, AreChecksOf, CountsRows, IsCheckBy, IsCheckOfRow, IsCountOf, OfContent}
+use Rattle.tb_keeper.specs.Auditing.{differs, is_instance_on, is_link_on, AreChecksOf, CountsRows, IsCheckBy, IsCheckOfRow, IsCountOf, IsOwned, IsRowCheck}
+use Rattle.tb_stored.specs.Reopening.{OfContent}
 use Rattle.tb_keeper.proofs.Counting.{IsOneMore}
-use Rattle.tb_keeper.proofs.WholeRead.{stood}
+use Rattle.tb_stored.proofs.Standing.{stood}
 
 -- what is found of a board between looks that change nothing
 pub check_whole : (start second third fourth after : Database) (row : BoardRow) (tasks : List TaskRow) (gone : List GoneRow) (links : List LinkRow) (instances : List InstanceRow) (checked : Checked)
@@ -48,7 +49,16 @@ check_whole start second third fourth after row tasks gone links instances check
       check = check;
     }
 
-checks_more : (c : Content) (rows : List BoardRow) (checks : List Checked) (row : BoardRow) (checked : Checked) → AreChecksOf c rows checks → IsCheckOfRow c row checked → AreChecksOf c (rows ++ row ∷ []) (checks ++ checked ∷ [])
+-- what is found of a row, its roles first
+pub row_whole : (start mid after : Database) (row : BoardRow) (checked : Checked) → IsAsBefore start mid → IsAsBefore mid after
+    → OfContent start mid (λ c. IsOwned c row.id) → OfContent mid after (λ c. IsCheckOfRow c row checked) → OfContent start after (λ c. IsRowCheck c row checked)
+row_whole start mid after row checked one two owned check clean c stands = record { owned = owned (two.clean clean) c stands; board = check clean c (stood c start mid stands one) }
+
+-- what is found behind a look that changes nothing
+pub behind : (P : Content → Type 0) (old mid new : Database) → IsAsBefore old mid → OfContent mid new P → OfContent old new P
+behind P old mid new one found clean c stands = found clean c (stood c old mid stands one)
+
+checks_more : (c : Content) (rows : List BoardRow) (checks : List Checked) (row : BoardRow) (checked : Checked) → AreChecksOf c rows checks → IsRowCheck c row checked → AreChecksOf c (rows ++ row ∷ []) (checks ++ checked ∷ [])
 checks_more c [] [] row checked each one = (one, tt)
 checks_more c [] (x ∷ xs) row checked each one = absurd each
 checks_more c (r ∷ rows) [] row checked each one = absurd each
@@ -70,7 +80,7 @@ faults_more checks checked =
     go true = omega arith
     go false = refl
 
-rows_more : (c : Content) (rows : List BoardRow) (row : BoardRow) (audit later : Audit) (checked : Checked) → IsCheckOfRow c row checked → IsOneMore audit later checked → CountsRows c rows audit → CountsRows c (rows ++ row ∷ []) later
+rows_more : (c : Content) (rows : List BoardRow) (row : BoardRow) (audit later : Audit) (checked : Checked) → IsRowCheck c row checked → IsOneMore audit later checked → CountsRows c rows audit → CountsRows c (rows ++ row ∷ []) later
 rows_more c rows row audit later checked one more counts = record {
   checks = counts.checks ++ checked ∷ [];
   each = checks_more c rows counts.checks row checked counts.each one;
@@ -87,7 +97,7 @@ pub none_first : (start now : Database) → CountsFirst start now [] (record { b
 none_first start now clean c stands = record { checks = []; each = tt; boards_are = refl; tasks_are = refl; faults_are = refl }
 
 pub one_first : (start before after : Database) (all : List BoardRow) (n : ℕ) (row : BoardRow) (audit later : Audit) (checked : Checked) → n < length all → row ≡ get_or all n row → IsAsBefore start before → IsAsBefore before after
-    → OfContent before after (λ c. IsCheckOfRow c row checked) → IsOneMore audit later checked → CountsFirst start before (take n all) audit → CountsFirst start after (take (n + 1) all) later
+    → OfContent before after (λ c. IsRowCheck c row checked) → IsOneMore audit later checked → CountsFirst start before (take n all) audit → CountsFirst start after (take (n + 1) all) later
 one_first start before after all n row audit later checked within here same one is more first clean c stands =
     let whole : take (n + 1) all ≡ take n all ++ row ∷ [] = take_more all n row within ∙ ap (λ x. take n all ++ x ∷ []) (sym here) in
     subst (λ rows. CountsRows c rows later) (sym whole) (rows_more c (take n all) row audit later checked (is clean c (stood c start before stands same)) more (first (one.clean clean) c stands))

@@ -1,16 +1,18 @@
 -- What an audit counts.
-use Rattle.std.specs.Prelude.{◌≡◌, ◌⊎◌, ◌+◌, ◌==◌, ◌↔◌, ℕ, Bool, IsTrue, List, [], ◌∷◌, None, Ok, filter, length, map, not, sum_by, IsPermutation}
-use Rattle.sqlite.specs.State.{HasCleanDisk, State as Database}
+use Rattle.std.specs.Prelude.{◌≡◌, ◌⊎◌, ◌+◌, ◌==◌, ◌↔◌, ℕ, Bool, IsTrue, true, List, [], ◌∷◌, None, Ok, filter, length, map, not, sum_by, IsPermutation}
+use Rattle.std.specs.List.{list_any}
 use Rattle.tb_board.specs.declared.board.Board.{Board}
 use Rattle.tb_board.specs.declared.world.World.{World}
+use Rattle.tb_board.specs.Good.{IsGood}
 use Rattle.tb_sql_tables.specs.declared.rows.BoardRow.{BoardRow}
+use Rattle.tb_sql_tables.specs.declared.rows.RoleRow.{RoleRow}
 use Rattle.tb_sql_tables.specs.declared.rows.TaskRow.{TaskRow}
 use Rattle.tb_sql_tables.specs.declared.rows.LinkRow.{LinkRow}
 use Rattle.tb_sql_tables.specs.declared.rows.InstanceRow.{InstanceRow}
 use Rattle.tb_sql_tables.specs.declared.rows.GoneRow.{GoneRow}
-use Rattle.tb_sql_tables.specs.Content.{Content, Stands}
+use Rattle.tb_sql_tables.specs.Content.{Content}
 use Rattle.tb_sql_tables.specs.Found.{AreFound}
-use Rattle.tb_sql.specs.Changes.{is_board, IsBoardBefore, IsGoneBefore, IsInstanceBefore, IsLinkBefore, IsTaskBefore}
+use Rattle.tb_sql.specs.Changes.{is_board, IsBoardBefore, IsGoneBefore, IsInstanceBefore, IsLinkBefore, IsRoleBefore, IsTaskBefore}
 use Rattle.tb_audit.specs.Stored.{AreAsStored}
 use Rattle.tb_rows.specs.Rows.{board_instances, board_links, board_row, board_tasks, world_rows}
 use Rattle.tb_reopen.specs.Reading.{board_of, is_gone_on, is_task_on}
@@ -91,10 +93,11 @@ pub record IsCheckOf (c : Content) (b : Board) (checked : Checked) : Type 0 wher
 
 -- ---- boards as they are found, whatever the rows are
 
--- these rows are read as a board, whose tasks are so many, and which has its rows or not
+-- these rows are read as a good board, whose tasks are so many, and which has its rows or not
 pub record IsCheckBy (row : BoardRow) (tasks : List TaskRow) (gone : List GoneRow) (links : List LinkRow) (instances : List InstanceRow) (checked : Checked) : Type 0 where
   pub board : Board
   pub read : board_of row tasks gone ≡ Ok board
+  pub good : IsGood board
   pub size : checked.tasks ≡ length board.tasks
   pub tells : IsTrue checked.as_stored ↔ AreAsStored board row tasks links instances
 
@@ -110,12 +113,29 @@ pub record IsCheckOfRow (c : Content) (row : BoardRow) (checked : Checked) : Typ
   pub instances_found : AreFound IsInstanceBefore (filter (is_instance_on row.id) c.instances) instances
   pub check : IsCheckBy row tasks gone links instances checked
 
+abbrev pub is_role_on : ℕ → RoleRow → Bool
+is_role_on n row = row.board == n
+
+abbrev pub is_owners : RoleRow → Bool
+is_owners row = row.kind == 1
+
+-- the board of a number has an owner
+pub record IsOwned (c : Content) (n : ℕ) : Type 0 where
+  pub roles : List RoleRow
+  pub found : AreFound IsRoleBefore (filter (is_role_on n) c.roles) roles
+  pub owned : list_any is_owners roles ≡ true
+
+-- so is that of a row, and so it is with what is found on its number
+pub record IsRowCheck (c : Content) (row : BoardRow) (checked : Checked) : Type 0 where
+  pub owned : IsOwned c row.id
+  pub board : IsCheckOfRow c row checked
+
 -- a check for each row
 abbrev pub AreChecksOf : Content → List BoardRow → List Checked → Type 0
 AreChecksOf c [] [] = Unit {0}
 AreChecksOf c [] (x ∷ xs) = ⊥
 AreChecksOf c (row ∷ rows) [] = ⊥
-AreChecksOf c (row ∷ rows) (x ∷ xs) = IsCheckOfRow c row x × AreChecksOf c rows xs
+AreChecksOf c (row ∷ rows) (x ∷ xs) = IsRowCheck c row x × AreChecksOf c rows xs
 
 abbrev pub differs : Checked → Bool
 differs checked = not checked.as_stored
@@ -133,9 +153,3 @@ pub record IsCountOf (c : Content) (audit : Audit) : Type 0 where
   pub rows : List BoardRow
   pub found : AreFound IsBoardBefore c.boards rows
   pub counts : CountsRows c rows audit
-
--- ---- while the disk returns what was written
-
--- this holds of each content that stood
-abbrev pub OfContent : Database → Database → (Content → Type 0) → Type 0
-OfContent old new P = HasCleanDisk new → (c : Content) → Stands c old → P c

@@ -1,15 +1,31 @@
 -- What a keeper's laws rest on.
-use Rattle.std.specs.Prelude.{◌≡◌, Bool, false}
+use Rattle.std.proofs.Common.{◌≡◌, ℕ, Bool, true, false, true≢false, List}
 use Rattle.sqlite.specs.State.{State as Database}
+use Rattle.sqlite_trees.proofs.Doubt.{clean_of}
+use Rattle.tb_board.specs.declared.board.Board.{Board}
 use Rattle.tb_core.specs.GoodWorld.{IsGoodWorld}
 use Rattle.tb_calls.specs.Calls.{State}
-use Rattle.tb_keeper.specs.Stored.{Holds, MayLeave}
-use Rattle.tb_keeper.specs.States as states
+use Rattle.tb_stored.specs.Stored.{MayLeave}
+use Rattle.tb_stored.specs.States.{stored_alone}
+use Rattle.tb_keeper.specs.Holds.{Holds}
 
--- until the store has failed, a stop leaves what is held
-pub alone : (failed : Bool) (held : State) (d : Database) (s t : State) → Holds failed held d s → failed ≡ false → MayLeave d t → t ≡ s
-alone failed held d s t holds fine left = states.held_alone failed held d s t holds fine left
+module _ (failed : Bool) (people boards : ℕ) (cached : List (ℕ × Board)) (d : Database) where
+  -- of a store that hasn't returned what was written nothing is said
+  pub given : (s : State) → IsGoodWorld s.world → (d.is_clean ≡ true → Holds failed people boards cached d s) → Holds failed people boards cached d s
+  given s good held = record { good = good; kept = λ clean. (held (clean_of d.is_clean clean)).kept clean }
 
--- the world that is held is good
-pub good : (failed : Bool) (held : State) (d : Database) (s : State) → Holds failed held d s → IsGoodWorld s.world
-good failed held d s holds = states.held_good failed held d s holds
+  -- until the store has failed, a stop leaves what is held
+  pub alone : (s t : State) → Holds failed people boards cached d s → failed ≡ false → MayLeave d t → t ≡ s
+  alone s t held fine may = go failed held fine
+    where
+      go : (b : Bool) → Holds b people boards cached d s → b ≡ false → t ≡ s
+      go false is usable = stored_alone s t d (is.kept may.clean).0 may
+      go true is usable = absurd (true≢false usable)
+
+  -- the world that is held is good
+  pub good : (s : State) → Holds failed people boards cached d s → IsGoodWorld s.world
+  good s held = held.good
+
+-- a stop leaves something while the disk returns what was written
+pub leaves : (d : Database) (t : State) → MayLeave d t → d.is_clean ≡ true
+leaves d t may = clean_of d.is_clean may.clean

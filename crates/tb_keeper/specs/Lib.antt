@@ -1,12 +1,6 @@
 pub mod Auditing
-pub mod Contents
-pub mod Entries
+pub mod Counts
 pub mod Forms
-pub mod KeptRows
+pub mod Holds
 pub mod Laws
-pub mod Numbers
-pub mod Reopening
-pub mod Replies
-pub mod SameTables
-pub mod States
-pub mod Stored
+pub mod Looking

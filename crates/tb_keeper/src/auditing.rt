@@ -15,13 +15,13 @@ ghost use Rattle.tb_sql.specs.Changes.{IsInstanceBefore, IsLinkBefore};
 ghost use Rattle.tb_sql.specs.Opening.{IsAsBefore};
 ghost use Rattle.tb_sql_tables.specs.Content.{Content, Stands};
 ghost use Rattle.tb_sql_tables.specs.Found.{AreFound};
-ghost use Rattle.tb_keeper.specs.Auditing.{is_instance_on, is_link_on, sound, CountsRows, HasBoardsOf, IsCheckBy, IsCheckOf, IsCheckOfRow, IsCountOf, OfContent, StandFor, StandsFor, Tells};
-ghost use Rattle.tb_keeper.specs.Replies.{given};
-ghost use Rattle.tb_keeper.specs.Stored.{Holds, IsStored, MayLeave};
+ghost use Rattle.tb_keeper.specs.Auditing.{is_instance_on, is_link_on, sound, CountsRows, HasBoardsOf, IsCheckBy, IsCheckOf, IsCheckOfRow, IsCountOf, IsRowCheck, StandFor, StandsFor, Tells};
+ghost use Rattle.tb_keeper.specs.Holds.{Holds};
+ghost use Rattle.tb_stored.specs.Reopening.{OfContent};
+ghost use Rattle.tb_stored.specs.Stored.{IsStored, MayLeave};
 
-use crate::reading::{board_rows, gone_rows, task_rows};
+use crate::sound_rows::{are_numbered, hold_board, hold_people, hold_roles};
 use crate::sql_keep::SqlKeep;
-use crate::world::fault_of;
 use sqlite::{Alter, Connection};
 use std::alloc::Global;
 use tb_audit::is_as_stored;
@@ -31,10 +31,12 @@ use tb_sql::instances::select_instances;
 use tb_sql::links::select_links;
 use tb_sql::store::StoreFault;
 use tb_sql_tables::rows::{BoardRow, GoneRow, InstanceRow, LinkRow, TaskRow};
+use tb_stored::faults::fault_of;
+use tb_stored::reading::{board_rows, gone_rows, task_rows};
 use tb_task::ids_are_read;
 use tb_values::Items;
 
-/// A good world has no more boards, and none of them more tasks.
+/// A good world has no more boards.
 const MOST: usize = 10000;
 
 /// How many boards and tasks are stored, and how many of the boards have a least free number, a mask, a link or an instance that isn't
@@ -54,26 +56,26 @@ struct Checked {
 }
 
 impl<S: Alter> SqlKeep<S> {
-    /// Looks through all boards that are stored. It changes nothing.
+    /// Looks at all that is stored. It changes nothing. What no state has is Store: a person, a role or a reply that can't be read or names
+    /// nobody, people or boards that aren't numbered from 1, a board without an owner, and one that isn't good by itself.
     pub fn audit(&mut self, alloc: Global) -> Result<Audit, KeepFault>
         ensures sound { IfOk result (λ audit. HasCleanDisk (state S.Store self.new.conn) → (s : State) → IsStored s (state S.Store self.old.conn) → audit ≡ sound s.world) }
         ensures counted { IfOk result (λ audit. HasCleanDisk (state S.Store self.new.conn) → (c : Content) → Stands c (state S.Store self.old.conn)
             → (w : World) → IsGoodWorld w → HasForm w → HasBoardsOf w c → Tells c w.boards audit) }
         ensures whole { IfOk result (λ audit. OfContent (state S.Store self.old.conn) (state S.Store self.new.conn) (λ c. IsCountOf c audit)) }
         ensures unchanged { IsAsBefore (state S.Store self.old.conn) (state S.Store self.new.conn) }
-        ensures same { IsStill (λ s. Holds self.old.failed (record { world = self.old.world; kept = given self.old.replies }) (state S.Store self.old.conn) s) (λ t. MayLeave (state S.Store self.old.conn) t)
-            (λ s. Holds self.new.failed (record { world = self.new.world; kept = given self.new.replies }) (state S.Store self.new.conn) s) (λ t. MayLeave (state S.Store self.new.conn) t) }
+        ensures same { IsStill
+            (λ s. Holds self.old.failed self.old.people self.old.boards self.old.cache.entries (state S.Store self.old.conn) s)
+            (λ t. MayLeave (state S.Store self.old.conn) t)
+            (λ s. Holds self.new.failed self.new.people self.new.boards self.new.cache.entries (state S.Store self.new.conn) s)
+            (λ t. MayLeave (state S.Store self.new.conn) t) }
         ensures failed { self.new.failed ≡ is_store result }
         ensures closed { self.old.failed ≡ true → IsErrOf result KeepFault.Store }
     {
         if self.failed {
             return Err(KeepFault::Store);
         }
-        if !self.conn.is_autocommit() {
-            self.failed = true; // Never: each call ends its transaction.
-            return Err(KeepFault::Store);
-        }
-        match audit_boards(alloc, &mut self.conn) {
+        match audit_store(alloc, &mut self.conn) {
             Ok(audit) => Ok(audit),
             Err(StoreFault::Memory) => Err(KeepFault::Memory),
             Err(StoreFault::Store) => {
@@ -121,7 +123,27 @@ fn instance_rows<S: Alter>(
     }
 }
 
-fn audit_boards<S: Alter>(alloc: Global, conn: &mut Connection<S>) -> Result<Audit, StoreFault>
+/// Looks at people and replies, and then at each board.
+fn audit_store<S: Alter>(alloc: Global, conn: &mut Connection<S>) -> Result<Audit, StoreFault>
+    ensures idle { conn.old.in_transaction ≡ false → conn.new.in_transaction ≡ false }
+    ensures counted { IfOk result (λ audit. OfContent (state S.Store conn.old) (state S.Store conn.new)
+        (λ c. (w : World) → IsGoodWorld w → HasForm w → HasBoardsOf w c → Tells c w.boards audit)) }
+    ensures whole { IfOk result (λ audit. OfContent (state S.Store conn.old) (state S.Store conn.new) (λ c. IsCountOf c audit)) }
+    ensures same { IsAsBefore (state S.Store conn.old) (state S.Store conn.new) }
+{
+    if !conn.is_autocommit() {
+        return Err(StoreFault::Store); // Never: each call ends its transaction.
+    }
+    let people = hold_people(alloc, conn)?;
+    audit_boards(alloc, conn, people)
+}
+
+/// Counts the boards. Roles on them are those of so many people.
+fn audit_boards<S: Alter>(
+    alloc: Global,
+    conn: &mut Connection<S>,
+    people: usize,
+) -> Result<Audit, StoreFault>
     requires { conn.old.in_transaction ≡ false }
     ensures idle { conn.new.in_transaction ≡ false }
     ensures counted { IfOk result (λ audit. OfContent (state S.Store conn.old) (state S.Store conn.new)
@@ -131,16 +153,17 @@ fn audit_boards<S: Alter>(alloc: Global, conn: &mut Connection<S>) -> Result<Aud
 {
     ids_are_read();
     let rows = board_rows(conn)?;
-    if rows.len() > MOST {
-        return Err(StoreFault::Store); // No state has so many boards.
+    if rows.len() > MOST || !are_numbered(rows.as_slice()) {
+        return Err(StoreFault::Store);
     }
-    audit_rows(alloc, conn, rows.as_slice())
+    audit_rows(alloc, conn, people, rows.as_slice())
 }
 
 /// Counts the boards of these rows.
 fn audit_rows<S: Alter>(
     alloc: Global,
     conn: &mut Connection<S>,
+    people: usize,
     rows: &[BoardRow],
 ) -> Result<Audit, StoreFault>
     requires idle { conn.old.in_transaction ≡ false }
@@ -156,7 +179,7 @@ fn audit_rows<S: Alter>(
         faults: 0,
     };
     for row in rows {
-        let checked = check_board(alloc, conn, row)?;
+        let checked = check_row(alloc, conn, people, row)?;
         audit = with_board(audit, checked);
     }
     Ok(audit)
@@ -182,6 +205,24 @@ fn with_board(audit: Audit, checked: Checked) -> Audit
         tasks: audit.tasks + checked.tasks,
         faults,
     }
+}
+
+/// Looks at the roles on the board of a row, and at the board.
+fn check_row<S: Alter>(
+    alloc: Global,
+    conn: &mut Connection<S>,
+    people: usize,
+    row: &BoardRow,
+) -> Result<Checked, StoreFault>
+    requires { conn.old.in_transaction ≡ false }
+    ensures idle { conn.new.in_transaction ≡ false }
+    ensures checked { IfOk result (λ checked. OfContent (state S.Store conn.old) (state S.Store conn.new) (λ c. (b : Board) → StandsFor c row.now b → IsCheckOf c b checked)) }
+    ensures whole { IfOk result (λ checked. OfContent (state S.Store conn.old) (state S.Store conn.new) (λ c. IsRowCheck c row.now checked)) }
+    ensures few { IfOk result (λ checked. checked.tasks ≤ 10000) }
+    ensures same { IsAsBefore (state S.Store conn.old) (state S.Store conn.new) }
+{
+    hold_roles(conn, row.id, people)?;
+    check_board(alloc, conn, row)
 }
 
 /// Reads the board of a row, and compares it with its rows.
@@ -229,13 +270,10 @@ fn compare(
         Ok(board) => board,
         Err(fault) => return Err(fault_of(fault)),
     };
-    let count = board.tasks.len();
-    if count > MOST {
-        return Err(StoreFault::Store); // No state has so many tasks on a board.
-    }
+    hold_board(alloc, &board)?;
     match is_as_stored(alloc, &board, row, tasks, links, instances) {
         Ok(as_stored) => Ok(Checked {
-            tasks: count as u64,
+            tasks: board.tasks.len() as u64,
             as_stored,
         }),
         Err(_) => Err(StoreFault::Memory),

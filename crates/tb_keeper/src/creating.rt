@@ -1,20 +1,19 @@
-ghost use Rattle.std.specs.Prelude.{◌≡◌, false, IfErr, IfOk, MatchResult};
+ghost use Rattle.std.specs.Prelude.{◌≡◌, [], false, IfErr, IfOk, MatchResult};
 ghost use Rattle.sqlite.specs.Held.{state};
 ghost use Rattle.sqlite.specs.State.{Opens};
-ghost use Rattle.tb_board.specs.World.{opening as opening_world};
 ghost use Rattle.tb_calls.specs.Opening.{opening};
 ghost use Rattle.tb_sql.specs.Writing.{opening as content_of};
-ghost use Rattle.tb_keeper.specs.Stored.{Holds, AreRowsOf, IsEmptyOrStored};
-ghost use Rattle.tb_keeper.specs.Replies.{given};
 ghost use Rattle.tb_sql_tables.specs.Content.{StandsEmpty};
 ghost use Rattle.tb_sql_tables.specs.Tables.{no_schema};
+ghost use Rattle.tb_stored.specs.Stored.{AreRowsOf, IsEmptyOrStored};
+ghost use Rattle.tb_keeper.specs.Holds.{Holds};
 
 use crate::forms::{is_key_read, is_name_read};
-use crate::replies::Replies;
 use crate::sql_keep::SqlKeep;
 use sqlite::{Alter, Connection};
 use std::alloc::{AllocError, Global};
-use tb_board::{Key, Name, World};
+use tb_board::{Key, Name};
+use tb_cache::BoardCache;
 use tb_reopen::laws::rows_are_apart;
 use tb_rows::opening_rows;
 use tb_sql::changes::RowChange;
@@ -42,7 +41,8 @@ impl<S: Alter> SqlKeep<S> {
         key: &Key,
     ) -> Result<SqlKeep<S>, (Connection<S>, CreateFault)>
         requires { conn.in_transaction ≡ false }
-        ensures created { IfOk result (λ keep. Opens (state S.Store conn) → Holds keep.failed (record { world = keep.world; kept = given keep.replies }) (state S.Store keep.conn) (opening name.now key.now)) }
+        ensures created { IfOk result (λ keep. Opens (state S.Store conn)
+            → Holds keep.failed keep.people keep.boards keep.cache.entries (state S.Store keep.conn) (opening name.now key.now)) }
         ensures fresh { IfOk result (λ keep. keep.failed ≡ false) }
         ensures empty { ((state S.Store conn).now.schema ≡ no_schema → ⊥) → MatchResult result (λ keep. ⊥) (λ e. (e.0 ≡ conn) × (e.1 ≡ CreateFault.NotEmpty)) }
         ensures taken { IfErr result (λ e. e.1 ≡ CreateFault.NotEmpty → (e.0 ≡ conn) × ((state S.Store conn).now.schema ≡ no_schema → ⊥)) }
@@ -59,8 +59,9 @@ impl<S: Alter> SqlKeep<S> {
         match create(&mut conn, first.rows.as_slice()) {
             Ok(()) => Ok(SqlKeep {
                 conn,
-                world: first.world,
-                replies: Replies::new(alloc),
+                people: 1,
+                boards: 1,
+                cache: first.cache,
                 failed: false,
             }),
             Err(StoreFault::Memory) => Err((conn, CreateFault::Memory)),
@@ -69,19 +70,20 @@ impl<S: Alter> SqlKeep<S> {
     }
 }
 
-/// The opening world, and the changes that put its rows into empty tables.
+/// The changes that put the rows of the opening world into empty tables, and a cache with no board at hand.
 #[derive(Drop)]
 struct First {
-    world: World,
     rows: Items<RowChange>,
+    cache: BoardCache,
 }
 
 fn first_state(alloc: Global, name: &Name, key: &Key) -> Result<First, AllocError>
-    ensures { IfOk result (λ first. (first.world ≡ opening_world name.now key.now) × AreRowsOf (opening name.now key.now) (content_of first.rows)) }
+    ensures rows { IfOk result (λ first. AreRowsOf (opening name.now key.now) (content_of first.rows)) }
+    ensures cache { IfOk result (λ first. first.cache.entries ≡ []) }
 {
     rows_are_apart();
-    let world = World::opening(alloc, name, key)?;
     let rows = opening_rows(alloc, name, key)?;
+    let cache = BoardCache::new(alloc)?;
     let named = is_name_read(alloc, name)?;
     let keyed = is_key_read(alloc, key)?;
     if !named {
@@ -90,5 +92,5 @@ fn first_state(alloc: Global, name: &Name, key: &Key) -> Result<First, AllocErro
     if !keyed {
         return Err(AllocError);
     }
-    Ok(First { world, rows })
+    Ok(First { rows, cache })
 }

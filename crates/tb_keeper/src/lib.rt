@@ -1,18 +1,20 @@
 //! A keeper over one SQLite file: people, boards and roles, and the replies given.
 //!
-//! It owns what it means that tables are the rows of a state, and the keeper that keeps them so. Stands on `tb_sql` for the
-//! transactions, on `tb_rows` and `tb_reopen` for the rows of a world, and on `tb_calls` for what a keeper promises.
+//! It owns the keeper that looks in the tables at each call and has a few boards at hand. Stands on `tb_stored` for what it means that
+//! tables are the rows of a state, on `tb_lookup` for what is looked up in them, on `tb_cache` for the boards at hand, on `tb_sql` for
+//! the transactions, on `tb_rows` for the rows of a world, and on `tb_calls` for what a keeper promises.
 #![tactic(auto)]
 
+mod at_hand;
 mod auditing;
+mod committing;
 mod creating;
 mod forms;
-mod kept;
+mod looking;
 mod opening;
-mod reading;
-mod replies;
+mod sound_rows;
 mod sql_keep;
-mod world;
+mod writing;
 
 pub use auditing::Audit;
 pub use creating::CreateFault;

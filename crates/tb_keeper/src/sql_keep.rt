@@ -1,32 +1,30 @@
-ghost use Rattle.std.specs.Prelude.{◌≡◌, ◌≤◌, Err, IfOk, IfSome, IsSome, OnOk, false, length, true};
+ghost use Rattle.std.specs.Prelude.{◌≡◌, Some, IfSome, false, true};
 ghost use Rattle.sqlite.specs.Held.{state};
-ghost use Rattle.tb_board.specs.Changes.{changed};
-ghost use Rattle.tb_board.specs.World.{key_of};
-ghost use Rattle.tb_calls.specs.Calls.{State, name_of};
-ghost use Rattle.tb_calls.specs.Keeping.{MayCommit, with_reply};
-ghost use Rattle.tb_keeper.specs.Replies.{given};
-ghost use Rattle.tb_keeper.specs.Stored.{kept_row, Holds, IsStored, IsStoredAsEither};
+ghost use Rattle.sqlite.specs.State.{HasCleanDisk};
+ghost use Rattle.tb_board.specs.World.{find_board};
+ghost use Rattle.tb_calls.specs.Calls.{State};
+ghost use Rattle.tb_stored.specs.Stored.{IsStored, IsStoredAsEither};
+ghost use Rattle.tb_keeper.specs.Holds.{Holds};
 
-use crate::forms::have_forms;
-use crate::replies::{Replies, name_for};
+use crate::looking::{find_key, find_reply, look_up};
 use sqlite::{Alter, Connection};
-use std::alloc::{AllocError, Global};
-use tb_board::{Change, Key, Name, World};
-use tb_calls::{Call, Keep, KeepFault, KeptReply, kept_reply, key_in};
-use tb_core::{Command, Seen, look_for};
+use std::alloc::Global;
+use tb_board::{Board, Change, Key, Name};
+use tb_cache::BoardCache;
+use tb_calls::{Call, Keep, KeepFault, KeptReply};
+use tb_core::{Command, Seen};
 use tb_reply::Reply;
-use tb_rows::row_changes;
-use tb_sql::store::{StoreFault, write_rows};
-use tb_sql_tables::rows::KeptRow;
+use tb_sql::store::StoreFault;
 use tb_task::TaskId;
-use tb_values::Duplicate;
 
-/// Keeps a world and the replies given in one SQLite file. It holds both in memory too, and looks there.
+/// Keeps a world and the replies given in one SQLite file. It has at hand how many people and boards there are, and the boards that
+/// were used last; all else it looks up at each call.
 #[derive(Drop)]
 pub struct SqlKeep<S: Alter> {
     pub(crate) conn: Connection<S>,
-    pub(crate) world: World,
-    pub(crate) replies: Replies,
+    pub(crate) people: usize,
+    pub(crate) boards: usize,
+    pub(crate) cache: BoardCache,
     pub(crate) failed: bool,
 }
 
@@ -34,59 +32,101 @@ impl<S: Alter> SqlKeep<S> {
     /// The connection, with what is stored. It closes no file.
     pub fn close(self) -> Connection<S>
         ensures conn { result ≡ self.conn }
-        ensures stored { (s : State) → Holds self.failed (record { world = self.world; kept = given self.replies }) (state S.Store self.conn) s → self.failed ≡ false → IsStored s (state S.Store result) }
-        ensures failed { (s : State) → Holds self.failed (record { world = self.world; kept = given self.replies }) (state S.Store self.conn) s → self.failed ≡ true
-            → (t : State) × IsStoredAsEither s t (state S.Store result) }
+        ensures stored { (s : State)
+            → Holds self.failed self.people self.boards self.cache.entries (state S.Store self.conn) s → self.failed ≡ false
+            → HasCleanDisk (state S.Store result) → IsStored s (state S.Store result) }
+        ensures failed { (s : State)
+            → Holds self.failed self.people self.boards self.cache.entries (state S.Store self.conn) s → self.failed ≡ true
+            → HasCleanDisk (state S.Store result) → (t : State) × IsStoredAsEither s t (state S.Store result) }
     {
         let SqlKeep { conn, .. } = self;
         conn
+    }
+
+    /// The board of this number, if it is at hand. This is no use of it, and nothing is looked up.
+    pub fn cached(&self, board: u32) -> Option<&Board>
+        ensures { HasCleanDisk (state S.Store self.now.conn) → (s : State)
+            → Holds self.now.failed self.now.people self.now.boards self.now.cache.entries (state S.Store self.now.conn) s
+            → IfSome result (λ found. find_board s.world board ≡ Some found.now) }
+    {
+        if self.failed {
+            return None;
+        }
+        self.cache.cached(board)
     }
 }
 
 impl<S: Alter> Keep for SqlKeep<S> {
     ghost use Rattle.sqlite.specs.Held.{state};
-    ghost use Rattle.tb_keeper.specs.Replies.{given};
-    ghost use Rattle.tb_keeper.specs.Stored.{Holds, MayLeave};
-    ghost use Rattle.tb_keeper.specs.Laws.{alone as held_alone, good as held_good};
+    ghost use Rattle.tb_keeper.specs.Holds.{Holds};
+    ghost use Rattle.tb_keeper.specs.Laws.{alone as held_alone, given as held_given, good as held_good, leaves as honest_leaves};
+    ghost use Rattle.tb_stored.specs.Stored.{MayLeave};
 
-    ghost holds = { λ k s. Holds k.failed (record { world = k.world; kept = given k.replies }) (state S.Store k.conn) s };
+    ghost holds = { λ k s. Holds k.failed k.people k.boards k.cache.entries (state S.Store k.conn) s };
 
     ghost after_stop = { λ k t. MayLeave (state S.Store k.conn) t };
 
     ghost has_failed = { λ k. k.failed };
 
-    ghost alone = { λ k s held fine t left. held_alone _ _ _ s t held fine left };
+    ghost is_honest = { λ k. (state S.Store k.conn).is_clean };
 
-    ghost good = { λ k s held. held_good _ _ _ s held };
+    ghost given = { λ k s good held. held_given _ _ _ _ _ s good held };
+
+    ghost leaves = { λ k t left. honest_leaves _ t left };
+
+    ghost alone = { λ k s held fine t left. held_alone _ _ _ _ _ s t held fine left };
+
+    ghost good = { λ k s held. held_good _ _ _ _ _ s held };
 
     fn failures(&self) -> u64 {
         if self.failed { 1 } else { 0 }
     }
 
-    fn person(&mut self, _alloc: Global, name: &Name) -> Result<Option<Key>, KeepFault> {
+    fn person(&mut self, alloc: Global, name: &Name) -> Result<Option<Key>, KeepFault> {
         if self.failed {
             return Err(KeepFault::Store);
         }
-        Ok(key_in(&self.world, name)?)
+        match find_key(alloc, &mut self.conn, name) {
+            Ok(key) => Ok(key),
+            Err(StoreFault::Memory) => Err(KeepFault::Memory),
+            Err(StoreFault::Store) => {
+                self.failed = true;
+                Err(KeepFault::Store)
+            }
+        }
     }
 
     fn kept(
         &mut self,
-        _alloc: Global,
+        alloc: Global,
         name: &Name,
         id: TaskId,
     ) -> Result<Option<KeptReply>, KeepFault> {
         if self.failed {
             return Err(KeepFault::Store);
         }
-        Ok(self.replies.find(&name_for(name, id)?)?)
+        match find_reply(alloc, &mut self.conn, name, id) {
+            Ok(kept) => Ok(kept),
+            Err(StoreFault::Memory) => Err(KeepFault::Memory),
+            Err(StoreFault::Store) => {
+                self.failed = true;
+                Err(KeepFault::Store)
+            }
+        }
     }
 
-    fn look(&mut self, _alloc: Global, name: &Name, command: &Command) -> Result<Seen, KeepFault> {
+    fn look(&mut self, alloc: Global, name: &Name, command: &Command) -> Result<Seen, KeepFault> {
         if self.failed {
             return Err(KeepFault::Store);
         }
-        Ok(look_for(&self.world, name, command)?)
+        match look_up(alloc, &mut self.conn, &mut self.cache, name, command) {
+            Ok(glance) => Ok(glance.seen(self.people, self.boards)),
+            Err(StoreFault::Memory) => Err(KeepFault::Memory),
+            Err(StoreFault::Store) => {
+                self.failed = true;
+                Err(KeepFault::Store)
+            }
+        }
     }
 
     fn commit(
@@ -99,87 +139,16 @@ impl<S: Alter> Keep for SqlKeep<S> {
         if self.failed {
             return Err(KeepFault::Store);
         }
-        let world = self.world.changed(alloc, changes)?;
-        let name = name_for(&call.member, call.id)?;
-        self.replies
-            .insert(name_for(&call.member, call.id)?, kept_reply(call, reply)?)?;
-        match write_call(
-            alloc,
-            &mut self.conn,
-            &self.world,
-            &world,
-            changes,
-            call,
-            reply,
-        ) {
+        match self.write_call(alloc, changes, call, reply) {
             Ok(()) => {
-                self.world = world;
+                self.follow(alloc, changes);
                 Ok(())
             }
-            Err(KeepFault::Memory) => {
-                self.replies.remove(&name);
-                Err(KeepFault::Memory)
-            }
-            Err(KeepFault::Store) => {
-                self.failed = true;
+            Err(StoreFault::Memory) => Err(KeepFault::Memory),
+            Err(StoreFault::Store) => {
+                self.failed = true; // A stop may leave what was before or what was written.
                 Err(KeepFault::Store)
             }
         }
-    }
-}
-
-/// The row of a reply, under the number of the call's person.
-fn row_for(world: &World, call: &Call, reply: &Reply) -> Result<Option<KeptRow>, AllocError>
-    ensures row { IfOk result (λ row. IfSome row (λ it. it ≡ kept_row world.now (name_of call.now, record { content = call.now.content; reply = reply.now }))) }
-    ensures there { IfOk result (λ row. length world.now.people ≤ 10000 → IsSome (key_of world.now call.now.member) → IsSome row) }
-{
-    let Some(number) = world.number_of(&call.member) else {
-        return Ok(None);
-    };
-    let Ok(person) = u32::try_from(number) else {
-        return Ok(None);
-    };
-    let content = call.content.duplicate()?;
-    let body = reply.body.duplicate()?;
-    Ok(Some(KeptRow {
-        person,
-        id: call.id,
-        content,
-        number: u32::from(reply.number),
-        status: u32::from(reply.status),
-        body,
-    }))
-}
-
-/// Writes what a call changes and its reply in one transaction.
-fn write_call<S: Alter>(
-    alloc: Global,
-    conn: &mut Connection<S>,
-    before: &World,
-    after: &World,
-    changes: &[Change],
-    call: &Call,
-    reply: &Reply,
-) -> Result<(), KeepFault>
-    ensures ok { OnOk result ((s : State) → IsStored s (state S.Store conn.old) → before.now ≡ s.world → after.now ≡ changed s.world changes.now → MayCommit s changes.now call.now
-        → IsStored (with_reply s changes.now call.now reply.now) (state S.Store conn.new)) }
-    ensures memory { result ≡ Err KeepFault.Memory → (s : State) → IsStored s (state S.Store conn.old) → IsStored s (state S.Store conn.new) }
-    ensures store { result ≡ Err KeepFault.Store → (s : State) → IsStored s (state S.Store conn.old) → before.now ≡ s.world → after.now ≡ changed s.world changes.now → MayCommit s changes.now call.now
-        → IsStoredAsEither s (with_reply s changes.now call.now reply.now) (state S.Store conn.new) }
-{
-    if !have_forms(alloc, changes)? {
-        return Err(KeepFault::Memory); // Never: values have the forms of their types, and the tasks of a good world are taken.
-    }
-    let rows = row_changes(alloc, before, after, changes)?;
-    let Some(kept) = row_for(before, call, reply)? else {
-        return Err(KeepFault::Memory); // The caller's condition: the person is there.
-    };
-    if !conn.is_autocommit() {
-        return Err(KeepFault::Store);
-    }
-    match write_rows(conn, rows.as_slice(), &kept) {
-        Ok(()) => Ok(()),
-        Err(StoreFault::Memory) => Err(KeepFault::Memory),
-        Err(StoreFault::Store) => Err(KeepFault::Store),
     }
 }

@@ -3,8 +3,8 @@
 use crate::given::halves;
 use crate::told::{Told, say};
 use crate::{
-    boards, changes, graphs, identifiers, imports, json, lists, machine, messages, moments, orders,
-    outcomes, recurrences, rows, scripts, statuses, tasks, texts, todo_lines,
+    boards, caches, changes, graphs, identifiers, imports, json, lists, machine, messages, moments,
+    orders, outcomes, recurrences, rows, scripts, statuses, tasks, texts, todo_lines,
 };
 use std::alloc::Global;
 use std::io;
@@ -68,6 +68,7 @@ fn answer(alloc: Global, word: &str, given: &str) -> Told {
 /// The same, where the function is one over values.
 fn value_answer(alloc: Global, word: &str, given: &str) -> Option<Told> {
     boards::answer(alloc, word, given)
+        .or_else(|| caches::answer(alloc, word, given))
         .or_else(|| changes::answer(alloc, word, given))
         .or_else(|| graphs::answer(alloc, word, given))
         .or_else(|| identifiers::answer(alloc, word, given))

@@ -4,6 +4,7 @@
 #![tactic(auto)]
 
 mod boards;
+mod caches;
 mod case;
 mod changes;
 mod ends;

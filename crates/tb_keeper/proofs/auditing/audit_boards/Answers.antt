@@ -8,10 +8,10 @@ pub returns-clause-counted : goal.returns-clause-counted
 returns-clause-counted g c =
     IfOk-weaker c.audit_rows.result _ _
     (counted_all c.ids_are_read.ensures (state g.S.Store c.args.conn.now) (state g.S.Store c.board_rows.new.conn) (state g.S.Store c.audit_rows.new.conn) c.in_ok-rows.rows c.in_ok-rows.ensures.same c.in_ok-rows.ensures.found c.audit_rows.ensures.same)
-    (rw c.as_slice.ensures at c.audit_rows.ensures.counted)
+    (rw c.as_slice-2.ensures at c.audit_rows.ensures.counted)
 
 pub returns-clause-whole : goal.returns-clause-whole
 returns-clause-whole g c =
     IfOk-weaker c.audit_rows.result _ _
     (count_whole (state g.S.Store c.args.conn.now) (state g.S.Store c.board_rows.new.conn) (state g.S.Store c.audit_rows.new.conn) c.in_ok-rows.rows c.in_ok-rows.ensures.same c.in_ok-rows.ensures.found c.audit_rows.ensures.same)
-    (rw c.as_slice.ensures at c.audit_rows.ensures.whole)
+    (rw c.as_slice-2.ensures at c.audit_rows.ensures.whole)

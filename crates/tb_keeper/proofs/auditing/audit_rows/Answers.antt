@@ -1,7 +1,7 @@
 use Rattle.std.proofs.Common.{arith}
 use Rattle.sqlite.specs.Held.{state}
 use Rattle.tb_keeper.proofs.Counting.{one_counted}
-use Rattle.tb_keeper.proofs.Standing.{before_then}
+use Rattle.tb_stored.proofs.Standing.{before_then}
 use Rattle.tb_keeper.proofs.WholeCount.{all_first, one_first}
 use Rattle.tb_keeper.proofs.auditing.audit_rows.Goals as goal
 
@@ -10,7 +10,7 @@ loop-row-preserved g c =
     let was = c.loop-row.invariant in
     let start = state g.S.Store c.args.conn.now in
     let before = state g.S.Store c.loop-row.conn in
-    let after = state g.S.Store c.check_board.new.conn in
+    let after = state g.S.Store c.check_row.new.conn in
     record {
       idle = c.in_ok-checked.ensures.idle;
       same = before_then start before after was.same c.in_ok-checked.ensures.same;

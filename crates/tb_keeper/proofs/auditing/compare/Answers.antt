@@ -5,6 +5,7 @@ pub returns-in-Ok-is_as_stored-clause-whole : goal.returns-in-Ok-is_as_stored-cl
 returns-in-Ok-is_as_stored-clause-whole c = record {
   board = c.in-Ok.board;
   read = c.in-Ok.ensures;
+  good = c.in_ok-hold_board.ensures.good;
   size = first_of (search rules, grind arith);
   tells = c.in-Ok-is_as_stored.ensures;
 }

@@ -1,0 +1,168 @@
+-- What is looked up is what a command looks at.
+use Rattle.std.proofs.Common.{◌≡◌, ◌∙◌, inl, inr, ℕ, Bool, true, true≢false, List, [], ◌∷◌, Option, Some, None, Ordering, Contains, nat_eq, option_map, unwrap_or, length, refl, sym, ap, subst}
+use Rattle.std.specs.Prelude.{IfSome, IsSome, is_some}
+use Rattle.std.specs.List.{AllByRecursion}
+use Rattle.std.specs.Map.{lookup}
+use Rattle.std.specs.FinMap.{entries, find, get, get-entries}
+use Rattle.std.specs.Ordering.{eq_by_cmp, is_eq}
+use Rattle.std.specs.declared.cmp.Ordering.TheVariants.{Less, Equal, Greater}
+use Rattle.std.proofs.lemmas.Bool.{cases_Bool, eqb-true}
+use Rattle.std.proofs.lemmas.Map.Views.{Contains-from_lookup}
+use Rattle.sqlite.specs.State.{State as Database}
+use Rattle.tb_board.specs.declared.board.Board.{Board}
+use Rattle.tb_board.specs.declared.change.Change.{Change}
+use Rattle.tb_board.specs.declared.world.Role.{Role}
+use Rattle.tb_board.specs.declared.world.World.{World}
+use Rattle.tb_board.specs.World.{find_board, key_of, number_of, role_of}
+use Rattle.tb_board.specs.Changes.{replayed}
+use Rattle.tb_board.proofs.Worlds.{number_found}
+use Rattle.tb_cache.specs.Cached.{AreOf}
+use Rattle.tb_calls.specs.declared.call.KeptReply.{KeptReply}
+use Rattle.tb_calls.specs.Calls.{CallName, State, name_cmp}
+use Rattle.tb_calls.proofs.Names.{names_exact}
+use Rattle.tb_core.specs.Apply.{board_for, board_of, owners_for, person_for, seen_of, seen_with}
+use Rattle.tb_core.specs.declared.command.Command.{Command}
+use Rattle.tb_core.specs.declared.look.Seen.{Seen}
+use Rattle.tb_core.specs.declared.look.SeenPerson.{SeenPerson}
+use Rattle.tb_core.specs.declared.look.SeenBoard.{SeenBoard}
+use Rattle.tb_lookup.specs.declared.people.StoredPerson.{StoredPerson}
+use Rattle.tb_lookup.specs.declared.roles.RolesFound.{RolesFound}
+use Rattle.tb_lookup.specs.People.{IsPersonFound}
+use Rattle.tb_lookup.specs.Roles.{AreRolesFound, role_for}
+use Rattle.tb_rows.specs.declared.part.BoardPart.{BoardPart}
+use Rattle.tb_rows.specs.Part.{part_of, touched_board}
+use Rattle.tb_stored.specs.Stored.{IsKnown, IsStored}
+use Rattle.tb_keeper.specs.declared.looking.Glance.{Glance}
+use Rattle.tb_keeper.specs.declared.looking.Parties.{Parties}
+use Rattle.tb_keeper.specs.Looking.{caller_role, AreParties, IsGlance, IsGlanceAt}
+use Rattle.tb_keeper.specs.Holds.{IsAtHand}
+
+-- ---- people
+
+module _ (w : World) (name : List ℕ) (found : Option StoredPerson) where
+  pub person_key : (p : StoredPerson) → found ≡ Some p → IsPersonFound w name found → Some p.key ≡ key_of w name
+  person_key p is are = sym (subst (IsPersonFound w name) is are).1
+
+  pub person_number : (p : StoredPerson) → found ≡ Some p → IsPersonFound w name found → Some p.number ≡ number_of w name
+  person_number p is are = sym (subst (IsPersonFound w name) is are).0
+
+  pub nobody_key : found ≡ None → IsPersonFound w name found → None ≡ key_of w name
+  nobody_key is are = sym (subst (IsPersonFound w name) is are).1
+
+  pub nobody_number : found ≡ None → IsPersonFound w name found → None ≡ number_of w name
+  nobody_number is are = sym (subst (IsPersonFound w name) is are).0
+
+-- ---- kept replies
+
+equal_of : (r : Ordering) → is_eq r ≡ true → r ≡ Equal
+equal_of Less h = absurd (cc)
+equal_of Equal h = refl
+equal_of Greater h = absurd (cc)
+
+not_known : (o : Option (List ℕ)) → o ≡ None → IsSome o → ⊥
+not_known o none some = true≢false (sym some ∙ ap is_some none)
+
+module _ (w : World) (name : List ℕ) (id : ℕ) (none : key_of w name ≡ None) where
+  none_under : (es : List (CallName × KeptReply)) → AllByRecursion (IsKnown w) es → find name_cmp (name, id) es ≡ None
+  none_under [] known = refl
+  none_under (e ∷ es) known =
+      elim (cases_Bool (eq_by_cmp name_cmp (name, id) e.0)) [
+        | inl same ↦
+            let is : (name, id) ≡ e.0 = names_exact (name, id) e.0 (equal_of (name_cmp (name, id) e.0) same) in
+            let nobody : key_of w e.0.0 ≡ None = ap (λ (q : CallName). key_of w q.0) (sym is) ∙ none in
+            absurd (not_known _ nobody known.0)
+        | inr other ↦ rw other (none_under es known.1)
+      ]
+
+-- nothing is kept for a name that nobody has
+pub nothing_kept : (s : State) (d : Database) (name : List ℕ) (id : ℕ) → IsStored s d → key_of s.world name ≡ None → None ≡ get s.kept (name, id)
+nothing_kept s d name id stored none =
+    sym (get-entries s.kept (name, id) ∙ none_under s.world name id none (entries s.kept) stored.rows.people)
+
+-- ---- boards
+
+-- a board at hand is the world's
+pub at_hand_found : (w : World) (es : List (ℕ × Board)) (n : ℕ) (b : Board) → Some b ≡ lookup (nat_eq n) es → AreOf w es → Some b ≡ find_board w n
+at_hand_found w es n b found are = sym (are (n, b) (Contains-from_lookup eqb-true n b es (sym found)))
+
+-- and so is one that is seen there
+pub cached_found : {R : Type 0} (w : World) (es : List (ℕ × Board)) (n : ℕ) (o : Option R) (now : R → Board) → option_map now o ≡ lookup (nat_eq n) es → AreOf w es → IfSome o (λ r. find_board w n ≡ Some (now r))
+cached_found w es n None now is are = tt
+cached_found w es n (Some r) now is are = sym (at_hand_found w es n (now r) is are)
+
+-- a board that is found has its number
+pub own_number : (w : World) (n : ℕ) (o : Option Board) → o ≡ find_board w n → IfSome o (λ b. find_board w b.number ≡ Some b)
+own_number w n None is = tt
+own_number w n (Some b) is = ap (find_board w) (number_found n w.boards b (sym is)) ∙ sym is
+
+-- ---- what a command looks at
+
+board_seen : (w : World) (n : ℕ) (caller : Option ℕ) (role : Option Role) → role ≡ role_of w n (unwrap_or caller 0) → seen_with (caller_role caller role) (find_board w n) ≡ board_for w caller (Some n)
+board_seen w n None role is = refl
+board_seen w n (Some caller) role is = ap (λ o. seen_with o (find_board w n)) is
+
+abbrev person_with : Option Role → ℕ → SeenPerson
+person_with role n = record { number = n; role = role }
+
+person_seen : (w : World) (n : ℕ) (other : Option ℕ) (role : Option Role) → role ≡ role_for w n other → option_map (person_with role) other ≡ person_for w (Some n) other
+person_seen w n None role is = refl
+person_seen w n (Some other) role is = ap (λ r. Some (person_with r other)) is
+
+person_off : (w : World) (other : Option ℕ) → option_map (person_with None) other ≡ person_for w None other
+person_off w None = refl
+person_off w (Some other) = refl
+
+board_off : (w : World) (caller : Option ℕ) → None ≡ board_for w caller None
+board_off w None = refl
+board_off w (Some caller) = refl
+
+-- the glance at a board
+pub glance_at : (w : World) (n : ℕ) (parties : Parties) (caller : ℕ) (roles : RolesFound) (role : Option Role) (seen : Option SeenBoard) (other : Option SeenPerson) → caller ≡ unwrap_or parties.caller 0
+    → AreRolesFound w n caller parties.other roles → role ≡ caller_role parties.caller roles.caller → seen ≡ seen_with role (find_board w n) → other ≡ option_map (person_with roles.other) parties.other
+    → IsGlanceAt w n parties (record { caller = parties.caller; board = seen; other = other; owners = roles.owners })
+glance_at w n parties caller roles role seen other caller_is found role_is seen_is other_is = record {
+  caller_is = refl;
+  board_is = seen_is ∙ ap (λ o. seen_with o (find_board w n)) role_is ∙ board_seen w n parties.caller roles.caller (found.caller_is ∙ ap (role_of w n) caller_is);
+  other_is = other_is ∙ person_seen w n parties.other roles.other found.other_is;
+  owners_are = found.owners_are;
+}
+
+-- where a command names a board
+pub glance_on : (w : World) (name : List ℕ) (c : Command) (parties : Parties) (glance : Glance) (n : ℕ) → board_of c ≡ Some n → AreParties w name c parties → IsGlanceAt w n parties glance → IsGlance w name c glance
+glance_on w name c parties glance n on are at = record {
+  caller_is = at.caller_is ∙ are.caller_is;
+  board_is = at.board_is ∙ (λ i. board_for w (are.caller_is i) (sym on i));
+  other_is = at.other_is ∙ (λ i. person_for w (sym on i) (are.other_is i));
+  owners_are = at.owners_are ∙ ap (owners_for w) (sym on);
+}
+
+-- and where it names none
+pub glance_off : (w : World) (name : List ℕ) (c : Command) (parties : Parties) (other : Option SeenPerson) → board_of c ≡ None → AreParties w name c parties → other ≡ option_map (person_with None) parties.other
+    → IsGlance w name c (record { caller = parties.caller; board = None; other = other; owners = 0 })
+glance_off w name c parties other off are other_is = record {
+  caller_is = are.caller_is;
+  board_is = board_off w (number_of w name) ∙ ap (board_for w (number_of w name)) (sym off);
+  other_is = other_is ∙ person_off w parties.other ∙ (λ i. person_for w (sym off i) (are.other_is i));
+  owners_are = ap (owners_for w) (sym off);
+}
+
+-- with how many people and boards there are it is all that a command looks at
+pub all_seen : (w : World) (name : List ℕ) (c : Command) (glance : Glance) (people boards : ℕ) (cached : List (ℕ × Board)) (seen : Seen)
+    → seen ≡ record { caller = glance.caller; board = glance.board; other = glance.other; owners = glance.owners; people = people; boards = boards } → IsAtHand people boards cached w → IsGlance w name c glance → seen ≡ seen_of w name c
+all_seen w name c glance people boards cached seen is hand at = is ∙ same
+  where
+    same : record { caller = glance.caller; board = glance.board; other = glance.other; owners = glance.owners; people = people; boards = boards } ≡ seen_of w name c
+    same = λ i.
+        let now : Seen = record { caller = at.caller_is i; board = at.board_is i; other = at.other_is i; owners = at.owners_are i; people = hand.people_are i; boards = hand.boards_are i } in
+        now
+
+-- ---- the board that changes touch
+
+pub untouched : (w : World) (cs : List Change) → touched_board cs ≡ None → None ≡ part_of w cs
+untouched w cs none = rw none refl
+
+pub no_board : (w : World) (cs : List Change) (n : ℕ) → touched_board cs ≡ Some n → None ≡ find_board w n → None ≡ part_of w cs
+no_board w cs n one none = rw (one, sym none) refl
+
+pub board_part : (w : World) (cs : List Change) (n : ℕ) (b : Board) (part : BoardPart) → touched_board cs ≡ Some n → Some b ≡ find_board w n → part ≡ record { tasks_before = length b.tasks; later = replayed b cs } → Some part ≡ part_of w cs
+board_part w cs n b part one found is = rw (one, sym found) (ap Some is)

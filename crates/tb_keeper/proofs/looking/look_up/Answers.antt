@@ -1,0 +1,30 @@
+use Rattle.std.proofs.Common.{◌∙◌, sym}
+use Rattle.std.proofs.lemmas.Result.{IfOk-weaker}
+use Rattle.sqlite.specs.Held.{state}
+use Rattle.tb_cache.specs.Cached.{AreOf}
+use Rattle.tb_stored.specs.Reopening.{OfState}
+use Rattle.tb_stored.proofs.Standing.{stored_again}
+use Rattle.tb_keeper.specs.Looking.{IsGlance, IsGlanceAt}
+use Rattle.tb_keeper.proofs.Looked.{glance_off, glance_on}
+use Rattle.tb_keeper.proofs.looking.look_up.Goals as goal
+
+pub returns-in-Some-clause-found : goal.returns-in-Some-clause-found
+returns-in-Some-clause-found g c =
+    let old = state g.S.Store c.args.conn.now in
+    let mid = state g.S.Store c.find_parties.new.conn in
+    let new = state g.S.Store c.glance_at.new.conn in
+    let on = sym c.board_of.ensures ∙ c.in-Some.is in
+    IfOk-weaker c.glance_at.result (λ glance. OfState mid new (λ s. AreOf s.world c.args.cache.now.entries → IsGlanceAt s.world c.in-Some.board c.in_ok-parties.parties glance))
+    (λ glance. OfState old new (λ s. AreOf s.world c.args.cache.now.entries → IsGlance s.world c.args.name.now c.args.command.now glance))
+    (λ glance found clean s stored are.
+    glance_on s.world c.args.name.now c.args.command.now c.in_ok-parties.parties glance c.in-Some.board on (c.in_ok-parties.ensures.found (c.glance_at.ensures.same.clean clean) s stored)
+    (found clean s (stored_again s old mid stored c.in_ok-parties.ensures.same c.in_ok-parties.ensures.idle) are))
+    c.glance_at.ensures.found
+
+pub returns-in-Some-clause-cached : goal.returns-in-Some-clause-cached
+returns-in-Some-clause-cached g c clean s stored are =
+    c.glance_at.ensures.cached clean s (stored_again s (state g.S.Store c.args.conn.now) (state g.S.Store c.find_parties.new.conn) stored c.in_ok-parties.ensures.same c.in_ok-parties.ensures.idle) are
+
+pub returns-in-None-clause-found : goal.returns-in-None-clause-found
+returns-in-None-clause-found g c clean s stored are =
+    glance_off s.world c.args.name.now c.args.command.now c.in_ok-parties.parties c.seen_person.result (sym c.board_of.ensures ∙ c.in-None.is) (c.in_ok-parties.ensures.found clean s stored) c.seen_person.ensures

@@ -1,0 +1,25 @@
+-- What a keeper holds.
+use Rattle.std.specs.Prelude.{◌≡◌, ℕ, Bool, true, false, List, length}
+use Rattle.sqlite.specs.State.{HasCleanDisk, State as Database}
+use Rattle.tb_board.specs.declared.board.Board.{Board}
+use Rattle.tb_board.specs.declared.world.World.{World}
+use Rattle.tb_core.specs.GoodWorld.{IsGoodWorld}
+use Rattle.tb_calls.specs.Calls.{State}
+use Rattle.tb_cache.specs.Cached.{AreOf}
+use Rattle.tb_stored.specs.Stored.{IsStored, IsStoredAsEither}
+
+-- what a keeper has at hand is the world's: how many people and boards there are, and boards by their numbers
+pub record IsAtHand (people boards : ℕ) (cached : List (ℕ × Board)) (w : World) : Type 0 where
+  pub people_are : people ≡ length w.people
+  pub boards_are : boards ≡ length w.boards
+  pub cached_are : AreOf w cached
+
+-- The rows of the state are stored, and what is at hand is of its world. Once the store has failed its rows are stored, or those of another state.
+abbrev pub Kept : Bool → ℕ → ℕ → List (ℕ × Board) → Database → State → Type 0
+Kept false people boards cached d s = IsStored s d × IsAtHand people boards cached s.world
+Kept true people boards cached d s = (t : State) × IsStoredAsEither s t d
+
+-- The state has a good world, and is kept while the disk returns what was written.
+pub record Holds (failed : Bool) (people boards : ℕ) (cached : List (ℕ × Board)) (d : Database) (s : State) : Type 0 where
+  pub good : IsGoodWorld s.world
+  pub kept : HasCleanDisk d → Kept failed people boards cached d s

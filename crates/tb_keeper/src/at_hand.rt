@@ -1,0 +1,117 @@
+//! The boards at hand, and what follows changes there.
+
+ghost use Rattle.std.specs.Prelude.{◌≡◌, ◌+◌, ◌≤◌, Some, IfOk, IfSome, false};
+ghost use Rattle.std.specs.List.{count_by};
+ghost use Rattle.sqlite.specs.Held.{state};
+ghost use Rattle.tb_board.specs.Changes.{changed};
+ghost use Rattle.tb_board.specs.World.{find_board};
+ghost use Rattle.tb_board.specs.declared.world.World.{World};
+ghost use Rattle.tb_cache.specs.Cached.{AreOf};
+ghost use Rattle.tb_core.specs.GoodWorld.{IsGoodWorld};
+ghost use Rattle.tb_sql.specs.Opening.{IsAsBefore};
+ghost use Rattle.tb_stored.specs.Reopening.{OfState};
+ghost use Rattle.tb_keeper.specs.Counts.{is_new_board, is_new_person, one_if};
+ghost use Rattle.tb_keeper.specs.Holds.{IsAtHand};
+
+use crate::sql_keep::SqlKeep;
+use sqlite::{Alter, Connection};
+use std::alloc::Global;
+use tb_board::{Board, Change};
+use tb_cache::BoardCache;
+use tb_lookup::boards::stored_board;
+use tb_sql::store::StoreFault;
+use tb_values::Shared;
+
+/// The board of a number, if there is one: the one at hand, or else the one that is stored, which is at hand from then on.
+pub(crate) fn board_at<S: Alter>(
+    alloc: Global,
+    conn: &mut Connection<S>,
+    cache: &mut BoardCache,
+    number: u32,
+) -> Result<Option<Shared<Board>>, StoreFault>
+    requires { conn.old.in_transaction ≡ false }
+    ensures idle { conn.new.in_transaction ≡ false }
+    ensures found { IfOk result (λ board. OfState (state S.Store conn.old) (state S.Store conn.new)
+        (λ s. AreOf s.world cache.old.entries → board ≡ find_board s.world number)) }
+    ensures cached { OfState (state S.Store conn.old) (state S.Store conn.new)
+        (λ s. AreOf s.world cache.old.entries → AreOf s.world cache.new.entries) }
+    ensures same { IsAsBefore (state S.Store conn.old) (state S.Store conn.new) }
+{
+    match cache.look(number) {
+        Ok(Some(board)) => return Ok(Some(board)),
+        Ok(None) => {}
+        Err(_) => return Err(StoreFault::Memory),
+    }
+    let found = stored_board(alloc, conn, number)?;
+    put_at_hand(cache, &found);
+    Ok(found)
+}
+
+/// Puts a board at hand, if there is one, and memory for that.
+fn put_at_hand(cache: &mut BoardCache, board: &Option<Shared<Board>>)
+    ensures { (w : World) → AreOf w cache.old.entries → IfSome board.now (λ b. find_board w b.number ≡ Some b)
+        → AreOf w cache.new.entries }
+{
+    let Some(board) = board else {
+        return;
+    };
+    if let Ok(board) = board.share() {
+        cache.put(board);
+    }
+}
+
+impl<S: Alter> SqlKeep<S> {
+    /// Lets what is at hand follow changes that were written.
+    pub(crate) fn follow(&mut self, alloc: Global, changes: &[Change])
+        ensures conn { self.new.conn ≡ self.old.conn }
+        ensures failed { self.new.failed ≡ self.old.failed }
+        ensures hand { (w : World) → IsAtHand self.old.people self.old.boards self.old.cache.entries w → IsGoodWorld (changed w changes.now)
+            → IsAtHand self.new.people self.new.boards self.new.cache.entries (changed w changes.now) }
+    {
+        self.people = people_with(self.people, changes);
+        self.boards = boards_with(self.boards, changes);
+        self.cache.follow(alloc, changes);
+    }
+}
+
+/// So many people, and those who come in. A good world has no more than 10,000.
+fn people_with(people: usize, changes: &[Change]) -> usize
+    ensures { people + count_by is_new_person changes.now ≤ 10000 → result ≡ people + count_by is_new_person changes.now }
+{
+    let mut count = people;
+    for change in changes {
+        count = with_one(count, is_new_person(change));
+    }
+    count
+}
+
+/// So many boards, and those that begin. A good world has no more than 10,000.
+fn boards_with(boards: usize, changes: &[Change]) -> usize
+    ensures { boards + count_by is_new_board changes.now ≤ 10000 → result ≡ boards + count_by is_new_board changes.now }
+{
+    let mut count = boards;
+    for change in changes {
+        count = with_one(count, is_new_board(change));
+    }
+    count
+}
+
+fn with_one(count: usize, more: bool) -> usize
+    ensures { count + one_if more ≤ 10000 → result ≡ count + one_if more }
+{
+    if more { count.saturating_add(1) } else { count }
+}
+
+#[tactic(auto, unfolding(crate::specs::Counts::is_new_person))]
+fn is_new_person(change: &Change) -> bool
+    ensures { result ≡ is_new_person change.now }
+{
+    matches!(change, Change::AddPerson { .. })
+}
+
+#[tactic(auto, unfolding(crate::specs::Counts::is_new_board))]
+fn is_new_board(change: &Change) -> bool
+    ensures { result ≡ is_new_board change.now }
+{
+    matches!(change, Change::AddBoard { .. })
+}

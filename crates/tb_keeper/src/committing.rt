@@ -1,0 +1,143 @@
+//! What is written for a call: changes of rows, and the row of its reply.
+
+ghost use Rattle.std.specs.Prelude.{◌≡◌, Err, IfOk, OnErr, OnOk, false, length};
+ghost use Rattle.std.specs.List.{AllByRecursion};
+ghost use Rattle.sqlite.specs.Held.{state};
+ghost use Rattle.tb_board.specs.Changes.{changed, replayed};
+ghost use Rattle.tb_calls.specs.Calls.{name_of};
+ghost use Rattle.tb_calls.specs.Keeping.{MayCommit};
+ghost use Rattle.tb_calls.specs.declared.call.Call.{Call as CallValue};
+ghost use Rattle.tb_cache.specs.Cached.{AreOf};
+ghost use Rattle.tb_rows.specs.Part.{part_of};
+ghost use Rattle.tb_rows.specs.Steps.{Leads};
+ghost use Rattle.tb_sql.specs.Opening.{IsAsBefore};
+ghost use Rattle.tb_stored.specs.Reopening.{OfState};
+ghost use Rattle.tb_stored.specs.Stored.{kept_row};
+ghost use Rattle.tb_keeper.specs.Forms.{HasChangeForm};
+
+use crate::at_hand::board_at;
+use crate::forms::have_forms;
+use sqlite::{Alter, Connection};
+use std::alloc::{AllocError, Global};
+use tb_board::{Board, Change};
+use tb_cache::{BoardCache, replayed};
+use tb_calls::Call;
+use tb_lookup::people::stored_person;
+use tb_reply::Reply;
+use tb_rows::{BoardPart, part_changes, touched_board};
+use tb_sql::changes::RowChange;
+use tb_sql::store::StoreFault;
+use tb_sql_tables::rows::KeptRow;
+use tb_values::{Duplicate, Items};
+
+/// Values have the forms of their types, and the tasks of a good world are taken.
+pub(crate) fn hold_to_forms(alloc: Global, changes: &[Change]) -> Result<(), StoreFault>
+    ensures ok { OnOk result (AllByRecursion HasChangeForm changes.now) }
+    ensures err { OnErr result (result ≡ Err StoreFault.Memory) }
+{
+    match have_forms(alloc, changes) {
+        Ok(true) => Ok(()),
+        Ok(false) | Err(_) => Err(StoreFault::Memory),
+    }
+}
+
+/// The changes of rows that follow from changes.
+pub(crate) fn rows_for<S: Alter>(
+    alloc: Global,
+    conn: &mut Connection<S>,
+    cache: &mut BoardCache,
+    people: usize,
+    changes: &[Change],
+) -> Result<Items<RowChange>, StoreFault>
+    requires { conn.old.in_transaction ≡ false }
+    ensures idle { conn.new.in_transaction ≡ false }
+    ensures leads { IfOk result (λ rows. OfState (state S.Store conn.old) (state S.Store conn.new)
+        (λ s. AreOf s.world cache.old.entries → people ≡ length s.world.people → (call : CallValue) → MayCommit s changes.now call
+        → Leads rows s.world (changed s.world changes.now))) }
+    ensures cached { OfState (state S.Store conn.old) (state S.Store conn.new)
+        (λ s. AreOf s.world cache.old.entries → AreOf s.world cache.new.entries) }
+    ensures same { IsAsBefore (state S.Store conn.old) (state S.Store conn.new) }
+{
+    let part = find_part(alloc, conn, cache, changes)?;
+    match part_changes(alloc, people, part, changes) {
+        Ok(rows) => Ok(rows),
+        Err(_) => Err(StoreFault::Memory),
+    }
+}
+
+/// The board that changes touch, as it was and as it is after them.
+fn find_part<S: Alter>(
+    alloc: Global,
+    conn: &mut Connection<S>,
+    cache: &mut BoardCache,
+    changes: &[Change],
+) -> Result<Option<BoardPart>, StoreFault>
+    requires { conn.old.in_transaction ≡ false }
+    ensures idle { conn.new.in_transaction ≡ false }
+    ensures found { IfOk result (λ part. OfState (state S.Store conn.old) (state S.Store conn.new)
+        (λ s. AreOf s.world cache.old.entries → part ≡ part_of s.world changes.now)) }
+    ensures cached { OfState (state S.Store conn.old) (state S.Store conn.new)
+        (λ s. AreOf s.world cache.old.entries → AreOf s.world cache.new.entries) }
+    ensures same { IsAsBefore (state S.Store conn.old) (state S.Store conn.new) }
+{
+    let Some(number) = touched_board(changes) else {
+        return Ok(None);
+    };
+    let Some(board) = board_at(alloc, conn, cache, number)? else {
+        return Ok(None);
+    };
+    match part_after(alloc, board.get(), changes) {
+        Ok(part) => Ok(Some(part)),
+        Err(_) => Err(StoreFault::Memory),
+    }
+}
+
+fn part_after(alloc: Global, board: &Board, changes: &[Change]) -> Result<BoardPart, AllocError>
+    ensures { IfOk result (λ part. part ≡ record { tasks_before = length board.now.tasks; later = replayed board.now changes.now }) }
+{
+    let later = replayed(alloc, board, changes)?;
+    Ok(BoardPart {
+        tasks_before: board.tasks.len(),
+        later,
+    })
+}
+
+/// The row of a reply, under the number of the call's person.
+pub(crate) fn kept_row_for<S: Alter>(
+    alloc: Global,
+    conn: &mut Connection<S>,
+    call: &Call,
+    reply: &Reply,
+) -> Result<KeptRow, StoreFault>
+    requires { conn.old.in_transaction ≡ false }
+    ensures idle { conn.new.in_transaction ≡ false }
+    ensures row { IfOk result (λ row. OfState (state S.Store conn.old) (state S.Store conn.new)
+        (λ s. row ≡ kept_row s.world (name_of call.now, record { content = call.now.content; reply = reply.now }))) }
+    ensures same { IsAsBefore (state S.Store conn.old) (state S.Store conn.new) }
+{
+    let Some(person) = stored_person(alloc, conn, &call.member)? else {
+        return Err(StoreFault::Store); // Never: the caller of what may be committed is known.
+    };
+    let Ok(number) = u32::try_from(person.number) else {
+        return Err(StoreFault::Store); // No person has such a number.
+    };
+    match row_of(number, call, reply) {
+        Ok(row) => Ok(row),
+        Err(_) => Err(StoreFault::Memory),
+    }
+}
+
+fn row_of(person: u32, call: &Call, reply: &Reply) -> Result<KeptRow, AllocError>
+    ensures { IfOk result (λ row. row ≡ record { person = person; id = call.now.id; content = call.now.content; number = reply.now.number; status = reply.now.status; body = reply.now.body }) }
+{
+    let content = call.content.duplicate()?;
+    let body = reply.body.duplicate()?;
+    Ok(KeptRow {
+        person,
+        id: call.id,
+        content,
+        number: u32::from(reply.number),
+        status: u32::from(reply.status),
+        body,
+    })
+}

@@ -1,0 +1,282 @@
+//! What is looked up for a call.
+
+ghost use Rattle.std.specs.Prelude.{◌≡◌, IfOk, false};
+ghost use Rattle.std.specs.FinMap.{get};
+ghost use Rattle.std.specs.Option.{option_map};
+ghost use Rattle.sqlite.specs.Held.{state};
+ghost use Rattle.tb_board.specs.World.{find_board, key_of, number_of};
+ghost use Rattle.tb_cache.specs.Cached.{AreOf};
+ghost use Rattle.tb_core.specs.Apply.{board_of, number_for, other_of, seen_with};
+ghost use Rattle.tb_sql.specs.Opening.{IsAsBefore};
+ghost use Rattle.tb_stored.specs.Reopening.{OfState};
+ghost use Rattle.tb_keeper.specs.Looking.{AreParties, IsGlance, IsGlanceAt, caller_role};
+
+use crate::at_hand::board_at;
+use sqlite::{Alter, Connection};
+use std::alloc::Global;
+use tb_board::{Key, Name, Role};
+use tb_cache::BoardCache;
+use tb_calls::KeptReply;
+use tb_core::{Command, Seen, SeenBoard, SeenPerson};
+use tb_lookup::people::stored_person;
+use tb_lookup::replies::stored_reply;
+use tb_lookup::roles::roles_found;
+use tb_sql::store::StoreFault;
+use tb_task::TaskId;
+
+/// The key of the person of a name.
+pub(crate) fn find_key<S: Alter>(
+    alloc: Global,
+    conn: &mut Connection<S>,
+    name: &Name,
+) -> Result<Option<Key>, StoreFault>
+    ensures idle { conn.old.in_transaction ≡ false → conn.new.in_transaction ≡ false }
+    ensures found { IfOk result (λ key. OfState (state S.Store conn.old) (state S.Store conn.new) (λ s. key ≡ key_of s.world name.now)) }
+    ensures same { IsAsBefore (state S.Store conn.old) (state S.Store conn.new) }
+{
+    if !conn.is_autocommit() {
+        return Err(StoreFault::Store); // Never: each call ends its transaction.
+    }
+    match stored_person(alloc, conn, name)? {
+        Some(person) => Ok(Some(person.key)),
+        None => Ok(None),
+    }
+}
+
+/// What is kept under the name of a call.
+pub(crate) fn find_reply<S: Alter>(
+    alloc: Global,
+    conn: &mut Connection<S>,
+    name: &Name,
+    id: TaskId,
+) -> Result<Option<KeptReply>, StoreFault>
+    ensures idle { conn.old.in_transaction ≡ false → conn.new.in_transaction ≡ false }
+    ensures found { IfOk result (λ kept. OfState (state S.Store conn.old) (state S.Store conn.new) (λ s. kept ≡ get s.kept (name.now, id))) }
+    ensures same { IsAsBefore (state S.Store conn.old) (state S.Store conn.new) }
+{
+    if !conn.is_autocommit() {
+        return Err(StoreFault::Store);
+    }
+    let Some(person) = stored_person(alloc, conn, name)? else {
+        return Ok(None);
+    };
+    stored_reply(conn, person.number, id)
+}
+
+/// What a command looks at, but for how many people and boards there are.
+#[derive(Drop)]
+pub(crate) struct Glance {
+    pub caller: Option<usize>,
+    pub board: Option<SeenBoard>,
+    pub other: Option<SeenPerson>,
+    pub owners: usize,
+}
+
+impl Glance {
+    /// With so many people and boards.
+    pub(crate) fn seen(self, people: usize, boards: usize) -> Seen
+        ensures { result ≡ record { caller = self.caller; board = self.board; other = self.other; owners = self.owners; people = people; boards = boards } }
+    {
+        let Glance {
+            caller,
+            board,
+            other,
+            owners,
+        } = self;
+        Seen {
+            caller,
+            board,
+            other,
+            owners,
+            people,
+            boards,
+        }
+    }
+}
+
+/// The numbers of the caller and of the other person whom a command names.
+#[derive(Clone, Copy)]
+pub(crate) struct Parties {
+    pub caller: Option<usize>,
+    pub other: Option<usize>,
+}
+
+/// What the command of a person looks at. A board that isn't there or on which the caller has no role is never read.
+pub(crate) fn look_up<S: Alter>(
+    alloc: Global,
+    conn: &mut Connection<S>,
+    cache: &mut BoardCache,
+    name: &Name,
+    command: &Command,
+) -> Result<Glance, StoreFault>
+    ensures idle { conn.old.in_transaction ≡ false → conn.new.in_transaction ≡ false }
+    ensures found { IfOk result (λ glance. OfState (state S.Store conn.old) (state S.Store conn.new)
+        (λ s. AreOf s.world cache.old.entries → IsGlance s.world name.now command.now glance)) }
+    ensures cached { OfState (state S.Store conn.old) (state S.Store conn.new)
+        (λ s. AreOf s.world cache.old.entries → AreOf s.world cache.new.entries) }
+    ensures same { IsAsBefore (state S.Store conn.old) (state S.Store conn.new) }
+{
+    if !conn.is_autocommit() {
+        return Err(StoreFault::Store);
+    }
+    let parties = find_parties(alloc, conn, name, command)?;
+    match board_of(command) {
+        Some(board) => glance_at(alloc, conn, cache, board, parties),
+        None => Ok(Glance {
+            caller: parties.caller,
+            board: None,
+            other: seen_person(parties.other, None),
+            owners: 0,
+        }),
+    }
+}
+
+fn find_parties<S: Alter>(
+    alloc: Global,
+    conn: &mut Connection<S>,
+    name: &Name,
+    command: &Command,
+) -> Result<Parties, StoreFault>
+    requires { conn.old.in_transaction ≡ false }
+    ensures idle { conn.new.in_transaction ≡ false }
+    ensures found { IfOk result (λ parties. OfState (state S.Store conn.old) (state S.Store conn.new)
+        (λ s. AreParties s.world name.now command.now parties)) }
+    ensures same { IsAsBefore (state S.Store conn.old) (state S.Store conn.new) }
+{
+    let caller = find_number(alloc, conn, name)?;
+    let other = find_other(alloc, conn, command)?;
+    Ok(Parties { caller, other })
+}
+
+fn find_other<S: Alter>(
+    alloc: Global,
+    conn: &mut Connection<S>,
+    command: &Command,
+) -> Result<Option<usize>, StoreFault>
+    requires { conn.old.in_transaction ≡ false }
+    ensures idle { conn.new.in_transaction ≡ false }
+    ensures found { IfOk result (λ number. OfState (state S.Store conn.old) (state S.Store conn.new)
+        (λ s. number ≡ number_for s.world (other_of command.now))) }
+    ensures same { IsAsBefore (state S.Store conn.old) (state S.Store conn.new) }
+{
+    match other_of(command) {
+        Some(name) => find_number(alloc, conn, name),
+        None => Ok(None),
+    }
+}
+
+fn find_number<S: Alter>(
+    alloc: Global,
+    conn: &mut Connection<S>,
+    name: &Name,
+) -> Result<Option<usize>, StoreFault>
+    requires { conn.old.in_transaction ≡ false }
+    ensures idle { conn.new.in_transaction ≡ false }
+    ensures found { IfOk result (λ number. OfState (state S.Store conn.old) (state S.Store conn.new)
+        (λ s. number ≡ number_of s.world name.now)) }
+    ensures same { IsAsBefore (state S.Store conn.old) (state S.Store conn.new) }
+{
+    match stored_person(alloc, conn, name)? {
+        Some(person) => Ok(Some(person.number)),
+        None => Ok(None),
+    }
+}
+
+/// What is seen of a board.
+fn glance_at<S: Alter>(
+    alloc: Global,
+    conn: &mut Connection<S>,
+    cache: &mut BoardCache,
+    board: u32,
+    parties: Parties,
+) -> Result<Glance, StoreFault>
+    requires { conn.old.in_transaction ≡ false }
+    ensures idle { conn.new.in_transaction ≡ false }
+    ensures found { IfOk result (λ glance. OfState (state S.Store conn.old) (state S.Store conn.new)
+        (λ s. AreOf s.world cache.old.entries → IsGlanceAt s.world board parties glance)) }
+    ensures cached { OfState (state S.Store conn.old) (state S.Store conn.new)
+        (λ s. AreOf s.world cache.old.entries → AreOf s.world cache.new.entries) }
+    ensures same { IsAsBefore (state S.Store conn.old) (state S.Store conn.new) }
+{
+    let caller = parties.caller.unwrap_or(0); // Nobody has this number.
+    let roles = roles_found(alloc, conn, board, caller, parties.other)?;
+    let role = role_of_caller(parties.caller, roles.caller);
+    let seen = see_board(alloc, conn, cache, board, role)?;
+    Ok(Glance {
+        caller: parties.caller,
+        board: seen,
+        other: seen_person(parties.other, roles.other),
+        owners: roles.owners,
+    })
+}
+
+/// The board of a number, where the caller has a role on it.
+fn see_board<S: Alter>(
+    alloc: Global,
+    conn: &mut Connection<S>,
+    cache: &mut BoardCache,
+    number: u32,
+    role: Option<Role>,
+) -> Result<Option<SeenBoard>, StoreFault>
+    requires { conn.old.in_transaction ≡ false }
+    ensures idle { conn.new.in_transaction ≡ false }
+    ensures found { IfOk result (λ seen. OfState (state S.Store conn.old) (state S.Store conn.new)
+        (λ s. AreOf s.world cache.old.entries → seen ≡ seen_with role (find_board s.world number))) }
+    ensures cached { OfState (state S.Store conn.old) (state S.Store conn.new)
+        (λ s. AreOf s.world cache.old.entries → AreOf s.world cache.new.entries) }
+    ensures same { IsAsBefore (state S.Store conn.old) (state S.Store conn.new) }
+{
+    let Some(role) = role else {
+        return Ok(None);
+    };
+    match board_at(alloc, conn, cache, number)? {
+        Some(board) => Ok(Some(SeenBoard { board, role })),
+        None => Ok(None),
+    }
+}
+
+fn role_of_caller(caller: Option<usize>, role: Option<Role>) -> Option<Role>
+    ensures { result ≡ caller_role caller role }
+{
+    match caller {
+        Some(_) => role,
+        None => None,
+    }
+}
+
+fn seen_person(number: Option<usize>, role: Option<Role>) -> Option<SeenPerson>
+    ensures { result ≡ option_map (λ n. record { number = n; role = role }) number }
+{
+    match number {
+        Some(number) => Some(SeenPerson { number, role }),
+        None => None,
+    }
+}
+
+/// The board that a command names.
+fn board_of(command: &Command) -> Option<u32>
+    ensures { result ≡ board_of command.now }
+{
+    match command {
+        Command::Add { board, .. }
+        | Command::OnTask { board, .. }
+        | Command::Modify { board, .. }
+        | Command::Depend { board, .. }
+        | Command::Undepend { board, .. }
+        | Command::ImportJson { board, .. }
+        | Command::ImportTodo { board, .. }
+        | Command::Sweep { board }
+        | Command::SetRole { board, .. } => Some(*board),
+        Command::NewPerson { .. } | Command::NewBoard { .. } => None,
+    }
+}
+
+/// The other person whom a command names.
+fn other_of(command: &Command) -> Option<&Name>
+    ensures { option_map (λ name. name.now) result ≡ other_of command.now }
+{
+    match command {
+        Command::SetRole { name, .. } | Command::NewPerson { name, .. } => Some(name),
+        _ => None,
+    }
+}

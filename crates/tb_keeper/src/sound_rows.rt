@@ -1,0 +1,119 @@
+//! What an audit asks of rows before it counts: rows that no state has are a failure of the store.
+
+ghost use Rattle.std.specs.Prelude.{◌≡◌, false, IfOk, OnOk};
+ghost use Rattle.std.specs.List.{list_any};
+ghost use Rattle.sqlite.specs.Held.{state};
+ghost use Rattle.tb_board.specs.Good.{IsGood};
+ghost use Rattle.tb_sql.specs.Opening.{IsAsBefore};
+ghost use Rattle.tb_keeper.specs.Auditing.{is_owners, IsOwned};
+ghost use Rattle.tb_stored.specs.Reopening.{OfContent};
+
+use sqlite::{Alter, Connection};
+use std::alloc::Global;
+use tb_board::Board;
+use tb_good::is_good_board;
+use tb_reopen::read_people;
+use tb_sql::store::StoreFault;
+use tb_sql_tables::rows::{BoardRow, KeptRow, RoleRow};
+use tb_stored::faults::fault_of;
+use tb_stored::reading::{kept_rows, people_rows, role_rows};
+
+/// A good world has no more people.
+const MOST: usize = 10000;
+
+const OWNER: u32 = 1;
+
+const MEMBER: u32 = 2;
+
+/// How many people are stored. They are numbered from 1 and can be read, and each kept reply is one of theirs.
+pub(crate) fn hold_people<S: Alter>(
+    alloc: Global,
+    conn: &mut Connection<S>,
+) -> Result<usize, StoreFault>
+    requires { conn.old.in_transaction ≡ false }
+    ensures idle { conn.new.in_transaction ≡ false }
+    ensures same { IsAsBefore (state S.Store conn.old) (state S.Store conn.new) }
+{
+    let rows = people_rows(conn)?;
+    let people = match read_people(alloc, rows.as_slice()) {
+        Ok(people) => people.len(),
+        Err(fault) => return Err(fault_of(fault)),
+    };
+    let kept = kept_rows(conn)?;
+    if people <= MOST && are_of_people(kept.as_slice(), people) {
+        Ok(people)
+    } else {
+        Err(StoreFault::Store)
+    }
+}
+
+fn are_of_people(rows: &[KeptRow], people: usize) -> bool {
+    rows.iter().all(|row| is_reply_of(row, people))
+}
+
+/// Whether a row keeps a reply, with its number and status, of one of so many people.
+fn is_reply_of(row: &KeptRow, people: usize) -> bool {
+    is_number_of(row.person, people)
+        && u8::try_from(row.number).is_ok()
+        && u16::try_from(row.status).is_ok()
+}
+
+fn is_number_of(person: u32, people: usize) -> bool {
+    person > 0 && person as usize <= people
+}
+
+/// The roles on a board are those of so many people, and one of them is an owner.
+pub(crate) fn hold_roles<S: Alter>(
+    conn: &mut Connection<S>,
+    board: u32,
+    people: usize,
+) -> Result<(), StoreFault>
+    requires { conn.old.in_transaction ≡ false }
+    ensures idle { conn.new.in_transaction ≡ false }
+    ensures owned { OnOk result (OfContent (state S.Store conn.old) (state S.Store conn.new) (λ c. IsOwned c board)) }
+    ensures same { IsAsBefore (state S.Store conn.old) (state S.Store conn.new) }
+{
+    let rows = role_rows(conn, board)?;
+    if has_owner(rows.as_slice()) && are_roles_of(rows.as_slice(), people) {
+        Ok(())
+    } else {
+        Err(StoreFault::Store)
+    }
+}
+
+fn has_owner(rows: &[RoleRow]) -> bool
+    ensures { result ≡ list_any is_owners rows.now }
+{
+    rows.iter().any(|row| row.kind == OWNER)
+}
+
+fn are_roles_of(rows: &[RoleRow], people: usize) -> bool {
+    rows.iter().all(|row| is_role_of(row, people))
+}
+
+fn is_role_of(row: &RoleRow, people: usize) -> bool {
+    matches!(row.kind, OWNER | MEMBER) && is_number_of(row.person, people)
+}
+
+/// Whether boards are numbered from 1.
+pub(crate) fn are_numbered(rows: &[BoardRow]) -> bool {
+    let mut number = 0u32;
+    for row in rows {
+        number = number.saturating_add(1);
+        if row.id != number {
+            return false;
+        }
+    }
+    true
+}
+
+/// The board is good by itself.
+pub(crate) fn hold_board(alloc: Global, board: &Board) -> Result<(), StoreFault>
+    ensures good { OnOk result (IsGood board.now) }
+{
+    match is_good_board(alloc, board) {
+        Ok(true) => Ok(()),
+        Ok(false) => Err(StoreFault::Store),
+        Err(_) => Err(StoreFault::Memory),
+    }
+}
