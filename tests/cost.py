@@ -134,7 +134,8 @@ def large_file():
                 calls.call("/boards", json.dumps({"title": f"Board {board}"}).encode())
             import_tasks(calls, board, range(1, TASKS + 1))
         while calls.sent < REPLIES * SIZE:
-            calls.call(f"/boards/{1 + calls.sent % boards}/sweep", b"")
+            board = 1 + int(calls.sent * boards / (REPLIES * SIZE))
+            calls.call(f"/boards/{min(board, boards)}/sweep", b"")
         return boards, server.resident()
 
 
@@ -146,6 +147,18 @@ def opening():
         opened = server.resident()
         answer_to(server.connect(60), message(b"POST", b"/boards/1/sweep", fields=identified(10**9)))
         return took, opened, server.resident()
+
+
+def in_turn(boards):
+    """The median of a call on each of the boards in turn, of which fewer stay at hand."""
+    with Server(PROGRAM, PORT, errors=subprocess.DEVNULL) as server:
+        connection, times = server.connect(60), []
+        for number in range(2 * boards):
+            begun = time.perf_counter()
+            sweep = f"/boards/{1 + number % boards}/sweep".encode()
+            answer_to(connection, message(b"POST", sweep, fields=identified(2 * 10**9 + number)))
+            times.append(time.perf_counter() - begun)
+        return statistics.median(times)
 
 
 def reply_growth(more):
@@ -197,6 +210,7 @@ def main():
     size = os.path.getsize("b.db") + (os.path.getsize("b.db-wal") if os.path.exists("b.db-wal") else 0)
     took, opened, used = opening()
     tell(f"a file of {boards} boards of {TASKS:,} tasks, {size / 1e6:.0f} MB", f"opened in {took:.2f} s, {opened:.1f} MiB, {used:.1f} after a call; the server that wrote it {written:.1f}")
+    tell(f"a call on each of these {boards} boards in turn", milliseconds(in_turn(boards)))
     more = round(200000 * SIZE)
     tell(f"{more:,} further kept replies", f"{reply_growth(more):.1f} MiB")
 
