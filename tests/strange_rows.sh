@@ -1,6 +1,7 @@
 #!/bin/sh
-# Changes the rows of a file by another hand: what tells no good world is refused as Store, and masks and least free numbers are counted
-# by `check`. It needs python3 with its sqlite3, and takes seconds once the program is there.
+# Changes the rows of a file by another hand. `check` looks at all: it tells Store for what no boards have, and counts boards with other
+# masks and least free numbers. `list` tells Store for what it looks at alone. Needs python3 with its sqlite3, and takes seconds once the
+# program is there.
 set -eu
 
 . "$(dirname "$0")/prepare.sh"
@@ -37,33 +38,37 @@ def stored():
     assert status == 0
 
 
-def tried(name, changes, wanted):
+def tried(name, changes, checked, listed):
     shutil.copy("good.db", "other.db")
     other = sqlite3.connect("other.db")
     for change in changes:
         assert other.execute(change).rowcount > 0, change
     other.commit()
     other.close()
-    status, said = ran(["check", "other.db"])
-    if not said.endswith(wanted) or status != (0 if wanted == "faults 0\n" else 1):
-        sys.exit(f"{name}: expected '{wanted}', but got {status} '{said}'")
+    for words, wanted in ([["check", "other.db"], checked], [["list", "other.db", "ann", "ann-key-1", "1"], listed]):
+        status, said = ran(words)
+        if not said.endswith(wanted) or status != (0 if wanted in ("faults 0\n", tasks) else 1):
+            sys.exit(f"{name}, {words[0]}: expected '{wanted}', but got {status} '{said}'")
 
 
+tasks = " tasks\n"
 store = "taskboard: Store\n"
 stored()
-tried("nothing", [], "faults 0\n")
-tried("one link", [depends_on(1, ids[1])], "faults 1\n")
-tried("a circle", [depends_on(1, ids[1]), depends_on(2, ids[0])], store)
-tried("a link to itself", [depends_on(1, ids[0])], store)
-tried("a link to nowhere", [depends_on(1, call)], store)
-tried("no owner", ["DELETE FROM role"], store)
-tried("a task lost", ["DELETE FROM task WHERE place = 2"], store)
-tried("an instance lost", ["DELETE FROM task WHERE place = 5"], store)
-tried("another board", ["UPDATE board SET id = 3"], store)
-tried("an empty body", ["UPDATE task SET body = '{}' WHERE place = 1"], store)
-tried("no name", ["UPDATE person SET name = 'a b'"], store)
-tried("another mask", ["UPDATE task SET mask = '-' WHERE mask IS NOT NULL"], "faults 1\n")
-tried("another least number", ["UPDATE board SET low = 77"], "faults 1\n")
-tried("another version", ["UPDATE meta SET version = 7"], "taskboard: WrongVersion\n")
+tried("nothing", [], "faults 0\n", tasks)
+tried("one link", [depends_on(1, ids[1])], "faults 1\n", tasks)
+tried("another mask", ["UPDATE task SET mask = '-' WHERE mask IS NOT NULL"], "faults 1\n", tasks)
+tried("another least number", ["UPDATE board SET low = 77"], "faults 1\n", tasks)
+tried("another version", ["UPDATE meta SET version = 7"], "taskboard: WrongVersion\n", "taskboard: WrongVersion\n")
+tried("a circle", [depends_on(1, ids[1]), depends_on(2, ids[0])], store, store)
+tried("a link to itself", [depends_on(1, ids[0])], store, store)
+tried("a link to nowhere", [depends_on(1, call)], store, store)
+tried("a task lost", ["DELETE FROM task WHERE place = 2"], store, store)
+tried("an instance lost", ["DELETE FROM task WHERE place = 5"], store, store)
+tried("an empty body", ["UPDATE task SET body = '{}' WHERE place = 1"], store, store)
+tried("another board", ["UPDATE board SET id = 3"], store, store)
+tried("no key", ["UPDATE person SET secret = 'a'"], store, store)
+tried("no name", ["UPDATE person SET name = 'a b'"], store, '{"name":"UnknownCaller","refused":1}\n')
+tried("no owner", ["DELETE FROM role"], store, '{"name":"NoBoard","refused":3}\n')
+tried("a reply of no number", ["UPDATE kept SET number = 300"], store, tasks)
 print("refused and counted")
 HANDS
