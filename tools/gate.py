@@ -4,6 +4,7 @@
 `out/times.txt` has the processor minutes of each crate, the longest first; `out/gate.log` all that `rt ci` said."""
 import gzip
 import os
+import subprocess
 import sys
 
 import build
@@ -21,10 +22,18 @@ def manifest():
         return {}
 
 
+def kit():
+    return subprocess.run(["rt", "version"], check=True, capture_output=True, text=True).stdout.strip()
+
+
 def is_as_shipped(wanted):
-    """Whether the program of `dist/` is the one that was built here, byte for byte, or is of other sources."""
-    if manifest().get("sources") != wanted:
+    """Whether the program of `dist/` is the one that was built here, byte for byte, or is of other sources or by another kit."""
+    said = manifest()
+    if said.get("sources") != wanted:
         print("dist/ is of other sources, so its program isn't compared")
+        return True
+    if said.get("kit") != kit():
+        print(f"dist/ is by {said.get('kit')}, so its program isn't compared")
         return True
     with gzip.open(f"{TOP}/dist/taskboard.gz") as shipped, open(BUILT, "rb") as built:
         is_same = shipped.read() == built.read()
