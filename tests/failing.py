@@ -37,10 +37,10 @@ class Wrong(Exception):
 class Program:
     """The program as it serves b.db behind some words, and for some seconds where they are given; it may end at any time."""
 
-    def __init__(self, program, port, before=(), seconds=None):
+    def __init__(self, program, port, before=(), seconds=None, words=("--forever",)):
         self.caller = Caller(port, PATIENCE)
-        words = [*before, program, "serve", "b.db", "--port", str(port), "--forever"]
-        self.process = subprocess.Popen(words, stdout=subprocess.DEVNULL, stderr=subprocess.DEVNULL)
+        line = [*before, program, "serve", "b.db", "--port", str(port), *words]
+        self.process = subprocess.Popen(line, stdout=subprocess.DEVNULL, stderr=subprocess.DEVNULL)
         if seconds is not None:
             threading.Timer(seconds, self.process.kill).start()
 
@@ -120,8 +120,8 @@ class Judge:
                 self.states.append(it.state())
             self.most = it.status_line("VmPeak")
 
-    def start(self, before=(), seconds=None):
-        return Program(self.program, self.port, before, seconds)
+    def start(self, before=(), seconds=None, words=("--forever",)):
+        return Program(self.program, self.port, before, seconds, words)
 
     def check(self):
         done = subprocess.run([self.program, "check", "b.db"], capture_output=True, text=True, timeout=60)

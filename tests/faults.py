@@ -9,7 +9,7 @@ import subprocess
 import sys
 import time
 
-from failing import CALLS, TASKS, Judge, Wrong
+from failing import CALLS, TASKS, Judge, Wrong, expect
 from talking import make_file
 from tracing import counted, injected
 
@@ -17,16 +17,16 @@ PROGRAM, PORT, TRIES, KINDS = os.path.abspath(sys.argv[1]), int(sys.argv[2]), in
 IMPORT = next(at for at, (target, _) in enumerate(CALLS) if target == "/boards/1/import")
 # Which system calls fail, and how: those of the file once or from there on, those of the sockets once, and then all calls are answered.
 FILES = {
-    "openat": "EIO EMFILE",
-    "pread64": "EIO",
-    "pwrite64": "EIO ENOSPC",
+    "openat": "EIO EMFILE EINTR",
+    "pread64": "EIO EINTR",
+    "pwrite64": "EIO ENOSPC EINTR",
     "fsync": "EIO",
-    "fdatasync": "EIO ENOSPC",
-    "ftruncate": "EIO ENOSPC",
-    "write": "EIO",
-    "read": "EIO",
+    "fdatasync": "EIO ENOSPC EINTR",
+    "ftruncate": "EIO ENOSPC EINTR",
+    "write": "EIO ENOSPC EINTR",
+    "read": "EIO EINTR",
 }
-SOCKETS = {"accept4": "ECONNABORTED EMFILE", "recvfrom": "ECONNRESET ENOBUFS", "sendto": "EPIPE ENOBUFS", "epoll_wait": "EINTR"}
+SOCKETS = {"accept4": "ECONNABORTED EMFILE EINTR", "recvfrom": "ECONNRESET ENOBUFS EINTR", "sendto": "EPIPE ENOBUFS EINTR", "epoll_wait": "EINTR"}
 MEMORY = ("brk", "mmap")
 STOPPED = ("openat", "pread64", "pwrite64", "fsync", "fdatasync", "ftruncate", "recvfrom", "sendto")
 wrong = []
@@ -181,9 +181,35 @@ def stops():
     tally("killed at a system call, and once more", [(f"{first[-1]}, {second[-1]}", session(first, second)) for first, second in again])
 
 
+def at_the_end(seconds):
+    """Killed that long after its last connection is over, when it ends by itself."""
+
+    def trial():
+        with judge.start(words=("--connections", "1")) as it:
+            answers = it.calls_from(0)
+            it.caller.disconnect()
+            time.sleep(seconds)
+            ended = not it.runs()
+        expect("the answers", judge.answers, answers)
+        judge.failing.append(len(answers))
+        judge.judge(len(answers))
+        return ended
+
+    return trial
+
+
 def kills():
-    moments = [random.uniform(0, 0.15) for _ in range(3 * TRIES)]
-    tally("killed at any moment", [(f"after {seconds:.3f} s", session((), seconds=seconds)) for seconds in moments])
+    """Killed at any moment of its start, of its serving, and of its end."""
+    make_file(PROGRAM)
+    begun = time.monotonic()
+    with judge.start() as it:
+        it.is_connected()
+        start = time.monotonic() - begun
+        it.calls_from(0)
+        whole = time.monotonic() - begun
+    for what, first, last, trial in (("start", 0, start, None), ("serving", start, whole, None), ("end", 0, 0.02, at_the_end)):
+        moments = [random.uniform(first, last) for _ in range(TRIES)]
+        tally(f"killed at any moment of its {what}", [(f"after {at:.4f} s", trial(at) if trial else session((), seconds=at)) for at in moments])
 
 
 TRIED = {"calls": calls_fail, "stops": stops, "kills": kills, "memory": memory_bounded, "size": files_bounded, "disk": disk_full}

@@ -1,8 +1,8 @@
 #!/bin/sh
-# What the program shows by itself, in under three minutes and without a prover: the worked scripts, the bytes of connections, orders over
-# real files, a server that is killed or whose file fails, silent, slow and many clients, a page in a browser, files that another hand
-# changed, copies of a file that is served, a machine that fails, and what the documents show (docs/TESTING.md). What a machine lacks
-# is skipped by name.
+# What the program shows by itself, in minutes and without a prover: the worked scripts, the bytes of connections, also broken ones, orders
+# over real files, a server that is killed or whose file fails, silent, slow and many clients, a page in a browser, files that another
+# hand changed, copies of a file that is served, a machine that fails or has no memory, and what the documents show (docs/TESTING.md).
+# What a machine lacks is skipped by name.
 set -u
 cd "$(dirname "$0")/.."
 failed=
@@ -31,6 +31,7 @@ attempt() {
 
 attempt scripts.py python3
 attempt wire.py python3
+attempt mutations.sh python3
 attempt serve.sh python3
 attempt kill.sh python3
 attempt store_fails.sh python3
@@ -44,6 +45,7 @@ attempt backup.sh python3
 attempt browser.sh python3
 attempt faults.sh python3
 attempt power.sh python3 strace
+attempt memory.sh python3 cc
 attempt documents.sh python3
 
 if [ -n "$failed" ]; then

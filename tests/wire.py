@@ -5,8 +5,6 @@ each byte or stall, and connections at once in every order. A writer that fails 
 Moments in answers are those of the machine's clock, so they are only compared as moments.
 `crates/examples/data/README.md` says what the lines mean."""
 import os
-import pathlib
-import re
 import socket
 import struct
 import subprocess
@@ -15,42 +13,11 @@ import tempfile
 import time
 
 from connecting import connected, free_port
+from scenes import files_of_scenes, scenes_of
 from talking import without_moments
 
 program, port = os.path.abspath(sys.argv[1]), free_port()
-folder = pathlib.Path(__file__).resolve().parent.parent / "crates/examples/data"
 BEHIND = b"GET /boards/1/list HTTP/1.1\r\nHost: a\r\nx-member: root\r\nx-key: root-key-1\r\nConnection: close\r\n\r\n"
-
-
-def bytes_of(word, rest):
-    """The bytes of a line: its mark says how often they stand, and whether the end of a line stands behind each."""
-    mark = re.fullmatch(r"[<>]([<>]?)(?:\*(\d+))?", word)
-    text = re.sub(rb"\\(x..|.)", lambda it: {b"r": b"\r", b"n": b"\n", b"t": b"\t", b"\\": b"\\"}.get(it[1]) or bytes.fromhex(it[1][1:].decode()), rest.encode())
-    return (text + (b"" if mark[1] else b"\r\n")) * int(mark[2] or 1)
-
-
-def scenes_of(path):
-    """The scenes of a file that a real server can play: each is the connections that one file of boards is sent, as bytes sent and wanted,
-    and how many of these the client takes before it goes away; None where it stays."""
-    scenes, sent, wanted, taken, plays, again = [], b"", b"", None, True, False
-    for line in path.read_bytes().decode().split("\n"):
-        word, _, rest = line.partition(" ")
-        if word.startswith(">"):
-            sent += bytes_of(word, rest)
-        elif word.startswith("<"):
-            wanted += bytes_of(word, rest)
-        elif word == "writer" and re.fullmatch(r"fails after \d+", rest):
-            taken = int(rest.split()[2])
-        elif word in ("moments", "parts", "reader", "writer"):
-            plays = False
-        elif word == "again":
-            again = True
-        elif word == "end":
-            if not again:
-                scenes.append([])
-            scenes[-1].append((sent, wanted[:taken], taken, plays))
-            sent, wanted, taken, plays, again = b"", b"", None, True, False
-    return [[connection[:3] for connection in scene] for scene in scenes if all(connection[3] for connection in scene)]
 
 
 def answered(sent, taken=None):
@@ -111,7 +78,7 @@ def bytes_behind_are_dropped():
 
 
 played, left = [], 0
-for path in sorted(folder.glob("*.wire")):
+for path in files_of_scenes():
     scenes = scenes_of(path)
     left += not scenes
     played += [is_played(path.stem, scene) for scene in scenes]
