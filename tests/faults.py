@@ -120,7 +120,8 @@ def calls_fail():
         trials = []
         for error in errors.split():
             for count in some(in_session[call]):
-                onward = call in FILES and random.random() < 0.5
+                # (a call that is interrupted may be made again without end)
+                onward = call in FILES and error != "EINTR" and random.random() < 0.5
                 failing = injected((call,), f"error={error}", count, onward)
                 trials.append((f"{error} at {count}{'+' if onward else ''}", session(failing, all_answered=call in SOCKETS)))
             for kind, order, counts in orders:
