@@ -8,7 +8,8 @@ use crate::instances::have_instances;
 use crate::links::have_links;
 use crate::masks::have_masks;
 use std::alloc::{AllocError, Global};
-use tb_board::{Board, least_number, places_of};
+use tb_board::{Board, least_number};
+use tb_rows::TaskPlaces;
 use tb_sql_tables::rows::{BoardRow, InstanceRow, LinkRow, TaskRow};
 
 /// Whether a board has this row, its tasks in order of place these masks, and the board these links and instances. What else the rows
@@ -30,7 +31,7 @@ pub fn is_as_stored(
     if !have_masks(alloc, board, tasks)? {
         return Ok(false);
     }
-    let places = places_of(alloc, board.tasks.as_slice())?;
+    let places = TaskPlaces::of(alloc, board)?;
     if !have_links(alloc, board, &places, links)? {
         return Ok(false);
     }

@@ -2,26 +2,24 @@
 
 ghost use Rattle.std.specs.Prelude.{◌≡◌, ◌≤◌, ◌↔◌, ◌++◌, IsTrue, IsPermutation, IsSorted, IfOk, OnOk, length};
 ghost use Rattle.tb_audit.specs.Orders.{instance_order};
-ghost use Rattle.tb_board.specs.Board.{ids};
-ghost use Rattle.tb_board.specs.Links.{ArePlaces};
 ghost use Rattle.tb_rows.specs.Rows.{board_instances, instance_rows};
+ghost use Rattle.tb_rows.specs.Sought.{AreFor};
 
 use std::alloc::{AllocError, Global};
-use std::collections::BTreeMap;
 use tb_board::Board;
-use tb_rows::instance_row;
+use tb_rows::{TaskPlaces, instance_row};
 use tb_sql_tables::rows::InstanceRow;
-use tb_task::{Task, TaskId};
+use tb_task::Task;
 use tb_values::Items;
 
 /// Whether a board has these instances, in whatever order.
 pub(crate) fn have_instances(
     alloc: Global,
     board: &Board,
-    places: &BTreeMap<TaskId, usize>,
+    places: &TaskPlaces,
     rows: &[InstanceRow],
 ) -> Result<bool, AllocError>
-    requires places { ArePlaces (ids board.now.tasks) places.now }
+    requires places { AreFor board.now places.now }
     requires few { length board.now.tasks ≤ 10000 }
     ensures { IfOk result (λ same. IsTrue same ↔ IsPermutation rows.now (board_instances board.now)) }
 {
@@ -50,9 +48,9 @@ fn in_order(mut instances: Vec<InstanceRow>) -> Vec<InstanceRow>
 fn board_instances(
     alloc: Global,
     board: &Board,
-    places: &BTreeMap<TaskId, usize>,
+    places: &TaskPlaces,
 ) -> Result<Items<InstanceRow>, AllocError>
-    requires places { ArePlaces (ids board.now.tasks) places.now }
+    requires places { AreFor board.now places.now }
     requires few { length board.now.tasks ≤ 10000 }
     ensures { IfOk result (λ instances. instances ≡ board_instances board.now) }
 {
@@ -67,11 +65,11 @@ fn board_instances(
 fn push_instance(
     instances: &mut Items<InstanceRow>,
     board: &Board,
-    places: &BTreeMap<TaskId, usize>,
+    places: &TaskPlaces,
     place: u32,
     task: &Task,
 ) -> Result<(), AllocError>
-    requires places { ArePlaces (ids board.now.tasks) places.now }
+    requires places { AreFor board.now places.now }
     requires few { length board.now.tasks ≤ 10000 }
     ensures { OnOk result (instances.new ≡ instances.old ++ instance_rows board.now place task.now) }
 {

@@ -2,26 +2,24 @@
 
 ghost use Rattle.std.specs.Prelude.{◌≡◌, ◌≤◌, ◌↔◌, ◌++◌, IsTrue, IsPermutation, IsSorted, IfOk, OnOk, length};
 ghost use Rattle.tb_audit.specs.Orders.{link_order};
-ghost use Rattle.tb_board.specs.Board.{ids};
-ghost use Rattle.tb_board.specs.Links.{ArePlaces};
 ghost use Rattle.tb_rows.specs.Rows.{board_links, link_rows};
+ghost use Rattle.tb_rows.specs.Sought.{AreFor};
 
 use std::alloc::{AllocError, Global};
-use std::collections::BTreeMap;
 use tb_board::Board;
-use tb_rows::link_row;
+use tb_rows::{TaskPlaces, link_row};
 use tb_sql_tables::rows::LinkRow;
-use tb_task::{Task, TaskId};
+use tb_task::Task;
 use tb_values::Items;
 
 /// Whether a board has these links, in whatever order.
 pub(crate) fn have_links(
     alloc: Global,
     board: &Board,
-    places: &BTreeMap<TaskId, usize>,
+    places: &TaskPlaces,
     rows: &[LinkRow],
 ) -> Result<bool, AllocError>
-    requires places { ArePlaces (ids board.now.tasks) places.now }
+    requires places { AreFor board.now places.now }
     requires few { length board.now.tasks ≤ 10000 }
     ensures { IfOk result (λ same. IsTrue same ↔ IsPermutation rows.now (board_links board.now)) }
 {
@@ -43,9 +41,9 @@ fn in_order(mut links: Vec<LinkRow>) -> Vec<LinkRow>
 fn board_links(
     alloc: Global,
     board: &Board,
-    places: &BTreeMap<TaskId, usize>,
+    places: &TaskPlaces,
 ) -> Result<Items<LinkRow>, AllocError>
-    requires places { ArePlaces (ids board.now.tasks) places.now }
+    requires places { AreFor board.now places.now }
     requires few { length board.now.tasks ≤ 10000 }
     ensures { IfOk result (λ links. links ≡ board_links board.now) }
 {
@@ -60,11 +58,11 @@ fn board_links(
 fn push_links(
     links: &mut Items<LinkRow>,
     board: &Board,
-    places: &BTreeMap<TaskId, usize>,
+    places: &TaskPlaces,
     place: u32,
     task: &Task,
 ) -> Result<(), AllocError>
-    requires places { ArePlaces (ids board.now.tasks) places.now }
+    requires places { AreFor board.now places.now }
     requires few { length board.now.tasks ≤ 10000 }
     ensures { OnOk result (links.new ≡ links.old ++ link_rows board.now place task.now) }
 {

@@ -2,21 +2,19 @@
 
 ghost use Rattle.std.specs.Prelude.{◌≡◌, ◌≤◌, ◌++◌, IfOk, OnOk, length};
 ghost use Rattle.std.specs.List.{flat_map};
-ghost use Rattle.tb_board.specs.Board.{ids};
-ghost use Rattle.tb_board.specs.Links.{ArePlaces};
 ghost use Rattle.tb_rows.specs.Part.{empty_board};
 ghost use Rattle.tb_rows.specs.Rows.{board_row};
 ghost use Rattle.tb_rows.specs.Steps.{changed_templates, kept_board, later_board, low_changes, put_place};
+ghost use Rattle.tb_rows.specs.Sought.{AreFor};
 
 use crate::concerned::{PlaceList, changed_templates, is_concerned, put_places};
 use crate::gone::push_gone_changes;
+use crate::task_places::TaskPlaces;
 use crate::tasks::{Concerned, push_tasks};
 use std::alloc::{AllocError, Global};
-use std::collections::BTreeMap;
-use tb_board::{Board, Change, Title, least_number, places_of};
+use tb_board::{Board, Change, Title, least_number};
 use tb_sql::changes::RowChange;
 use tb_sql_tables::rows::BoardRow;
-use tb_task::TaskId;
 use tb_values::{Items, Text};
 
 /// The changes of rows of a board that had so many tasks.
@@ -46,7 +44,7 @@ fn push_later_board(
     requires { length board.now.tasks ≤ 10000 }
     ensures { OnOk result (rows.new ≡ rows.old ++ later_board old board.now changes.now) }
 {
-    let places = places_of(alloc, board.tasks.as_slice())?;
+    let places = TaskPlaces::for_changes(alloc, board, changes)?;
     let concerned = concerned_tasks(alloc, board, &places, old, changes)?;
     push_low(alloc, rows, old, board)?;
     push_tasks(alloc, rows, board, &places, &concerned)?;
@@ -56,11 +54,11 @@ fn push_later_board(
 fn concerned_tasks(
     alloc: Global,
     board: &Board,
-    places: &BTreeMap<TaskId, usize>,
+    places: &TaskPlaces,
     old: usize,
     changes: &[Change],
 ) -> Result<Concerned, AllocError>
-    requires { ArePlaces (ids board.now.tasks) places.now }
+    requires { AreFor board.now places.now }
     ensures old { IfOk result (λ concerned. concerned.old ≡ old) }
     ensures put { IfOk result (λ concerned. concerned.put ≡ flat_map (put_place board.now.number) changes.now) }
     ensures templates { IfOk result (λ concerned. concerned.templates ≡ changed_templates board.now old (flat_map (put_place board.now.number) changes.now) changes.now) }

@@ -2,14 +2,13 @@
 
 ghost use Rattle.std.specs.Prelude.{◌≡◌, ◌++◌, [], IfOk, OnOk, length};
 ghost use Rattle.std.specs.List.{flat_map, list_any};
-ghost use Rattle.tb_board.specs.Board.{ids};
-ghost use Rattle.tb_board.specs.Links.{ArePlaces};
 ghost use Rattle.tb_rows.specs.Marks.{AreMarks, IsMarkedToo};
 ghost use Rattle.tb_rows.specs.Rows.{rows_from};
+ghost use Rattle.tb_rows.specs.Sought.{AreFor};
 ghost use Rattle.tb_rows.specs.Steps.{changed_templates, gone_template, instance_template, is_among, is_changed, is_of_board, put_place, template_place};
 
+use crate::task_places::TaskPlaces;
 use std::alloc::{AllocError, Global};
-use std::collections::BTreeMap;
 use std::marker::Model;
 use tb_board::{Board, Change};
 use tb_task::{Task, TaskId};
@@ -136,12 +135,12 @@ fn is_of_board(change: &Change, board: u32) -> bool
 pub(crate) fn changed_templates(
     alloc: Global,
     board: &Board,
-    places: &BTreeMap<TaskId, usize>,
+    places: &TaskPlaces,
     old: usize,
     put: &PlaceList,
     changes: &[Change],
 ) -> Result<Items<usize>, AllocError>
-    requires { ArePlaces (ids board.now.tasks) places.now }
+    requires { AreFor board.now places.now }
     ensures { IfOk result (λ templates. templates ≡ changed_templates board.now old put.now changes.now) }
 {
     let mut templates = Items::new(alloc);
@@ -153,11 +152,11 @@ pub(crate) fn changed_templates(
 fn push_instance_templates(
     templates: &mut Items<usize>,
     board: &Board,
-    places: &BTreeMap<TaskId, usize>,
+    places: &TaskPlaces,
     old: usize,
     put: &PlaceList,
 ) -> Result<(), AllocError>
-    requires { ArePlaces (ids board.now.tasks) places.now }
+    requires { AreFor board.now places.now }
     ensures { OnOk result (templates.new ≡ templates.old ++ rows_from (instance_template board.now old put.now) 0 board.now.tasks) }
 {
     for (place, task) in board.tasks.as_slice().iter().enumerate() {
@@ -169,13 +168,13 @@ fn push_instance_templates(
 fn push_instance_template(
     templates: &mut Items<usize>,
     board: &Board,
-    places: &BTreeMap<TaskId, usize>,
+    places: &TaskPlaces,
     old: usize,
     put: &PlaceList,
     place: usize,
     task: &Task,
 ) -> Result<(), AllocError>
-    requires { ArePlaces (ids board.now.tasks) places.now }
+    requires { AreFor board.now places.now }
     ensures { OnOk result (templates.new ≡ templates.old ++ instance_template board.now old put.now place task.now) }
 {
     if !is_changed(old, put, place) {
@@ -193,10 +192,10 @@ fn is_changed(old: usize, put: &PlaceList, place: usize) -> bool
 fn push_gone_templates(
     templates: &mut Items<usize>,
     board: &Board,
-    places: &BTreeMap<TaskId, usize>,
+    places: &TaskPlaces,
     changes: &[Change],
 ) -> Result<(), AllocError>
-    requires { ArePlaces (ids board.now.tasks) places.now }
+    requires { AreFor board.now places.now }
     ensures { OnOk result (templates.new ≡ templates.old ++ flat_map (gone_template board.now) changes.now) }
 {
     for change in changes {
@@ -208,10 +207,10 @@ fn push_gone_templates(
 fn push_gone_template(
     templates: &mut Items<usize>,
     board: &Board,
-    places: &BTreeMap<TaskId, usize>,
+    places: &TaskPlaces,
     change: &Change,
 ) -> Result<(), AllocError>
-    requires { ArePlaces (ids board.now.tasks) places.now }
+    requires { AreFor board.now places.now }
     ensures { OnOk result (templates.new ≡ templates.old ++ gone_template board.now change.now) }
 {
     match change {
@@ -234,17 +233,17 @@ fn push_gone_template(
 fn push_template(
     templates: &mut Items<usize>,
     board: &Board,
-    places: &BTreeMap<TaskId, usize>,
+    places: &TaskPlaces,
     template: Option<TaskId>,
 ) -> Result<(), AllocError>
-    requires { ArePlaces (ids board.now.tasks) places.now }
+    requires { AreFor board.now places.now }
     ensures { OnOk result (templates.new ≡ templates.old ++ template_place board.now template) }
 {
     let Some(id) = template else {
         return Ok(());
     };
-    if let Some(place) = places.get(&id) {
-        templates.push(*place)?;
+    if let Some(place) = places.place_of(board, id) {
+        templates.push(place)?;
     }
     Ok(())
 }

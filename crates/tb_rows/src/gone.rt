@@ -3,13 +3,14 @@
 ghost use Rattle.std.specs.Prelude.{◌≡◌, ◌≤◌, ◌++◌, IfOk, OnOk, length};
 ghost use Rattle.std.specs.List.{flat_map};
 ghost use Rattle.tb_board.specs.Board.{ids};
-ghost use Rattle.tb_board.specs.Links.{ArePlaces, place_in};
+ghost use Rattle.tb_board.specs.Links.{place_in};
 ghost use Rattle.tb_rows.specs.Rows.{gone_row};
 ghost use Rattle.tb_rows.specs.Steps.{gone_added, gone_changes, gone_removed};
+ghost use Rattle.tb_rows.specs.Sought.{AreFor};
 
 use crate::linking::place_number;
+use crate::task_places::TaskPlaces;
 use std::alloc::{AllocError, Global};
-use std::collections::BTreeMap;
 use tb_board::{Board, Change, Gone};
 use tb_sql::changes::RowChange;
 use tb_sql_tables::rows::GoneRow;
@@ -19,10 +20,10 @@ use tb_values::{Items, Text};
 fn gone_row(
     alloc: Global,
     board: &Board,
-    places: &BTreeMap<TaskId, usize>,
+    places: &TaskPlaces,
     gone: &Gone,
 ) -> Result<GoneRow, AllocError>
-    requires places { ArePlaces (ids board.now.tasks) places.now }
+    requires places { AreFor board.now places.now }
     requires few { length board.now.tasks ≤ 10000 }
     ensures { IfOk result (λ row. row ≡ gone_row board.now gone.now) }
 {
@@ -41,10 +42,10 @@ pub(crate) fn push_gone_changes(
     alloc: Global,
     rows: &mut Items<RowChange>,
     board: &Board,
-    places: &BTreeMap<TaskId, usize>,
+    places: &TaskPlaces,
     changes: &[Change],
 ) -> Result<(), AllocError>
-    requires places { ArePlaces (ids board.now.tasks) places.now }
+    requires places { AreFor board.now places.now }
     requires few { length board.now.tasks ≤ 10000 }
     ensures { OnOk result (rows.new ≡ rows.old ++ flat_map (gone_changes board.now) changes.now) }
 {
@@ -58,10 +59,10 @@ fn push_gone_change(
     alloc: Global,
     rows: &mut Items<RowChange>,
     board: &Board,
-    places: &BTreeMap<TaskId, usize>,
+    places: &TaskPlaces,
     change: &Change,
 ) -> Result<(), AllocError>
-    requires places { ArePlaces (ids board.now.tasks) places.now }
+    requires places { AreFor board.now places.now }
     requires few { length board.now.tasks ≤ 10000 }
     ensures { OnOk result (rows.new ≡ rows.old ++ gone_changes board.now change.now) }
 {
@@ -92,14 +93,14 @@ fn push_gone(
     alloc: Global,
     rows: &mut Items<RowChange>,
     board: &Board,
-    places: &BTreeMap<TaskId, usize>,
+    places: &TaskPlaces,
     gone: &Gone,
 ) -> Result<(), AllocError>
-    requires places { ArePlaces (ids board.now.tasks) places.now }
+    requires places { AreFor board.now places.now }
     requires few { length board.now.tasks ≤ 10000 }
     ensures { OnOk result (rows.new ≡ rows.old ++ gone_added board.now gone.now (place_in (ids board.now.tasks) gone.now.template)) }
 {
-    if places.get(&gone.template).is_none() {
+    if places.place_of(board, gone.template).is_none() {
         return Ok(());
     }
     let row = gone_row(alloc, board, places, gone)?;
@@ -110,18 +111,18 @@ fn push_gone(
 fn push_taken(
     rows: &mut Items<RowChange>,
     board: &Board,
-    places: &BTreeMap<TaskId, usize>,
+    places: &TaskPlaces,
     template: TaskId,
     imask: u32,
 ) -> Result<(), AllocError>
-    requires places { ArePlaces (ids board.now.tasks) places.now }
+    requires places { AreFor board.now places.now }
     requires few { length board.now.tasks ≤ 10000 }
     ensures { OnOk result (rows.new ≡ rows.old ++ gone_removed board.now imask (place_in (ids board.now.tasks) template)) }
 {
-    if let Some(place) = places.get(&template) {
+    if let Some(place) = places.place_of(board, template) {
         rows.push(RowChange::RemoveGone {
             board: board.number,
-            template: *place as u32 + 1,
+            template: place as u32 + 1,
             imask,
         })?;
     }

@@ -11,8 +11,10 @@ mod opening;
 mod part;
 mod people;
 mod roles;
+mod task_places;
 mod tasks;
 
 pub use linking::{instance_row, link_row, place_number};
 pub use opening::opening_rows;
 pub use part::{BoardPart, part_changes, touched_board};
+pub use task_places::TaskPlaces;

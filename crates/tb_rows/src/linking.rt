@@ -1,30 +1,29 @@
 //! The rows that tell by places which task depends on which, and which is an instance of which.
 
 ghost use Rattle.std.specs.Prelude.{◌≡◌, ◌≤◌, [], ◌∷◌, MatchOption, length};
-ghost use Rattle.tb_board.specs.Board.{ids};
-ghost use Rattle.tb_board.specs.Links.{ArePlaces};
 ghost use Rattle.tb_rows.specs.Rows.{instance_rows, link_row, place_of};
+ghost use Rattle.tb_rows.specs.Sought.{AreFor};
 
-use std::collections::BTreeMap;
+use crate::task_places::TaskPlaces;
 use tb_board::Board;
 use tb_sql_tables::rows::{InstanceRow, LinkRow};
 use tb_task::{Task, TaskId};
 
 /// The place of a task by its identifier, counted from 1, or 0 where there is none.
-pub fn place_number(board: &Board, places: &BTreeMap<TaskId, usize>, id: TaskId) -> u32
-    requires places { ArePlaces (ids board.now.tasks) places.now }
+pub fn place_number(board: &Board, places: &TaskPlaces, id: TaskId) -> u32
+    requires places { AreFor board.now places.now }
     requires few { length board.now.tasks ≤ 10000 }
     ensures { result ≡ place_of board.now.tasks id }
 {
-    match places.get(&id) {
-        Some(place) => *place as u32 + 1,
+    match places.place_of(board, id) {
+        Some(place) => place as u32 + 1,
         None => 0,
     }
 }
 
 /// The row of the link from the task at a place to the one of an identifier.
-pub fn link_row(board: &Board, places: &BTreeMap<TaskId, usize>, place: u32, id: TaskId) -> LinkRow
-    requires places { ArePlaces (ids board.now.tasks) places.now }
+pub fn link_row(board: &Board, places: &TaskPlaces, place: u32, id: TaskId) -> LinkRow
+    requires places { AreFor board.now places.now }
     requires few { length board.now.tasks ≤ 10000 }
     ensures { result ≡ link_row board.now place id }
 {
@@ -38,11 +37,11 @@ pub fn link_row(board: &Board, places: &BTreeMap<TaskId, usize>, place: u32, id:
 /// The row of the task at a place, where it is an instance.
 pub fn instance_row(
     board: &Board,
-    places: &BTreeMap<TaskId, usize>,
+    places: &TaskPlaces,
     place: u32,
     task: &Task,
 ) -> Option<InstanceRow>
-    requires places { ArePlaces (ids board.now.tasks) places.now }
+    requires places { AreFor board.now places.now }
     requires few { length board.now.tasks ≤ 10000 }
     ensures { MatchOption result (instance_rows board.now place task.now ≡ []) (λ row. instance_rows board.now place task.now ≡ row ∷ []) }
 {

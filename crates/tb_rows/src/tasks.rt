@@ -1,22 +1,21 @@
 //! The changes of rows of a board's tasks.
 
 ghost use Rattle.std.specs.Prelude.{◌≡◌, ◌≤◌, ◌<◌, ◌++◌, IfOk, OnOk, length, map};
-ghost use Rattle.tb_board.specs.Board.{ids};
-ghost use Rattle.tb_board.specs.Links.{ArePlaces};
 ghost use Rattle.tb_sql.specs.declared.changes.RowChange.TheVariants.{AddInstance, AddLink};
 ghost use Rattle.tb_rows.specs.Rows.{instance_rows, link_rows, mask_cell, rows_from, task_row};
 ghost use Rattle.tb_rows.specs.Steps.{new_mask, new_task, put_task, task_changes};
+ghost use Rattle.tb_rows.specs.Sought.{AreFor};
 
 use crate::concerned::PlaceList;
 use crate::linking::{instance_row, link_row};
+use crate::task_places::TaskPlaces;
 use std::alloc::{AllocError, Global};
-use std::collections::BTreeMap;
 use tb_board::{Board, is_template_task};
 use tb_json::write_stored;
 use tb_sql::changes::RowChange;
 use tb_sql_tables::rows::TaskRow;
 use tb_sweep::mask_of;
-use tb_task::{Task, TaskId};
+use tb_task::Task;
 use tb_values::{Items, Shared, Text};
 
 /// Which tasks of a board are concerned by changes: those beyond the old number, those that are put, and
@@ -58,10 +57,10 @@ pub(crate) fn push_tasks(
     alloc: Global,
     rows: &mut Items<RowChange>,
     board: &Board,
-    places: &BTreeMap<TaskId, usize>,
+    places: &TaskPlaces,
     concerned: &Concerned,
 ) -> Result<(), AllocError>
-    requires places { ArePlaces (ids board.now.tasks) places.now }
+    requires places { AreFor board.now places.now }
     requires few { length board.now.tasks ≤ 10000 }
     ensures { OnOk result (rows.new ≡ rows.old ++ rows_from (task_changes board.now concerned.now.old concerned.now.put concerned.now.templates) 0 board.now.tasks) }
 {
@@ -75,12 +74,12 @@ fn push_task(
     alloc: Global,
     rows: &mut Items<RowChange>,
     board: &Board,
-    places: &BTreeMap<TaskId, usize>,
+    places: &TaskPlaces,
     concerned: &Concerned,
     place: usize,
     task: &Task,
 ) -> Result<(), AllocError>
-    requires places { ArePlaces (ids board.now.tasks) places.now }
+    requires places { AreFor board.now places.now }
     requires few { length board.now.tasks ≤ 10000 }
     requires within { place < length board.now.tasks }
     ensures { OnOk result (rows.new ≡ rows.old ++ task_changes board.now concerned.now.old concerned.now.put concerned.now.templates place task.now) }
@@ -103,11 +102,11 @@ fn push_new_task(
     alloc: Global,
     rows: &mut Items<RowChange>,
     board: &Board,
-    places: &BTreeMap<TaskId, usize>,
+    places: &TaskPlaces,
     place: u32,
     task: &Task,
 ) -> Result<(), AllocError>
-    requires places { ArePlaces (ids board.now.tasks) places.now }
+    requires places { AreFor board.now places.now }
     requires few { length board.now.tasks ≤ 10000 }
     ensures { OnOk result (rows.new ≡ rows.old ++ new_task board.now place task.now) }
 {
@@ -122,11 +121,11 @@ fn push_put_task(
     alloc: Global,
     rows: &mut Items<RowChange>,
     board: &Board,
-    places: &BTreeMap<TaskId, usize>,
+    places: &TaskPlaces,
     place: u32,
     task: &Task,
 ) -> Result<(), AllocError>
-    requires places { ArePlaces (ids board.now.tasks) places.now }
+    requires places { AreFor board.now places.now }
     requires few { length board.now.tasks ≤ 10000 }
     ensures { OnOk result (rows.new ≡ rows.old ++ put_task board.now place task.now) }
 {
@@ -167,11 +166,11 @@ fn push_new_mask(
 fn push_links(
     rows: &mut Items<RowChange>,
     board: &Board,
-    places: &BTreeMap<TaskId, usize>,
+    places: &TaskPlaces,
     place: u32,
     task: &Task,
 ) -> Result<(), AllocError>
-    requires places { ArePlaces (ids board.now.tasks) places.now }
+    requires places { AreFor board.now places.now }
     requires few { length board.now.tasks ≤ 10000 }
     ensures { OnOk result (rows.new ≡ rows.old ++ map AddLink (link_rows board.now place task.now)) }
 {
@@ -186,11 +185,11 @@ fn push_links(
 fn push_instance(
     rows: &mut Items<RowChange>,
     board: &Board,
-    places: &BTreeMap<TaskId, usize>,
+    places: &TaskPlaces,
     place: u32,
     task: &Task,
 ) -> Result<(), AllocError>
-    requires places { ArePlaces (ids board.now.tasks) places.now }
+    requires places { AreFor board.now places.now }
     requires few { length board.now.tasks ≤ 10000 }
     ensures { OnOk result (rows.new ≡ rows.old ++ map AddInstance (instance_rows board.now place task.now)) }
 {

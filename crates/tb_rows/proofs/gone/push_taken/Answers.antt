@@ -4,12 +4,10 @@ use Rattle.tb_rows.proofs.gone.push_taken.Goals as goal
 
 pub overflow_cast-place : goal.overflow_cast-place
 overflow_cast-place c =
-    let found = rw c.in-Some.is at c.get.ensures.value in
-    let fits = place_within c.args.board.now.tasks c.args.template c.in-Some.place.now (sym (c.requires.places c.args.template) ∙ sym found) in
+    let fits = place_within c.args.board.now.tasks c.args.template c.in-Some.place (sym c.place_of.ensures ∙ c.in-Some.is) in
     omega (arith, fits, c.requires.few)
 
 pub overflow_add-place : goal.overflow_add-place
 overflow_add-place c =
-    let found = rw c.in-Some.is at c.get.ensures.value in
-    let fits = place_within c.args.board.now.tasks c.args.template c.in-Some.place.now (sym (c.requires.places c.args.template) ∙ sym found) in
+    let fits = place_within c.args.board.now.tasks c.args.template c.in-Some.place (sym c.place_of.ensures ∙ c.in-Some.is) in
     omega (arith, fits, c.requires.few)

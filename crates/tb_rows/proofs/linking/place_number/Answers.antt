@@ -4,12 +4,10 @@ use Rattle.tb_rows.proofs.linking.place_number.Goals as goal
 
 pub overflow_cast-result : goal.overflow_cast-result
 overflow_cast-result c =
-    let found = rw c.in-Some.is at c.get.ensures.value in
-    let fits = place_within c.args.board.now.tasks c.args.id c.in-Some.place.now (sym (c.requires.places c.args.id) ∙ sym found) in
+    let fits = place_within c.args.board.now.tasks c.args.id c.in-Some.place (sym c.place_of.ensures ∙ c.in-Some.is) in
     omega (arith, fits, c.requires.few)
 
 pub overflow_add-result : goal.overflow_add-result
 overflow_add-result c =
-    let found = rw c.in-Some.is at c.get.ensures.value in
-    let fits = place_within c.args.board.now.tasks c.args.id c.in-Some.place.now (sym (c.requires.places c.args.id) ∙ sym found) in
+    let fits = place_within c.args.board.now.tasks c.args.id c.in-Some.place (sym c.place_of.ensures ∙ c.in-Some.is) in
     omega (arith, fits, c.requires.few)
