@@ -2,12 +2,11 @@
 use Rattle.std.proofs.Common.{◌≡◌, ℕ, true, false, List, [], ◌∷◌, Option, Some, None, Ok, is_none, find, refl, sym, ◌∙◌, ap, subst}
 use Rattle.tb_board.specs.declared.board.Board.{Board}
 use Rattle.tb_board.specs.declared.change.Change.TheVariants as change
-use Rattle.tb_core.specs.declared.command.BoardAnswer.{BoardAnswer}
 use Rattle.tb_core.specs.declared.command.Answer.TheVariants.{OnBoard}
 use Rattle.tb_core.specs.declared.command.Command.{Command}
 use Rattle.tb_core.specs.declared.command.Command.TheVariants.{SetRole}
+use Rattle.tb_core.specs.declared.deciding.Accepted.{Accepted}
 use Rattle.tb_core.specs.declared.deciding.Decision.{Decision}
-use Rattle.tb_board.specs.declared.draft.Draft.{Draft}
 use Rattle.tb_core.specs.declared.look.Seen.{Seen}
 use Rattle.tb_core.specs.declared.look.SeenBoard.{SeenBoard}
 use Rattle.tb_core.specs.declared.look.SeenPerson.{SeenPerson}
@@ -16,7 +15,8 @@ use Rattle.tb_board.specs.declared.world.World.{World}
 use Rattle.tb_core.specs.Apply.{apply, board_for, board_of, decided, on_board, outcome, role_answer, role_given, role_refusals, with_role, seen_of, seen_with, IsDecision}
 use Rattle.tb_sweep.specs.Sweep.{sweep}
 use Rattle.tb_sweep.proofs.Adding.{number-sweep}
-use Rattle.tb_board.specs.Changes.{change_board, changed, IsDraft}
+use Rattle.tb_board.specs.Changes.{change_board, changed, replayed}
+use Rattle.tb_core.specs.Decisions.{IsAccepted}
 use Rattle.tb_core.specs.Giving.{IsRoleDecision}
 use Rattle.tb_core.specs.Outcomes.{given}
 use Rattle.tb_core.specs.Refusals.{least}
@@ -50,14 +50,15 @@ on_known : (caller : Option ℕ) (found : SeenBoard) (c : Command) (m : ℕ) →
 on_known None found c m h = absurd (cc)
 on_known (Some caller) found c m h = refl
 
-pub is_accepted : (w : World) (seen : Seen) (name : List ℕ) (c : Command) (m : ℕ) (found : SeenBoard) (d : Draft) (a : BoardAnswer)
-    → seen ≡ seen_of w name c → is_none seen.caller ≡ false → seen.board ≡ Some found → outcome found.board c m ≡ Ok (d.board, a) → IsDraft found.board d
-    → IsDecision w (record { changes = d.changes; answer = Ok (OnBoard a) }) (on_board w seen c m)
-is_accepted w seen name c m found d a is known board gives made =
+pub is_accepted : (w : World) (seen : Seen) (name : List ℕ) (c : Command) (m : ℕ) (found : SeenBoard) (a : Accepted)
+    → seen ≡ seen_of w name c → is_none seen.caller ≡ false → seen.board ≡ Some found → IsAccepted found.board c m a
+    → IsDecision w (record { changes = a.changes; answer = Ok (OnBoard a.answer) }) (on_board w seen c m)
+is_accepted w seen name c m found a is known board accepts =
     let at = there w seen name c found is board in
-    let here : decided seen.caller seen.board c m ≡ Ok (d.board, a)
-    = ap (λ (b : Option SeenBoard). decided seen.caller b c m) board ∙ on_known seen.caller found c m known ∙ gives in
-    rw here (record { answer = refl; world = changed-draft w at.0 found.board d at.1 made })
+    let later = replayed found.board a.changes in
+    let here : decided seen.caller seen.board c m ≡ Ok (later, a.answer)
+    = ap (λ (b : Option SeenBoard). decided seen.caller b c m) board ∙ on_known seen.caller found c m known ∙ accepts.gives in
+    rw here (record { answer = refl; world = changed-draft w at.0 found.board (record { board = later; changes = a.changes }) at.1 accepts.made })
 
 role_known : (w : World) (seen : Seen) (caller : Option ℕ) (found : SeenBoard) (role : Option Role) (m : ℕ) → is_none caller ≡ false
     → role_given w seen caller (Some found) role m

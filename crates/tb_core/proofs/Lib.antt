@@ -1,4 +1,5 @@
 pub mod Again
+pub mod Calm
 pub mod Cycles
 pub mod Decided
 pub mod Depending

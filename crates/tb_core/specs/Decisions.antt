@@ -5,17 +5,28 @@ use Rattle.tb_core.specs.declared.command.BoardAnswer.{BoardAnswer}
 use Rattle.tb_core.specs.declared.command.Command.{Command}
 use Rattle.tb_core.specs.declared.command.Command.TheVariants.{Add}
 use Rattle.tb_core.specs.declared.deciding.Accepted.{Accepted}
+use Rattle.tb_core.specs.declared.deciding.Drafted.{Drafted}
 use Rattle.tb_core.specs.declared.judged.Stop.{Stop}
 use Rattle.tb_core.specs.declared.refusal.Refusal.{Refusal}
 use Rattle.tb_core.specs.Add.{add_refusals}
+use Rattle.tb_board.specs.Changes.{IsDraft, replayed}
 use Rattle.tb_core.specs.Apply.{outcome}
 use Rattle.tb_core.specs.Refusals.{Fails, least}
 use Rattle.tb_task.specs.declared.incoming.Incoming.{Incoming}
 
+-- the changes are those of the board, and make the board that is expected of it; the answer is the expected one
+pub record IsAccepted (b : Board) (c : Command) (m : ℕ) (a : Accepted) : Type 0 where
+  pub made : IsDraft b (record { board = replayed b a.changes; changes = a.changes })
+  pub gives : outcome b c m ≡ Ok (replayed b a.changes, a.answer)
+
+abbrev pub GivesOutcome : Board → Command → ℕ → Result Accepted Stop → Type 0
+GivesOutcome b c m (Ok a) = IsAccepted b c m a
+GivesOutcome b c m (Err e) = Fails e (outcome b c m)
+
 -- the board and the answer are those that are expected
-abbrev pub GivesOutcome : Result Accepted Stop → Result (Board × BoardAnswer) Refusal → Type 0
-GivesOutcome (Ok a) expected = expected ≡ Ok (a.draft.board, a.answer)
-GivesOutcome (Err e) expected = Fails e expected
+abbrev pub GivesDraft : Result Drafted Stop → Result (Board × BoardAnswer) Refusal → Type 0
+GivesDraft (Ok d) expected = expected ≡ Ok (d.draft.board, d.answer)
+GivesDraft (Err e) expected = Fails e expected
 
 -- a board takes the task that a command adds
 abbrev pub TakesAdded : Board → Command → Type 0

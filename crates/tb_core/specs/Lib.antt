@@ -1,10 +1,12 @@
 pub mod Actions
 pub mod Add
 pub mod Apply
+pub mod Calm
 pub mod Cycles
 pub mod Decisions
 pub mod Depends
 pub mod Edits
+pub mod Effects
 pub mod Giving
 pub mod GoodWorld
 pub mod ImportAgain

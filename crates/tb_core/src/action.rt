@@ -1,16 +1,16 @@
 ghost use Rattle.std.specs.Prelude.{◌≡◌, IfOk};
 ghost use Rattle.tb_core.specs.Actions.{acted, action_fault, judged_action, lacks, takes};
-ghost use Rattle.tb_board.specs.Changes.{Follows};
-ghost use Rattle.tb_core.specs.Refusals.{Gives};
+ghost use Rattle.tb_core.specs.Effects.{Fits, GivesEffect};
 
 use crate::command::Told;
-use crate::judged::{Judged, Stop};
+use crate::effect::{Effect, Step};
+use crate::judged::Stop;
 use crate::notes::{annotated_task, denotated_task, fault_in_note, has_note_of};
 use crate::refusal::Refusal;
 use crate::transitions::{completed_task, deleted_task, reopened_task, started_task, stopped_task};
-use std::alloc::{AllocError, Global};
+use std::alloc::AllocError;
 use tb_board::{
-    Draft, is_open_status, is_pending_or_waiting_status, is_pending_status, place_of_task,
+    Board, is_open_status, is_pending_or_waiting_status, is_pending_status, place_of_task,
 };
 use tb_task::{Field, Moment, Task, TaskId};
 use tb_values::Text;
@@ -27,21 +27,15 @@ pub enum Action {
     Denotate(Text),
 }
 
-/// Does it to a task of a board that is awake.
-pub fn act(
-    alloc: Global,
-    draft: Draft,
-    id: TaskId,
-    action: &Action,
-    at: Moment,
-) -> Result<Judged, Stop>
-    ensures gives { Gives result (judged_action draft.board id action.now at) }
-    ensures follows { IfOk result (λ judged. Follows draft judged.draft) }
+/// What it makes of a task of a board that is awake.
+pub fn act(board: &Board, id: TaskId, action: &Action, at: Moment) -> Result<Effect, Stop>
+    ensures gives { GivesEffect board.now result (judged_action board.now id action.now at) }
+    ensures fits { IfOk result (λ effect. Fits board.now effect.step) }
 {
-    let Some(place) = place_of_task(draft.board.tasks.as_slice(), id) else {
+    let Some(place) = place_of_task(board.tasks.as_slice(), id) else {
         return Err(Stop::Refused(Refusal::NoTask));
     };
-    let task = draft.board.task_at(place);
+    let task = board.task_at(place);
     if !is_taken_by(action, task) {
         return Err(Stop::Refused(Refusal::WrongStatus));
     }
@@ -52,9 +46,8 @@ pub fn act(
         return Err(Stop::Refused(Refusal::NoLink));
     }
     let task = acted_task(task, action, at)?;
-    let draft = draft.set(alloc, place, task)?;
-    Ok(Judged {
-        draft,
+    Ok(Effect {
+        step: Step::Set { place, task },
         told: Told::Changed { id },
     })
 }

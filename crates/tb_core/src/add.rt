@@ -2,14 +2,15 @@ ghost use Rattle.std.specs.Prelude.{◌≡◌, ◌<◌, Some, None, length, is_s
 ghost use Rattle.std.specs.List.{list_any};
 ghost use Rattle.tb_core.specs.Add.{add_fault, add_refusals, entered_id, is_full, is_linked, judged_add, is_misread};
 ghost use Rattle.tb_board.specs.Board.{lacks_depends};
-ghost use Rattle.tb_board.specs.Changes.{Follows};
-ghost use Rattle.tb_core.specs.Refusals.{Gives, least};
+ghost use Rattle.tb_core.specs.Effects.{Fits, GivesEffect};
+ghost use Rattle.tb_core.specs.Refusals.{least};
 
 use crate::command::Told;
-use crate::judged::{Judged, Stop};
+use crate::effect::{Effect, Step};
+use crate::judged::Stop;
 use crate::refusal::Refusal;
 use std::alloc::{AllocError, Global};
-use tb_board::{Board, Draft, has_template_form, next_number, taken_numbers};
+use tb_board::{Board, has_template_form, next_number, taken_numbers};
 use tb_task::{Field, Incoming, Moment, Task, TaskId, check};
 use tb_values::Duplicate;
 
@@ -36,19 +37,19 @@ pub fn add_refusal(board: &Board, incoming: &Incoming) -> Option<Refusal>
 }
 
 /// Adds a task to a board that is awake, and that takes it.
-pub fn add(alloc: Global, draft: Draft, incoming: &Incoming, at: Moment) -> Result<Judged, Stop>
-    requires { least (add_refusals draft.board incoming.now) ≡ None }
-    ensures gives { Gives result (judged_add draft.board incoming.now at) }
-    ensures follows { IfOk result (λ judged. Follows draft judged.draft) }
+pub fn add(alloc: Global, board: &Board, incoming: &Incoming, at: Moment) -> Result<Effect, Stop>
+    requires { least (add_refusals board.now incoming.now) ≡ None }
+    ensures gives { GivesEffect board.now result (judged_add board.now incoming.now at) }
+    ensures fits { IfOk result (λ effect. Fits board.now effect.step) }
 {
-    let id = id_for(alloc, &draft.board, incoming)?;
+    let id = id_for(alloc, board, incoming)?;
     let task = entered_task(&incoming.task, id, at)?;
-    let draft = draft.push(alloc, task)?;
     let told = Told::Added {
         id,
         dropped: incoming.dropped,
     };
-    Ok(Judged { draft, told })
+    let step = Step::Push { task };
+    Ok(Effect { step, told })
 }
 
 fn lacks_one(board: &Board, ids: &[TaskId]) -> bool

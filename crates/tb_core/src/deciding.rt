@@ -1,8 +1,10 @@
-ghost use Rattle.std.specs.Prelude.{◌≡◌, ℕ, [], List, IfErr, IfOk, Ok, Err, MatchOption};
+ghost use Rattle.std.specs.Prelude.{◌≡◌, ℕ, [], List, IfErr, IfOk, IfSome, Ok, Err, MatchOption, false};
 ghost use Rattle.tb_core.specs.Apply.{apply, judged, on_board, outcome, role_given, seen_of, IsDecision};
 ghost use Rattle.tb_board.specs.Changes.{Follows, IsDraft};
-ghost use Rattle.tb_core.specs.Refusals.{Gives};
-ghost use Rattle.tb_core.specs.Decisions.{GivesOutcome, IsRefused, TakesAdded};
+ghost use Rattle.tb_core.specs.Calm.{is_import};
+ghost use Rattle.tb_core.specs.Effects.{Fits, GivesEffect};
+ghost use Rattle.tb_core.specs.Refusals.{Fails, Gives};
+ghost use Rattle.tb_core.specs.Decisions.{GivesDraft, GivesOutcome, IsAccepted, IsRefused, TakesAdded};
 ghost use Rattle.tb_core.specs.Shapes.{AreOfOne};
 ghost use Rattle.tb_core.specs.declared.command.Answer.TheVariants.{OnBoard};
 ghost use Rattle.tb_core.specs.declared.command.Command.TheVariants.{SetRole};
@@ -11,6 +13,7 @@ ghost use Rattle.tb_board.specs.declared.world.World.{World};
 use crate::action::act;
 use crate::add::{add, add_refusal};
 use crate::command::{Answer, BoardAnswer, Command, Told};
+use crate::effect::{Effect, Step, is_stirred};
 use crate::giving::{is_last_owner, is_owner_role, role_decision};
 use crate::import_json::import_json;
 use crate::import_todo::import_todo;
@@ -33,20 +36,27 @@ pub struct Decision {
     pub answer: Result<Answer, Refusal>,
 }
 
-/// What an accepted command makes of a board.
+/// What an accepted command changes on a board.
 #[derive(Drop)]
 pub struct Accepted {
+    pub changes: Items<Change>,
+    pub answer: BoardAnswer,
+}
+
+/// What an accepted command makes of a board.
+#[derive(Drop)]
+pub struct Drafted {
     pub draft: Draft,
     pub answer: BoardAnswer,
 }
 
 impl Accepted {
     fn into_decision(self) -> Decision
-        ensures { result ≡ record { changes = self.draft.changes; answer = Ok (OnBoard self.answer) } }
+        ensures { result ≡ record { changes = self.changes; answer = Ok (OnBoard self.answer) } }
     {
-        let Accepted { draft, answer } = self;
+        let Accepted { changes, answer } = self;
         Decision {
-            changes: draft.into_changes(),
+            changes,
             answer: Ok(Answer::OnBoard(answer)),
         }
     }
@@ -147,12 +157,58 @@ fn judge_board(
     command: &Command,
     at: Moment,
 ) -> Result<Accepted, Stop>
-    ensures gives { GivesOutcome result (outcome board.now command.now at) }
-    ensures made { IfOk result (λ accepted. IsDraft board.now accepted.draft) }
+    ensures { GivesOutcome board.now command.now at result }
 {
     if let Some(refusal) = early_refusal(board, command) {
         return Err(Stop::Refused(refusal));
     }
+    if let Some(accepted) = judge_calm(alloc, board, command, at)? {
+        return Ok(accepted);
+    }
+    let Drafted { draft, answer } = judge_draft(alloc, board, command, at)?;
+    let changes = draft.into_changes();
+    Ok(Accepted { changes, answer })
+}
+
+/// What a command makes of a board on which no task wakes and none recurs, neither before nor after it: no other task changes, so that
+/// the board needn't be copied. It is left to `judge_draft` where the board isn't such a one, and where the command is an import.
+fn judge_calm(
+    alloc: Global,
+    board: &Board,
+    command: &Command,
+    at: Moment,
+) -> Result<Option<Accepted>, Stop>
+    requires { TakesAdded board.now command.now }
+    ensures gives { IfOk result (λ found. IfSome found (λ accepted. IsAccepted board.now command.now at accepted)) }
+    ensures refused { IfErr result (λ stop. Fails stop (outcome board.now command.now at)) }
+{
+    if is_import(command) {
+        return Ok(None);
+    }
+    if is_stirred(board, at) {
+        return Ok(None);
+    }
+    let effect = effect_of(alloc, board, command, at)?;
+    if effect.step.stirs(at) {
+        return Ok(None);
+    }
+    let Effect { step, told } = effect;
+    let changes = step.into_changes(alloc, board)?;
+    let answer = BoardAnswer {
+        board: board.number,
+        added: 0,
+        more: false,
+        told,
+    };
+    Ok(Some(Accepted { changes, answer }))
+}
+
+/// What a command makes of any board, which is copied for that.
+fn judge_draft(alloc: Global, board: &Board, command: &Command, at: Moment) -> Result<Drafted, Stop>
+    requires { TakesAdded board.now command.now }
+    ensures gives { GivesDraft result (outcome board.now command.now at) }
+    ensures made { IfOk result (λ drafted. IsDraft board.now drafted.draft) }
+{
     let draft = Draft::of(alloc, board)?;
     let draft = wake_draft(alloc, draft, at)?;
     let Judged { draft, told } = judge(alloc, draft, command, at)?;
@@ -164,7 +220,7 @@ fn judge_board(
         more,
         told,
     };
-    Ok(Accepted { draft, answer })
+    Ok(Drafted { draft, answer })
 }
 
 /// Why a command is refused, where the board needn't wake for it to show.
@@ -184,19 +240,61 @@ fn judge(alloc: Global, draft: Draft, command: &Command, at: Moment) -> Result<J
     ensures follows { IfOk result (λ judged. Follows draft judged.draft) }
 {
     match command {
-        Command::Add { incoming, .. } => add(alloc, draft, incoming, at),
-        Command::OnTask { id, action, .. } => act(alloc, draft, *id, action, at),
-        Command::Modify { id, edits, .. } => modify(alloc, draft, *id, edits.as_slice(), at),
-        Command::Depend { id, on, .. } => depend(alloc, draft, *id, *on, at),
-        Command::Undepend { id, on, .. } => undepend(alloc, draft, *id, *on, at),
         Command::ImportJson { tasks, .. } => import_json(alloc, draft, tasks.as_slice()),
         Command::ImportTodo { tasks, .. } => import_todo(alloc, draft, tasks.as_slice()),
+        Command::Add { .. }
+        | Command::OnTask { .. }
+        | Command::Modify { .. }
+        | Command::Depend { .. }
+        | Command::Undepend { .. }
+        | Command::Sweep { .. }
+        | Command::SetRole { .. }
+        | Command::NewPerson { .. }
+        | Command::NewBoard { .. } => judge_one(alloc, draft, command, at),
+    }
+}
+
+fn judge_one(alloc: Global, draft: Draft, command: &Command, at: Moment) -> Result<Judged, Stop>
+    requires takes { TakesAdded draft.board command.now }
+    requires few { is_import command.now ≡ false }
+    ensures gives { Gives result (judged draft.board command.now at) }
+    ensures follows { IfOk result (λ judged. Follows draft judged.draft) }
+{
+    let effect = effect_of(alloc, &draft.board, command, at)?;
+    Ok(effect.make(alloc, draft)?)
+}
+
+/// What a command that isn't an import makes of a board that is awake.
+fn effect_of(alloc: Global, board: &Board, command: &Command, at: Moment) -> Result<Effect, Stop>
+    requires takes { TakesAdded board.now command.now }
+    requires few { is_import command.now ≡ false }
+    ensures gives { GivesEffect board.now result (judged board.now command.now at) }
+    ensures fits { IfOk result (λ effect. Fits board.now effect.step) }
+{
+    match command {
+        Command::Add { incoming, .. } => add(alloc, board, incoming, at),
+        Command::OnTask { id, action, .. } => act(board, *id, action, at),
+        Command::Modify { id, edits, .. } => modify(alloc, board, *id, edits.as_slice(), at),
+        Command::Depend { id, on, .. } => depend(alloc, board, *id, *on, at),
+        Command::Undepend { id, on, .. } => undepend(board, *id, *on, at),
         Command::Sweep { .. }
         | Command::SetRole { .. }
         | Command::NewPerson { .. }
-        | Command::NewBoard { .. } => Ok(Judged {
-            draft,
+        | Command::NewBoard { .. } => Ok(Effect {
+            step: Step::Stay,
             told: Told::Swept,
         }),
+        Command::ImportJson { .. } => unreachable!(),
+        Command::ImportTodo { .. } => unreachable!(),
     }
+}
+
+/// Whether the command can change many tasks.
+fn is_import(command: &Command) -> bool
+    ensures { result ≡ is_import command.now }
+{
+    matches!(
+        command,
+        Command::ImportJson { .. } | Command::ImportTodo { .. }
+    )
 }

@@ -9,6 +9,7 @@ mod add;
 mod command;
 mod deciding;
 mod edits;
+mod effect;
 mod giving;
 mod import_json;
 mod import_todo;

@@ -1,71 +1,66 @@
 ghost use Rattle.std.specs.Prelude.{◌≡◌, Option, Some, IfOk, IfErr};
 ghost use Rattle.std.specs.BTreeSet.{replace_key};
+ghost use Rattle.std.specs.List.{list_any};
 ghost use Rattle.std.specs.Ordering.{nat_cmp};
-ghost use Rattle.tb_board.specs.Changes.{Follows};
+ghost use Rattle.tb_board.specs.Links.{leads_on};
 ghost use Rattle.tb_core.specs.Depends.{closes_walk, depends_on, IsPlaceToLink, judged_depend, judged_undepend, link_refusals, unlinked};
-ghost use Rattle.tb_core.specs.Refusals.{Fails, Gives, least, unless_refused};
+ghost use Rattle.tb_core.specs.Effects.{Fits, GivesEffect};
+ghost use Rattle.tb_core.specs.Refusals.{Fails, least, unless_refused};
 ghost use Rattle.tb_core.specs.declared.command.Told.{Told};
 ghost use Rattle.tb_core.specs.declared.refusal.Refusal.{Refusal};
 ghost use Rattle.tb_board.specs.declared.board.Board.{Board};
 
 use crate::command::Told;
-use crate::judged::{Judged, Stop};
+use crate::effect::{Effect, Step};
+use crate::judged::Stop;
 use crate::refusal::Refusal;
 use std::alloc::{AllocError, Global};
-use tb_board::{Board, Draft, is_led, is_open_status, place_of_task};
+use tb_board::{Board, is_led, is_open_status, place_of_task};
 use tb_task::{Moment, Task, TaskId};
 use tb_values::Duplicate;
 
-/// Makes a task depend on another one, on a board that is awake.
+/// A task depends on another one, on a board that is awake.
 pub fn depend(
     alloc: Global,
-    draft: Draft,
+    board: &Board,
     id: TaskId,
     on: TaskId,
     at: Moment,
-) -> Result<Judged, Stop>
-    ensures gives { Gives result (judged_depend draft.board id on at) }
-    ensures follows { IfOk result (λ judged. Follows draft judged.draft) }
+) -> Result<Effect, Stop>
+    ensures gives { GivesEffect board.now result (judged_depend board.now id on at) }
+    ensures fits { IfOk result (λ effect. Fits board.now effect.step) }
 {
-    let place = place_to_link(&draft.board, id, on)?;
-    let task = draft.board.task_at(place);
-    if is_cycle(alloc, &draft.board, id, on)? {
+    let place = place_to_link(board, id, on)?;
+    let task = board.task_at(place);
+    if is_cycle(alloc, board, id, on)? {
         return Err(Stop::Refused(Refusal::Cycle));
     }
     if is_linked_to(task, on) {
-        return Ok(Judged {
-            draft,
+        return Ok(Effect {
+            step: Step::Stay,
             told: Told::Changed { id },
         });
     }
     let task = linked_task(task, on, at)?;
-    let draft = draft.set(alloc, place, task)?;
-    Ok(Judged {
-        draft,
+    Ok(Effect {
+        step: Step::Set { place, task },
         told: Told::Changed { id },
     })
 }
 
-/// Ends that a task depends on another one, on a board that is awake.
-pub fn undepend(
-    alloc: Global,
-    draft: Draft,
-    id: TaskId,
-    on: TaskId,
-    at: Moment,
-) -> Result<Judged, Stop>
-    ensures gives { Gives result (judged_undepend draft.board id on at) }
-    ensures follows { IfOk result (λ judged. Follows draft judged.draft) }
+/// A task depends no more on another one, on a board that is awake.
+pub fn undepend(board: &Board, id: TaskId, on: TaskId, at: Moment) -> Result<Effect, Stop>
+    ensures gives { GivesEffect board.now result (judged_undepend board.now id on at) }
+    ensures fits { IfOk result (λ effect. Fits board.now effect.step) }
 {
-    let place = place_to_link(&draft.board, id, on)?;
-    let task = draft.board.task_at(place);
+    let place = place_to_link(board, id, on)?;
+    let task = board.task_at(place);
     if !is_linked_to(task, on) {
         return Err(Stop::Refused(Refusal::NoLink));
     }
     let task = unlinked_task(task, on, at)?;
-    let draft = draft.set(alloc, place, task)?;
-    Ok(Judged {
-        draft,
+    Ok(Effect {
+        step: Step::Set { place, task },
         told: Told::Changed { id },
     })
 }
@@ -94,7 +89,28 @@ fn is_cycle(alloc: Global, board: &Board, id: TaskId, on: TaskId) -> Result<bool
     if id == on {
         return Ok(true);
     }
+    leads_back(alloc, board, id, on)
+}
+
+/// Whether the second task depends on the first, directly or by others. The links of all tasks are followed only where one leads there.
+fn leads_back(alloc: Global, board: &Board, id: TaskId, on: TaskId) -> Result<bool, AllocError>
+    ensures { IfOk result (λ answer. answer ≡ leads_on board.now on id) }
+{
+    if !is_awaited(board, id) {
+        return Ok(false);
+    }
     is_led(alloc, board, on, id)
+}
+
+/// Whether a task of the board depends directly on this one.
+fn is_awaited(board: &Board, id: TaskId) -> bool
+    ensures { result ≡ list_any (depends_on id) board.now.tasks }
+{
+    board
+        .tasks
+        .as_slice()
+        .iter()
+        .any(|task| is_linked_to(task.get(), id))
 }
 
 fn is_linked_to(task: &Task, on: TaskId) -> bool

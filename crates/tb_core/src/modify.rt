@@ -1,31 +1,31 @@
 ghost use Rattle.std.specs.Prelude.{◌≡◌, IfOk};
-ghost use Rattle.tb_board.specs.Changes.{Follows};
+ghost use Rattle.tb_core.specs.Effects.{Fits, GivesEffect};
 ghost use Rattle.tb_core.specs.Modify.{is_fixed, is_misplaced, judged_modify};
-ghost use Rattle.tb_core.specs.Refusals.{Gives};
 
 use crate::command::Told;
 use crate::edits::{is_named, modified_task};
-use crate::judged::{Judged, Stop};
+use crate::effect::{Effect, Step};
+use crate::judged::Stop;
 use crate::refusal::Refusal;
 use std::alloc::Global;
-use tb_board::{Draft, is_open_status, is_template_task, place_of_task};
+use tb_board::{Board, is_open_status, is_template_task, place_of_task};
 use tb_task::{Edit, Field, Moment, Task, TaskId, check};
 
 /// Sets and removes attributes of one task of a board that is awake.
 pub fn modify(
     alloc: Global,
-    draft: Draft,
+    board: &Board,
     id: TaskId,
     edits: &[Edit],
     at: Moment,
-) -> Result<Judged, Stop>
-    ensures gives { Gives result (judged_modify draft.board id edits.now at) }
-    ensures follows { IfOk result (λ judged. Follows draft judged.draft) }
+) -> Result<Effect, Stop>
+    ensures gives { GivesEffect board.now result (judged_modify board.now id edits.now at) }
+    ensures fits { IfOk result (λ effect. Fits board.now effect.step) }
 {
-    let Some(place) = place_of_task(draft.board.tasks.as_slice(), id) else {
+    let Some(place) = place_of_task(board.tasks.as_slice(), id) else {
         return Err(Stop::Refused(Refusal::NoTask));
     };
-    let task = draft.board.task_at(place);
+    let task = board.task_at(place);
     if !is_open_status(task.status) {
         return Err(Stop::Refused(Refusal::WrongStatus));
     }
@@ -39,9 +39,8 @@ pub fn modify(
     if is_template_fixed(edits, task) {
         return Err(Stop::Refused(Refusal::TemplateFixed));
     }
-    let draft = draft.set(alloc, place, later)?;
-    Ok(Judged {
-        draft,
+    Ok(Effect {
+        step: Step::Set { place, task: later },
         told: Told::Changed { id },
     })
 }

@@ -5,10 +5,9 @@ use Rattle.tb_core.proofs.deciding.decide_on_board.Goals as goal
 
 pub returns-in-Ok-clause-decided : goal.returns-in-Ok-clause-decided
 returns-in-Ok-clause-decided c = λ w name is.
-    let gives = rw c.get.ensures at c.in-Ok.ensures.gives in
-    let made = rw c.get.ensures at c.in-Ok.ensures.made in
+    let accepts = rw c.get.ensures at c.in-Ok.ensures in
     rw c.into_decision.ensures
-    (is_accepted w c.args.seen.now name c.args.command.now c.args.at c.in-Some.found c.in-Ok.accepted.draft c.in-Ok.accepted.answer is (ap not (c.is_none.ensures ∙ ap not c.if-is_none.false)) c.in-Some.is gives made)
+    (is_accepted w c.args.seen.now name c.args.command.now c.args.at c.in-Some.found c.in-Ok.accepted is (ap not (c.is_none.ensures ∙ ap not c.if-is_none.false)) c.in-Some.is accepts)
 
 pub returns-in-Ok-clause-shape : goal.returns-in-Ok-clause-shape
-returns-in-Ok-clause-shape c = rw c.into_decision.ensures (draft_shape _ c.in-Ok.accepted.draft c.in-Ok.ensures.made)
+returns-in-Ok-clause-shape c = rw c.into_decision.ensures (draft_shape _ _ c.in-Ok.ensures.made)

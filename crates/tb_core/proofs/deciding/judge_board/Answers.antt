@@ -1,5 +1,7 @@
-use Rattle.tb_core.proofs.Early.{takes_awake}
+use Rattle.tb_core.proofs.Calm.{draft_accepted}
 use Rattle.tb_core.proofs.deciding.judge_board.Goals as goal
 
-pub judge-requires : goal.judge-requires
-judge-requires c = rw (c.in_ok-draft-2.ensures.board, c.in_ok-draft.ensures.board) (takes_awake c.args.board.now c.args.at c.args.command.now c.in_default.ensures)
+pub returns : goal.returns
+returns c =
+    rw c.into_changes-changes.ensures
+    (draft_accepted c.args.board.now c.args.command.now c.args.at c.in_ok-draft.field-0.draft c.in_ok-draft.field-0.answer c.in_ok-draft.ensures.gives c.in_ok-draft.ensures.made)

@@ -7,7 +7,7 @@ use Rattle.tb_core.proofs.modify.modify.Goals as goal
 
 pub returns-clause-gives : goal.returns-clause-gives
 returns-clause-gives c =
-    let b = c.args.draft.board in
+    let b = c.args.board.now in
     let t = c.task_at-task.result.now in
     let first = rw c.as_slice.ensures at c.in-Some.ensures in
     let good = taken c.in_ok-later.later c.in_default-check.field-0 c.in_default-check.ensures.verdict in
@@ -20,5 +20,5 @@ returns-clause-gives c =
       good = rw c.in_ok-later.ensures at good;
       free = sym c.is_template_fixed.ensures ∙ c.if-is_template_fixed.false;
     } in
-    rw (c.in_ok-draft.ensures.board, c.in_ok-later.ensures, changed_there (has_id c.args.id) (modified c.args.at c.args.edits.now) b.tasks c.in-Some.place t first c.task_at-task.ensures)
+    rw (c.in_ok-later.ensures, changed_there (has_id c.args.id) (modified c.args.at c.args.edits.now) b.tasks c.in-Some.place t first c.task_at-task.ensures)
     (judged-modified b c.args.id c.args.edits.now c.args.at t is)

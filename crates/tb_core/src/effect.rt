@@ -1,0 +1,112 @@
+ghost use Rattle.std.specs.Prelude.{◌≡◌, ◌∷◌, [], IfOk};
+ghost use Rattle.std.specs.List.{list_any};
+ghost use Rattle.tb_board.specs.Changes.{Follows};
+ghost use Rattle.tb_board.specs.declared.change.Change.TheVariants.{PutTask};
+ghost use Rattle.tb_core.specs.Calm.{step_stirs, stirs};
+ghost use Rattle.tb_core.specs.Effects.{after, Fits, step_changes};
+
+use crate::command::Told;
+use crate::judged::Judged;
+use std::alloc::{AllocError, Global};
+use tb_board::{Board, Change, Draft, has_waited};
+use tb_task::{Moment, Task, is_recurring_status};
+use tb_values::{Items, Shared};
+
+/// How a command changes the tasks of a board.
+#[derive(Drop)]
+pub enum Step {
+    /// Another task stands at this place.
+    Set { place: usize, task: Task },
+    /// A task goes last.
+    Push { task: Task },
+    /// All stay.
+    Stay,
+}
+
+/// What an accepted command makes of a board, of which it changes one task at most.
+#[derive(Drop)]
+pub struct Effect {
+    pub step: Step,
+    pub told: Told,
+}
+
+impl Effect {
+    /// Makes it on a draft.
+    pub fn make(self, alloc: Global, draft: Draft) -> Result<Judged, AllocError>
+        requires { Fits draft.board self.step }
+        ensures board { IfOk result (λ judged. judged.draft.board ≡ after draft.board self.step) }
+        ensures told { IfOk result (λ judged. judged.told ≡ self.told) }
+        ensures follows { IfOk result (λ judged. Follows draft judged.draft) }
+    {
+        let Effect { step, told } = self;
+        let draft = step.make(alloc, draft)?;
+        Ok(Judged { draft, told })
+    }
+}
+
+impl Step {
+    fn make(self, alloc: Global, draft: Draft) -> Result<Draft, AllocError>
+        requires { Fits draft.board self }
+        ensures board { IfOk result (λ later. later.board ≡ after draft.board self) }
+        ensures follows { IfOk result (Follows draft) }
+    {
+        match self {
+            Step::Set { place, task } => draft.set(alloc, place, task),
+            Step::Push { task } => draft.push(alloc, task),
+            Step::Stay => Ok(draft),
+        }
+    }
+
+    /// The changes by which it is made on a board.
+    pub fn into_changes(self, alloc: Global, board: &Board) -> Result<Items<Change>, AllocError>
+        ensures { IfOk result (λ changes. changes ≡ step_changes board.now self) }
+    {
+        match self {
+            Step::Set { place, task } => one_change(alloc, board.number, place, task),
+            Step::Push { task } => one_change(alloc, board.number, board.tasks.len(), task),
+            Step::Stay => Ok(Items::new(alloc)),
+        }
+    }
+
+    /// Whether the task that it puts wakes at the moment, or recurs.
+    pub fn stirs(&self, at: Moment) -> bool
+        ensures { result ≡ step_stirs at self.now }
+    {
+        match self {
+            Step::Set { task, .. } => stirs(task, at),
+            Step::Push { task } => stirs(task, at),
+            Step::Stay => false,
+        }
+    }
+}
+
+fn one_change(
+    alloc: Global,
+    board: u32,
+    place: usize,
+    task: Task,
+) -> Result<Items<Change>, AllocError>
+    ensures { IfOk result (λ changes. changes ≡ PutTask board place task ∷ []) }
+{
+    let task = Shared::new(alloc, task)?;
+    let mut changes = Items::new(alloc);
+    changes.push(Change::PutTask { board, place, task })?;
+    Ok(changes)
+}
+
+fn stirs(task: &Task, at: Moment) -> bool
+    ensures { result ≡ stirs at task.now }
+{
+    has_waited(task, at) || is_recurring_status(task.status)
+}
+
+/// Whether a task of the board wakes at the moment, or recurs.
+pub fn is_stirred(board: &Board, at: Moment) -> bool
+    ensures { result ≡ list_any (stirs at) board.now.tasks }
+{
+    board
+        .tasks
+        .as_slice()
+        .iter()
+        .any(|task| stirs(task.get(), at))
+}
