@@ -59,7 +59,7 @@ fn copy(alloc: Global, file: &Frail) -> io::Result<Memory> {
 }
 
 /// Sends lines over files that go one way after no call, after one and so on, for the words `WAY`. For `WAY WAY STEP` they go the second
-/// way behind that, each time after some of the numbers of calls, so far apart. Tells how often a file went its way.
+/// way behind that, both after numbers of calls that are so far apart. Tells how often a file went its way.
 pub fn stop_each(owner: &Owner, lines: &[&str], words: &str) -> io::Result<u64> {
     let trial = Trial::new(owner, lines)?;
     match words.split_once(' ') {
@@ -71,12 +71,16 @@ pub fn stop_each(owner: &Owner, lines: &[&str], words: &str) -> io::Result<u64> 
     }
 }
 
-/// Sends lines over files that go each way, after some numbers of calls, so far apart; which these are depends on how many bytes are sent.
+/// Sends lines over files that go one way, after some numbers of calls, so far apart; which these are depends on how many bytes are sent.
 pub fn stop_at_some(owner: &Owner, lines: &[&str], bytes: usize, step: u64) -> io::Result<()> {
+    let way = match bytes % 4 {
+        0 => "log",
+        1 => "file",
+        2 => "log_once",
+        _ => "file_once",
+    };
     let first = (bytes as u64).checked_rem(step).unwrap_or(0);
-    for way in WAYS {
-        Trial::new(owner, lines)?.stop_once(way, first, step)?;
-    }
+    Trial::new(owner, lines)?.stop_once(way, first, step)?;
     Ok(())
 }
 
@@ -153,12 +157,12 @@ impl<'t> Trial<'t> {
 
     fn stop_twice(&self, first: &str, second: &str, step: u64) -> io::Result<u64> {
         let mut count = 0u64;
-        for calls in 0..u64::MAX {
-            let stopped = self.session(first, calls)?;
+        for turn in 0..u64::MAX {
+            let from = turn.checked_rem(step).ok_or(unreadable())?;
+            let stopped = self.session(first, turn.saturating_mul(step))?;
             if stopped.is_whole {
                 break;
             }
-            let from = calls.checked_rem(step).ok_or(unreadable())?;
             count = count.saturating_add(stopped.stop_once(second, from, step)?);
         }
         Ok(count)
