@@ -39,6 +39,8 @@ view_type (view.Listing board) number = if number == 0 then PlainText else Json
 view_type (view.Todo board) number = if number == 0 then PlainText else Json
 view_type (view.Export board) number = Json
 view_type (view.One board id) number = Json
+view_type (view.People board) number = Json
+view_type view.Me number = Json
 
 abbrev pub told_view : View → Reply → Told
 told_view view reply = told_reply (view_type view reply.number) reply
