@@ -1,0 +1,201 @@
+// Sending again. Each change has an identifier, stands on the device before it is sent, and is sent, the same identifier and the same
+// bytes, until the server answers. One person's changes go in their order: none is sent before the one ahead of it was answered.
+//
+// Each tab sends what the person who is signed in there has on this device, also what another tab put there. Locks keep two tabs from
+// doing so at once. Where a browser has none (plain http from another machine) a lease stands in for them, which a tab that sleeps may
+// lose while it sends. That does no harm: both tabs send the first change that isn't answered, and it acts once under its identifier.
+import { NoAnswer, newIdentifier, tell } from "./asking.js";
+import * as device from "./device.js";
+import { changes as making } from "./changes.js";
+import { descriptionAt } from "./cutting.js";
+import { announce, state } from "./state.js";
+
+const PAUSES = [1, 2, 4, 8, 15, 30];
+const LEASE = 6000;
+const tabs = new BroadcastChannel("taskboard");
+const tab = newIdentifier();
+
+// What the device holds of the person who is signed in: changes that wait, were refused, or have something to tell.
+let held = [];
+let tries = 0;
+let isSending = false;
+let endPause = () => {};
+
+export function waiting() {
+    return held.filter((change) => change.state === "waiting");
+}
+
+export function settled() {
+    return held.filter((change) => change.state !== "waiting");
+}
+
+// How often the first waiting change was sent in vain.
+export function vainTries() {
+    return tries;
+}
+
+async function readDevice() {
+    const who = state.who;
+    held = who ? await device.all(who.name) : [];
+    announce("kept");
+}
+
+function tellTabs(message) {
+    tabs.postMessage(message);
+}
+
+tabs.onmessage = async ({ data }) => {
+    await readDevice();
+    if (data?.change && data.change.member === state.who?.name) {
+        announce("answered", data);
+    }
+    send();
+};
+
+// Holds changes on the device, and then sends them. Several are a group: where one is refused those behind it are taken back.
+export async function keep(...made) {
+    const group = made.length > 1 ? newIdentifier() : "";
+    const about = { member: state.who.name, state: "waiting", group, made: Date.now() };
+    await device.put(made.map((change) => ({ ...about, ...change, id: newIdentifier() })));
+    await readDevice();
+    tellTabs({});
+    sendNow();
+}
+
+// Lets go of changes that were settled and read, or of one that the person gives up.
+export async function forget(...gone) {
+    await device.remove(gone);
+    await readDevice();
+    tellTabs({});
+}
+
+export function sendNow() {
+    endPause();
+    send();
+}
+
+export async function beginSending() {
+    tries = 0;
+    await readDevice();
+    sendNow();
+}
+
+function pause(milliseconds) {
+    return new Promise((done) => {
+        const timer = setTimeout(done, milliseconds);
+        endPause = () => {
+            clearTimeout(timer);
+            done();
+        };
+    });
+}
+
+// Sends all that waits, with growing pauses while no answer comes. The turn isn't kept over a pause, so a tab that sleeps holds up no other.
+async function send() {
+    if (isSending) {
+        return;
+    }
+    isSending = true;
+    try {
+        while (state.who && waiting().length > 0) {
+            const isDone = await inTurn(`taskboard ${state.who.name}`, () => sendInOrder(state.who));
+            if (!isDone && state.who) {
+                await pause(1000 * PAUSES[Math.min(tries, PAUSES.length) - 1] * (0.75 + Math.random() / 2));
+            }
+        }
+    } finally {
+        isSending = false;
+    }
+}
+
+// Sends the first change of the device that waits, and then the next; gives whether all were answered.
+async function sendInOrder(who) {
+    while (state.who === who) {
+        await readDevice();
+        const change = waiting()[0];
+        if (!change) {
+            return true;
+        }
+        try {
+            await settle(change, await tell(who, change));
+            tries = 0;
+            announce("reach", true);
+        } catch (fault) {
+            if (!(fault instanceof NoAnswer)) {
+                throw fault;
+            }
+            tries += 1;
+            announce("reach", false);
+            return false;
+        }
+    }
+    return true;
+}
+
+// Takes an answer down before the next change is sent. One that says the key is wrong settles nothing: the server keeps no such answer,
+// so the change waits until its person signs in again.
+async function settle(change, { status, body }) {
+    if (status === 401) {
+        announce("unknown");
+        return;
+    }
+    if (status !== 200) {
+        await refuse(change, body);
+    } else if (change.reports) {
+        await device.replace({ ...change, state: "done", body: "", answer: body });
+    } else {
+        await device.remove([change]);
+    }
+    if (body.more) {
+        await device.put([{ ...making.sweep(change.board), member: change.member, state: "waiting", group: "", made: Date.now(), id: newIdentifier() }]);
+    }
+    await readDevice();
+    const news = { change: { ...change, body: "" }, status, body };
+    tellTabs(news);
+    announce("answered", news);
+}
+
+async function refuse(change, body) {
+    const behind = held.filter((other) => change.group && other.group === change.group && other.order > change.order);
+    const culprit = change.reports && body.at !== undefined ? descriptionAt(change.body, body.at) : "";
+    await device.remove(behind);
+    await device.replace({ ...change, state: "refused", body: "", answer: body, culprit, takenBack: behind.length });
+}
+
+function inTurn(name, work) {
+    return navigator.locks ? navigator.locks.request(name, work) : underLease(name, work);
+}
+
+function readLease(name) {
+    try {
+        return JSON.parse(localStorage.getItem(name)) ?? { until: 0 };
+    } catch {
+        return { until: 0 };
+    }
+}
+
+function takeLease(name) {
+    localStorage.setItem(name, JSON.stringify({ tab, until: Date.now() + LEASE }));
+}
+
+async function underLease(name, work) {
+    for (let isMine = false; !isMine; ) {
+        const { tab: holder, until } = readLease(name);
+        if (holder === tab || until < Date.now()) {
+            takeLease(name);
+        }
+        // Of two tabs that take a free lease at once the later one has it.
+        await new Promise((done) => setTimeout(done, 100 + 100 * Math.random()));
+        isMine = readLease(name).tab === tab;
+    }
+    const renewal = setInterval(() => takeLease(name), LEASE / 3);
+    try {
+        return await work();
+    } finally {
+        clearInterval(renewal);
+        localStorage.removeItem(name);
+    }
+}
+
+addEventListener("online", sendNow);
+document.addEventListener("visibilitychange", () => document.hidden || sendNow());
