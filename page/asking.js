@@ -5,19 +5,12 @@ const PATIENCE = 30000;
 // No answer came: the line broke, the server is away or has no memory, or a proxy answered in its place.
 export class NoAnswer extends Error {}
 
-// The server's answer that a view is refused.
-export class Refused extends Error {
-    constructor(status, body) {
-        super(body.name);
-        Object.assign(this, { status, body });
-    }
-}
+// The server refuses a view.
+export class Refused extends Error {}
 
 // A uuid of version 4. `randomUUID` is there on https and on the loopback alone.
 export function newIdentifier() {
-    if (crypto.randomUUID) {
-        return crypto.randomUUID();
-    }
+    if (crypto.randomUUID) return crypto.randomUUID();
     const bytes = crypto.getRandomValues(new Uint8Array(16));
     bytes[6] = (bytes[6] & 0x0f) | 0x40;
     bytes[8] = (bytes[8] & 0x3f) | 0x80;
@@ -35,41 +28,29 @@ async function ask(who, path, settings, fields = {}) {
     }
 }
 
-function objectIn(text) {
+// The body of an answer by the server itself, a refusal too; else it is NoAnswer.
+function bodyOf({ status, text }) {
+    if (status === 413) return { name: "BodyTooLong" };
     try {
-        const value = JSON.parse(text);
-        return value !== null && typeof value === "object" ? value : null;
+        const body = JSON.parse(text);
+        if (status === 200 || (status >= 400 && status < 500 && body.name)) return body;
     } catch {
-        return null;
+        // A proxy's page is no JSON.
     }
-}
-
-function refusalIn(status, text) {
-    const body = objectIn(text);
-    return status >= 400 && status < 500 && typeof body?.name === "string" ? body : null;
+    throw new NoAnswer(`status ${status}`);
 }
 
 // What a view shows, as text.
 export async function look(who, path) {
-    const { status, text } = await ask(who, path, {});
-    if (status === 200) {
-        return text;
-    }
-    const body = refusalIn(status, text);
-    throw body ? new Refused(status, body) : new NoAnswer(`status ${status}`);
+    const answer = await ask(who, path, {});
+    if (answer.status === 200) return answer.text;
+    throw Object.assign(new Refused(bodyOf(answer).name), { status: answer.status });
 }
 
 // Sends a change under its identifier. An answer of the server's own is given as its status and body, a refusal too; all else is NoAnswer,
 // and then the change may have acted or not, and the same bytes have to be sent again under the same identifier.
 export async function tell(who, change) {
     const fields = { "x-request-id": change.id, "content-type": "application/json" };
-    const { status, text } = await ask(who, change.path, { method: "POST", body: change.body }, fields);
-    if (status === 413) {
-        return { status, body: { name: "BodyTooLong" } };
-    }
-    const body = status === 200 ? objectIn(text) : refusalIn(status, text);
-    if (!body) {
-        throw new NoAnswer(`status ${status}`);
-    }
-    return { status, body };
+    const answer = await ask(who, change.path, { method: "POST", body: change.body }, fields);
+    return { status: answer.status, body: bodyOf(answer) };
 }

@@ -9,48 +9,45 @@ import { now, seconds } from "./moments.js";
 const SLICE = 8;
 // Urgency is counted in parts, of which so many make one; then each term is whole.
 const UNIT = 110376000;
+export const PRIORITIES = { H: "high", M: "medium", L: "low" };
 const PRIORITY_PARTS = { H: 6 * UNIT, M: 430466400, L: 198676800 };
 const COUNT_PARTS = [0, 88300800, 99338400, UNIT];
 
+// A task as the server tells it, and what of it is asked for often. Whatever else it has is looked up where it is shown.
 class Task {
     constructor(line) {
-        const { annotations = [], depends = [], tags = [], ...told } = JSON.parse(line);
-        const { uuid, description, status, project = "", priority = "", due, wait, entry, scheduled, until, modified, start, end, recur, parent, imask, mask, ...extras } = told;
-        Object.assign(this, { uuid, description, status, project, priority, recur, parent, imask: Number(imask), mask: mask ?? "", tags, depends, extras });
-        this.notes = annotations;
-        const moments = { due, wait, entry, scheduled, until, modified, start, end };
-        for (const [name, text] of Object.entries(moments)) {
-            this[name] = seconds(text);
-        }
+        const told = JSON.parse(line);
+        const { uuid, description, status, project = "", priority = "", recur = "", parent = "", mask = "", annotations = [], depends = [], tags = [] } = told;
+        Object.assign(this, { told, uuid, description, status, project, priority, recur, parent, mask, depends, tags, notes: annotations });
+        this.due = seconds(told.due);
+        this.entry = seconds(told.entry);
         this.isListed = status === "pending" || status === "waiting";
         this.isOpen = this.isListed || status === "recurring";
-    }
-
-    // The text that a search looks in, made when it is first asked for.
-    get searched() {
-        this.lowered ??= [this.description, this.project, ...this.tags, ...this.notes.map((note) => note.description)].join("\n").toLowerCase();
-        return this.lowered;
+        this.searched = [description, project, ...tags, ...annotations.map((note) => note.description)].join("\n").toLowerCase();
     }
 }
 
 function urgencyParts(task, moment) {
-    let parts = task.tags.includes("next") ? 15 * UNIT : 0;
-    parts += task.due === undefined ? 0 : Math.min(1814400, Math.max(0, moment + 1209600 - task.due)) * 584 + 264902400;
-    parts += PRIORITY_PARTS[task.priority] ?? 0;
-    parts += task.scheduled !== undefined && task.scheduled < moment ? 5 * UNIT : 0;
-    parts += task.start === undefined ? 0 : 4 * UNIT;
+    const { tags, due, told, notes, status } = task;
+    let parts = tags.includes("next") ? 15 * UNIT : 0;
+    if (due !== undefined) parts += Math.min(1814400, Math.max(0, moment + 1209600 - due)) * 584 + 264902400;
+    if (task.priority) parts += PRIORITY_PARTS[task.priority];
+    if (told.scheduled && seconds(told.scheduled) < moment) parts += 5 * UNIT;
+    if (told.start) parts += 4 * UNIT;
     parts += Math.min(2 * UNIT, 7 * Math.max(0, moment - task.entry));
-    parts += COUNT_PARTS[Math.min(3, task.notes.length)] + COUNT_PARTS[Math.min(3, task.tags.length)];
-    parts += task.project ? UNIT : 0;
-    parts += task.isBlocking ? 8 * UNIT : 0;
-    parts -= task.status === "waiting" ? 3 * UNIT : 0;
-    return parts - (task.isBlocked ? 5 * UNIT : 0);
+    parts += COUNT_PARTS[Math.min(3, notes.length)] + COUNT_PARTS[Math.min(3, tags.length)];
+    if (task.project) parts += UNIT;
+    if (task.isBlocking) parts += 8 * UNIT;
+    if (task.isBlocked) parts -= 5 * UNIT;
+    return status === "waiting" ? parts - 3 * UNIT : parts;
 }
+
+export const urgencyText = (task) => (task.parts / UNIT).toFixed(1);
 
 export const STATUSES = {
     open: ["Open", (task) => task.isListed],
     ready: ["Ready to do", (task) => task.status === "pending" && !task.isBlocked],
-    started: ["Started", (task) => task.isListed && task.start !== undefined],
+    started: ["Started", (task) => task.isListed && Boolean(task.told.start)],
     waiting: ["Waiting", (task) => task.status === "waiting"],
     blocked: ["Blocked", (task) => task.isListed && task.isBlocked],
     completed: ["Completed", (task) => task.status === "completed"],
@@ -58,24 +55,18 @@ export const STATUSES = {
     all: ["All", (task) => task.status !== "recurring"],
 };
 
-function sortedTexts(texts) {
-    return [...new Set(texts)].filter(Boolean).sort((one, other) => (one < other ? -1 : 1));
-}
+const sortedTexts = (texts) => [...new Set(texts)].filter(Boolean).sort((one, other) => (one < other ? -1 : 1));
 
 export class Board {
     tasks = [];
+    ordered = [];
     byId = new Map();
-    instances = new Map();
-    projects = [];
-    tags = [];
     #byLine = new Map();
     #text = null;
 
     // Takes an export, a task a line, in slices; lines that are known aren't read again. Gives whether anything is new.
     async take(text) {
-        if (text === this.#text) {
-            return false;
-        }
+        if (text === this.#text) return false;
         const byLine = new Map();
         const tasks = [];
         let begun = performance.now();
@@ -94,67 +85,57 @@ export class Board {
         this.#text = text;
         this.#byLine = byLine;
         this.tasks = tasks;
-        await breathe();
-        this.#link();
-        await breathe();
-        this.rank();
+        for (const part of [this.#link, this.#collect, this.rank]) {
+            await breathe();
+            part.call(this);
+        }
         return true;
     }
 
-    // Which tasks are blocked and blocking, which instances a template has, and which projects and tags there are.
+    // Which tasks are blocked, and which are blocking.
     #link() {
         this.byId = new Map(this.tasks.map((task) => [task.uuid, task]));
-        this.instances = new Map();
         const held = new Set();
-        this.tasks.forEach((task, place) => {
-            const ahead = task.isOpen ? task.depends.filter((id) => this.byId.get(id)?.isOpen) : [];
-            task.place = place;
-            task.isBlocked = ahead.length > 0;
-            ahead.forEach((id) => held.add(id));
-            if (task.parent) {
-                this.instances.set(`${task.parent} ${task.imask}`, task);
+        for (const task of this.tasks) {
+            task.isBlocked = false;
+            for (const id of task.isOpen ? task.depends : []) {
+                if (!this.byId.get(id)?.isOpen) continue;
+                task.isBlocked = true;
+                held.add(id);
             }
-        });
-        this.tasks.forEach((task) => {
-            task.isBlocking = task.isOpen && held.has(task.uuid);
-        });
+        }
+        for (const task of this.tasks) task.isBlocking = task.isOpen && held.has(task.uuid);
+    }
+
+    // Which templates and instances, projects and tags there are.
+    #collect() {
+        this.templates = this.tasks.filter((task) => task.status === "recurring");
+        this.instances = new Map(this.tasks.filter((task) => task.parent).map((task) => [`${task.parent} ${Number(task.told.imask)}`, task]));
         this.projects = sortedTexts(this.tasks.map((task) => task.project));
         this.tags = sortedTexts(this.tasks.flatMap((task) => task.tags));
     }
 
-    // Orders the tasks as of now: open ones by falling urgency and then place, as the listing has them; then the others, the last that ended first.
+    // Orders the tasks as of now: open ones by falling urgency and then place, as the listing has them; then the others, the last that ended
+    // first. What is equal keeps its place.
     rank() {
         const moment = now();
         for (const task of this.tasks) {
             task.parts = urgencyParts(task, moment);
-            task.rank = task.isOpen ? task.parts : (task.end ?? task.entry) - 1e12;
+            task.rank = task.isOpen ? task.parts : (seconds(task.told.end) ?? task.entry) - 1e12;
         }
-        this.ordered = [...this.tasks].sort((one, other) => other.rank - one.rank || one.place - other.place);
+        this.ordered = [...this.tasks].sort((one, other) => other.rank - one.rank);
     }
 
     // The tasks that pass a filter, in their order.
     shown({ text, project, tag, status }) {
         const words = text.toLowerCase().split(/\s+/).filter(Boolean);
         const passes = STATUSES[status][1];
-        return this.ordered.filter(
-            (task) =>
-                passes(task) &&
-                (!project || task.project === project) &&
-                (!tag || task.tags.includes(tag)) &&
-                words.every((word) => task.searched.includes(word)),
-        );
+        const isOf = (task) => (!project || task.project === project) && (!tag || task.tags.includes(tag));
+        return this.ordered.filter((task) => passes(task) && isOf(task) && words.every((word) => task.searched.includes(word)));
     }
 
     // The tasks that wait for one.
     behind(task) {
         return this.tasks.filter((other) => other.depends.includes(task.uuid));
     }
-
-    templates() {
-        return this.tasks.filter((task) => task.status === "recurring");
-    }
-}
-
-export function urgencyText(task) {
-    return (task.parts / UNIT).toFixed(1);
 }

@@ -9,32 +9,28 @@ const encoder = new TextEncoder();
 // The texts of the objects in a JSON list, in an object, or in lines of objects: from each outermost brace to the one that closes it.
 export function objectTexts(text) {
     const found = [];
-    const mark = /"(?:[^"\\]|\\.)*"|[{}]/gs;
+    const mark = /"[^"\\]*(?:\\.[^"\\]*)*"|[{}]/gs;
     let depth = 0;
     let from = 0;
     for (let match = mark.exec(text); match; match = mark.exec(text)) {
-        if (match[0] === "{" && depth++ === 0) {
-            from = match.index;
-        } else if (match[0] === "}" && --depth === 0) {
-            found.push(text.slice(from, mark.lastIndex));
-        }
+        if (match[0] === "{" && depth++ === 0) from = match.index;
+        else if (match[0] === "}" && --depth === 0) found.push(text.slice(from, mark.lastIndex));
     }
     return found;
 }
 
-function idsIn(depends) {
-    const list = Array.isArray(depends) ? depends : typeof depends === "string" ? depends.split(",") : [];
-    return list.map((id) => String(id).toLowerCase());
+function read(text) {
+    try {
+        return JSON.parse(text) ?? {};
+    } catch {
+        return {};
+    }
 }
 
 // What has to go before a task: its template, and those on which it depends. A text that is no JSON is left for the server to refuse.
 function nodeOf(text) {
-    try {
-        const { uuid, parent, depends } = JSON.parse(text);
-        return { text, id: String(uuid).toLowerCase(), before: [...(parent ? [String(parent).toLowerCase()] : []), ...idsIn(depends)], isBegun: false };
-    } catch {
-        return { text, id: "", before: [], isBegun: false };
-    }
+    const { uuid = "", parent = "", depends = "" } = read(text);
+    return { text, id: String(uuid).toLowerCase(), before: `${depends},${parent}`.toLowerCase().split(","), isBegun: false };
 }
 
 // The texts in such an order. Those in a circle stay as they come: the server refuses them.
@@ -48,16 +44,11 @@ function inOrder(texts) {
         path.push(node);
     };
     for (const root of nodes) {
-        if (!root.isBegun) {
-            begin(root);
-        }
+        if (!root.isBegun) begin(root);
         while (path.length > 0) {
             const ahead = byId.get(path.at(-1).before.shift());
-            if (ahead && !ahead.isBegun) {
-                begin(ahead);
-            } else if (path.at(-1).before.length === 0) {
-                ordered.push(path.pop().text);
-            }
+            if (ahead && !ahead.isBegun) begin(ahead);
+            else if (path.at(-1).before.length === 0) ordered.push(path.pop().text);
         }
     }
     return ordered;
@@ -79,22 +70,17 @@ function cut(texts) {
     return parts;
 }
 
-// What a file is, how many tasks it has, and the texts of the calls that take them in.
+// Which call takes a file, how many tasks it has, and the bodies of the calls.
 export function cutImport(text) {
     if (/^\s*[[{]/.test(text)) {
         const texts = objectTexts(text);
         const isOne = texts.length <= MOST_TASKS && encoder.encode(text).length <= MOST_BYTES;
-        return { kind: "json", count: texts.length, parts: isOne ? [text] : cut(inOrder(texts)).map((part) => `[${part.join(",\n")}]`) };
+        const parts = isOne ? [text] : cut(inOrder(texts)).map((part) => `[${part.join(",\n")}]`);
+        return { path: "import", count: texts.length, parts };
     }
     const lines = text.split(/\r?\n/).filter((line) => !/^[ \t]*$/.test(line));
-    return { kind: "todo", count: lines.length, parts: cut(lines).map((part) => `${part.join("\n")}\n`) };
+    return { path: "import-todo", count: lines.length, parts: cut(lines).map((part) => `${part.join("\n")}\n`) };
 }
 
 // The description of one task of a part, to name the one that was refused.
-export function descriptionAt(text, at) {
-    try {
-        return String(JSON.parse(objectTexts(text)[at]).description ?? "");
-    } catch {
-        return "";
-    }
-}
+export const descriptionAt = (text, at) => String(read(objectTexts(text)[at]).description ?? "");

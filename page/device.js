@@ -28,19 +28,9 @@ async function within(mode, work) {
 }
 
 // Puts changes behind all others, all of them or none.
-export function put(changes) {
-    return within("readwrite", (store) => changes.forEach((change) => store.add(change)));
-}
-
-export function replace(change) {
-    return within("readwrite", (store) => store.put(change));
-}
-
-export function remove(changes) {
-    return within("readwrite", (store) => changes.forEach((change) => store.delete(change.order)));
-}
+export const put = (changes) => within("readwrite", (store) => changes.forEach((change) => store.add(change)));
+export const replace = (change) => within("readwrite", (store) => store.put(change));
+export const remove = (changes) => within("readwrite", (store) => changes.forEach((change) => store.delete(change.order)));
 
 // A person's changes, in their order.
-export function all(member) {
-    return within("readonly", (store) => store.index("member").getAll(member));
-}
+export const all = (member) => within("readonly", (store) => store.index("member").getAll(member));

@@ -1,33 +1,27 @@
 // The fields of a task in a form, for a new task and for one that is changed.
+import { PRIORITIES } from "./board.js";
 import { make } from "./dom.js";
-import { fromFields, toFields } from "./moments.js";
+import { fromFields, seconds, toFields } from "./moments.js";
 
 const STEPS = ["daily", "weekdays", "weekly", "biweekly", "monthly", "quarterly", "semiannual", "yearly", "3d", "2w"];
-const PRIORITIES = [["", "None"], ["H", "High"], ["M", "Medium"], ["L", "Low"]];
 let made = 0;
 
-export function options(choices, chosen) {
-    return choices.map(([value, label]) => make("option", { value, selected: value === chosen }, label));
-}
-
-function labelled(label, ...inputs) {
-    return make("label", { class: "field" }, make("span", {}, label), ...inputs);
-}
+export const options = (choices, chosen) => choices.map(([value, label]) => make("option", { value, selected: value === chosen }, label));
+const labelled = (label, ...inputs) => make("label", { class: "field" }, make("span", {}, label), ...inputs);
 
 function suggesting(input, texts) {
-    const id = `suggestions-${(made += 1)}`;
-    input.setAttribute("list", id);
-    return [input, make("datalist", { id }, texts.map((value) => make("option", { value })))];
+    made += 1;
+    input.setAttribute("list", `suggestions-${made}`);
+    return [input, make("datalist", { id: `suggestions-${made}` }, texts.map((value) => make("option", { value })))];
 }
 
 // A day and a time; the time may be left empty.
 class MomentField {
     constructor(label, second, disabled) {
         const { day, time } = toFields(second);
-        this.second = second;
         this.day = make("input", { type: "date", value: day, min: "1970-01-01", max: "9999-12-31", disabled, "aria-label": `${label}: day` });
         this.time = make("input", { type: "time", value: time, disabled, "aria-label": `${label}: time, which may be left empty` });
-        this.element = make("div", { class: "field", role: "group", "aria-label": label }, make("span", {}, label), make("div", { class: "moment" }, this.day, this.time));
+        this.element = make("div", { class: "field" }, make("span", {}, label), make("div", { class: "moment" }, this.day, this.time));
     }
 
     read() {
@@ -41,12 +35,13 @@ export class Fields {
         const isTemplate = task?.status === "recurring";
         const { projects = [], tags = [] } = board ?? {};
         this.description = task ? make("textarea", { rows: 3, required: true }, task.description) : null;
-        this.project = make("input", { value: task?.project ?? "", autocomplete: "off" });
-        this.tags = make("input", { value: task?.tags.join(" ") ?? "", autocomplete: "off", autocapitalize: "none", placeholder: "phone mail" });
-        this.priority = make("select", {}, options(PRIORITIES, task?.priority ?? ""));
+        const input = (value = "", settings = {}) => make("input", { value, autocomplete: "off", autocapitalize: "none", ...settings });
+        this.project = input(task?.project);
+        this.tags = input(task?.tags.join(" "), { placeholder: "phone mail" });
+        this.priority = make("select", {}, options([["", "none"], ...Object.entries(PRIORITIES)], task?.priority ?? ""));
         this.due = new MomentField("Due", task?.due, isTemplate);
-        this.wait = new MomentField("Wait until", task?.wait);
-        this.recur = make("input", { value: task?.recur ?? "", disabled: Boolean(task), autocomplete: "off", placeholder: "weekly" });
+        this.wait = new MomentField("Wait until", seconds(task?.told.wait));
+        this.recur = input(task?.recur, { disabled: Boolean(task), placeholder: "weekly" });
         this.elements = [
             this.description ? labelled("Description", this.description) : "",
             labelled("Project", ...suggesting(this.project, projects)),
@@ -64,9 +59,7 @@ export class Fields {
     read() {
         const tags = [...new Set(this.tags.value.split(/[\s,]+/).filter(Boolean).map((tag) => tag.replace(/^@/, "")))].sort();
         const said = { project: this.project.value.trim() || null, tags: tags.length ? tags : null, priority: this.priority.value || null };
-        if (this.description) {
-            said.description = this.description.value.trim();
-        }
+        if (this.description) said.description = this.description.value.trim();
         return { ...said, due: this.due.read(), wait: this.wait.read(), recur: this.recur.value.trim() || null };
     }
 

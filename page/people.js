@@ -1,59 +1,41 @@
 // The view of the people on a board and their roles, and of adding a person.
-import { look, Refused } from "./asking.js";
+import { look } from "./asking.js";
 import { changes } from "./changes.js";
-import { button, fill, find, make, said, whenSent } from "./dom.js";
+import { button, fill, find, make, said, span, whenSent } from "./dom.js";
 import { options } from "./fields.js";
 import { tellFault } from "./notices.js";
 import { keep } from "./sending.js";
-import { listen, role, state } from "./state.js";
+import { here, listen, state } from "./state.js";
 
+// The roles that are known here, and those that the server tells of.
 const roles = new Set(["owner", "member"]);
 let shown = "";
 
-function choices() {
-    return [...roles].map((name) => [name, name]);
+const isOwner = () => here()?.role === "owner";
+const choices = (chosen) => options([...roles].map((role) => [role, role]), chosen);
+
+function row({ name, role }) {
+    const set = (given) => keep(changes.role(state.number, name, given)).catch(tellFault);
+    const isMine = name === state.who.name;
+    const [word, question] = isMine ? ["Leave", "Leave this board? Only an owner can let you in again."] : ["Remove", `End the role of ${name}?`];
+    const end = button(word, () => confirm(question) && set(null), { class: "quiet", "aria-label": `${word} ${name}` });
+    const select = make("select", { "aria-label": `Role of ${name}`, change: (event) => set(event.target.value) }, choices(role));
+    return make("li", {}, span("person", said(name), isMine ? span("about", " (you)") : ""), ...(isOwner() ? [select, end] : [span("chip", said(role))]));
 }
 
-function row(person) {
-    const isMine = person.name === state.who.name;
-    const set = (given) => keep(changes.role(state.number, person.name, given)).catch(tellFault);
-    const select = make("select", { "aria-label": `Role of ${person.name}`, change: (event) => set(event.target.value) }, options(choices(), person.role));
-    const remove = button(isMine ? "Leave" : "Remove", () => confirm(isMine ? "Leave this board? Only an owner can let you in again." : `End the role of ${person.name}?`) && set(null), {
-        class: "quiet",
-        "aria-label": isMine ? "Leave this board" : `Remove ${person.name} from this board`,
-    });
-    const isOwner = role() === "owner";
-    return make("li", {}, make("span", { class: "person" }, said(person.name), isMine ? make("span", { class: "about" }, " you") : ""), isOwner ? select : make("span", { class: "chip" }, said(person.role)), isOwner ? remove : "");
-}
-
-async function draw() {
-    const { who, number } = state;
-    if (state.view !== "people" || !number || !who) {
-        return;
-    }
-    const text = await look(who, `/boards/${number}/people`);
-    if (state.number !== number || (shown === text + role() && !find("people").dataset.stale)) {
-        return;
-    }
-    shown = text + role();
-    delete find("people").dataset.stale;
+// A view that isn't answered is asked for again at the next look. What was refused is shown anew as it is on the server.
+async function draw(isAnew) {
+    const { who, number, view } = state;
+    if (view !== "people" || !here()) return;
+    if (isAnew) shown = "";
+    const text = await look(who, `/boards/${number}/people`).catch(() => shown);
+    if (state.number !== number || text === shown) return;
+    shown = text;
     const { people } = JSON.parse(text);
-    people.forEach((person) => roles.add(person.role));
+    people.forEach(({ role }) => roles.add(role));
     fill(find("people"), people.map(row));
-    for (const select of [find("invite-role"), find("person-role")]) {
-        const chosen = select.value || "member";
-        fill(select, options(choices(), chosen));
-    }
-    find("invite-part").hidden = role() !== "owner";
-}
-
-// A view that isn't answered is asked for again at the next look.
-function drawQuietly() {
-    draw().catch((fault) => {
-        if (!(fault instanceof Refused) && fault.name === "TypeError") {
-            throw fault;
-        }
-    });
+    for (const id of ["invite-role", "person-role"]) fill(find(id), choices(find(id).value || "member"));
+    find("invite-form").hidden = !isOwner();
 }
 
 function makeKey() {
@@ -61,35 +43,28 @@ function makeKey() {
     find("person-key").value = btoa(String.fromCharCode(...bytes)).replaceAll("+", "-").replaceAll("/", "_");
 }
 
-async function addPerson() {
-    const [name, key, given] = [find("person-name").value.trim(), find("person-key").value, find("person-role").value];
-    const isOwner = role() === "owner" && find("person-here").checked;
-    await keep(changes.person(name, key), ...(isOwner ? [changes.role(state.number, name, given)] : []));
-    find("person-form").reset();
-    fill(find("person-told"), "Once this is answered, ", said(name), " signs in with the key ", make("code", {}, key), ". Hand it over so that nobody else reads it; it isn't shown again.");
+async function addPerson(form) {
+    const [name, key, role] = ["person-name", "person-key", "person-role"].map((id) => find(id).value.trim());
+    const joins = isOwner() && find("person-here").checked;
+    await keep(changes.person(name, key), ...(joins ? [changes.role(state.number, name, role)] : []));
+    form.reset();
+    const told = [said(name), " signs in with the key ", make("code", {}, key), ". Hand it over so that nobody else reads it; it isn't shown again."];
+    fill(find("person-told"), "Once this is answered, ", ...told);
     find("person-told").hidden = false;
 }
 
 export function beginPeople() {
     find("make-key").addEventListener("click", makeKey);
-    whenSent(find("person-form"), () => addPerson().catch(tellFault));
-    whenSent(find("invite-form"), async (form) => {
-        await keep(changes.role(state.number, find("invite-name").value.trim(), find("invite-role").value)).catch(tellFault);
+    whenSent("person-form", (form) => addPerson(form).catch(tellFault));
+    whenSent("invite-form", (form) => {
+        keep(changes.role(state.number, find("invite-name").value.trim(), find("invite-role").value)).catch(tellFault);
         form.reset();
     });
     listen("route", () => {
         find("person-told").hidden = true;
-        shown = "";
-        drawQuietly();
+        draw(true);
     });
-    listen("tick", drawQuietly);
-    listen("boards", drawQuietly);
-    listen("answered", ({ change, status }) => {
-        // A role that was refused is shown as it still is.
-        if (change.path.endsWith("/roles")) {
-            find("people").dataset.stale = status === 200 ? "" : "yes";
-            shown = "";
-        }
-        drawQuietly();
-    });
+    listen("tick", () => draw(false));
+    listen("boards", () => draw(true));
+    listen("answered", ({ change }) => change.path.endsWith("/roles") && draw(true));
 }

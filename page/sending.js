@@ -5,9 +5,9 @@
 // doing so at once. Where a browser has none (plain http from another machine) a lease stands in for them, which a tab that sleeps may
 // lose while it sends. That does no harm: both tabs send the first change that isn't answered, and it acts once under its identifier.
 import { NoAnswer, newIdentifier, tell } from "./asking.js";
-import * as device from "./device.js";
 import { changes as making } from "./changes.js";
 import { descriptionAt } from "./cutting.js";
+import * as device from "./device.js";
 import { announce, state } from "./state.js";
 
 const PAUSES = [1, 2, 4, 8, 15, 30];
@@ -15,58 +15,30 @@ const LEASE = 6000;
 const tabs = new BroadcastChannel("taskboard");
 const tab = newIdentifier();
 
-// What the device holds of the person who is signed in: changes that wait, were refused, or have something to tell.
+// What the device holds of the person who is signed in: changes that wait, were refused, or have something to tell; and how often the
+// first that waits was sent in vain.
 let held = [];
 let tries = 0;
 let isSending = false;
 let endPause = () => {};
 
-export function waiting() {
-    return held.filter((change) => change.state === "waiting");
-}
-
-export function settled() {
-    return held.filter((change) => change.state !== "waiting");
-}
-
-// How often the first waiting change was sent in vain.
-export function vainTries() {
-    return tries;
-}
+export const waiting = () => held.filter((change) => change.state === "waiting");
+export const settled = () => held.filter((change) => change.state !== "waiting");
+export const vainTries = () => tries;
 
 async function readDevice() {
-    const who = state.who;
-    held = who ? await device.all(who.name) : [];
+    held = state.who ? await device.all(state.who.name) : [];
     announce("kept");
-}
-
-function tellTabs(message) {
-    tabs.postMessage(message);
 }
 
 tabs.onmessage = async ({ data }) => {
     await readDevice();
-    if (data?.change && data.change.member === state.who?.name) {
-        announce("answered", data);
-    }
+    if (data.change && data.change.member === state.who?.name) announce("answered", data);
     send();
 };
 
-// Holds changes on the device, and then sends them. Several are a group: where one is refused those behind it are taken back.
-export async function keep(...made) {
-    const group = made.length > 1 ? newIdentifier() : "";
-    const about = { member: state.who.name, state: "waiting", group, made: Date.now() };
-    await device.put(made.map((change) => ({ ...about, ...change, id: newIdentifier() })));
-    await readDevice();
-    tellTabs({});
-    sendNow();
-}
-
-// Lets go of changes that were settled and read, or of one that the person gives up.
-export async function forget(...gone) {
-    await device.remove(gone);
-    await readDevice();
-    tellTabs({});
+function toKeep(made, group = "") {
+    return { ...made, member: state.who.name, state: "waiting", group, made: Date.now(), id: newIdentifier() };
 }
 
 export function sendNow() {
@@ -80,115 +52,91 @@ export async function beginSending() {
     sendNow();
 }
 
-function pause(milliseconds) {
+// Holds changes on the device, and then sends them. Several are a group: where one is refused those behind it are taken back.
+export async function keep(...made) {
+    const group = made.length > 1 ? newIdentifier() : "";
+    await device.put(made.map((change) => toKeep(change, group)));
+    tabs.postMessage({});
+    await readDevice();
+    sendNow();
+}
+
+// Lets go of changes that were settled and read, or of one that the person gives up.
+export async function forget(...gone) {
+    await device.remove(gone);
+    tabs.postMessage({});
+    await readDevice();
+}
+
+function pause() {
+    const seconds = PAUSES[Math.min(tries, PAUSES.length) - 1] * (0.75 + Math.random() / 2);
     return new Promise((done) => {
-        const timer = setTimeout(done, milliseconds);
-        endPause = () => {
-            clearTimeout(timer);
-            done();
-        };
+        endPause = done;
+        setTimeout(done, 1000 * seconds);
     });
 }
 
 // Sends all that waits, with growing pauses while no answer comes. The turn isn't kept over a pause, so a tab that sleeps holds up no other.
 async function send() {
-    if (isSending) {
-        return;
-    }
+    if (isSending) return;
     isSending = true;
-    try {
-        while (state.who && waiting().length > 0) {
-            const isDone = await inTurn(`taskboard ${state.who.name}`, () => sendInOrder(state.who));
-            if (!isDone && state.who) {
-                await pause(1000 * PAUSES[Math.min(tries, PAUSES.length) - 1] * (0.75 + Math.random() / 2));
-            }
-        }
-    } finally {
-        isSending = false;
+    while (state.who && waiting().length > 0) {
+        const isDone = await inTurn(`taskboard ${state.who.name}`, () => sendInOrder(state.who));
+        if (!isDone) await pause();
     }
+    isSending = false;
 }
 
 // Sends the first change of the device that waits, and then the next; gives whether all were answered.
 async function sendInOrder(who) {
-    while (state.who === who) {
-        await readDevice();
-        const change = waiting()[0];
-        if (!change) {
-            return true;
-        }
-        try {
+    try {
+        for (await readDevice(); state.who === who && waiting().length > 0; await readDevice()) {
+            const [change] = waiting();
             await settle(change, await tell(who, change));
             tries = 0;
             announce("reach", true);
-        } catch (fault) {
-            if (!(fault instanceof NoAnswer)) {
-                throw fault;
-            }
-            tries += 1;
-            announce("reach", false);
-            return false;
         }
+        return true;
+    } catch (fault) {
+        tries += 1;
+        if (fault instanceof NoAnswer) announce("reach", false);
+        else console.error(fault);
+        return false;
     }
-    return true;
 }
 
 // Takes an answer down before the next change is sent. One that says the key is wrong settles nothing: the server keeps no such answer,
 // so the change waits until its person signs in again.
 async function settle(change, { status, body }) {
-    if (status === 401) {
-        announce("unknown");
-        return;
-    }
-    if (status !== 200) {
-        await refuse(change, body);
-    } else if (change.reports) {
-        await device.replace({ ...change, state: "done", body: "", answer: body });
-    } else {
-        await device.remove([change]);
-    }
-    if (body.more) {
-        await device.put([{ ...making.sweep(change.board), member: change.member, state: "waiting", group: "", made: Date.now(), id: newIdentifier() }]);
-    }
+    if (status === 401) return announce("unknown");
+    if (body.more) await device.put([toKeep(making.sweep(change.board))]);
+    if (status !== 200) await refuse(change, body);
+    else if (change.reports) await device.replace({ ...change, state: "done", body: "", answer: body });
+    else await device.remove([change]);
     await readDevice();
     const news = { change: { ...change, body: "" }, status, body };
-    tellTabs(news);
+    tabs.postMessage(news);
     announce("answered", news);
 }
 
 async function refuse(change, body) {
-    const behind = held.filter((other) => change.group && other.group === change.group && other.order > change.order);
     const culprit = change.reports && body.at !== undefined ? descriptionAt(change.body, body.at) : "";
+    const behind = held.filter((other) => change.group && other.group === change.group && other.order > change.order);
     await device.remove(behind);
     await device.replace({ ...change, state: "refused", body: "", answer: body, culprit, takenBack: behind.length });
 }
 
-function inTurn(name, work) {
-    return navigator.locks ? navigator.locks.request(name, work) : underLease(name, work);
-}
-
-function readLease(name) {
-    try {
-        return JSON.parse(localStorage.getItem(name)) ?? { until: 0 };
-    } catch {
-        return { until: 0 };
-    }
-}
-
-function takeLease(name) {
-    localStorage.setItem(name, JSON.stringify({ tab, until: Date.now() + LEASE }));
-}
+const inTurn = (name, work) => (navigator.locks ? navigator.locks.request(name, work) : underLease(name, work));
+const readLease = (name) => JSON.parse(localStorage.getItem(name)) ?? { until: 0 };
+const takeLease = (name) => localStorage.setItem(name, JSON.stringify({ tab, until: Date.now() + LEASE }));
 
 async function underLease(name, work) {
-    for (let isMine = false; !isMine; ) {
-        const { tab: holder, until } = readLease(name);
-        if (holder === tab || until < Date.now()) {
-            takeLease(name);
-        }
+    for (let isMine = false; !isMine; isMine = readLease(name).tab === tab) {
+        if (readLease(name).until < Date.now()) takeLease(name);
         // Of two tabs that take a free lease at once the later one has it.
         await new Promise((done) => setTimeout(done, 100 + 100 * Math.random()));
-        isMine = readLease(name).tab === tab;
     }
-    const renewal = setInterval(() => takeLease(name), LEASE / 3);
+    const renewal = setInterval(takeLease, LEASE / 3, name);
     try {
         return await work();
     } finally {

@@ -1,7 +1,7 @@
 // The view of a board's tasks: adding one, the filters, and the list.
+import { PRIORITIES, STATUSES, urgencyText } from "./board.js";
 import { changes } from "./changes.js";
-import { STATUSES, urgencyText } from "./board.js";
-import { button, fill, find, make, oneLine, said, whenSent } from "./dom.js";
+import { button, counted, fill, find, make, oneLine, said, span, whenSent } from "./dom.js";
 import { Fields, options } from "./fields.js";
 import { List } from "./list.js";
 import { inFull, inWords, isOver, seconds } from "./moments.js";
@@ -10,73 +10,48 @@ import { keep, waiting } from "./sending.js";
 import { go, listen, state } from "./state.js";
 import { readLine } from "./todotxt.js";
 
-// A change that has no answer for longer than this, in milliseconds, is shown as a row of its own.
+// What was added and has no answer for longer than this, in milliseconds, is shown as a row of its own.
 const SOON = 500;
-const PRIORITY_WORDS = { H: "high", M: "medium", L: "low" };
 const filter = { text: "", project: "", tag: "", status: "open" };
-let list;
-let fields;
-let unanswered = new Set();
+// The list, the fields of the form, and the uuids of tasks with a change that has no answer yet.
+let list, fields, unanswered;
+let drawn = "";
 
-function flags(task) {
-    const found = [];
-    if (unanswered.has(task.uuid)) {
-        found.push(["unanswered", "not answered yet"]);
-    }
-    if (task.isListed && task.start !== undefined) {
-        found.push(["started", "started"]);
-    }
-    if (task.status === "waiting") {
-        found.push(["waiting", `waits until ${inWords(task.wait)}`]);
-    }
-    if (task.isBlocked) {
-        found.push(["blocked", "blocked"]);
-    }
-    if (task.isBlocking) {
-        found.push(["blocking", "blocks others"]);
-    }
-    if (!task.isOpen) {
-        found.push(["closed", task.status]);
-    }
-    return found;
-}
+const change = (task, action) => keep(changes.act(state.number, task, action)).catch(tellFault);
+const chip = (kind, ...children) => span(`chip ${kind}`, ...children);
 
 function chips(task) {
-    const made = flags(task).map(([kind, text]) => make("span", { class: `chip ${kind}` }, text));
-    if (task.priority) {
-        made.unshift(make("span", { class: `chip priority-${task.priority}`, title: `priority ${PRIORITY_WORDS[task.priority]}` }, PRIORITY_WORDS[task.priority]));
-    }
-    if (task.project) {
-        made.push(make("span", { class: "chip project" }, said(task.project, 40)));
-    }
-    made.push(...task.tags.slice(0, 4).map((tag) => make("span", { class: "chip tag" }, said(`@${oneLine(tag, 30)}`))));
-    if (task.tags.length > 4) {
-        made.push(make("span", { class: "chip tag" }, `${task.tags.length - 4} more`));
-    }
-    return made;
+    return [
+        unanswered.has(task.uuid) ? chip("unanswered", "not answered yet") : "",
+        task.priority ? chip(`priority-${task.priority}`, PRIORITIES[task.priority]) : "",
+        task.isListed && task.told.start ? chip("started", "started") : "",
+        task.status === "waiting" ? chip("waiting", `waits until ${inWords(seconds(task.told.wait))}`) : "",
+        task.isBlocked ? chip("blocked", "blocked") : "",
+        task.isBlocking ? chip("blocking", "blocks others") : "",
+        task.isOpen ? "" : chip("closed", task.status),
+        task.project ? chip("project", said(task.project, 40)) : "",
+        ...task.tags.slice(0, 4).map((tag) => chip("tag", said(`@${tag}`, 30))),
+        task.tags.length > 4 ? chip("tag", `${task.tags.length - 4} more`) : "",
+    ];
 }
 
 function dueOf(task) {
-    if (task.due === undefined) {
-        return make("span", { class: "due" });
-    }
+    if (task.due === undefined) return span("due");
     const isLate = task.isOpen && isOver(task.due);
-    return make("span", { class: isLate ? "due late" : "due", title: `due ${inFull(task.due)}` }, make("span", { class: "hidden" }, isLate ? "was due " : "due "), inWords(task.due));
+    return span(isLate ? "due late" : "due", span("hidden", isLate ? "was due " : "due "), inWords(task.due));
 }
 
 function makeRow(task) {
-    const act = task.isOpen ? "done" : "reopen";
-    const label = `${task.isOpen ? "Complete" : "Reopen"}: ${oneLine(task.description, 80)}`;
-    const tick = button("", () => change(task, act), { class: task.isOpen ? "tick" : "tick ticked", "aria-label": label, title: task.isOpen ? "Complete" : "Reopen", tabindex: -1 });
+    const [act, word, kind] = task.isOpen ? ["done", "Complete", "tick"] : ["reopen", "Reopen", "tick ticked"];
+    const settings = { class: kind, "aria-label": `${word}: ${oneLine(task.description, 80)}`, title: word, tabindex: -1 };
     const open = button(said(task.description), () => go(state.number, "tasks", task.uuid), { class: "open" });
     open.addEventListener("keydown", (event) => {
-        if (event.key === "d" && !event.ctrlKey && !event.metaKey && !event.altKey) {
-            change(task, act);
-        }
+        if (event.key === "d" && !event.ctrlKey && !event.metaKey && !event.altKey) change(task, act);
     });
-    const rank = task.isOpen ? make("span", { class: "urgency", title: "urgency" }, make("span", { class: "hidden" }, "urgency "), urgencyText(task)) : "";
+    const rank = task.isOpen ? span("urgency", span("hidden", "urgency "), urgencyText(task)) : "";
     const isChosen = task.uuid === state.chosen;
-    return make("div", { class: isChosen ? "row chosen" : "row", role: "listitem", "aria-current": isChosen ? "true" : null }, tick, open, make("span", { class: "chips" }, chips(task)), dueOf(task), rank);
+    const about = { class: isChosen ? "row chosen" : "row", role: "listitem", "aria-current": isChosen ? "true" : null };
+    return make("div", about, button("", () => change(task, act), settings), open, span("chips", ...chips(task)), dueOf(task), rank);
 }
 
 // What of a row comes from elsewhere than the task's own line.
@@ -85,52 +60,41 @@ function lookOf(task) {
     return [task.uuid === state.chosen, unanswered.has(task.uuid), task.isBlocked, task.isBlocking, urgencyText(task), due].join();
 }
 
-function change(task, action) {
-    keep(changes.act(state.number, task, action)).catch(tellFault);
-}
-
 function draw(isAsked) {
     const { board } = state;
     const isShown = state.view === "tasks" && board?.number === state.number;
-    find("loading").hidden = isShown || state.view !== "tasks" || !state.number;
+    find("loading").hidden = isShown || !state.number;
     find("list").hidden = !isShown;
-    if (!isShown) {
-        find("count").textContent = "";
-        find("nothing").hidden = true;
-        return;
-    }
-    const tasks = board.shown(filter);
-    const all = board.tasks.length;
-    find("count").textContent = `${tasks.length.toLocaleString("en-GB")} of ${all.toLocaleString("en-GB")} ${all === 1 ? "task" : "tasks"}`;
-    find("nothing").hidden = tasks.length > 0;
-    find("nothing").textContent = all === 0 ? "Nothing is on this board yet. Add the first task above, or import some." : "No task passes the filters.";
-    list.show(tasks, isAsked);
+    const tasks = isShown ? board.shown(filter) : [];
+    const all = isShown ? board.tasks.length : 0;
+    find("count").textContent = isShown ? `${counted(tasks.length)} of ${counted(all)} tasks` : "";
+    find("nothing").hidden = !isShown || tasks.length > 0;
+    find("nothing").textContent = all > 0 ? "No task passes the filters." : "Nothing is here yet. Add the first task above, or import some.";
+    if (isShown) list.show(tasks, isAsked);
 }
 
 // What was added and has no answer yet stands above the list.
 function drawUnanswered() {
-    const mine = waiting().filter((change) => change.board === state.number);
-    unanswered = new Set(mine.map((change) => change.task));
-    const late = mine.filter((change) => change.adds && Date.now() - change.made > SOON);
-    fill(
-        find("ghosts"),
-        late.map((change) => make("div", { class: "row ghost" }, make("span", { class: "tick" }), make("span", { class: "open" }, said(change.subject)), make("span", { class: "chips" }, make("span", { class: "chip unanswered" }, "not answered yet")))),
-    );
-    if (mine.some((change) => change.adds) && late.length < mine.length) {
-        setTimeout(drawUnanswered, SOON);
-    }
+    const mine = waiting().filter((one) => one.board === state.number);
+    const added = mine.filter((one) => one.adds);
+    const late = added.filter((one) => Date.now() - one.made > SOON);
+    unanswered = new Set(mine.map((one) => one.task));
+    const look = [state.number, late.length, ...mine.map((one) => one.order)].join();
+    if (look === drawn) return;
+    drawn = look;
+    const ghost = (one) => make("div", { class: "row ghost" }, span("tick"), span("open", said(one.subject)), span("chips", chip("unanswered", "not answered yet")));
+    fill(find("ghosts"), late.map(ghost));
+    if (late.length < added.length) setTimeout(drawUnanswered, SOON);
     list.draw();
 }
 
 function drawFilters() {
-    const { projects = [], tags = [] } = state.board ?? {};
-    const choices = (texts, none, chosen) => options([["", none], ...texts.map((text) => [text, oneLine(text, 40)])], chosen);
-    for (const [name, texts, none] of [["project", projects, "All projects"], ["tag", tags, "All tags"]]) {
+    for (const [name, texts] of [["project", state.board.projects], ["tag", state.board.tags]]) {
         const select = find(`filter-${name}`);
         if (select.told !== texts.join("\n")) {
             select.told = texts.join("\n");
             filter[name] = texts.includes(filter[name]) ? filter[name] : "";
-            fill(select, choices(texts, none, filter[name]));
+            fill(select, options([["", `All ${name}s`], ...texts.map((text) => [text, oneLine(text, 40)])], filter[name]));
         }
     }
 }
@@ -139,81 +103,62 @@ function drawFilters() {
 function newTask() {
     const line = readLine(find("add-line").value);
     const given = fields.read();
-    const task = { ...line };
-    for (const [name, value] of Object.entries(given)) {
-        if (value !== null && name !== "tags") {
-            task[name] = value;
-        }
-    }
-    task.tags = [...new Set([...line.tags, ...(given.tags ?? [])])];
-    return Object.fromEntries(Object.entries(task).filter(([, value]) => value && value.length > 0));
+    const both = { ...line, ...Object.fromEntries(Object.entries(given).filter(([, value]) => value)) };
+    both.tags = [...new Set([...line.tags, ...(given.tags ?? [])])];
+    return Object.fromEntries(Object.entries(both).filter(([, value]) => value?.length));
 }
 
+// Shows what the line says beside its description.
 function drawUnderstood() {
     const line = readLine(find("add-line").value);
+    const day = (moment) => moment && inFull(seconds(moment));
     const parts = [
-        line.status && ["completed", ""],
-        line.priority && ["priority", PRIORITY_WORDS[line.priority]],
-        line.project && ["project", line.project],
-        ...line.tags.map((tag) => ["tag", tag]),
-        line.due && ["due", inFull(seconds(line.due))],
-        line.entry && ["made", inFull(seconds(line.entry))],
-    ].filter(Boolean);
-    find("understood").classList.toggle("told", parts.length > 0);
-    if (parts.length > 0) {
-        fill(find("understood"), parts.map(([name, text]) => make("span", { class: "chip" }, `${name} `, said(text, 60))));
-    } else {
-        fill(find("understood"), "Words like (A), +Family, @phone and due:2026-01-31 are understood.");
-    }
-}
-
-function newFields() {
-    fields = new Fields(state.board);
-    fill(find("add-fields"), fields.elements);
+        ["", line.status],
+        ["priority ", PRIORITIES[line.priority]],
+        ["project ", line.project],
+        ...line.tags.map((tag) => ["tag ", tag]),
+        ["due ", day(line.due)],
+        ["made ", day(line.entry)],
+    ].filter(([, text]) => text);
+    const hint = "Words like (A), +Family, @phone and due:2026-01-31 are understood.";
+    fill(find("understood"), parts.length ? parts.map(([name, text]) => chip("", name, said(text, 60))) : hint);
 }
 
 async function add() {
     const task = newTask();
-    if (!task.description || !fields.isWhole(task.due)) {
-        return;
-    }
+    if (!task.description || !fields.isWhole(task.due)) return;
     await keep(changes.add(state.number, task));
-    find("add-line").value = "";
-    newFields();
-    drawUnderstood();
+    clear(!find("add-fields").hidden);
     find("add-line").focus();
 }
 
-function showMore(isShown) {
+function clear(withFields) {
+    find("add-line").value = "";
+    drawUnderstood();
+    showFields(withFields);
+}
+
+function showFields(isShown) {
+    fields = new Fields(state.board);
+    fill(find("add-fields"), fields.elements);
     find("add-fields").hidden = !isShown;
-    find("add-more").setAttribute("aria-expanded", isShown);
+    find("add-more").ariaExpanded = isShown;
 }
 
 export function beginTasks() {
     list = new List(find("list"), makeRow, lookOf);
     fill(find("filter-status"), options(Object.entries(STATUSES).map(([value, [label]]) => [value, label]), filter.status));
-    for (const name of ["text", "project", "tag", "status"]) {
+    for (const name of Object.keys(filter)) {
         find(`filter-${name}`).addEventListener("input", (event) => {
             filter[name] = event.target.value;
             draw(true);
         });
     }
     find("add-line").addEventListener("input", drawUnderstood);
-    find("add-more").addEventListener("click", () => showMore(find("add-fields").hidden));
-    whenSent(find("add-form"), () => add().catch(tellFault));
-    listen("board", () => {
-        drawFilters();
-        drawUnanswered();
-        draw();
-    });
+    find("add-more").addEventListener("click", () => showFields(find("add-fields").hidden));
+    whenSent("add-form", () => add().catch(tellFault));
     listen("kept", drawUnanswered);
-    listen("route", () => {
-        drawUnanswered();
-        draw();
-    });
-    listen("signed", () => {
-        newFields();
-        showMore(false);
-    });
-    drawUnderstood();
+    listen("route", () => [drawUnanswered, draw].forEach((part) => part()));
+    listen("board", () => [drawFilters, drawUnanswered, draw].forEach((part) => part()));
+    listen("signed", () => clear(false));
 }

@@ -7,16 +7,12 @@ function isDay(word) {
     return /^\d{4}-\d{2}-\d{2}$/.test(word) && word >= "1970" && !Number.isNaN(date.getTime()) && date.toISOString().startsWith(word);
 }
 
-function moment(day) {
-    return `${day.replaceAll("-", "")}T000000Z`;
-}
+const moment = (day) => `${day.replaceAll("-", "")}T000000Z`;
 
 // Takes the first word off as a mark, where the test takes it and something follows.
 function takeMark(rest, test) {
     const [, word, behind] = /^(\S+) (.*\S.*)$/s.exec(rest.text) ?? [];
-    if (word === undefined || !test(word)) {
-        return "";
-    }
+    if (word === undefined || !test(word)) return "";
     rest.text = behind;
     return word;
 }
@@ -24,15 +20,10 @@ function takeMark(rest, test) {
 function takeWords(task, text) {
     const plain = [];
     for (const word of text.split(/[ \t]+/).filter(Boolean)) {
-        if (/^\+./s.test(word) && !task.project) {
-            task.project = word.slice(1);
-        } else if (/^@./s.test(word)) {
-            task.tags.push(word.slice(1));
-        } else if (word.startsWith("due:") && isDay(word.slice(4)) && !task.due) {
-            task.due = moment(word.slice(4));
-        } else {
-            plain.push(word);
-        }
+        if (/^\+./s.test(word) && !task.project) task.project = word.slice(1);
+        else if (/^@./s.test(word)) task.tags.push(word.slice(1));
+        else if (word.startsWith("due:") && isDay(word.slice(4)) && !task.due) task.due = moment(word.slice(4));
+        else plain.push(word);
     }
     task.description = plain.join(" ") || text;
 }
@@ -45,14 +36,10 @@ export function readLine(line) {
     const letter = takeMark(rest, (word) => /^\([A-Z]\)$/.test(word));
     const first = takeMark(rest, isDay);
     const second = isDone && first ? takeMark(rest, isDay) : "";
-    const created = isDone ? second : first;
-    if (isDone) {
-        task.status = "completed";
-        task.end = first ? moment(first) : undefined;
-    }
-    if (created) {
-        task.entry = moment(created);
-    }
+    const [ended, created] = isDone ? [first, second] : ["", first];
+    if (isDone) task.status = "completed";
+    if (ended) task.end = moment(ended);
+    if (created) task.entry = moment(created);
     task.priority = PRIORITIES[letter[1]];
     takeWords(task, rest.text);
     return task;
