@@ -12,7 +12,7 @@ export function make(tag, settings = {}, ...children) {
         if (typeof value === "function") made.addEventListener(name, value);
         else if (isThere(value)) made.setAttribute(name, value === true ? "" : value);
     }
-    fill(made, ...children);
+    made.append(...children.flat().filter(isChild));
     return made;
 }
 

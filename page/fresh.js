@@ -6,12 +6,9 @@ import { Board } from "./board.js";
 import { announce, here, listen, state } from "./state.js";
 
 const [EVERY, LEAST, TYPING] = [15000, 1000, 2000];
-let isAsking = false;
-let isWanted = false;
-let wantsBoards = false;
-let lastLook = 0;
-let lastTyped = 0;
-let lastBoards = "";
+// Whether a look is under way, another one is wanted, and the boards with it; when the last look and the last typing were; and the boards.
+let [isAsking, isWanted, wantsBoards] = [false, false, false];
+let [lastLook, lastTyped, lastBoards] = [0, 0, ""];
 
 // Asks for the boards of whoever is signed in, and announces them where they are others than before.
 export async function lookAtBoards() {

@@ -1,6 +1,6 @@
 // A long list of rows, of which only those in sight, and a few around them, are there. All rows are of one height, which the style says.
 
-const AROUND = 8;
+const AROUND = 5;
 
 export class List {
     #tasks = [];

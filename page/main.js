@@ -63,8 +63,9 @@ function drawBoards() {
     document.title = here() ? `${oneLine(here().title, 60)} · taskboard` : "taskboard";
 }
 
-function showRoute() {
+async function showRoute() {
     readRoute();
+    if (state.boards.length > 0 && !here()) await lookAtBoards().catch(console.error);
     for (const view of VIEWS) {
         find(`${view}-view`).hidden = view !== state.view;
         find(`to-${view}`).href = `#/${state.number}/${view}`;

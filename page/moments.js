@@ -2,9 +2,8 @@
 // todo.txt, and is shown as that day everywhere; any other moment is shown in the time of whoever looks.
 
 const DAY = 86400;
-const shortDay = new Intl.DateTimeFormat("en-GB", { day: "numeric", month: "short", timeZone: "UTC" });
-const longDay = new Intl.DateTimeFormat("en-GB", { day: "numeric", month: "short", year: "numeric", timeZone: "UTC" });
-const weekday = new Intl.DateTimeFormat("en-GB", { weekday: "long", timeZone: "UTC" });
+const MONTHS = "Jan Feb Mar Apr May Jun Jul Aug Sep Oct Nov Dec".split(" ");
+const WEEKDAYS = "Thursday Friday Saturday Sunday Monday Tuesday Wednesday".split(" ");
 
 export const now = () => Math.floor(Date.now() / 1000);
 
@@ -18,15 +17,17 @@ export function seconds(text) {
 
 const momentText = (date) => `${date.toISOString().slice(0, 19).replace(/[-:]/g, "")}Z`;
 const isDay = (second) => second % DAY === 0;
-const two = (number) => String(number).padStart(2, "0");
+
+// How many seconds whoever looks is behind UTC then; a day is the same for all.
+const zoneOf = (second) => (isDay(second) ? 0 : new Date(second * 1000).getTimezoneOffset() * 60);
+const dayOf = (second) => Math.floor((second - zoneOf(second)) / DAY);
+const today = () => Math.floor((now() - new Date().getTimezoneOffset() * 60) / DAY);
 
 // A second as day (2026-01-31) and time (09:00) for the fields of a form; the time is empty where only a day was said.
 export function toFields(second) {
     if (second === undefined) return { day: "", time: "" };
-    const date = new Date(second * 1000);
-    if (isDay(second)) return { day: date.toISOString().slice(0, 10), time: "" };
-    const day = `${String(date.getFullYear()).padStart(4, "0")}-${two(date.getMonth() + 1)}-${two(date.getDate())}`;
-    return { day, time: `${two(date.getHours())}:${two(date.getMinutes())}` };
+    const text = new Date((second - zoneOf(second)) * 1000).toISOString();
+    return { day: text.slice(0, 10), time: isDay(second) ? "" : text.slice(11, 16) };
 }
 
 // The moment's text of what the fields say; null where no day is said.
@@ -34,28 +35,26 @@ export function fromFields({ day, time }) {
     return day ? momentText(new Date(time ? `${day}T${time}` : `${day}T00:00:00Z`)) : null;
 }
 
-// Its day as whoever looks counts days, from 1970.
-function dayOf(second) {
-    const zone = isDay(second) ? 0 : new Date(second * 1000).getTimezoneOffset() * 60;
-    return Math.floor((second - zone) / DAY);
-}
-
-const today = () => Math.floor((now() - new Date().getTimezoneOffset() * 60) / DAY);
 export const isOver = (second) => (isDay(second) ? dayOf(second) < today() : second < now());
+
+function dayText(day, withYear) {
+    const date = new Date(day * DAY * 1000);
+    return `${date.getUTCDate()} ${MONTHS[date.getUTCMonth()]}${withYear ? ` ${date.getUTCFullYear()}` : ""}`;
+}
 
 // The day in few words: today, tomorrow, Friday, 31 Jan, 31 Jan 2027.
 export function inWords(second) {
-    const date = new Date(dayOf(second) * DAY * 1000);
-    const ahead = dayOf(second) - today();
+    const day = dayOf(second);
+    const ahead = day - today();
     if (ahead >= -1 && ahead <= 1) return ["yesterday", "today", "tomorrow"][ahead + 1];
-    if (ahead > 1 && ahead < 7) return weekday.format(date);
-    return (Math.abs(ahead) < 300 ? shortDay : longDay).format(date);
+    if (ahead > 1 && ahead < 7) return WEEKDAYS[day % 7];
+    return dayText(day, Math.abs(ahead) > 300);
 }
 
 // The whole of a moment: its day and, where there is one, its time.
 export function inFull(second) {
     const { time } = toFields(second);
-    return `${longDay.format(new Date(dayOf(second) * DAY * 1000))}${time ? `, ${time}` : ""}`;
+    return `${dayText(dayOf(second), true)}${time ? `, ${time}` : ""}`;
 }
 
 export function ago(milliseconds) {

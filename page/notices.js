@@ -8,9 +8,7 @@ import { listen } from "./state.js";
 
 const [TOLD_FOR, LATE, MOST_SHOWN] = [10000, 400, 20];
 const WAYS_BACK = { done: "Completed", delete: "Deleted" };
-let isThere = true;
-let timer = 0;
-let look = "";
+let [isThere, timer, look] = [true, 0, ""];
 
 const endToast = () => fill(find("toast"));
 const quoted = (text) => make("q", {}, said(text, 120));
@@ -69,7 +67,7 @@ function report(parts) {
     const sum = (name) => parts.reduce((total, part) => total + (part.answer[name] ?? 0), 0);
     const told = [
         `${sum("new")} new; ${sum("known")} known already, which stay as they are`,
-        sum("dropped") && `${sum("dropped")} members dropped that a task can't keep`,
+        "dropped" in parts[0].answer && `${sum("dropped")} members dropped that a task can't keep`,
         sum("orphans") && `${sum("orphans")} instances without their template, now plain tasks`,
         sum("unlinked") && `${sum("unlinked")} links to unknown tasks dropped`,
     ].filter(Boolean);

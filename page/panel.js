@@ -13,10 +13,7 @@ const MOMENTS = { due: "Due", wait: "Waits until", scheduled: "Scheduled", until
 // What is shown elsewhere. Any other member is one of the user's own, and is shown under its name.
 const KNOWN = "uuid description status project priority tags recur annotations depends parent imask mask".split(" ");
 // The uuid of the task that is shown; the task as it was drawn, and what was drawn of others; and the fields while it is edited.
-let shown = "";
-let drawn = null;
-let look = "";
-let fields = null;
+let [shown, drawn, look, fields] = ["", null, "", null];
 
 const hold = (change) => keep(change).catch(tellFault);
 const act = (action) => () => hold(changes.act(state.number, task(), action));

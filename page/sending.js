@@ -17,9 +17,7 @@ const tab = newIdentifier();
 
 // What the device holds of the person who is signed in: changes that wait, were refused, or have something to tell; and how often the
 // first that waits was sent in vain.
-let held = [];
-let tries = 0;
-let isSending = false;
+let [held, tries, isSending] = [[], 0, false];
 let endPause = () => {};
 
 export const waiting = () => held.filter((change) => change.state === "waiting");
@@ -37,9 +35,7 @@ tabs.onmessage = async ({ data }) => {
     send();
 };
 
-function toKeep(made, group = "") {
-    return { ...made, member: state.who.name, state: "waiting", group, made: Date.now(), id: newIdentifier() };
-}
+const toKeep = (made, group = "") => ({ ...made, member: state.who.name, state: "waiting", group, made: Date.now(), id: newIdentifier() });
 
 export function sendNow() {
     endPause();

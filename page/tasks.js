@@ -14,8 +14,7 @@ import { readLine } from "./todotxt.js";
 const SOON = 500;
 const filter = { text: "", project: "", tag: "", status: "open" };
 // The list, the fields of the form, and the uuids of tasks with a change that has no answer yet.
-let list, fields, unanswered;
-let drawn = "";
+let list, fields, unanswered, drawn;
 
 const change = (task, action) => keep(changes.act(state.number, task, action)).catch(tellFault);
 const chip = (kind, ...children) => span(`chip ${kind}`, ...children);
@@ -68,8 +67,8 @@ function draw(isAsked) {
     const tasks = isShown ? board.shown(filter) : [];
     const all = isShown ? board.tasks.length : 0;
     find("count").textContent = isShown ? `${counted(tasks.length)} of ${counted(all)} tasks` : "";
-    find("nothing").hidden = !isShown || tasks.length > 0;
-    find("nothing").textContent = all > 0 ? "No task passes the filters." : "Nothing is here yet. Add the first task above, or import some.";
+    const hint = all > 0 ? "No task passes the filters." : "Nothing is here yet. Add the first task above, or import some.";
+    fill(find("nothing"), isShown && tasks.length === 0 ? hint : "");
     if (isShown) list.show(tasks, isAsked);
 }
 

@@ -1,4 +1,4 @@
-// A line of todo.txt as a task: marks from the left (`x`, `(A)`, dates), then words, of which +project, @tag and due: say something.
+// A line of todo.txt as a task: marks from the left (`x`, `(A)`, dates), then words, of which +project, @tag, due: and uuid: are attributes.
 
 const PRIORITIES = { A: "H", B: "M", C: "L" };
 
@@ -23,6 +23,7 @@ function takeWords(task, text) {
         if (/^\+./s.test(word) && !task.project) task.project = word.slice(1);
         else if (/^@./s.test(word)) task.tags.push(word.slice(1));
         else if (word.startsWith("due:") && isDay(word.slice(4)) && !task.due) task.due = moment(word.slice(4));
+        else if (/^uuid:[0-9a-f]{8}(-[0-9a-f]{4}){3}-[0-9a-f]{12}$/i.test(word) && !task.uuid) task.uuid = word.slice(5).toLowerCase();
         else plain.push(word);
     }
     task.description = plain.join(" ") || text;

@@ -19,13 +19,23 @@ from webdriver import Browser
 BROWSER, PROGRAM, PORT, SLACK, PAGE = sys.argv[1], sys.argv[2], int(sys.argv[3]), float(sys.argv[4]), sys.argv[5]
 SHOTS = os.environ.get("SHOTS")
 KEYS = {"ann": "ann-key-1", "bob": "bob-key-01"}
-ENTER, DOWN, ESCAPE = "\ue007", "\ue015", "\ue00c"
-# How soon a board of 10,000 tasks is shown, in seconds, and how long the page may keep the browser from drawing, in milliseconds.
-SHOWN_WITHIN, STALL = 1.5, 100
+ENTER, DOWN, BACKSPACE = "\ue007", "\ue015", "\ue003"
+# How soon a board of 10,000 tasks is shown, in seconds, how long the page may keep the browser from drawing, in milliseconds, and what ten
+# people's looks within 15 s may take of the server's processor, in seconds.
+SHOWN_WITHIN, STALL, LOOKS = 1.5, 100, 1.5
 ALL_ANSWERED = "return document.getElementById('state').textContent === 'All is answered'"
 LISTED = "return [...document.querySelectorAll('#list .open')].map((row) => row.textContent)"
 IS_LISTED = "return [...document.querySelectorAll('#list .open')].some((row) => row.textContent === arguments[0])"
 IS_TOLD = "return document.body.innerText.includes(arguments[0])"
+# From here on the pieces of the page's work that took 50 ms and more are noted, and one of none.
+WATCH = "window.stalls = [0]; new PerformanceObserver((list) => stalls.push(...list.getEntries().map((entry) => entry.duration))).observe({ type: 'longtask' })"
+# How many times longer a piece of work may take than where nothing else runs: the slowest of equal pieces, against the quickest.
+BUSY = """const times = Array.from({ length: 40 }, () => {
+    const begun = performance.now();
+    for (let at = 0, sum = 0; at < 6000000; at++) sum += at % 7;
+    return performance.now() - begun;
+});
+return Math.max(...times) / Math.min(...times);"""
 LOOK = "window.dispatchEvent(new Event('focus')); return true"
 
 
@@ -311,12 +321,12 @@ def imports(office):
     expect("links", {task["uuid"]: task["depends"] for task in sent if "depends" in task}, {name: task["depends"] for name, task in stored.items() if "depends" in task})
     browser.tell("Browser.setDownloadBehavior", behavior="allow", downloadPath=os.getcwd())
     browser.click("#save-export")
-    [file] = browser_file("Taken-in-*.json", browser.patience)
+    [file] = saved_files("Taken-in-*.json", browser.patience)
     expect("the export as a file", ask("/boards/3/export"), file.read_text())
     browser.wait("return document.querySelectorAll('#notices button').length === 2")
 
 
-def browser_file(pattern, patience):
+def saved_files(pattern, patience):
     end = time.monotonic() + patience
     while time.monotonic() < end:
         found = list(pathlib.Path().glob(pattern))
@@ -328,36 +338,42 @@ def browser_file(pattern, patience):
 
 def large_board(office):
     """A board of 10,000 tasks: shown soon, in the listing's order, typed into without a stall, and cheap to look at."""
+    browser = office.browser
     ask("/boards", b'{"title":"Large"}')
-    large = list(linked_tasks(10000))
+    large = list(linked_tasks(9998))
     for part in range(9, -1, -1):
         ask("/boards/4/import", json.dumps(large[part * 1000 : part * 1000 + 1000]).encode())
-    with Browser(BROWSER, office.browser.patience, is_traced=True) as browser:
-        office.browser, before = browser, office.browser
-        office.enter("ann")
-        browser.run("location.hash = '/4/tasks'")
-        browser.wait("return document.querySelectorAll('#list .row').length > 10")
-        browser.call("POST", "/refresh")
-        shown = browser.wait("return document.querySelectorAll('#list .row').length > 10 && performance.now()") / 1000
-        listed = [line[49:] for line in ask("/boards/4/list").splitlines()[1:11]]
-        expect("order", listed, browser.run(LISTED)[:10])
-        expect("all of them", "10,000 of 10,000 tasks", browser.run("return document.getElementById('count').textContent"))
-        for letter in "number 99":
-            browser.type("#filter-text", letter)
-        browser.run("scrollTo(0, 3000)")
-        browser.type("#add-line", "Typed into a large board")
-        browser.run(LOOK)
-        time.sleep(0.5)
-        stall = browser.stalls()[0]
-        office.shot("large")
-        office.browser = before
+    browser.open(office.address + "#/4/tasks")
+    browser.call("POST", "/refresh")
+    shown = browser.wait("return document.querySelectorAll('#list .row').length > 10 && performance.now()") / 1000
+    busy = [browser.run(BUSY)]
+    browser.run(WATCH)
+    listed = [line[49:] for line in ask("/boards/4/list").splitlines()[1:11]]
+    expect("order", listed, browser.run(LISTED)[:10])
+    expect("all of them", "9,998 of 9,998 tasks", browser.run("return document.getElementById('count').textContent"))
+    for letter in "number 99":
+        browser.type("#filter-text", letter)
+    add(4, description="From elsewhere")
+    browser.run(LOOK)
+    for letter in "Typed meanwhile" + ENTER:
+        browser.type("#add-line", letter)
+    browser.wait(ALL_ANSWERED)
+    browser.type("#filter-text", BACKSPACE * 9)
+    browser.wait("return document.getElementById('count').textContent === '10,000 of 10,000 tasks'")
+    browser.run("scrollTo(0, 100000)")
+    stall = max(browser.wait("return stalls.length > 0 && stalls"))
+    busy.append(browser.run(BUSY))
+    browser.run("scrollTo(0, 0)")
+    office.shot("large")
     used = office.server.seconds_used()
     for _ in range(10):
         ask("/boards/4/export")
     used = office.server.seconds_used() - used
-    if shown > SHOWN_WITHIN * SLACK or stall > STALL or used > 1.5:
-        sys.exit(f"10,000 tasks: shown after {shown:.2f} s, the longest piece of work {stall:.0f} ms, ten looks {used:.2f} s of the server's processor")
-    return shown, stall, used
+    figures = f"10,000 tasks shown after {shown:.2f} s, the longest stall {stall:.0f} ms where work takes up to {max(busy):.1f} times its time, ten looks {used:.2f} s of the server"
+    slack = max(SLACK, *busy)
+    if shown > SHOWN_WITHIN * slack or stall > STALL * slack or used > LOOKS:
+        sys.exit(f"too slow: {figures}")
+    return figures
 
 
 def last_steps(office):
@@ -366,7 +382,7 @@ def last_steps(office):
     browser.click("#sign-out")
     browser.wait("return document.getElementById('sign-in-form').offsetParent")
     expect("what is kept of the key", "", browser.run("return JSON.stringify([{ ...sessionStorage }, { ...localStorage }])").replace("[{},{}]", ""))
-    told = [entry["message"] for entry in browser.log("browser") if "Failed to load resource" not in entry["message"]]
+    told = [message for message in browser.messages() if "Failed to load resource" not in message]
     expect("faults", [], told)
 
 
@@ -376,15 +392,15 @@ with Browser(BROWSER, 10 * SLACK) as browser:
     browser.size(1280, 900)
     office = Office(browser)
     try:
-        for scene in (first_steps, people, killed_server, two_tabs, hostile_texts, imports)[int(os.environ.get("N0","0")):]:
+        for scene in (first_steps, people, killed_server, two_tabs, hostile_texts, imports):
             begun = time.monotonic()
             scene(office)
             if SHOTS:
                 print(f"{scene.__name__}: {time.monotonic() - begun:.1f} s")
-        shown, stall, used = large_board(office)
+        figures = large_board(office)
         last_steps(office)
     finally:
         office.server.end()
 checked = subprocess.run([PROGRAM, "check", "b.db"], check=True, stdout=subprocess.PIPE, text=True).stdout.strip()
 expect("faults of the file", True, checked.endswith("faults 0"))
-print(f"the page in a browser: all scenes; 10,000 tasks shown after {shown:.2f} s, the longest piece of work {stall:.0f} ms, ten looks {used:.2f} s of the server's processor")
+print(f"the page in a browser: all scenes; {figures}")

@@ -10,24 +10,19 @@ import urllib.request
 from connecting import connected, free_port
 
 WORDS = ["--headless=new", "--no-sandbox", "--disable-gpu", "--disable-dev-shm-usage", "--no-first-run", "--disable-renderer-backgrounding"]
-# What tells how long each piece of the page's work kept the browser's thread.
-TRACED = {"traceCategories": "devtools.timeline,disabled-by-default-devtools.timeline"}
 ELEMENT = "element-6066-11e4-a52e-4f735466cecf"
 
 
 class Browser:
     """One browser, whose tabs share what it keeps on the device. `patience` is how long it waits for what shall come, in seconds."""
 
-    def __init__(self, program, patience, is_traced=False):
+    def __init__(self, program, patience):
         port = free_port()
         self.patience, self.base = patience, f"http://127.0.0.1:{port}"
         self.driver = subprocess.Popen(["chromedriver", f"--port={port}"], stdout=subprocess.DEVNULL, stderr=subprocess.DEVNULL)
         connected(port, 10).close()
         chrome = {"binary": program, "args": WORDS}
         wanted = {"goog:chromeOptions": chrome, "goog:loggingPrefs": {"browser": "ALL"}, "unhandledPromptBehavior": "ignore"}
-        if is_traced:
-            chrome["perfLoggingPrefs"] = TRACED
-            wanted["goog:loggingPrefs"]["performance"] = "ALL"
         opened = self.call("POST", "/session", {"capabilities": {"alwaysMatch": wanted}})
         self.base += f"/session/{opened['sessionId']}"
 
@@ -97,12 +92,6 @@ class Browser:
         with open(file, "wb") as picture:
             picture.write(base64.b64decode(self.call("GET", "/screenshot")))
 
-    def log(self, kind):
-        return self.call("POST", "/se/log", {"type": kind})
-
-    def stalls(self):
-        """How long each piece of the page's work took the processor since this was asked last, in milliseconds, the longest first."""
-        told = (json.loads(entry["message"])["message"] for entry in self.log("performance"))
-        events = [message["params"] for message in told if message["method"] == "Tracing.dataCollected"]
-        pages = {event["pid"] for event in events if event.get("name") == "EventDispatch"}
-        return sorted((event.get("tdur", 0) / 1000 for event in events if event.get("name") == "RunTask" and event["pid"] in pages), reverse=True)
+    def messages(self):
+        """What the page's console told since this was asked last."""
+        return [entry["message"] for entry in self.call("POST", "/se/log", {"type": "browser"})]
