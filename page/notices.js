@@ -1,7 +1,7 @@
 // What the page tells: whether all is answered, what isn't yet, what was refused and why, what an import did, and a way back.
 import { NoAnswer } from "./asking.js";
 import { changes, reason } from "./changes.js";
-import { button, fill, find, make, said, span } from "./dom.js";
+import { button, counted, fill, find, make, said, span } from "./dom.js";
 import { ago } from "./moments.js";
 import { forget, keep, sendNow, settled, vainTries, waiting } from "./sending.js";
 import { listen } from "./state.js";
@@ -66,10 +66,10 @@ function refusal(change) {
 function report(parts) {
     const sum = (name) => parts.reduce((total, part) => total + (part.answer[name] ?? 0), 0);
     const told = [
-        `${sum("new")} new; ${sum("known")} known already, which stay as they are`,
-        "dropped" in parts[0].answer && `${sum("dropped")} members dropped that a task can't keep`,
-        sum("orphans") && `${sum("orphans")} instances without their template, now plain tasks`,
-        sum("unlinked") && `${sum("unlinked")} links to unknown tasks dropped`,
+        `${counted(sum("new"))} new; ${counted(sum("known"))} known already, which stay as they are`,
+        "dropped" in parts[0].answer && `${counted(sum("dropped"))} members dropped that a task can't keep`,
+        sum("orphans") && `${counted(sum("orphans"))} instances without their template, now plain tasks`,
+        sum("unlinked") && `${counted(sum("unlinked"))} links to unknown tasks dropped`,
     ].filter(Boolean);
     const soFar = parts[0].parts > 1 ? ` (${parts.length} of ${parts[0].parts} parts)` : "";
     const text = make("p", {}, make("strong", {}, "Imported "), quoted(parts[0].file), `${soFar}: ${told.join("; ")}.`);

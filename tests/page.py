@@ -313,7 +313,7 @@ def imports(office):
         if not browser.run("return document.getElementById('import-send').disabled"):
             browser.click("#import-send")
             browser.wait(ALL_ANSWERED)
-    browser.wait(IS_TOLD, "(3 of 3 parts): 2300 new; 0 known")
+    browser.wait(IS_TOLD, "(3 of 3 parts): 2,300 new; 0 known")
     browser.wait(IS_TOLD, "2 new; 0 known")
     browser.wait(IS_TOLD, "has no tasks")
     stored = {task["uuid"]: task for task in tasks(3)}

@@ -3,6 +3,10 @@
 # over real files, a server that is killed or whose file fails, silent, slow and many clients, a page in a browser, files that another
 # hand changed, copies of a file that is served, a machine that fails or has no memory, and what the documents show (docs/TESTING.md).
 # What a machine lacks is skipped by name.
+# What the program shows by itself, in under four minutes and without a prover: the worked scripts, the bytes of connections, orders over
+# real files, a server that is killed or whose file fails, silent, slow and many clients, its page in a browser, files that another hand
+# changed, copies of a file that is served, a machine that fails, and what the documents show (docs/TESTING.md). What a machine lacks
+# is skipped by name.
 set -u
 cd "$(dirname "$0")/.."
 failed=
@@ -43,6 +47,7 @@ attempt crowd.sh python3
 attempt clients.sh python3
 attempt backup.sh python3
 attempt browser.sh python3
+attempt page.sh python3
 attempt faults.sh python3
 attempt power.sh python3 strace
 attempt memory.sh python3 cc
