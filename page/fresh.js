@@ -74,5 +74,5 @@ export function beginLooking() {
     addEventListener("focus", lookIfSeen);
     document.addEventListener("visibilitychange", lookIfSeen);
     document.addEventListener("input", () => (lastTyped = performance.now()));
-    listen("answered", ({ change }) => lookAgain(change.board === 0 || change.path.endsWith("/roles")));
+    listen("answered", ({ change }) => document.hidden || lookAgain(change.board === 0 || change.path.endsWith("/roles")));
 }

@@ -67,9 +67,11 @@ export class List {
         return row;
     }
 
-    // Puts the rows into the page in their order, touching none that stands right. A row that had the focus has it again when it was made anew.
+    // Puts the rows into the page in their order, touching none that stands right. A row that had the focus has it again when it was
+    // made anew, and where its task is gone the next row.
     #put(rows) {
         const focused = this.place.contains(document.activeElement) ? document.activeElement : null;
+        const from = focused?.closest(".row").at;
         for (const [uuid, row] of this.#rows) {
             if (rows.get(uuid) !== row) row.remove();
         }
@@ -79,7 +81,11 @@ export class List {
             else this.place.insertBefore(row, next);
         }
         this.#rows = rows;
-        if (focused && !this.place.contains(document.activeElement)) rows.get(this.#current)?.querySelector(`.${focused.classList[0]}`).focus({ preventScroll: true });
+        if (focused && !this.place.contains(document.activeElement)) {
+            const isGone = !this.#tasks.some((task) => task.uuid === this.#current);
+            const row = isGone ? [...rows.values()].find((other) => other.at >= from) ?? this.place.lastChild : rows.get(this.#current);
+            row?.querySelector(`.${focused.classList[0]}`).focus({ preventScroll: true });
+        }
         this.#setTabStop();
     }
 

@@ -99,6 +99,7 @@ function begin() {
         form.reset();
     });
     addEventListener("hashchange", showRoute);
+    addEventListener("storage", ({ key, newValue }) => key === SESSION && !newValue && !sessionStorage.getItem(SESSION) && showSignIn());
     listen("boards", () => {
         drawBoards();
         lookAgain();

@@ -35,7 +35,7 @@ function drawState() {
     const isLate = all.length > 0 && (!isThere || all[0].made < Date.now() - LATE);
     if (all.length > 0 && !isLate) setTimeout(drawState, LATE);
     if (all.length === 0) find("unanswered").hidden = true;
-    const words = isThere ? "All is answered" : "The server doesn't answer";
+    const words = isThere ? (all.length === 0 ? "All is answered" : "Sending") : "The server doesn't answer";
     find("state").textContent = isLate ? `${all.length} ${all.length === 1 ? "change isn't" : "changes aren't"} answered yet` : words;
     find("state").className = `state ${isThere && !isLate ? "good" : "busy"}`;
     find("state").disabled = all.length === 0;

@@ -65,7 +65,7 @@ export async function forget(...gone) {
 }
 
 function pause() {
-    const seconds = PAUSES[Math.min(tries, PAUSES.length) - 1] * (0.75 + Math.random() / 2);
+    const seconds = PAUSES[Math.min(Math.max(tries, 1), PAUSES.length) - 1] * (0.75 + Math.random() / 2);
     return new Promise((done) => {
         endPause = done;
         setTimeout(done, 1000 * seconds);
@@ -77,7 +77,7 @@ async function send() {
     if (isSending) return;
     isSending = true;
     while (state.who && waiting().length > 0) {
-        const isDone = await inTurn(`taskboard ${state.who.name}`, () => sendInOrder(state.who));
+        const isDone = await inTurn(`taskboard ${state.who.name}`, () => sendInOrder(state.who)).catch(() => false);
         if (!isDone) await pause();
     }
     isSending = false;
@@ -104,7 +104,7 @@ async function sendInOrder(who) {
 // Takes an answer down before the next change is sent. One that says the key is wrong settles nothing: the server keeps no such answer,
 // so the change waits until its person signs in again.
 async function settle(change, { status, body }) {
-    if (status === 401) return announce("unknown");
+    if (status === 401) return state.who?.name === change.member && announce("unknown");
     if (body.more) await device.put([toKeep(making.sweep(change.board))]);
     if (status !== 200) await refuse(change, body);
     else if (change.reports) await device.replace({ ...change, state: "done", body: "", answer: body });

@@ -14,7 +14,7 @@ import uuid
 
 from relay import LOSES_ANSWERS, LOSES_POSTS, Relay
 from talking import Server, end_by_signal, make_file
-from webdriver import Browser
+from webdriver import STRANGER, Browser
 
 BROWSER, PROGRAM, PORT, SLACK, PAGE = sys.argv[1], sys.argv[2], int(sys.argv[3]), float(sys.argv[4]), sys.argv[5]
 SHOTS = os.environ.get("SHOTS")
@@ -252,6 +252,32 @@ def two_tabs(office):
     browser.to_tab(anns)
 
 
+def plain_http(office):
+    """From another machine without TLS a browser has no locks and makes no uuids: two tabs still send in order, each change once."""
+    browser, relay = office.browser, office.relay
+    [anns] = browser.tabs()
+    browser.new_tab()
+    ours, office.address = office.address, f"http://{STRANGER}:{relay.port}/"
+    office.enter("ann")
+    expect("locks", [False, False], browser.run("return [isSecureContext, 'locks' in navigator]"))
+    first = browser.call("GET", "/window")
+    browser.new_tab()
+    office.enter("ann")
+    names = [f"Plain {number}" for number in range(6)]
+    for number, name in enumerate(names):
+        browser.to_tab([first, browser.tabs()[-1]][number % 2])
+        browser.type("#add-line", name + ENTER)
+        browser.wait("return document.getElementById('add-line').value === ''")
+    browser.wait(ALL_ANSWERED)
+    expect("of two tabs without locks", names, descriptions(1)[-6:])
+    for tab in browser.tabs():
+        if tab != anns:
+            browser.to_tab(tab)
+            browser.call("DELETE", "/window")
+    browser.to_tab(anns)
+    office.address = ours
+
+
 def hostile_texts(office):
     """Texts that would be code, turn what stands around them or fill the window: nothing runs, and the layout stands."""
     browser = office.browser
@@ -392,7 +418,7 @@ with Browser(BROWSER, 10 * SLACK) as browser:
     browser.size(1280, 900)
     office = Office(browser)
     try:
-        for scene in (first_steps, people, killed_server, two_tabs, hostile_texts, imports):
+        for scene in (first_steps, people, killed_server, two_tabs, plain_http, hostile_texts, imports):
             begun = time.monotonic()
             scene(office)
             if SHOTS:

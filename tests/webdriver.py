@@ -9,7 +9,9 @@ import urllib.request
 
 from connecting import connected, free_port
 
-WORDS = ["--headless=new", "--no-sandbox", "--disable-gpu", "--disable-dev-shm-usage", "--no-first-run", "--disable-renderer-backgrounding"]
+# A name of this machine to which a browser doesn't trust as to the loopback: there it has neither locks nor a maker of uuids.
+STRANGER = "boards.test"
+WORDS = [f"--host-resolver-rules=MAP {STRANGER} 127.0.0.1", "--headless=new", "--no-sandbox", "--disable-gpu", "--disable-dev-shm-usage", "--no-first-run", "--disable-renderer-backgrounding"]
 ELEMENT = "element-6066-11e4-a52e-4f735466cecf"
 
 
