@@ -34,9 +34,7 @@ function bodyOf({ status, text }) {
     try {
         const body = JSON.parse(text);
         if (status === 200 || (status >= 400 && status < 500 && body.name)) return body;
-    } catch {
-        // A proxy's page is no JSON.
-    }
+    } catch {} // A proxy's page is no JSON.
     throw new NoAnswer(`status ${status}`);
 }
 

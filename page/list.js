@@ -13,7 +13,10 @@ export class List {
         Object.assign(this, { place, makeRow, lookOf });
         const redraw = () => requestAnimationFrame(() => this.draw());
         addEventListener("scroll", redraw, { passive: true });
-        addEventListener("resize", () => redraw((this.#height = 0)));
+        addEventListener("resize", () => {
+            this.#height = 0;
+            redraw();
+        });
         place.addEventListener("keydown", (event) => this.#move(event));
         place.addEventListener("focusin", (event) => (this.#current = event.target.closest(".row").dataset.uuid));
     }

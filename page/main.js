@@ -64,7 +64,9 @@ function drawBoards() {
 }
 
 async function showRoute() {
+    const before = `${state.number} ${state.view}`;
     readRoute();
+    if (before !== `${state.number} ${state.view}`) scrollTo(0, 0);
     if (state.boards.length > 0 && !here()) await lookAtBoards().catch(console.error);
     for (const view of VIEWS) {
         find(`${view}-view`).hidden = view !== state.view;

@@ -85,9 +85,7 @@ function drawNotices() {
     fill(find("notices"), all.filter(({ state }) => state === "refused").map(refusal), Object.values(imports).map(report));
 }
 
-function draw() {
-    for (const part of [drawState, drawUnanswered, drawNotices]) part();
-}
+const draw = () => [drawState, drawUnanswered, drawNotices].forEach((part) => part());
 
 // Offers a way back from what closed a task.
 function offerBack({ change, status }) {

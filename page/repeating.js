@@ -55,8 +55,6 @@ function draw() {
 
 export function beginRepeating() {
     find("sweep").addEventListener("click", sweep);
-    listen("board", (isNew) => {
-        if (isNew) [sweepIfBehind, draw].forEach((part) => part());
-    });
+    listen("board", (isNew) => isNew && [sweepIfBehind, draw].forEach((part) => part()));
     listen("route", draw);
 }
