@@ -15,10 +15,10 @@ _taskboard_place() {
     local at place=0
     for ((at = 1; at <= COMP_CWORD; at++)); do
         case ${COMP_WORDS[at - 1]} in
-        --port | --connections) continue ;;
+        --port | --connections | --page) continue ;;
         esac
         case ${COMP_WORDS[at]} in
-        --port | --connections | --forever | --log) ;;
+        --port | --connections | --forever | --page | --log) ;;
         *) place=$((place + 1)) ;;
         esac
     done
@@ -31,14 +31,18 @@ _taskboard_of_serve() {
         COMPREPLY=()
         return
         ;;
+    --page)
+        _taskboard_files "$2"
+        return
+        ;;
     esac
     case $2 in
-    -*) _taskboard_words "--port --connections --forever --log" "$2" ;;
+    -*) _taskboard_words "--port --connections --forever --page --log" "$2" ;;
     *)
         if [ "$(_taskboard_place)" -eq 2 ]; then
             _taskboard_files "$2"
         else
-            _taskboard_words "--port --connections --forever --log" "$2"
+            _taskboard_words "--port --connections --forever --page --log" "$2"
         fi
         ;;
     esac
