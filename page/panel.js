@@ -29,7 +29,7 @@ function actions(one) {
         one.isListed ? button("Done", act("done"), { class: "primary" }) : "",
         one.isOpen ? "" : button("Reopen", act("reopen"), { class: "primary" }),
         one.status === "pending" ? button(isStarted ? "Stop" : "Start", act(isStarted ? "stop" : "start")) : "",
-        button("Edit", () => showEdit(true), { id: "edit" }),
+        one.isOpen ? button("Edit", () => showEdit(true), { id: "edit" }) : "",
         one.isOpen ? button(one.isListed ? "Delete" : "Delete, and make no more", act("delete"), { class: "danger" }) : "",
     ];
 }
@@ -62,7 +62,8 @@ function taskRow(other, ...beside) {
 
 function aheadRow(one, id) {
     const other = state.board.byId.get(id);
-    return taskRow(other, remove(`Wait no more for ${oneLine(other.description, 60)}`, changes.undepend(state.number, one, id)));
+    const end = remove(`Wait no more for ${oneLine(other.description, 60)}`, changes.undepend(state.number, one, id));
+    return taskRow(other, one.isOpen ? end : "");
 }
 
 // The open tasks that have the words in the field, to choose one on which the task shall depend.
@@ -94,7 +95,7 @@ async function endEdit() {
     const edits = fields.edits();
     if (Object.keys(edits).length > 0) await keep(changes.modify(state.number, task(), edits));
     showEdit(false);
-    find("edit").focus();
+    find("edit")?.focus();
 }
 
 // Fills what comes from the board, and leaves the forms alone in which someone may be typing.
@@ -118,6 +119,7 @@ function drawTask(one) {
     fill(find("task-ahead"), ahead.map((id) => aheadRow(one, id)));
     fill(find("task-behind"), behind.map((other) => taskRow(other)));
     find("behind-part").hidden = behind.length === 0;
+    find("depend-form").hidden = !one.isOpen;
 }
 
 function close() {

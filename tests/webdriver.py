@@ -1,5 +1,6 @@
 """A browser that a test steers, by the WebDriver protocol over chromedriver."""
 import base64
+import contextlib
 import json
 import subprocess
 import sys
@@ -9,10 +10,14 @@ import urllib.request
 
 from connecting import connected, free_port
 
-# A name of this machine to which a browser doesn't trust as to the loopback: there it has neither locks nor a maker of uuids.
+# A name of this machine that a browser trusts less than the loopback: a page from there has neither locks nor a maker of uuids.
 STRANGER = "boards.test"
 WORDS = [f"--host-resolver-rules=MAP {STRANGER} 127.0.0.1", "--headless=new", "--no-sandbox", "--disable-gpu", "--disable-dev-shm-usage", "--no-first-run", "--disable-renderer-backgrounding"]
 ELEMENT = "element-6066-11e4-a52e-4f735466cecf"
+
+
+class Gone(Exception):
+    """An element that was found isn't in the page any more."""
 
 
 class Browser:
@@ -43,7 +48,10 @@ class Browser:
             with urllib.request.urlopen(request, timeout=60) as answer:
                 return json.load(answer)["value"]
         except urllib.error.HTTPError as fault:
-            sys.exit(f"{method} {path} {content}: {fault.read().decode()[:500]}")
+            told = fault.read().decode()
+            if '"stale element reference"' in told:
+                raise Gone from fault
+            sys.exit(f"{method} {path} {content}: {told[:500]}")
 
     def run(self, script, *arguments):
         """What a piece of JavaScript returns."""
@@ -65,11 +73,18 @@ class Browser:
     def element(self, selector):
         return self.call("POST", "/element", {"using": "css selector", "value": selector})[ELEMENT]
 
+    def act(self, selector, action, content=None):
+        """Acts on an element, and on the one that stands in its place where the page has just drawn it anew."""
+        for _ in range(20):
+            with contextlib.suppress(Gone):
+                return self.call("POST", f"/element/{self.element(selector)}/{action}", content)
+        sys.exit(f"{selector} is drawn anew again and again")
+
     def click(self, selector):
-        self.call("POST", f"/element/{self.element(selector)}/click")
+        self.act(selector, "click")
 
     def type(self, selector, text):
-        self.call("POST", f"/element/{self.element(selector)}/value", {"text": text})
+        self.act(selector, "value", {"text": text})
 
     def tabs(self):
         return self.call("GET", "/window/handles")
