@@ -76,7 +76,6 @@ pub fn ask_until_answered<L: Line>(
 }
 
 /// Sends a message once: the answer by which the asking ends, if it came.
-#[tactic(auto, using(crate::proofs::Tries::tried_none, crate::proofs::Tries::tried_again))]
 fn ask_once<L: Line>(
     alloc: Global,
     line: &mut L,
