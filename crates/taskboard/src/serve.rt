@@ -13,6 +13,7 @@ use tb_event_loop::{EventLoop, Journal, LoopFault};
 use tb_orders::Ending;
 use tb_program::{Fault, loopback};
 use tb_server::Server;
+use tb_site::{PageFault, Site, read_page};
 use tb_timeouts::LIMITS;
 
 /// What others may do to a file.
@@ -23,13 +24,10 @@ pub(crate) fn serve_file(rt: &HostRuntime, order: &ServeOrder) -> Result<Ending,
     ensures fault { IfErr result (λ fault. is_of_serving fault ≡ true) }
     ensures ends { OnOk result (IsSome (limit_of order.now.connections)) }
 {
-    // The files of the page are read here, and handed to the server.
-    if let Some(folder) = &order.page {
-        look_at_page(rt, folder.as_str())?;
-    }
+    let page = page_of(rt, order)?;
     let desk = open_desk(rt, order.file.as_str())?;
     let mut event_loop = listen(rt, order)?;
-    let mut server = Server::new(rt.alloc(), desk, MachineClock { rt })?;
+    let mut server = Server::new(rt.alloc(), desk, MachineClock { rt }, page)?;
     tell_start(rt, order);
     let mut journal = Journal::new(rt.alloc(), rt, rt.stderr(), order.log);
     if let Err(fault) = event_loop.serve(&mut server, &mut journal) {
@@ -74,12 +72,17 @@ fn fault_of_loop(fault: LoopFault) -> Fault
     }
 }
 
-fn look_at_page(rt: &HostRuntime, folder: &str) -> Result<(), Fault>
-    ensures { IfErr result (λ fault. fault ≡ Fault.NoPage) }
+// The files that browsers are given, none where no folder is named.
+fn page_of(rt: &HostRuntime, order: &ServeOrder) -> Result<Site, Fault>
+    ensures { IfErr result (λ fault. is_of_serving fault ≡ true) }
 {
-    match fs::metadata(rt, folder) {
-        Ok(found) if found.is_dir() => Ok(()),
-        _ => Err(Fault::NoPage),
+    let Some(folder) = &order.page else {
+        return Ok(Site::none(rt.alloc()));
+    };
+    match read_page(rt, folder.as_str()) {
+        Ok(page) => Ok(page),
+        Err(PageFault::Memory) => Err(Fault::Memory),
+        Err(_) => Err(Fault::NoPage),
     }
 }
 
