@@ -5,6 +5,7 @@
 #![tactic(auto)]
 
 pub mod boards;
+mod halves;
 pub mod people;
 pub mod replies;
 pub mod roles;
