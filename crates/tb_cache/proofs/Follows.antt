@@ -13,7 +13,6 @@ use Rattle.tb_board.specs.declared.world.World.{World}
 use Rattle.tb_board.specs.World.{find_board, has_number}
 use Rattle.tb_board.specs.Changes.{change_board, changed, changed_by, changed_on, with_task_at, with_gone, without_gone}
 use Rattle.lru.specs.LruCache.{LruCache, lru_cache}
-use Rattle.tb_board.proofs.Worlds.{changed_on-number, number_found}
 use Rattle.tb_cache.specs.Cached.{AreOf, touched}
 use Rattle.tb_cache.proofs.Entries.{apart_removed}
 use Rattle.lru.proofs.CallerLemmas.{Contains-remove_entry}
@@ -93,9 +92,8 @@ of_left w c n old new one left distinct are =
     (of_others w c n (remove_entry (nat_eq n) old.entries) one (apart_removed n old.entries distinct) (λ e there. are e (Contains-remove_entry (nat_eq n) old.entries e there)))
 
 -- the board that was taken out, changed
-pub found_taken : (w : World) (c : Change) (n : ℕ) (old : LruCache ℕ Board) (b later : Board) → touched c ≡ Some n → Some b ≡ lookup (nat_eq n) old.entries → later ≡ changed_on b c
-    → AreOf w old.entries → find_board (changed_by w c) later.number ≡ Some later
-found_taken w c n old b later one taken made are =
+pub found_in : (w : World) (c : Change) (n : ℕ) (old : LruCache ℕ Board) (b later : Board) → touched c ≡ Some n → Some b ≡ lookup (nat_eq n) old.entries → later ≡ changed_on b c
+    → AreOf w old.entries → find_board (changed_by w c) n ≡ Some later
+found_in w c n old b later one taken made are =
     let found : find_board w n ≡ Some b = are (n, b) (Contains-from_lookup eqb-true n b old.entries (sym taken)) in
-    let number : later.number ≡ n = ap (λ (x : Board). x.number) made ∙ changed_on-number b c ∙ number_found n w.boards b found in
-    ap (find_board (changed_by w c)) number ∙ found_touched w c n b one found ∙ ap Some (sym made)
+    found_touched w c n b one found ∙ ap Some (sym made)

@@ -1,10 +1,12 @@
-ghost use Rattle.std.specs.Prelude.{◌≡◌, ◌≤◌, [], IfOk, Some, length, nat_eq};
+ghost use Rattle.std.specs.Prelude.{◌≡◌, ◌≢◌, ◌≤◌, ℕ, [], IfOk, OnErr, OnOk, Some, length, nat_eq};
 ghost use Rattle.std.specs.Map.{lookup};
 ghost use Rattle.std.specs.Option.{option_map};
+ghost use Rattle.lru.specs.LruCache.{lru_cache, promoted, put_entries};
 ghost use Rattle.tb_board.specs.Changes.{changed, changed_by};
 ghost use Rattle.tb_board.specs.World.{find_board};
 ghost use Rattle.tb_board.specs.declared.world.World.{World as WorldValue};
-ghost use Rattle.tb_cache.specs.Cached.{AreOf};
+ghost use Rattle.tb_cache.specs.Cached.{AreOf, touched as touched_by};
+ghost use Rattle.tb_cache.specs.Followed.{TouchesNone, followed, followed_by};
 
 use crate::following::{follow, touched};
 use lru::LruCache;
@@ -69,6 +71,9 @@ impl BoardCache {
     /// One owner more of the board of this number, if it is at hand. It is the last used one now.
     pub fn look(&mut self, number: u32) -> Result<Option<Shared<Board>>, AllocError>
         ensures found { IfOk result (λ found. found ≡ lookup (nat_eq number) self.old.entries) }
+        ensures there { IfOk result (λ found. found ≡ lookup (nat_eq number) self.new.entries) }
+        ensures used { OnOk result (self.new.entries ≡ promoted (nat_eq number) self.old.entries) }
+        ensures same { OnErr result (self.new ≡ self.old) }
         ensures of { (w : WorldValue) → AreOf w self.old.entries → AreOf w self.new.entries }
     {
         let found = self.shared(number)?;
@@ -85,40 +90,56 @@ impl BoardCache {
         }
     }
 
-    /// Puts a board at hand, as the last used one, where there is memory for that. Where it is one too many, the one that was used
-    /// longest ago goes.
-    pub fn put(&mut self, board: Shared<Board>)
+    /// Puts a board at hand, as the last used one. Where it is one too many, the one that was used longest ago goes.
+    pub fn put(&mut self, board: Shared<Board>) -> Result<(), AllocError>
+        ensures put { OnOk result (self.new.entries ≡ put_entries nat_eq self.old board.number board) }
+        ensures there { OnOk result (lookup (nat_eq board.number) self.new.entries ≡ Some board) }
+        ensures same { OnErr result (self.new ≡ self.old) }
         ensures of { (w : WorldValue) → AreOf w self.old.entries → find_board w board.number ≡ Some board → AreOf w self.new.entries }
     {
         let number = board.get().number;
-        let _done = self.boards.put(number, board);
+        self.put_under(number, board)
+    }
+
+    fn put_under(&mut self, number: u32, board: Shared<Board>) -> Result<(), AllocError>
+        ensures put { OnOk result (self.new ≡ lru_cache (put_entries nat_eq self.old number board) self.old.cap) }
+        ensures same { OnErr result (self.new ≡ self.old) }
+    {
+        match self.boards.put(number, board) {
+            Ok(_) => Ok(()),
+            Err(_) => Err(AllocError),
+        }
     }
 
     /// Makes changes of the world on the boards that are at hand, each of which is then the last used one. Where there is no memory
-    /// for that, the board goes.
-    pub fn follow(&mut self, alloc: Global, changes: &[Change])
-        ensures { (w : WorldValue) → AreOf w self.old.entries → AreOf (changed w changes.now) self.new.entries }
+    /// for one of them it goes, the others follow all the same, and the answer says so.
+    pub fn follow(&mut self, alloc: Global, changes: &[Change]) -> Result<(), AllocError>
+        ensures all { OnOk result (self.new.entries ≡ followed self.old.entries changes.now) }
+        ensures others { (n : ℕ) → TouchesNone n changes.now → lookup (nat_eq n) self.new.entries ≡ lookup (nat_eq n) self.old.entries }
+        ensures of { (w : WorldValue) → AreOf w self.old.entries → AreOf (changed w changes.now) self.new.entries }
     {
+        let mut ended = Ok(());
         for change in changes {
-            self.follow_one(alloc, change);
+            ended = ended.and(self.follow_one(alloc, change));
         }
+        ended
     }
 
     /// The board that the change touches is taken out and put back.
-    fn follow_one(&mut self, alloc: Global, change: &Change)
-        ensures { (w : WorldValue) → AreOf w self.old.entries → AreOf (changed_by w change.now) self.new.entries }
+    fn follow_one(&mut self, alloc: Global, change: &Change) -> Result<(), AllocError>
+        ensures all { OnOk result (self.new.entries ≡ followed_by self.old.entries change.now) }
+        ensures others { (n : ℕ) → touched_by change.now ≢ Some n → lookup (nat_eq n) self.new.entries ≡ lookup (nat_eq n) self.old.entries }
+        ensures of { (w : WorldValue) → AreOf w self.old.entries → AreOf (changed_by w change.now) self.new.entries }
     {
         let Some(number) = touched(change) else {
-            return;
+            return Ok(());
         };
         let _apart = self.boards.len();
         let Some(board) = self.boards.pop(&number) else {
-            return;
+            return Ok(());
         };
-        if let Ok(board) = follow(alloc, board, change) {
-            if let Ok(board) = Shared::new(alloc, board) {
-                self.put(board);
-            }
-        }
+        let later = follow(alloc, board, change)?;
+        let later = Shared::new(alloc, later)?;
+        self.put_under(number, later)
     }
 }

@@ -69,7 +69,7 @@ fn use_board(alloc: Global, cache: &mut BoardCache, number: u32) -> io::Result<(
     if cache.look(number)?.is_none() {
         let mut board = empty_board(alloc)?;
         board.number = number;
-        cache.put(Shared::new(alloc, board)?);
+        cache.put(Shared::new(alloc, board)?)?;
     }
     Ok(())
 }
@@ -78,7 +78,7 @@ fn put_task(alloc: Global, cache: &mut BoardCache, number: u32) -> io::Result<()
     let place = cache.cached(number).map_or(0, |board| board.tasks.len());
     let mut changes = Items::new(alloc);
     changes.push(task_put(alloc, number, place, TASK)?)?;
-    cache.follow(alloc, changes.as_slice());
+    cache.follow(alloc, changes.as_slice())?;
     Ok(())
 }
 
