@@ -34,7 +34,7 @@ use Rattle.tb_rows.specs.Part.{part_of, touched_board}
 use Rattle.tb_stored.specs.Stored.{IsKnown, IsStored}
 use Rattle.tb_keeper.specs.declared.looking.Glance.{Glance}
 use Rattle.tb_keeper.specs.declared.looking.Parties.{Parties}
-use Rattle.tb_keeper.specs.Looking.{caller_role, AreParties, IsGlance, IsGlanceAt}
+use Rattle.tb_keeper.specs.Looking.{caller_role, AreParties, IsGlance, IsGlanceAt, IsSeenAtHand}
 use Rattle.tb_keeper.specs.Holds.{IsAtHand}
 
 -- ---- people
@@ -89,6 +89,20 @@ at_hand_found w es n b found are = sym (are (n, b) (Contains-from_lookup eqb-tru
 pub cached_found : {R : Type 0} (w : World) (es : List (ℕ × Board)) (n : ℕ) (o : Option R) (now : R → Board) → option_map now o ≡ lookup (nat_eq n) es → AreOf w es → IfSome o (λ r. find_board w n ≡ Some (now r))
 cached_found w es n None now is are = tt
 cached_found w es n (Some r) now is are = sym (at_hand_found w es n (now r) is are)
+
+-- a board that is there isn't missing
+pub not_there : (o : Option Board) → None ≡ o → IsSome o → ⊥
+not_there o none some = true≢false (sym some ∙ ap is_some (sym none))
+
+-- what is put at hand is what was found
+pub put_at_hand : (n : ℕ) (found : Option Board) (mid new : List (ℕ × Board)) → None ≡ lookup (nat_eq n) mid → (found ≡ None → new ≡ mid) → IfSome found (λ b. b.number ≡ n)
+    → IfSome found (λ b. lookup (nat_eq b.number) new ≡ Some b) → found ≡ lookup (nat_eq n) new
+put_at_hand n None mid new none same numbered there = none ∙ ap (lookup (nat_eq n)) (sym (same refl))
+put_at_hand n (Some b) mid new none same numbered there = sym (subst (λ m. lookup (nat_eq m) new ≡ Some b) numbered there)
+
+-- the board that is seen is at hand under the number that a command names
+pub seen_under : (cached : List (ℕ × Board)) (o : Option ℕ) (m : ℕ) (seen : Option SeenBoard) → o ≡ Some m → IsSeenAtHand cached m seen → (n : ℕ) → o ≡ Some n → IsSeenAtHand cached n seen
+seen_under cached o m seen one at n other = let same : m ≡ n = cc in subst (λ k. IsSeenAtHand cached k seen) same at
 
 -- a board that is found has its number
 pub own_number : (w : World) (n : ℕ) (o : Option Board) → o ≡ find_board w n → IfSome o (λ b. find_board w b.number ≡ Some b)

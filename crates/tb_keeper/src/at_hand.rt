@@ -1,12 +1,14 @@
 //! The boards at hand, and what follows changes there.
 
-ghost use Rattle.std.specs.Prelude.{◌≡◌, ◌+◌, ◌≤◌, Some, IfOk, IfSome, false};
+ghost use Rattle.std.specs.Prelude.{◌≡◌, ◌+◌, ◌≤◌, ℕ, None, Some, IfOk, IfSome, IsSome, OnOk, false, nat_eq};
 ghost use Rattle.std.specs.List.{count_by};
+ghost use Rattle.std.specs.Map.{lookup};
 ghost use Rattle.sqlite.specs.Held.{state};
 ghost use Rattle.tb_board.specs.Changes.{changed};
 ghost use Rattle.tb_board.specs.World.{find_board};
 ghost use Rattle.tb_board.specs.declared.world.World.{World};
 ghost use Rattle.tb_cache.specs.Cached.{AreOf};
+ghost use Rattle.tb_cache.specs.Followed.{TouchesNone};
 ghost use Rattle.tb_core.specs.GoodWorld.{IsGoodWorld};
 ghost use Rattle.tb_sql.specs.Opening.{IsAsBefore};
 ghost use Rattle.tb_stored.specs.Reopening.{OfState};
@@ -15,14 +17,15 @@ ghost use Rattle.tb_keeper.specs.Holds.{IsAtHand};
 
 use crate::sql_keep::SqlKeep;
 use sqlite::{Alter, Connection};
-use std::alloc::Global;
+use std::alloc::{AllocError, Global};
 use tb_board::{Board, Change};
 use tb_cache::BoardCache;
 use tb_lookup::boards::stored_board;
 use tb_sql::store::StoreFault;
 use tb_values::Shared;
 
-/// The board of a number, if there is one: the one at hand, or else the one that is stored, which is at hand from then on.
+/// The board of a number, if there is one: the one at hand, or else the one that is stored, which is at hand from then on. For one at
+/// hand no table is read.
 pub(crate) fn board_at<S: Alter>(
     alloc: Global,
     conn: &mut Connection<S>,
@@ -33,6 +36,8 @@ pub(crate) fn board_at<S: Alter>(
     ensures idle { conn.new.in_transaction ≡ false }
     ensures found { IfOk result (λ board. OfState (state S.Store conn.old) (state S.Store conn.new)
         (λ s. AreOf s.world cache.old.entries → board ≡ find_board s.world number)) }
+    ensures at_hand { IfOk result (λ board. board ≡ lookup (nat_eq number) cache.new.entries) }
+    ensures unread { IsSome (lookup (nat_eq number) cache.old.entries) → conn.new ≡ conn.old }
     ensures cached { OfState (state S.Store conn.old) (state S.Store conn.new)
         (λ s. AreOf s.world cache.old.entries → AreOf s.world cache.new.entries) }
     ensures same { IsAsBefore (state S.Store conn.old) (state S.Store conn.new) }
@@ -43,34 +48,38 @@ pub(crate) fn board_at<S: Alter>(
         Err(_) => return Err(StoreFault::Memory),
     }
     let found = stored_board(alloc, conn, number)?;
-    put_at_hand(cache, &found);
-    Ok(found)
+    match put_at_hand(cache, &found) {
+        Ok(()) => Ok(found),
+        Err(_) => Err(StoreFault::Memory),
+    }
 }
 
-/// Puts a board at hand, if there is one, and memory for that.
-fn put_at_hand(cache: &mut BoardCache, board: &Option<Shared<Board>>)
-    ensures { (w : World) → AreOf w cache.old.entries → IfSome board.now (λ b. find_board w b.number ≡ Some b)
+/// Puts a board at hand, if there is one.
+fn put_at_hand(cache: &mut BoardCache, board: &Option<Shared<Board>>) -> Result<(), AllocError>
+    ensures there { OnOk result (IfSome board.now (λ b. lookup (nat_eq b.number) cache.new.entries ≡ Some b)) }
+    ensures none { board.now ≡ None → cache.new.entries ≡ cache.old.entries }
+    ensures of { (w : World) → AreOf w cache.old.entries → IfSome board.now (λ b. find_board w b.number ≡ Some b)
         → AreOf w cache.new.entries }
 {
-    let Some(board) = board else {
-        return;
-    };
-    if let Ok(board) = board.share() {
-        cache.put(board);
+    match board {
+        Some(board) => cache.put(board.share()?),
+        None => Ok(()),
     }
 }
 
 impl<S: Alter> SqlKeep<S> {
-    /// Lets what is at hand follow changes that were written.
+    /// Lets what is at hand follow changes that were written. A board that they touch goes where there is no memory for it.
     pub(crate) fn follow(&mut self, alloc: Global, changes: &[Change])
         ensures conn { self.new.conn ≡ self.old.conn }
         ensures failed { self.new.failed ≡ self.old.failed }
         ensures hand { (w : World) → IsAtHand self.old.people self.old.boards self.old.cache.entries w → IsGoodWorld (changed w changes.now)
             → IsAtHand self.new.people self.new.boards self.new.cache.entries (changed w changes.now) }
+        ensures others { (n : ℕ) → TouchesNone n changes.now
+            → lookup (nat_eq n) self.new.cache.entries ≡ lookup (nat_eq n) self.old.cache.entries }
     {
         self.people = people_with(self.people, changes);
         self.boards = boards_with(self.boards, changes);
-        self.cache.follow(alloc, changes);
+        let _whole = self.cache.follow(alloc, changes);
     }
 }
 

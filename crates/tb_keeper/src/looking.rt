@@ -1,6 +1,6 @@
 //! What is looked up for a call.
 
-ghost use Rattle.std.specs.Prelude.{◌≡◌, IfOk, false};
+ghost use Rattle.std.specs.Prelude.{◌≡◌, ℕ, IfOk, Some, false};
 ghost use Rattle.std.specs.FinMap.{get};
 ghost use Rattle.std.specs.Option.{option_map};
 ghost use Rattle.sqlite.specs.Held.{state};
@@ -9,7 +9,7 @@ ghost use Rattle.tb_cache.specs.Cached.{AreOf};
 ghost use Rattle.tb_core.specs.Apply.{board_of, number_for, other_of, seen_with};
 ghost use Rattle.tb_sql.specs.Opening.{IsAsBefore};
 ghost use Rattle.tb_stored.specs.Reopening.{OfState};
-ghost use Rattle.tb_keeper.specs.Looking.{AreParties, IsGlance, IsGlanceAt, caller_role};
+ghost use Rattle.tb_keeper.specs.Looking.{AreParties, IsGlance, IsGlanceAt, IsSeenAtHand, caller_role};
 
 use crate::at_hand::board_at;
 use sqlite::{Alter, Connection};
@@ -112,6 +112,7 @@ pub(crate) fn look_up<S: Alter>(
     ensures idle { conn.old.in_transaction ≡ false → conn.new.in_transaction ≡ false }
     ensures found { IfOk result (λ glance. OfState (state S.Store conn.old) (state S.Store conn.new)
         (λ s. AreOf s.world cache.old.entries → IsGlance s.world name.now command.now glance)) }
+    ensures at_hand { IfOk result (λ glance. (n : ℕ) → board_of command.now ≡ Some n → IsSeenAtHand cache.new.entries n glance.board) }
     ensures cached { OfState (state S.Store conn.old) (state S.Store conn.new)
         (λ s. AreOf s.world cache.old.entries → AreOf s.world cache.new.entries) }
     ensures same { IsAsBefore (state S.Store conn.old) (state S.Store conn.new) }
@@ -194,6 +195,7 @@ fn glance_at<S: Alter>(
     ensures idle { conn.new.in_transaction ≡ false }
     ensures found { IfOk result (λ glance. OfState (state S.Store conn.old) (state S.Store conn.new)
         (λ s. AreOf s.world cache.old.entries → IsGlanceAt s.world board parties glance)) }
+    ensures at_hand { IfOk result (λ glance. IsSeenAtHand cache.new.entries board glance.board) }
     ensures cached { OfState (state S.Store conn.old) (state S.Store conn.new)
         (λ s. AreOf s.world cache.old.entries → AreOf s.world cache.new.entries) }
     ensures same { IsAsBefore (state S.Store conn.old) (state S.Store conn.new) }
@@ -222,6 +224,7 @@ fn see_board<S: Alter>(
     ensures idle { conn.new.in_transaction ≡ false }
     ensures found { IfOk result (λ seen. OfState (state S.Store conn.old) (state S.Store conn.new)
         (λ s. AreOf s.world cache.old.entries → seen ≡ seen_with role (find_board s.world number))) }
+    ensures at_hand { IfOk result (IsSeenAtHand cache.new.entries number) }
     ensures cached { OfState (state S.Store conn.old) (state S.Store conn.new)
         (λ s. AreOf s.world cache.old.entries → AreOf s.world cache.new.entries) }
     ensures same { IsAsBefore (state S.Store conn.old) (state S.Store conn.new) }

@@ -1,10 +1,15 @@
-ghost use Rattle.std.specs.Prelude.{◌≡◌, Some, IfSome, false, true};
+ghost use Rattle.std.specs.Prelude.{◌≡◌, ℕ, None, Some, IfOk, IfSome, IsErrOf, IsSome, false, if◌then◌else◌, nat_eq, true};
+ghost use Rattle.std.specs.Map.{lookup};
+ghost use Rattle.std.specs.Option.{option_map};
 ghost use Rattle.sqlite.specs.Held.{state};
 ghost use Rattle.sqlite.specs.State.{HasCleanDisk};
-ghost use Rattle.tb_board.specs.World.{find_board};
+ghost use Rattle.tb_board.specs.World.{find_board, key_of};
 ghost use Rattle.tb_calls.specs.Calls.{State};
-ghost use Rattle.tb_stored.specs.Stored.{IsStored, IsStoredAsEither};
+ghost use Rattle.tb_calls.specs.Keeping.{IsStill, is_store};
+ghost use Rattle.tb_core.specs.Apply.{board_of, seen_of};
+ghost use Rattle.tb_stored.specs.Stored.{IsStored, IsStoredAsEither, MayLeave};
 ghost use Rattle.tb_keeper.specs.Holds.{Holds};
+ghost use Rattle.tb_keeper.specs.Looking.{IsSeenAtHand};
 
 use crate::looking::{find_key, find_reply, look_up};
 use sqlite::{Alter, Connection};
@@ -45,7 +50,9 @@ impl<S: Alter> SqlKeep<S> {
 
     /// The board of this number, if it is at hand. This is no use of it, and nothing is looked up.
     pub fn cached(&self, board: u32) -> Option<&Board>
-        ensures { HasCleanDisk (state S.Store self.now.conn) → (s : State)
+        ensures told { option_map (λ found. found.now) result
+            ≡ (if self.now.failed then None else lookup (nat_eq board) self.now.cache.entries) }
+        ensures of { HasCleanDisk (state S.Store self.now.conn) → (s : State)
             → Holds self.now.failed self.now.people self.now.boards self.now.cache.entries (state S.Store self.now.conn) s
             → IfSome result (λ found. find_board s.world board ≡ Some found.now) }
     {
@@ -115,7 +122,21 @@ impl<S: Alter> Keep for SqlKeep<S> {
         }
     }
 
-    fn look(&mut self, alloc: Global, name: &Name, command: &Command) -> Result<Seen, KeepFault> {
+    /// A board that is seen is at hand from then on.
+    fn look(&mut self, alloc: Global, name: &Name, command: &Command) -> Result<Seen, KeepFault>
+        ensures answer { (state S.Store self.new.conn).is_clean ≡ true → (s : State)
+            → Holds self.old.failed self.old.people self.old.boards self.old.cache.entries (state S.Store self.old.conn) s
+            → IsSome (key_of s.world name.now) → IfOk result (λ seen. seen ≡ seen_of s.world name.now command.now) }
+        ensures at_hand { IfOk result (λ seen. (n : ℕ) → board_of command.now ≡ Some n → IsSeenAtHand self.new.cache.entries n seen.board) }
+        ensures same { IsStill
+            (λ s. Holds self.old.failed self.old.people self.old.boards self.old.cache.entries (state S.Store self.old.conn) s)
+            (λ t. MayLeave (state S.Store self.old.conn) t)
+            (λ s. Holds self.new.failed self.new.people self.new.boards self.new.cache.entries (state S.Store self.new.conn) s)
+            (λ t. MayLeave (state S.Store self.new.conn) t) }
+        ensures failed { self.new.failed ≡ is_store result }
+        ensures honest { (state S.Store self.new.conn).is_clean ≡ true → (state S.Store self.old.conn).is_clean ≡ true }
+        ensures closed { self.old.failed ≡ true → IsErrOf result KeepFault.Store }
+    {
         if self.failed {
             return Err(KeepFault::Store);
         }

@@ -5,7 +5,7 @@ use Rattle.tb_cache.specs.Cached.{AreOf}
 use Rattle.tb_stored.specs.Reopening.{OfState}
 use Rattle.tb_stored.proofs.Standing.{stored_again}
 use Rattle.tb_keeper.specs.Looking.{IsGlance, IsGlanceAt}
-use Rattle.tb_keeper.proofs.Looked.{glance_off, glance_on}
+use Rattle.tb_keeper.proofs.Looked.{glance_off, glance_on, seen_under}
 use Rattle.tb_keeper.proofs.looking.look_up.Goals as goal
 
 pub returns-in-Some-clause-found : goal.returns-in-Some-clause-found
@@ -28,3 +28,8 @@ returns-in-Some-clause-cached g c clean s stored are =
 pub returns-in-None-clause-found : goal.returns-in-None-clause-found
 returns-in-None-clause-found g c clean s stored are =
     glance_off s.world c.args.name.now c.args.command.now c.in_ok-parties.parties c.seen_person.result (sym c.board_of.ensures ∙ c.in-None.is) (c.in_ok-parties.ensures.found clean s stored) c.seen_person.ensures
+
+pub returns-in-Some-clause-at_hand : goal.returns-in-Some-clause-at_hand
+returns-in-Some-clause-at_hand g c =
+    let on = sym c.board_of.ensures ∙ c.in-Some.is in
+    IfOk-weaker c.glance_at.result _ _ (λ glance at n other. seen_under c.glance_at.new.cache.entries _ c.in-Some.board glance.board on at n other) c.glance_at.ensures.at_hand
