@@ -41,5 +41,5 @@ pub use statuses::{
 };
 pub use title::Title;
 pub use viewing::woken_task;
-pub use waking::{has_waited, wake_draft};
+pub use waking::{has_waited, wake_draft, woken};
 pub use world::{Person, Role, RoleOn, World};

@@ -1,5 +1,5 @@
 ghost use Rattle.std.specs.Prelude.{◌≡◌, ◌<◌, length, IfOk, slice_index_or, slice_set};
-ghost use Rattle.tb_board.specs.Board.{wake, wakes, woken, has_come, is_waiting};
+ghost use Rattle.tb_board.specs.Board.{wake, wakes, woken, has_come, is_waiting, status_at};
 ghost use Rattle.tb_board.specs.Changes.{Follows};
 ghost use Rattle.tb_task.specs.declared.status.Status.TheVariants.{Pending};
 ghost use Rattle.tb_task.specs.declared.task.Task.{Task};
@@ -48,6 +48,17 @@ pub fn has_waited(task: &Task, at: Moment) -> bool
     ensures { result ≡ wakes at task.now }
 {
     is_waiting_status(task.status) && is_over(task.wait, at)
+}
+
+/// The status of a task on its board as it is woken at a moment.
+pub fn woken(task: &Task, at: Moment) -> Status
+    ensures { result ≡ status_at at task.now }
+{
+    if has_waited(task, at) {
+        Status::Pending
+    } else {
+        task.status
+    }
 }
 
 fn is_waiting_status(status: Status) -> bool
