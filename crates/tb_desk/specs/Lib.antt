@@ -1,3 +1,4 @@
+pub mod Admission
 pub mod Listed
 pub mod Sessions
 pub mod Views

@@ -75,7 +75,7 @@ fn reply_with(alloc: Global, shown: Result<Text, Refusal>) -> Result<Reply, Allo
     }
 }
 
-fn board_of(view: &View) -> u32
+pub(crate) fn board_of(view: &View) -> u32
     ensures { result ≡ board_of_view view.now }
 {
     match view {
