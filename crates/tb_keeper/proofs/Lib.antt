@@ -7,5 +7,6 @@ pub mod FirstRows
 pub mod FoundBoards
 pub mod Holding
 pub mod Images
+pub mod LentRows
 pub mod Looked
 pub mod WholeCount

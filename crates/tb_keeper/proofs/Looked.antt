@@ -90,16 +90,6 @@ pub cached_found : {R : Type 0} (w : World) (es : List (ℕ × Board)) (n : ℕ)
 cached_found w es n None now is are = tt
 cached_found w es n (Some r) now is are = sym (at_hand_found w es n (now r) is are)
 
--- a board that is there isn't missing
-pub not_there : (o : Option Board) → None ≡ o → IsSome o → ⊥
-not_there o none some = true≢false (sym some ∙ ap is_some (sym none))
-
--- what is put at hand is what was found
-pub put_at_hand : (n : ℕ) (found : Option Board) (mid new : List (ℕ × Board)) → None ≡ lookup (nat_eq n) mid → (found ≡ None → new ≡ mid) → IfSome found (λ b. b.number ≡ n)
-    → IfSome found (λ b. lookup (nat_eq b.number) new ≡ Some b) → found ≡ lookup (nat_eq n) new
-put_at_hand n None mid new none same numbered there = none ∙ ap (lookup (nat_eq n)) (sym (same refl))
-put_at_hand n (Some b) mid new none same numbered there = sym (subst (λ m. lookup (nat_eq m) new ≡ Some b) numbered there)
-
 -- the board that is seen is at hand under the number that a command names
 pub seen_under : (cached : List (ℕ × Board)) (o : Option ℕ) (m : ℕ) (seen : Option SeenBoard) → o ≡ Some m → IsSeenAtHand cached m seen → (n : ℕ) → o ≡ Some n → IsSeenAtHand cached n seen
 seen_under cached o m seen one at n other = let same : m ≡ n = cc in subst (λ k. IsSeenAtHand cached k seen) same at

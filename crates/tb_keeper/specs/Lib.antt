@@ -3,4 +3,5 @@ pub mod Counts
 pub mod Forms
 pub mod Holds
 pub mod Laws
+pub mod Lent
 pub mod Looking

@@ -10,6 +10,7 @@ mod auditing;
 mod committing;
 mod creating;
 mod forms;
+mod lending;
 mod looking;
 mod opening;
 mod sound_rows;
@@ -18,4 +19,5 @@ mod writing;
 
 pub use auditing::Audit;
 pub use creating::CreateFault;
+pub use lending::{Lent, StoredRow};
 pub use sql_keep::SqlKeep;
