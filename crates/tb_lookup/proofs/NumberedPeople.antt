@@ -13,7 +13,7 @@ use Rattle.tb_lookup.specs.Counting.{IsWithin}
 use Rattle.tb_lookup.proofs.NamedPeople.{rows}
 use Rattle.tb_lookup.proofs.OneOf.{none_found, one_found}
 
-none_before : (id n : ℕ) (people : List Person) → id < n → filter (is_person id) (rows n people) ≡ []
+pub none_before : (id n : ℕ) (people : List Person) → id < n → filter (is_person id) (rows n people) ≡ []
 none_before id n [] before = refl
 none_before id n (p ∷ people) before =
     let other : (n == id) ≡ false = grind (arith, nat_tests) in

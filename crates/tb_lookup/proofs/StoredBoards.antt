@@ -43,7 +43,7 @@ rows_at k n (b ∷ bs) numbered = elim (cases_Bool (b.number == k)) [
   | inr other ↦ rw other (rows_at k (n + 1) bs numbered.1)
 ]
 
-row_found : (s : State) (c : Content) → AreRowsOf s c → (k : ℕ) (row : Option BoardRow) → IsOneOf (filter (is_board k) c.boards) row → row ≡ option_map board_row (find_board s.world k)
+pub row_found : (s : State) (c : Content) → AreRowsOf s c → (k : ℕ) (row : Option BoardRow) → IsOneOf (filter (is_board k) c.boards) row → row ≡ option_map board_row (find_board s.world k)
 row_found s c of_s k row is = go (find_board s.world k) (rows_at k 1 s.world.boards (numbered_from 1 s.world.boards of_s.good.numbered))
   where
     go : (b : Option Board) → AreAt (filter (is_board k) (map board_row s.world.boards)) b → row ≡ option_map board_row b
