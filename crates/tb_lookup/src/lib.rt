@@ -7,6 +7,7 @@
 pub mod boards;
 pub mod boards_of;
 mod gathering;
+mod halves;
 pub mod people;
 pub mod people_on;
 pub mod replies;
