@@ -148,3 +148,23 @@ has_person old new id rows shown = record {
 
 pub person_excused : (old new : State) (id : ℕ) (e : Error) → FailsToQuery has_text (Int (pos id) ∷ []) old new e ⊎ IsTooLate has_text (Int (pos id) ∷ []) old new e → IsExcused old new e
 person_excused old new id e failed other ready content is = fails_so has_text person_tree by_id id_alone [] asks_whether _ (suits id) old new e is.schema ready other failed
+
+-- ---- the one of a number
+
+abbrev pub find_at_text : List ℕ
+find_at_text = codes "SELECT id, name, secret FROM person WHERE id = ?1"
+
+asks_one_at : Asks find_at_text person_tree by_id shown_terms []
+unfolding understood everything
+asks_one_at = record { names = names; means = record { is = refl; bare = (refl, refl) }; unlisted = refl }
+
+pub find_person_at : (old new : State) (id : ℕ) (rows : List Row) → Shown find_at_text (Int (pos id) ∷ []) old new rows
+    → Finds (λ content. IsOneOf (filter (is_person id) content.people) (option_map person_of (slice_get rows 0))) old
+find_person_at old new id rows shown = record {
+  was_open = shown_open find_at_text _ old new rows shown;
+  found = λ content is.
+      let params = Int (pos id) ∷ [] in
+      let same = each (λ (row : PersonRow). and_true _ ∙ equal_numbers row.id id) content.people in
+      let answer = keyed_shown person_row (is_person id) content.people person_tree refl find_at_text by_id shown_terms [] asks_one_at old new params rows is.schema shown same is.rows.tables.people in
+      found_one person_of (query_of person_tree by_id shown_terms []) (λ row. output_at person_tree refl by_id shown_terms [] params (person_row row)) _ rows (each (λ row. refl) _) answer;
+}

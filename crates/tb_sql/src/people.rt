@@ -66,6 +66,26 @@ pub fn find_person<S: Alter>(
     read_first(&rows)
 }
 
+/// The person of a number.
+pub fn find_person_at<S: Alter>(
+    tx: &mut Transaction<'_, S>,
+    id: u32,
+) -> Result<Option<PersonRow>, Error>
+    ensures same_reference { tx.new.conn.ghost_name ≡ tx.old.conn.ghost_name }
+    ensures found { HasCleanDisk (state S.Store tx.new.conn.now)
+        → IfOk result (λ person. Finds (λ content. IsOneOf (filter (is_person id) content.people) person) (state S.Store tx.old.conn.now)) }
+    ensures kept { HasCleanDisk (state S.Store tx.new.conn.now) → IsTrue (state S.Store tx.old.conn.now).in_transaction
+        → KeepsCommit (state S.Store tx.old.conn.now) (state S.Store tx.new.conn.now) }
+    ensures survives { Survives (state S.Store tx.old.conn.now) (state S.Store tx.new.conn.now) (λ _. ⊥) }
+{
+    let rows = find_rows(
+        tx,
+        "SELECT id, name, secret FROM person WHERE id = ?1",
+        params![id],
+    )?;
+    read_first(&rows)
+}
+
 /// Whether there is a person of a number. Nothing of the row is read.
 pub fn has_person<S: Alter>(tx: &mut Transaction<'_, S>, id: u32) -> Result<bool, Error>
     ensures same_reference { tx.new.conn.ghost_name ≡ tx.old.conn.ghost_name }

@@ -13,7 +13,7 @@ ghost use Rattle.tb_stored.specs.Reopening.{OfContent};
 use sqlite::{Alter, Connection};
 use tb_sql::boards::{find_board, has_board};
 use tb_sql::kept::find_kept;
-use tb_sql::people::{find_person, has_person};
+use tb_sql::people::{find_person, find_person_at, has_person};
 use tb_sql::store::StoreFault;
 use tb_sql_tables::rows::{BoardRow, KeptRow, PersonRow};
 use tb_task::TaskId;
@@ -31,6 +31,26 @@ pub fn person_row_named<S: Alter>(
 {
     let mut tx = conn.transaction();
     let found = find_person(&mut tx, name);
+    drop(tx);
+    match found {
+        Ok(row) => Ok(row),
+        Err(error) => Err(StoreFault::before_commit(&error)),
+    }
+}
+
+/// The person of a number.
+pub fn person_row_at<S: Alter>(
+    conn: &mut Connection<S>,
+    id: u32,
+) -> Result<Option<PersonRow>, StoreFault>
+    requires { conn.old.in_transaction ≡ false }
+    ensures idle { conn.new.in_transaction ≡ false }
+    ensures found { IfOk result (λ row. OfContent (state S.Store conn.old) (state S.Store conn.new)
+        (λ content. IsOneOf (filter (is_person id) content.people) row)) }
+    ensures same { IsAsBefore (state S.Store conn.old) (state S.Store conn.new) }
+{
+    let mut tx = conn.transaction();
+    let found = find_person_at(&mut tx, id);
     drop(tx);
     match found {
         Ok(row) => Ok(row),
