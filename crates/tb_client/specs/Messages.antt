@@ -46,6 +46,11 @@ task_view [] = None
 task_view (a ∷ []) = None
 task_view (a ∷ b ∷ c ∷ more) = None
 
+-- the boards of who asks
+abbrev pub me_view : List Text → Option Request
+me_view [] = Some (view_at (codes "/me"))
+me_view (a ∷ more) = None
+
 -- the body is the argument behind the board
 abbrev pub board_call : Text → List Text → Option Request
 board_call suffix (board ∷ body ∷ []) = option_map (call_at body) (board_target board suffix)
@@ -123,6 +128,8 @@ request_named word arguments =
     if bytes_eq word (codes "list") then board_view (codes "/list") arguments
     else if bytes_eq word (codes "export") then board_view (codes "/export") arguments
     else if bytes_eq word (codes "todo") then board_view (codes "/todo") arguments
+    else if bytes_eq word (codes "people") then board_view (codes "/people") arguments
+    else if bytes_eq word (codes "me") then me_view arguments
     else if bytes_eq word (codes "task") then task_view arguments
     else if bytes_eq word (codes "add") then board_call (codes "/tasks") arguments
     else if bytes_eq word (codes "import") then board_call (codes "/import") arguments

@@ -2,7 +2,7 @@
 ghost use Rattle.std.specs.Prelude.{◌≡◌, ◌++◌, ◌∷◌, IfOk, codes, false, option_map};
 ghost use Rattle.serde_json.specs.View.{view};
 ghost use Rattle.serde_json.specs.Written.{compact_text, has_float};
-ghost use Rattle.tb_client.specs.Messages.{board_call, board_target, board_view, call_at, lines_call, lines_text, link_body, link_data, note_body, note_data, person_call, person_data, request_named, request_of, role_call, role_data, sweep_call, task_call, task_call_with, task_target, task_view, title_call, title_data, view_at};
+ghost use Rattle.tb_client.specs.Messages.{board_call, board_target, board_view, call_at, lines_call, lines_text, link_body, link_data, me_view, note_body, note_data, person_call, person_data, request_named, request_of, role_call, role_data, sweep_call, task_call, task_call_with, task_target, task_view, title_call, title_data, view_at};
 
 use serde_json::{Value, json};
 use std::alloc::{AllocError, Global};
@@ -38,6 +38,8 @@ fn request_named(
         "list" => board_view(alloc, "/list", arguments),
         "export" => board_view(alloc, "/export", arguments),
         "todo" => board_view(alloc, "/todo", arguments),
+        "people" => board_view(alloc, "/people", arguments),
+        "me" => me_view(alloc, arguments),
         "task" => task_view(alloc, arguments),
         "add" => board_call(alloc, "/tasks", arguments),
         "import" => board_call(alloc, "/import", arguments),
@@ -72,6 +74,16 @@ fn board_view(
     };
     let target = board_target(alloc, board, suffix)?;
     Ok(view_at(target))
+}
+
+fn me_view(alloc: Global, arguments: &[Text]) -> Result<Option<Request>, AllocError>
+    ensures { IfOk result (λ found. found ≡ me_view arguments.now) }
+{
+    if !arguments.is_empty() {
+        return Ok(None);
+    }
+    let target = Text::from_str(alloc, "/me")?;
+    Ok(view_at(Some(target)))
 }
 
 fn task_view(alloc: Global, arguments: &[Text]) -> Result<Option<Request>, AllocError>
