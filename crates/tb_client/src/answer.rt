@@ -79,7 +79,7 @@ fn size_text(text: &str) -> Option<u32>
 }
 
 /// A value, if it is text.
-fn text_in(value: &[u8]) -> Option<&str>
+pub(crate) fn text_in(value: &[u8]) -> Option<&str>
     ensures { option_map (λ text. text.now) result ≡ text_in value.now }
 {
     match str::from_utf8(value) {

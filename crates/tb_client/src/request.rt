@@ -253,7 +253,7 @@ fn body_text(alloc: Global, body: &Value) -> Result<Text, AllocError>
     Ok(Text::from_string(body.to_string(alloc)?))
 }
 
-fn view_at(target: Option<Text>) -> Option<Request>
+pub(crate) fn view_at(target: Option<Text>) -> Option<Request>
     ensures { result ≡ option_map view_at target }
 {
     match target {
@@ -275,7 +275,11 @@ fn call_at(target: Option<Text>, body: Text) -> Option<Request>
 }
 
 /// The path behind a board.
-fn board_target(alloc: Global, board: &Text, suffix: &str) -> Result<Option<Text>, AllocError>
+pub(crate) fn board_target(
+    alloc: Global,
+    board: &Text,
+    suffix: &str,
+) -> Result<Option<Text>, AllocError>
     ensures { IfOk result (λ target. target ≡ board_target board.now suffix.now) }
 {
     let board = board.as_str();
