@@ -1,10 +1,11 @@
 -- The messages that the words of a script are sent as.
-use Rattle.std.specs.Prelude.{ℕ, List, [], ◌∷◌, ◌++◌, ◌&&◌, is_some, length, codes, decimal, Option, Some, None, option_map, if◌then◌else◌}
+use Rattle.std.specs.Prelude.{ℕ, List, [], ◌∷◌, ◌++◌, ◌&&◌, is_some, length, codes, decimal, Option, Some, None, option_and_then, option_map, if◌then◌else◌}
 use Rattle.std.specs.Str.{bytes_eq}
 use Rattle.serde_json.specs.Data.{Data, null, string, object, member, no_members}
 use Rattle.serde_json.specs.Written.{compact_text}
 use Rattle.tb_task.specs.TaskId.{id_text, read_id}
 use Rattle.tb_values.specs.Numerals.{number_to}
+use Rattle.tb_client.specs.Lines.{add_body}
 use Rattle.tb_client.specs.declared.message.Sender.{Sender}
 use Rattle.tb_client.specs.declared.request.Request.{Request}
 
@@ -57,6 +58,12 @@ board_call suffix (board ∷ body ∷ []) = option_map (call_at body) (board_tar
 board_call suffix [] = None
 board_call suffix (a ∷ []) = None
 board_call suffix (a ∷ b ∷ c ∷ more) = None
+
+-- a new task: its JSON, or the words of a line of todo.txt
+abbrev pub add_call : List Text → Option Request
+add_call [] = None
+add_call (board ∷ words) =
+    option_and_then (λ body. option_map (call_at body) (board_target board (codes "/tasks"))) (add_body words)
 
 -- each further argument is a line
 abbrev pub lines_call : List Text → Option Request
@@ -131,7 +138,7 @@ request_named word arguments =
     else if bytes_eq word (codes "people") then board_view (codes "/people") arguments
     else if bytes_eq word (codes "me") then me_view arguments
     else if bytes_eq word (codes "task") then task_view arguments
-    else if bytes_eq word (codes "add") then board_call (codes "/tasks") arguments
+    else if bytes_eq word (codes "add") then add_call arguments
     else if bytes_eq word (codes "import") then board_call (codes "/import") arguments
     else if bytes_eq word (codes "import-todo") then lines_call arguments
     else if bytes_eq word (codes "done") then task_call (codes "/done") arguments

@@ -5,6 +5,9 @@
 
 mod answer;
 mod asking;
+mod given;
+mod line;
+mod members;
 mod message;
 mod places;
 mod request;

@@ -2,8 +2,9 @@
 ghost use Rattle.std.specs.Prelude.{◌≡◌, ◌++◌, ◌∷◌, IfOk, codes, false, option_map};
 ghost use Rattle.serde_json.specs.View.{view};
 ghost use Rattle.serde_json.specs.Written.{compact_text, has_float};
-ghost use Rattle.tb_client.specs.Messages.{board_call, board_target, board_view, call_at, lines_call, lines_text, link_body, link_data, me_view, note_body, note_data, person_call, person_data, request_named, request_of, role_call, role_data, sweep_call, task_call, task_call_with, task_target, task_view, title_call, title_data, view_at};
+ghost use Rattle.tb_client.specs.Messages.{add_call, board_call, board_target, board_view, call_at, lines_call, lines_text, link_body, link_data, me_view, note_body, note_data, person_call, person_data, request_named, request_of, role_call, role_data, sweep_call, task_call, task_call_with, task_target, task_view, title_call, title_data, view_at};
 
+use crate::line::add_body;
 use serde_json::{Value, json};
 use std::alloc::{AllocError, Global};
 use tb_task::TaskId;
@@ -41,7 +42,7 @@ fn request_named(
         "people" => board_view(alloc, "/people", arguments),
         "me" => me_view(alloc, arguments),
         "task" => task_view(alloc, arguments),
-        "add" => board_call(alloc, "/tasks", arguments),
+        "add" => add_call(alloc, arguments),
         "import" => board_call(alloc, "/import", arguments),
         "import-todo" => lines_call(alloc, arguments),
         "done" => task_call(alloc, "/done", arguments),
@@ -108,6 +109,19 @@ fn board_call(
     };
     let target = board_target(alloc, board, suffix)?;
     let body = Text::from_str(alloc, body.as_str())?;
+    Ok(call_at(target, body))
+}
+
+fn add_call(alloc: Global, arguments: &[Text]) -> Result<Option<Request>, AllocError>
+    ensures { IfOk result (λ found. found ≡ add_call arguments.now) }
+{
+    let Some((board, words)) = arguments.split_first() else {
+        return Ok(None);
+    };
+    let Some(body) = add_body(alloc, words)? else {
+        return Ok(None);
+    };
+    let target = board_target(alloc, board, "/tasks")?;
     Ok(call_at(target, body))
 }
 
