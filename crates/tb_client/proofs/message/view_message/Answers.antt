@@ -1,4 +1,4 @@
-use Rattle.std.proofs.Common.{rules, refl, ◌≡◌, ◌++◌, ◌∷◌, []}
+use Rattle.std.proofs.Common.{rules, refl, ◌≡◌}
 use Rattle.tb_client.specs.Messages.{sender_lines}
 use Rattle.tb_client.proofs.message.view_message.Goals as goal
 
