@@ -81,6 +81,10 @@ def look_at_words():
     expect("bad body", send("add", "1", "{"), 1, '{"name":"BadBody"}\n')
     expect("no word", send("fly", "1"), 2, "", "taskboard: Bad")
     expect("no uuid", send("done", "1", "x"), 2, "", "taskboard: Bad")
+    expect("me", send("me"), 0, '{"boards":[{"board":1,"role":"owner","title":"board"},{"board":2,"role":"owner","title":"Shop"}],"name":"ann"}\n')
+    expect("people", send("people", "2"), 0, '{"board":2,"people":[{"name":"ann","role":"owner"}]}\n')
+    expect("me of another", send("me", key="ann-key-2"), 1, '{"name":"UnknownCaller","refused":1}\n')
+    expect("me with a word", send("me", "1"), 2, "", "taskboard: Bad")
     listed = send("list", "1")
     if listed.returncode != 0 or not listed.stdout.endswith("1 of 1 tasks\n"):
         fail(f"list: {listed}")
@@ -88,6 +92,70 @@ def look_at_words():
     notes = [note["description"] for note in found.get("annotations", [])]
     if notes != ['two "large" \\ bottles'] or found["priority"] != "H":
         fail(f"task: {found}")
+
+
+TYPED = [
+    (["Call", "bank", "+Home", "@phone", "due:2026-03-01"],
+     {"description": "Call bank", "project": "Home", "tags": ["phone"], "due": "20260301T000000Z", "status": "pending"}),
+    (["(A) 2026-01-02 Pay  rent"],
+     {"description": "Pay rent", "priority": "H", "entry": "20260102T000000Z", "status": "pending"}),
+    (["x", "2026-01-05", "2026-01-02", "Buy", "bread"],
+     {"description": "Buy bread", "status": "completed", "entry": "20260102T000000Z", "end": "20260105T000000Z"}),
+    (["Water plants", "uuid:aaaaaaaa-aaaa-4aaa-8aaa-aaaaaaaaaaaa"],
+     {"description": "Water plants", "uuid": "aaaaaaaa-aaaa-4aaa-8aaa-aaaaaaaaaaaa", "status": "pending"}),
+    (["+", 'Say "hello"', "@a", "@b", "@a"],
+     {"description": '+ Say "hello"', "tags": ["a", "b"], "status": "pending"}),
+]
+
+
+def exported():
+    return json.loads(send("export", "3").stdout)
+
+
+def look_at_typed():
+    """Words that are a line of todo.txt: the task has what the line says, and words that are no line are no call."""
+    expect("board", send("board", "Typed"), 0, '{"board":3}\n')
+    for words, _ in TYPED:
+        ran = send("add", "3", *words)
+        if ran.returncode != 0 or ran.stderr:
+            fail(f"add {words}: {ran}")
+    for task, (words, wanted) in zip(exported(), TYPED, strict=True):
+        said = {name: task[name] for name in task if name in wanted or name in ("due", "end", "priority", "project", "tags")}
+        if said != wanted:
+            fail(f"add {words}: {task}")
+    expect("no words", send("add", "3"), 2, "", "taskboard: Bad")
+    expect("blanks", send("add", "3", " ", ""), 2, "", "taskboard: Bad")
+    expect("two lines", send("add", "3", "a\nb"), 2, "", "taskboard: Bad")
+    expect("JSON that is no task", send("add", "3", '{"description":5}'), 1, '{"field":"description","name":"BadBody"}\n')
+
+
+def expect_tasks(words, uuid, tasks):
+    """A call to tasks by their places: what is told of which task it took."""
+    ran = send(*words)
+    if ran.returncode != 0 or json.loads(ran.stdout)["uuid"] != uuid or ran.stderr != "".join(f"taskboard: {task}\n" for task in tasks):
+        fail(f"{words}: {ran}")
+
+
+def look_at_places():
+    """Tasks by their places on a board."""
+    uuids = [task["uuid"] for task in exported()]
+    first = '1 is "Call bank"'
+    for word in ("task", "start", "stop", "done", "reopen", "delete", "reopen"):
+        expect_tasks([word, "3", "1"], uuids[0], [first])
+    for word, text in (("annotate", "by noon"), ("denotate", "by noon"), ("modify", '{"priority":"L"}')):
+        expect_tasks([word, "3", "1", text], uuids[0], [first])
+    expect_tasks(["depend", "3", "2", "4"], uuids[1], ['2 is "Pay rent"', '4 is "Water plants"'])
+    expect_tasks(["undepend", "3", uuids[1], "4"], uuids[1], ['4 is "Water plants"'])
+    expect_tasks(["task", "3", "5"], uuids[4], ['5 is "+ Say \\"hello\\""'])
+    before = exported()
+    for words in (["done", "3", "6"], ["task", "3", "4294967295"], ["depend", "3", "1", "6"]):
+        expect(" ".join(words), send(*words), 1, '{"name":"NoTask","refused":5}\n')
+    for words in (["done", "3", "0"], ["done", "3", "01"], ["done", "3", "1", "2"], ["done", "x", "1"]):
+        expect(" ".join(words), send(*words), 2, "", "taskboard: Bad")
+    expect("no board", send("done", "9", "1"), 1, '{"name":"NoBoard","refused":3}\n')
+    expect("unknown", send("done", "3", "1", key="ann-key-2"), 1, '{"name":"UnknownCaller","refused":1}\n')
+    if exported() != before:
+        fail("what was refused changed the board")
 
 
 def look_at_keys():
@@ -215,6 +283,8 @@ server = Server()
 try:
     connected(port, 10).close()
     look_at_words()
+    look_at_typed()
+    look_at_places()
     look_at_keys()
     look_at_no_server()
     look_at_cuts()
