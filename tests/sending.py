@@ -225,11 +225,11 @@ def look_at_kills(server):
 class Proxy(threading.Thread):
     """Lets so many bytes of one answer through and ends the connection; the answers after it are whole."""
 
-    def __init__(self):
+    def __init__(self, at):
         super().__init__(daemon=True)
         self.bytes_left = None
         self.longest = 0
-        self.listener = socket.create_server(("127.0.0.1", port + 1))
+        self.listener = socket.create_server(("127.0.0.1", at))
 
     def run(self):
         while True:
@@ -260,9 +260,27 @@ class Proxy(threading.Thread):
         return len(body) == (sizes[0] if sizes else 0)
 
 
+class ViewsAlone(Proxy):
+    """Passes on what asks, and ends the connection where something is to change."""
+
+    def pass_on(self, client):
+        if client.recv(3, socket.MSG_PEEK) == b"GET":
+            super().pass_on(client)
+
+
+def look_at_lost_place():
+    """A call to a task by its place that gets no answer: it is to go on with the uuid, since places move."""
+    ViewsAlone(port + 2).start()
+    uuid = exported()[1]["uuid"]
+    ran = send("done", "3", "2", server=f"127.0.0.1:{port + 2}", options=["--for", "1"])
+    expect("lost", ran, 1, "", 'taskboard: 2 is "Pay rent"')
+    if "taskboard: NoAnswer" not in ran.stderr or f"KEY 'done' '3' '{uuid}'" not in ran.stderr:
+        fail(f"lost: {ran.stderr!r}")
+
+
 def look_at_cuts():
     """An answer that is cut after each of its bytes: it is told whole, and the call acted once."""
-    proxy = Proxy()
+    proxy = Proxy(port + 1)
     proxy.start()
     before = len(json.loads(send("export", "2").stdout))
     cut, whole = 0, None
@@ -287,6 +305,7 @@ try:
     look_at_places()
     look_at_keys()
     look_at_no_server()
+    look_at_lost_place()
     look_at_cuts()
     look_at_kills(server)
 finally:
