@@ -99,7 +99,9 @@ def asked_by_curl():
     lines = "\n".join(block for _, block in blocks_of("docs/HTTP.md")).split("\n")
     starts = [at for at, line in enumerate(lines) if COMMAND.match(line)] + [len(lines)]
     known = ""
-    with Server(PROGRAM, PORT, errors=subprocess.DEVNULL):
+    os.mkdir("page")
+    pathlib.Path("page/index.html").write_text("<p>Hi</p>")
+    with Server(PROGRAM, PORT, words=("--page", "page", "--forever"), errors=subprocess.DEVNULL):
         for at, end in zip(starts, starts[1:]):
             command, wanted = lines[at], "\n".join(lines[at + 1 : end]).strip("\n")
             if re.match(r"who=|id\(\)|t=", command):
