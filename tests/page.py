@@ -122,7 +122,7 @@ def first_steps(office):
     office.shot("sign-in")
     office.enter("ann")
     for line in ("(A) Call Mom +Family @phone due:2026-01-31", "Buy milk @shop", "Paint the fence"):
-        browser.type("#add-line", line + ENTER)
+        browser.type("#add-line", line + ENTER + ENTER)
         browser.wait(ALL_ANSWERED)
     browser.wait("return document.querySelectorAll('#list .row').length === 3")
     expect("order", ["Call Mom", "Buy milk", "Paint the fence"], browser.run(LISTED))
