@@ -50,6 +50,8 @@ export async function beginSending() {
 
 // Holds changes on the device, and then sends them. Several are a group: where one is refused those behind it are taken back.
 export async function keep(...made) {
+    // A second click on what waits already says nothing new.
+    if (made[0].task && !made[0].body && waiting().findLast((one) => one.task === made[0].task)?.path === made[0].path) return;
     const group = made.length > 1 ? newIdentifier() : "";
     await device.put(made.map((change) => toKeep(change, group)));
     tabs.postMessage({});

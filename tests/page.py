@@ -207,13 +207,16 @@ def killed_server(office):
     browser.wait(IS_TOLD, "1 change isn't answered yet")
     browser.type("#add-line", "Is made while nobody is there" + ENTER)
     browser.wait(IS_TOLD, "2 changes aren't answered yet")
+    for _ in range(2):
+        browser.run("document.querySelector('#list .tick').click()")
+        browser.wait(IS_TOLD, "3 changes aren't answered yet")
     browser.click("#state")
     office.shot("unanswered")
     office.start()
     relay.break_off(LOSES_POSTS)
     browser.open("about:blank")
     browser.open(office.address)
-    browser.wait(IS_TOLD, "2 changes aren't answered yet")
+    browser.wait(IS_TOLD, "3 changes aren't answered yet")
     expect("before they are sent again", 1, descriptions(1).count("Acts before the kill"))
     relay.heal()
     browser.run("dispatchEvent(new Event('online'))")
@@ -221,6 +224,7 @@ def killed_server(office):
     for name in ("Acts before the kill", "Is made while nobody is there"):
         browser.wait(IS_LISTED, name)
         expect(f"tasks {name!r}", 1, descriptions(1).count(name))
+    expect("clicked twice", ["completed", 0], [tasks(1)[0]["status"], browser.run("return document.querySelectorAll('#notices li').length")])
 
 
 def two_tabs(office):
