@@ -96,8 +96,12 @@ def boards_in_a_file():
         compare("README.md", add, wanted)
         compare("README.md", add, wanted)
         listed = run(view)
+        sent, seen = next(block for _, block in blocks_of("README.md") if "taskboard send" in block).splitlines()
+        if '"dropped":0' not in run(sent) or not run(seen).endswith("2 of 2 tasks"):
+            sys.exit(f"README.md: {sent}\nadds no task")
+        ran.append("README.md")
     imported, printed = run(taken.splitlines()[0]), run(taken.splitlines()[1])
-    if "Buy milk" not in listed or '"new":3' not in imported or not printed.endswith("4 of 4 tasks"):
+    if "Buy milk" not in listed or '"new":3' not in imported or not printed.endswith("5 of 5 tasks"):
         sys.exit(f"README.md: {listed}\n{imported}\n{printed}")
     ran.append("README.md")
     copying = next(block for _, block in blocks_of("README.md") if "contrib/backup.sh" in block)
