@@ -1,5 +1,6 @@
 // One message to the server, and what counts as its answer.
 
+// How long an answer may take, in milliseconds; on a thin line a long message takes longer, by one for 16 bytes, and a whole board twice as long.
 const PATIENCE = 30000;
 
 // No answer came: the line broke, the server is away or has no memory, or a proxy answered in its place.
@@ -21,7 +22,8 @@ export function newIdentifier() {
 async function ask(who, path, settings, fields = {}) {
     const headers = { "x-member": who.name, "x-key": who.key, ...fields };
     try {
-        const answer = await fetch(path, { headers, cache: "no-store", redirect: "error", signal: AbortSignal.timeout(PATIENCE), ...settings });
+        const signal = AbortSignal.timeout(settings.method ? PATIENCE + settings.body.length / 16 : 2 * PATIENCE);
+        const answer = await fetch(path, { headers, cache: "no-store", redirect: "error", signal, ...settings });
         return { status: answer.status, text: await answer.text() };
     } catch (fault) {
         throw new NoAnswer(fault.message);

@@ -14,7 +14,9 @@ const plural = (count, word) => `${counted(count)} ${word}${count === 1 ? "" : "
 
 async function choose() {
     const file = find("import-file").files[0];
-    chosen = file ? { name: file.name, ...cutImport(await file.text()) } : null;
+    const read = file ? { name: file.name, ...cutImport(await file.text()) } : null;
+    if (file !== find("import-file").files[0]) return;
+    chosen = read;
     find("import-send").disabled = !chosen?.count;
     const what = chosen?.count ? ` is ${KINDS[chosen.path]} of ${plural(chosen.count, "task")}, and goes in ${plural(chosen.parts.length, "part")}.` : " has no tasks.";
     fill(find("import-told"), chosen ? [said(chosen.name, 80), what] : []);
@@ -23,9 +25,9 @@ async function choose() {
 async function send(form) {
     const { path, parts, name } = chosen;
     const called = (at) => (parts.length === 1 ? name : `${name}, part ${at + 1} of ${parts.length}`);
-    await keep(...parts.map((part, at) => ({ ...changes.part(state.number, path, part, called(at)), file: name, parts: parts.length })));
     form.reset();
-    await choose();
+    choose();
+    await keep(...parts.map((part, at) => ({ ...changes.part(state.number, path, part, called(at)), file: name, parts: parts.length })));
 }
 
 async function save(view, ending, type) {

@@ -34,8 +34,7 @@ async function signIn(who, isKept) {
     try {
         await look(who, "/me");
     } catch (fault) {
-        const isKnown = !(fault instanceof Refused);
-        return showSignIn(isKnown ? "The server doesn't answer. Try again when it is there." : "The server doesn't know this name with this key. Look at both.");
+        return showSignIn(fault instanceof Refused ? "The server doesn't know this name with this key. Look at both." : "The server doesn't answer. Try again when it is there.");
     }
     (isKept ? localStorage : sessionStorage).setItem(SESSION, JSON.stringify(who));
     find("sign-in-form").reset();
@@ -102,10 +101,7 @@ function begin() {
     });
     addEventListener("hashchange", showRoute);
     addEventListener("storage", ({ key, newValue }) => key === SESSION && !newValue && !sessionStorage.getItem(SESSION) && showSignIn());
-    listen("boards", () => {
-        drawBoards();
-        lookAgain();
-    });
+    listen("boards", () => [drawBoards, lookAgain].forEach((part) => part()));
     listen("unknown", () => showSignIn("The server doesn't know this name with this key any more. What isn't answered yet is sent when you sign in again."));
     listen("answered", (news) => showMade(news).catch(() => {}));
     const who = readSession();

@@ -46,8 +46,8 @@ function makeKey() {
 async function addPerson(form) {
     const [name, key, role] = ["person-name", "person-key", "person-role"].map((id) => find(id).value.trim());
     const joins = isOwner() && find("person-here").checked;
-    await keep(changes.person(name, key), ...(joins ? [changes.role(state.number, name, role)] : []));
     form.reset();
+    await keep(changes.person(name, key), ...(joins ? [changes.role(state.number, name, role)] : []));
     const told = [said(name), " signs in with the key ", make("code", {}, key), ". Hand it over so that nobody else reads it; it isn't shown again."];
     fill(find("person-told"), "Once this is answered, ", ...told);
     find("person-told").hidden = false;

@@ -35,7 +35,7 @@ tabs.onmessage = async ({ data }) => {
     send();
 };
 
-const toKeep = (made, group = "") => ({ ...made, member: state.who.name, state: "waiting", group, made: Date.now(), id: newIdentifier() });
+const toKeep = (made, group = "", member = state.who.name) => ({ ...made, member, state: "waiting", group, made: Date.now(), id: newIdentifier() });
 
 export function sendNow() {
     endPause();
@@ -50,6 +50,8 @@ export async function beginSending() {
 
 // Holds changes on the device, and then sends them. Several are a group: where one is refused those behind it are taken back.
 export async function keep(...made) {
+    // A second click on what waits already says nothing new.
+    if (made[0].task && !made[0].body && waiting().findLast((one) => one.task === made[0].task)?.path === made[0].path) return;
     const group = made.length > 1 ? newIdentifier() : "";
     await device.put(made.map((change) => toKeep(change, group)));
     tabs.postMessage({});
@@ -105,19 +107,19 @@ async function sendInOrder(who) {
 // so the change waits until its person signs in again.
 async function settle(change, { status, body }) {
     if (status === 401) return state.who?.name === change.member && announce("unknown");
-    if (body.more) await device.put([toKeep(making.sweep(change.board))]);
+    if (body.more) await device.put([toKeep(making.sweep(change.board), "", change.member)]);
     if (status !== 200) await refuse(change, body);
     else if (change.reports) await device.replace({ ...change, state: "done", body: "", answer: body });
     else await device.remove([change]);
     await readDevice();
     const news = { change: { ...change, body: "" }, status, body };
     tabs.postMessage(news);
-    announce("answered", news);
+    if (state.who?.name === change.member) announce("answered", news);
 }
 
 async function refuse(change, body) {
     const culprit = change.reports && body.at !== undefined ? descriptionAt(change.body, body.at) : "";
-    const behind = held.filter((other) => change.group && other.group === change.group && other.order > change.order);
+    const behind = (await device.all(change.member)).filter((other) => change.group && other.group === change.group && other.order > change.order);
     await device.remove(behind);
     await device.replace({ ...change, state: "refused", body: "", answer: body, culprit, takenBack: behind.length });
 }

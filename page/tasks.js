@@ -123,12 +123,18 @@ function drawUnderstood() {
     fill(find("understood"), parts.length ? parts.map(([name, text]) => chip("", name, said(text, 60))) : hint);
 }
 
+// What is added leaves the form at once, so that a second Enter adds nothing; where the device can't keep it, it is there again.
 async function add() {
     const task = newTask();
     if (!task.description || !fields.isWhole(task.due)) return;
-    await keep(changes.add(state.number, task));
+    const [line, given] = [find("add-line").value, fields];
     clear(!find("add-fields").hidden);
     find("add-line").focus();
+    await keep(changes.add(state.number, task)).catch((fault) => {
+        find("add-line").value = line;
+        fill(find("add-fields"), (fields = given).elements);
+        throw fault;
+    });
 }
 
 function clear(withFields) {

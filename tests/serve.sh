@@ -89,7 +89,8 @@ ends 1 "taskboard: BadBody" import b.db ann ann-key-1 "$second" 1 json <text
 ends 0 "boards 1 tasks 2 faults 0" check b.db
 
 ends 1 "taskboard: Store" init no/such/folder.db ann ann-key-1
-ends 1 "taskboard: NotOurs" check other-file.db
+python3 -c 'import sqlite3; sqlite3.connect("strange.db").execute("CREATE TABLE note(text)")'
+ends 1 "taskboard: NotOurs" check strange.db
 ends 1 "taskboard: Store" list missing.db ann ann-key-1 1
 if [ -e missing.db ] || [ -e missing.db-wal ]; then
     echo "an order on a file that isn't there made it"
