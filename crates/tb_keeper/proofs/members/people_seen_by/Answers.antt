@@ -3,8 +3,8 @@ use Rattle.tb_stored.proofs.Standing.{stored_again}
 use Rattle.tb_keeper.proofs.SeenPeople.{nobody_seen, people_seen}
 use Rattle.tb_keeper.proofs.members.people_seen_by.Goals as goal
 
-pub returns-in-Some-clause-found : goal.returns-in-Some-clause-found
-returns-in-Some-clause-found g c clean s stored =
+pub returns-in_ok-stored_people_on-in-Some-clause-found : goal.returns-in_ok-stored_people_on-in-Some-clause-found
+returns-in_ok-stored_people_on-in-Some-clause-found g c clean s stored =
     let old = state g.S.Store c.args.conn.now in
     let mid = state g.S.Store c.roles_found.new.conn in
     let roles = c.in_ok-roles.ensures.found (c.in_ok-stored_people_on-in-Some.ensures.same.clean clean) s stored in
