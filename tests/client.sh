@@ -1,7 +1,7 @@
 #!/bin/sh
-# The order `send`: calls and views by the words of a script, keys that stand on no command line, a server that isn't there; a server
-# that is killed 50 times under 4 clients that send, whose tasks have to be there once each; and a proxy that cuts an answer after every
-# byte. It needs python3, and takes a minute once the program is there.
+# The order `send`: calls and views by the words of a script, tasks that are typed, tasks by their places, keys that stand on no command
+# line, a server that isn't there; a server that is killed 50 times under 4 clients that send, whose tasks have to be there once each;
+# and a proxy that cuts an answer after every byte. It needs python3, and takes a minute once the program is there.
 set -eu
 
 . "$(dirname "$0")/prepare.sh"

@@ -81,6 +81,10 @@ def look_at_words():
     expect("bad body", send("add", "1", "{"), 1, '{"name":"BadBody"}\n')
     expect("no word", send("fly", "1"), 2, "", "taskboard: Bad")
     expect("no uuid", send("done", "1", "x"), 2, "", "taskboard: Bad")
+    expect("me", send("me"), 0, '{"boards":[{"board":1,"role":"owner","title":"board"},{"board":2,"role":"owner","title":"Shop"}],"name":"ann"}\n')
+    expect("people", send("people", "2"), 0, '{"board":2,"people":[{"name":"ann","role":"owner"}]}\n')
+    expect("me of another", send("me", key="ann-key-2"), 1, '{"name":"UnknownCaller","refused":1}\n')
+    expect("me with a word", send("me", "1"), 2, "", "taskboard: Bad")
     listed = send("list", "1")
     if listed.returncode != 0 or not listed.stdout.endswith("1 of 1 tasks\n"):
         fail(f"list: {listed}")
@@ -88,6 +92,70 @@ def look_at_words():
     notes = [note["description"] for note in found.get("annotations", [])]
     if notes != ['two "large" \\ bottles'] or found["priority"] != "H":
         fail(f"task: {found}")
+
+
+TYPED = [
+    (["Call", "bank", "+Home", "@phone", "due:2026-03-01"],
+     {"description": "Call bank", "project": "Home", "tags": ["phone"], "due": "20260301T000000Z", "status": "pending"}),
+    (["(A) 2026-01-02 Pay  rent"],
+     {"description": "Pay rent", "priority": "H", "entry": "20260102T000000Z", "status": "pending"}),
+    (["x", "2026-01-05", "2026-01-02", "Buy", "bread"],
+     {"description": "Buy bread", "status": "completed", "entry": "20260102T000000Z", "end": "20260105T000000Z"}),
+    (["Water plants", "uuid:aaaaaaaa-aaaa-4aaa-8aaa-aaaaaaaaaaaa"],
+     {"description": "Water plants", "uuid": "aaaaaaaa-aaaa-4aaa-8aaa-aaaaaaaaaaaa", "status": "pending"}),
+    (["+", 'Say "hello"', "@a", "@b", "@a"],
+     {"description": '+ Say "hello"', "tags": ["a", "b"], "status": "pending"}),
+]
+
+
+def exported():
+    return json.loads(send("export", "3").stdout)
+
+
+def look_at_typed():
+    """Words that are a line of todo.txt: the task has what the line says, and words that are no line are no call."""
+    expect("board", send("board", "Typed"), 0, '{"board":3}\n')
+    for words, _ in TYPED:
+        ran = send("add", "3", *words)
+        if ran.returncode != 0 or ran.stderr:
+            fail(f"add {words}: {ran}")
+    for task, (words, wanted) in zip(exported(), TYPED, strict=True):
+        said = {name: task[name] for name in task if name in wanted or name in ("due", "end", "priority", "project", "tags")}
+        if said != wanted:
+            fail(f"add {words}: {task}")
+    expect("no words", send("add", "3"), 2, "", "taskboard: Bad")
+    expect("blanks", send("add", "3", " ", ""), 2, "", "taskboard: Bad")
+    expect("two lines", send("add", "3", "a\nb"), 2, "", "taskboard: Bad")
+    expect("JSON that is no task", send("add", "3", '{"description":5}'), 1, '{"field":"description","name":"BadBody"}\n')
+
+
+def expect_tasks(words, uuid, tasks):
+    """A call to tasks by their places: what is told of which task it took."""
+    ran = send(*words)
+    if ran.returncode != 0 or json.loads(ran.stdout)["uuid"] != uuid or ran.stderr != "".join(f"taskboard: {task}\n" for task in tasks):
+        fail(f"{words}: {ran}")
+
+
+def look_at_places():
+    """Tasks by their places on a board."""
+    uuids = [task["uuid"] for task in exported()]
+    first = '1 is "Call bank"'
+    for word in ("task", "start", "stop", "done", "reopen", "delete", "reopen"):
+        expect_tasks([word, "3", "1"], uuids[0], [first])
+    for word, text in (("annotate", "by noon"), ("denotate", "by noon"), ("modify", '{"priority":"L"}')):
+        expect_tasks([word, "3", "1", text], uuids[0], [first])
+    expect_tasks(["depend", "3", "2", "4"], uuids[1], ['2 is "Pay rent"', '4 is "Water plants"'])
+    expect_tasks(["undepend", "3", uuids[1], "4"], uuids[1], ['4 is "Water plants"'])
+    expect_tasks(["task", "3", "5"], uuids[4], ['5 is "+ Say \\"hello\\""'])
+    before = exported()
+    for words in (["done", "3", "6"], ["task", "3", "4294967295"], ["depend", "3", "1", "6"]):
+        expect(" ".join(words), send(*words), 1, '{"name":"NoTask","refused":5}\n')
+    for words in (["done", "3", "0"], ["done", "3", "01"], ["done", "3", "1", "2"], ["done", "x", "1"]):
+        expect(" ".join(words), send(*words), 2, "", "taskboard: Bad")
+    expect("no board", send("done", "9", "1"), 1, '{"name":"NoBoard","refused":3}\n')
+    expect("unknown", send("done", "3", "1", key="ann-key-2"), 1, '{"name":"UnknownCaller","refused":1}\n')
+    if exported() != before:
+        fail("what was refused changed the board")
 
 
 def look_at_keys():
@@ -157,11 +225,11 @@ def look_at_kills(server):
 class Proxy(threading.Thread):
     """Lets so many bytes of one answer through and ends the connection; the answers after it are whole."""
 
-    def __init__(self):
+    def __init__(self, at):
         super().__init__(daemon=True)
         self.bytes_left = None
         self.longest = 0
-        self.listener = socket.create_server(("127.0.0.1", port + 1))
+        self.listener = socket.create_server(("127.0.0.1", at))
 
     def run(self):
         while True:
@@ -192,9 +260,27 @@ class Proxy(threading.Thread):
         return len(body) == (sizes[0] if sizes else 0)
 
 
+class ViewsAlone(Proxy):
+    """Passes on what asks, and ends the connection where something is to change."""
+
+    def pass_on(self, client):
+        if client.recv(3, socket.MSG_PEEK) == b"GET":
+            super().pass_on(client)
+
+
+def look_at_lost_place():
+    """A call to a task by its place that gets no answer: it is to go on with the uuid, since places move."""
+    ViewsAlone(port + 2).start()
+    uuid = exported()[1]["uuid"]
+    ran = send("done", "3", "2", server=f"127.0.0.1:{port + 2}", options=["--for", "1"])
+    expect("lost", ran, 1, "", 'taskboard: 2 is "Pay rent"')
+    if "taskboard: NoAnswer" not in ran.stderr or f"KEY 'done' '3' '{uuid}'" not in ran.stderr:
+        fail(f"lost: {ran.stderr!r}")
+
+
 def look_at_cuts():
     """An answer that is cut after each of its bytes: it is told whole, and the call acted once."""
-    proxy = Proxy()
+    proxy = Proxy(port + 1)
     proxy.start()
     before = len(json.loads(send("export", "2").stdout))
     cut, whole = 0, None
@@ -215,8 +301,11 @@ server = Server()
 try:
     connected(port, 10).close()
     look_at_words()
+    look_at_typed()
+    look_at_places()
     look_at_keys()
     look_at_no_server()
+    look_at_lost_place()
     look_at_cuts()
     look_at_kills(server)
 finally:

@@ -19,7 +19,7 @@ pub(crate) fn tell_cause(rt: &HostRuntime, fault: Fault, order: &Order) {
         (Fault::NoAnswer, Order::Send(order)) => tell_again(rt, order),
         (Fault::Bad, Order::Send(_)) => tell(
             rt,
-            "The words behind KEY are no call and no view, or a board or a uuid among them isn't one: `taskboard send --help` has their forms.",
+            "The words behind KEY are no call and no view, or a board or a task among them isn't one: `taskboard send --help` has their forms.",
         ),
         (fault, _) => tell(rt, cause_of(fault)),
     }

@@ -56,7 +56,7 @@ fn end_of(rt: &HostRuntime, mut order: Order) -> Result<Ending, Fault> {
     if let Order::Send(order) = &mut order {
         name_call(rt, order);
     }
-    let end = carry_out(rt, &order);
+    let end = carry_out(rt, &mut order);
     if let Err(fault) = end {
         let _ = print_fault(fault, &mut rt.stderr());
         tell_cause(rt, fault, &order);
@@ -64,7 +64,7 @@ fn end_of(rt: &HostRuntime, mut order: Order) -> Result<Ending, Fault> {
     end
 }
 
-fn carry_out(rt: &HostRuntime, order: &Order) -> Result<Ending, Fault> {
+fn carry_out(rt: &HostRuntime, order: &mut Order) -> Result<Ending, Fault> {
     match order {
         Order::Init(order) => make_file(rt, order),
         Order::Serve(order) => serve_file(rt, order),

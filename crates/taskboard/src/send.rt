@@ -4,22 +4,29 @@ ghost use Rattle.tb_client.specs.Asking.{Event};
 ghost use Rattle.taskboard.specs.Telling.{is_of_sending};
 
 use crate::key::key_of;
-use std::io::Read;
+use std::alloc::AllocError;
+use std::io::{Read, Write};
 use std::net::{TcpStream, ToSocketAddrs};
 use std::random::RandomSource;
 use std::thread;
 use std::time::{Duration, Instant};
 use tb_client::{
-    AskFault, Line, Reply, Request, Sender, ask_until_answered, message_of, request_of,
+    AskFault, BoardTask, Line, Reply, Request, Sender, ask_until_answered, export_of, message_of,
+    named_words, places_of, read_tasks, request_of, task_at,
 };
 use tb_command_line::SendOrder;
 use tb_orders::Ending;
 use tb_program::Fault;
 use tb_task::TaskId;
-use tb_values::{Duplicate, Items, write_whole};
+use tb_values::{Duplicate, Items, Text, write_whole};
 
 /// The longest body that a server takes.
 const LONGEST_BODY: usize = 1_048_576;
+
+const ACCEPTED: u16 = 200;
+
+/// The body by which a server refuses a call to a task that isn't there, as it is printed.
+const NO_TASK: &[u8] = b"{\"name\":\"NoTask\",\"refused\":5}\n";
 
 /// The longest answer that is taken.
 const LONGEST_ANSWER: u64 = 268_435_456;
@@ -37,15 +44,94 @@ pub(crate) fn name_call(rt: &HostRuntime, order: &mut SendOrder) {
     }
 }
 
-/// Sends a call or a view until it is answered, and prints the answer's body.
-pub(crate) fn send_order(rt: &HostRuntime, order: &SendOrder) -> Result<Ending, Fault>
+/// Sends a call or a view until it is answered, and prints the answer's body. The server is first asked for the tasks of places.
+pub(crate) fn send_order(rt: &HostRuntime, order: &mut SendOrder) -> Result<Ending, Fault>
+    ensures { IfErr result (λ fault. is_of_sending fault ≡ true) }
+{
+    let mut line = ServerLine::new(rt, order)?;
+    let places = places_of(rt.alloc(), order.words.as_slice())?;
+    if !places.is_empty() {
+        if let Some(ending) = take_tasks(rt, order, &mut line, &places)? {
+            return Ok(ending);
+        }
+    }
+    send_words(rt, order, &mut line)
+}
+
+/// Puts the uuids of the board's tasks in place of their places, and tells which tasks they are. Where the board isn't told or has no
+/// such task, the order ends so.
+fn take_tasks(
+    rt: &HostRuntime,
+    order: &mut SendOrder,
+    line: &mut ServerLine<'_>,
+    places: &[u32],
+) -> Result<Option<Ending>, Fault>
+    ensures { IfErr result (λ fault. is_of_sending fault ≡ true) }
+{
+    let Some(request) = export_of(rt.alloc(), order.words.as_slice())? else {
+        return Err(Fault::Bad);
+    };
+    let reply = ask(rt, order, line, &request)?;
+    if reply.status != ACCEPTED {
+        return Ok(Some(print_reply(rt, order, &reply)?));
+    }
+    let Some(tasks) = read_tasks(rt.alloc(), reply.body.as_slice())? else {
+        return Err(Fault::NoAnswer); // What came is no board.
+    };
+    let Some(words) = named_words(rt.alloc(), &tasks, order.words.as_slice())? else {
+        return Ok(Some(print_no_task(rt)?));
+    };
+    tell_tasks(rt, places, &tasks);
+    order.words = words;
+    Ok(None)
+}
+
+/// Tells which tasks are on the places.
+fn tell_tasks(rt: &HostRuntime, places: &[u32], tasks: &Items<BoardTask>) {
+    for place in places {
+        if let Some(task) = task_at(tasks, *place) {
+            let description = task.description.as_str();
+            let _ = writeln!(rt.stderr(), "taskboard: {place} is {description:?}");
+        }
+    }
+}
+
+/// Prints that there is no such task, as the server does.
+fn print_no_task(rt: &HostRuntime) -> Result<Ending, Fault>
+    ensures { IfErr result (λ fault. fault ≡ Fault.WriteFailed) }
+{
+    match write_whole(&mut rt.stdout(), NO_TASK) {
+        Ok(()) => Ok(Ending::Refused),
+        Err(_) => Err(Fault::WriteFailed),
+    }
+}
+
+/// Sends what the words ask for.
+fn send_words(
+    rt: &HostRuntime,
+    order: &SendOrder,
+    line: &mut ServerLine<'_>,
+) -> Result<Ending, Fault>
+    ensures { IfErr result (λ fault. is_of_sending fault ≡ true) }
+{
+    let Some(request) = request_of(rt.alloc(), order.words.as_slice())? else {
+        return Err(Fault::Bad);
+    };
+    let reply = ask(rt, order, line, &request)?;
+    print_reply(rt, order, &reply)
+}
+
+/// Sends a message until it is answered.
+fn ask(
+    rt: &HostRuntime,
+    order: &SendOrder,
+    line: &mut ServerLine<'_>,
+    request: &Request,
+) -> Result<Reply, Fault>
     ensures { IfErr result (λ fault. is_of_sending fault ≡ true) }
 {
     let alloc = rt.alloc();
-    let Some(request) = request_of(alloc, order.words.as_slice())? else {
-        return Err(Fault::Bad);
-    };
-    if is_too_long(&request) {
+    if is_too_long(request) {
         return Err(Fault::BadBody);
     }
     let Some(id) = order.id else {
@@ -56,10 +142,9 @@ pub(crate) fn send_order(rt: &HostRuntime, order: &SendOrder) -> Result<Ending, 
         member: order.member.duplicate()?,
         key: key_of(rt, order)?,
     };
-    let message = message_of(alloc, &sender, id, &request)?;
-    let mut line = ServerLine::new(rt, order);
-    match ask_until_answered(alloc, &mut line, message.as_bytes()) {
-        Ok(reply) => print_reply(rt, order, &reply),
+    let message = message_of(alloc, &sender, id, request)?;
+    match ask_until_answered(alloc, line, message.as_bytes()) {
+        Ok(reply) => Ok(reply),
         Err(AskFault::NoAnswer) => Err(Fault::NoAnswer),
         Err(AskFault::Memory) => Err(Fault::Memory),
     }
@@ -77,7 +162,7 @@ fn is_too_long(request: &Request) -> bool {
 fn print_reply(rt: &HostRuntime, order: &SendOrder, reply: &Reply) -> Result<Ending, Fault>
     ensures { IfErr result (λ fault. fault ≡ Fault.WriteFailed) }
 {
-    let is_accepted = reply.status == 200;
+    let is_accepted = reply.status == ACCEPTED;
     if write_whole(&mut rt.stdout(), reply.body.as_slice()).is_err() {
         return Err(Fault::WriteFailed);
     }
@@ -104,19 +189,19 @@ fn is_text(order: &SendOrder) -> bool {
 #[derive(Drop)]
 struct ServerLine<'a> {
     rt: &'a HostRuntime,
-    server: &'a str,
+    server: Text,
     begun: Option<Instant>,
     seconds: u32,
 }
 
 impl<'a> ServerLine<'a> {
-    fn new(rt: &'a HostRuntime, order: &'a SendOrder) -> ServerLine<'a> {
-        ServerLine {
+    fn new(rt: &'a HostRuntime, order: &SendOrder) -> Result<ServerLine<'a>, AllocError> {
+        Ok(ServerLine {
             rt,
-            server: order.server.as_str(),
+            server: order.server.duplicate()?,
             begun: Instant::now(rt).ok(),
             seconds: order.seconds,
-        }
+        })
     }
 
     /// How long it may still be asked, and a second at least.
@@ -137,7 +222,7 @@ impl<'a> ServerLine<'a> {
 
     fn connect(&self) -> Option<TcpStream> {
         let left = self.left();
-        for address in self.server.to_socket_addrs(self.rt).ok()? {
+        for address in self.server.as_str().to_socket_addrs(self.rt).ok()? {
             if let Ok(stream) = TcpStream::connect_timeout(self.rt, &address, left) {
                 let _ = stream.set_read_timeout(Some(left));
                 let _ = stream.set_write_timeout(Some(left));

@@ -14,11 +14,14 @@ field_limit = 64
 abbrev pub fields_of : ResponseHead → List (List ℕ × List ℕ)
 fields_of tree = map name_and_value tree.fields
 
--- some values, and those of the fields of this name, in any case of letters
+-- some values, and that of a field if it has this name, in any case of letters
+abbrev pub with_field : List (List ℕ) → List ℕ → List ℕ × List ℕ → List (List ℕ)
+with_field values name field = if str_eq_ignore_ascii_case field.0 name then values ++ field.1 ∷ [] else values
+
+-- some values, and those of the fields of this name
 abbrev pub with_named : List (List ℕ) → List ℕ → List (List ℕ × List ℕ) → List (List ℕ)
 with_named values name [] = values
-with_named values name (field ∷ fields) =
-    with_named (if str_eq_ignore_ascii_case field.0 name then values ++ field.1 ∷ [] else values) name fields
+with_named values name (field ∷ fields) = with_named (with_field values name field) name fields
 
 abbrev pub values_named : List ℕ → List (List ℕ × List ℕ) → List (List ℕ)
 values_named name fields = with_named [] name fields

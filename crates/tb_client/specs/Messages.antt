@@ -1,10 +1,11 @@
 -- The messages that the words of a script are sent as.
-use Rattle.std.specs.Prelude.{ℕ, List, [], ◌∷◌, ◌++◌, ◌&&◌, is_some, length, codes, decimal, Option, Some, None, option_map, if◌then◌else◌}
+use Rattle.std.specs.Prelude.{ℕ, List, [], ◌∷◌, ◌++◌, ◌&&◌, is_some, length, codes, decimal, Option, Some, None, option_and_then, option_map, if◌then◌else◌}
 use Rattle.std.specs.Str.{bytes_eq}
 use Rattle.serde_json.specs.Data.{Data, null, string, object, member, no_members}
 use Rattle.serde_json.specs.Written.{compact_text}
 use Rattle.tb_task.specs.TaskId.{id_text, read_id}
 use Rattle.tb_values.specs.Numerals.{number_to}
+use Rattle.tb_client.specs.Lines.{add_body}
 use Rattle.tb_client.specs.declared.message.Sender.{Sender}
 use Rattle.tb_client.specs.declared.request.Request.{Request}
 
@@ -46,12 +47,23 @@ task_view [] = None
 task_view (a ∷ []) = None
 task_view (a ∷ b ∷ c ∷ more) = None
 
+-- the boards of who asks
+abbrev pub me_view : List Text → Option Request
+me_view [] = Some (view_at (codes "/me"))
+me_view (a ∷ more) = None
+
 -- the body is the argument behind the board
 abbrev pub board_call : Text → List Text → Option Request
 board_call suffix (board ∷ body ∷ []) = option_map (call_at body) (board_target board suffix)
 board_call suffix [] = None
 board_call suffix (a ∷ []) = None
 board_call suffix (a ∷ b ∷ c ∷ more) = None
+
+-- a new task: its JSON, or the words of a line of todo.txt
+abbrev pub add_call : List Text → Option Request
+add_call [] = None
+add_call (board ∷ words) =
+    option_and_then (λ body. option_map (call_at body) (board_target board (codes "/tasks"))) (add_body words)
 
 -- each further argument is a line
 abbrev pub lines_call : List Text → Option Request
@@ -123,8 +135,10 @@ request_named word arguments =
     if bytes_eq word (codes "list") then board_view (codes "/list") arguments
     else if bytes_eq word (codes "export") then board_view (codes "/export") arguments
     else if bytes_eq word (codes "todo") then board_view (codes "/todo") arguments
+    else if bytes_eq word (codes "people") then board_view (codes "/people") arguments
+    else if bytes_eq word (codes "me") then me_view arguments
     else if bytes_eq word (codes "task") then task_view arguments
-    else if bytes_eq word (codes "add") then board_call (codes "/tasks") arguments
+    else if bytes_eq word (codes "add") then add_call arguments
     else if bytes_eq word (codes "import") then board_call (codes "/import") arguments
     else if bytes_eq word (codes "import-todo") then lines_call arguments
     else if bytes_eq word (codes "done") then task_call (codes "/done") arguments

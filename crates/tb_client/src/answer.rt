@@ -1,7 +1,8 @@
 //! An answer, read off the bytes that came on a connection.
-ghost use Rattle.std.specs.Prelude.{◌≡◌, All, IfNone, IfOk, IfSome, length, map, option_map};
+ghost use Rattle.std.specs.Prelude.{◌≡◌, All, IfNone, IfOk, IfSome, OnOk, length, map, option_map};
+ghost use Rattle.std.specs.Str.{str_eq_ignore_ascii_case};
 ghost use Rattle.httparse.specs.Spans.{IsHeaderWithin, header_bytes};
-ghost use Rattle.tb_client.specs.Answers.{IsWholeAnswer, only_size, size_in, size_of, size_text, text_in, values_named};
+ghost use Rattle.tb_client.specs.Answers.{IsWholeAnswer, only_size, size_in, size_of, size_text, text_in, values_named, with_field};
 
 use httparse::Status;
 use httparse::spans::{EMPTY_HEADER_SPAN, HeaderSpan, parse_response};
@@ -78,7 +79,7 @@ fn size_text(text: &str) -> Option<u32>
 }
 
 /// A value, if it is text.
-fn text_in(value: &[u8]) -> Option<&str>
+pub(crate) fn text_in(value: &[u8]) -> Option<&str>
     ensures { option_map (λ text. text.now) result ≡ text_in value.now }
 {
     match str::from_utf8(value) {
@@ -99,9 +100,32 @@ fn values_named<'b>(
 {
     let mut values = Vec::new(alloc);
     for span in spans {
-        if span.name.of(bytes).eq_ignore_ascii_case(name.as_bytes()) {
-            values.push(span.value.of(bytes))?;
-        }
+        push_named(&mut values, bytes, span, name)?;
     }
     Ok(values)
+}
+
+/// Puts the value of a field at the end, if it is one of the name.
+fn push_named<'b>(
+    values: &mut Vec<&'b [u8]>,
+    bytes: &'b [u8],
+    span: &HeaderSpan,
+    name: &str,
+) -> Result<(), AllocError>
+    requires { IsHeaderWithin (length bytes.now) span.now }
+    ensures { OnOk result (map (λ value. value.now) values.new.items ≡ with_field (map (λ value. value.now) values.old.items) name.now (header_bytes bytes.now span.now)) }
+{
+    if !is_named(bytes, span, name) {
+        return Ok(());
+    }
+    values.push(span.value.of(bytes))?;
+    Ok(())
+}
+
+/// Whether a field has a name, in any case of letters.
+fn is_named(bytes: &[u8], span: &HeaderSpan, name: &str) -> bool
+    requires { IsHeaderWithin (length bytes.now) span.now }
+    ensures { result ≡ str_eq_ignore_ascii_case (header_bytes bytes.now span.now).0 name.now }
+{
+    span.name.of(bytes).eq_ignore_ascii_case(name.as_bytes())
 }

@@ -5,10 +5,15 @@
 
 mod answer;
 mod asking;
+mod given;
+mod line;
+mod members;
 mod message;
+mod places;
 mod request;
 
 pub use answer::{Reply, read_reply};
 pub use asking::{AskFault, Line, ask_until_answered};
 pub use message::{Sender, message_of};
+pub use places::{BoardTask, export_of, named_words, places_of, read_tasks, task_at};
 pub use request::{Request, request_of};

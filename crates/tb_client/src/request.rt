@@ -2,8 +2,9 @@
 ghost use Rattle.std.specs.Prelude.{◌≡◌, ◌++◌, ◌∷◌, IfOk, codes, false, option_map};
 ghost use Rattle.serde_json.specs.View.{view};
 ghost use Rattle.serde_json.specs.Written.{compact_text, has_float};
-ghost use Rattle.tb_client.specs.Messages.{board_call, board_target, board_view, call_at, lines_call, lines_text, link_body, link_data, note_body, note_data, person_call, person_data, request_named, request_of, role_call, role_data, sweep_call, task_call, task_call_with, task_target, task_view, title_call, title_data, view_at};
+ghost use Rattle.tb_client.specs.Messages.{add_call, board_call, board_target, board_view, call_at, lines_call, lines_text, link_body, link_data, me_view, note_body, note_data, person_call, person_data, request_named, request_of, role_call, role_data, sweep_call, task_call, task_call_with, task_target, task_view, title_call, title_data, view_at};
 
+use crate::line::add_body;
 use serde_json::{Value, json};
 use std::alloc::{AllocError, Global};
 use tb_task::TaskId;
@@ -38,8 +39,10 @@ fn request_named(
         "list" => board_view(alloc, "/list", arguments),
         "export" => board_view(alloc, "/export", arguments),
         "todo" => board_view(alloc, "/todo", arguments),
+        "people" => board_view(alloc, "/people", arguments),
+        "me" => me_view(alloc, arguments),
         "task" => task_view(alloc, arguments),
-        "add" => board_call(alloc, "/tasks", arguments),
+        "add" => add_call(alloc, arguments),
         "import" => board_call(alloc, "/import", arguments),
         "import-todo" => lines_call(alloc, arguments),
         "done" => task_call(alloc, "/done", arguments),
@@ -74,6 +77,16 @@ fn board_view(
     Ok(view_at(target))
 }
 
+fn me_view(alloc: Global, arguments: &[Text]) -> Result<Option<Request>, AllocError>
+    ensures { IfOk result (λ found. found ≡ me_view arguments.now) }
+{
+    if !arguments.is_empty() {
+        return Ok(None);
+    }
+    let target = Text::from_str(alloc, "/me")?;
+    Ok(view_at(Some(target)))
+}
+
 fn task_view(alloc: Global, arguments: &[Text]) -> Result<Option<Request>, AllocError>
     ensures { IfOk result (λ found. found ≡ task_view arguments.now) }
 {
@@ -96,6 +109,19 @@ fn board_call(
     };
     let target = board_target(alloc, board, suffix)?;
     let body = Text::from_str(alloc, body.as_str())?;
+    Ok(call_at(target, body))
+}
+
+fn add_call(alloc: Global, arguments: &[Text]) -> Result<Option<Request>, AllocError>
+    ensures { IfOk result (λ found. found ≡ add_call arguments.now) }
+{
+    let Some((board, words)) = arguments.split_first() else {
+        return Ok(None);
+    };
+    let Some(body) = add_body(alloc, words)? else {
+        return Ok(None);
+    };
+    let target = board_target(alloc, board, "/tasks")?;
     Ok(call_at(target, body))
 }
 
@@ -241,7 +267,7 @@ fn body_text(alloc: Global, body: &Value) -> Result<Text, AllocError>
     Ok(Text::from_string(body.to_string(alloc)?))
 }
 
-fn view_at(target: Option<Text>) -> Option<Request>
+pub(crate) fn view_at(target: Option<Text>) -> Option<Request>
     ensures { result ≡ option_map view_at target }
 {
     match target {
@@ -263,7 +289,11 @@ fn call_at(target: Option<Text>, body: Text) -> Option<Request>
 }
 
 /// The path behind a board.
-fn board_target(alloc: Global, board: &Text, suffix: &str) -> Result<Option<Text>, AllocError>
+pub(crate) fn board_target(
+    alloc: Global,
+    board: &Text,
+    suffix: &str,
+) -> Result<Option<Text>, AllocError>
     ensures { IfOk result (λ target. target ≡ board_target board.now suffix.now) }
 {
     let board = board.as_str();

@@ -92,11 +92,14 @@ prints the answer's body. However often it is sent, a call acts once.
     MEMBER, KEY     who sends it. Other users of this machine can see a key that stands here: with -
                     it is read from the environment TASKBOARD_KEY, or else from the file
                     ~/.config/taskboard/key, which you alone may read (mode 0600)
-    WORD            list B, export B, todo B, task B UUID, add B JSON, modify B UUID JSON,
-                    done, delete, reopen, start, stop, each B UUID, annotate, denotate, each
-                    B UUID TEXT, depend, undepend, each B UUID UUID, sweep B, import B JSON,
-                    import-todo B LINE .., person NAME KEY, board TITLE,
+    WORD            list B, export B, todo B, people B, me, task B TASK, add B JSON, add B WORDS ..,
+                    modify B TASK JSON, done, delete, reopen, start, stop, each B TASK, annotate,
+                    denotate, each B TASK TEXT, depend, undepend, each B TASK TASK, sweep B,
+                    import B JSON, import-todo B LINE .., person NAME KEY, board TITLE,
                     role B NAME owner|member|none
+    TASK            a uuid, or the place of a task on the board as it is exported, from 1: the
+                    server is first asked which task that is, and it is told on standard error
+    WORDS           a line of todo.txt, as Buy milk due:2026-03-01 +Home @phone
 
 The status is 0 where it was accepted, and 1 where it was refused or no answer came.
 ";

@@ -86,12 +86,19 @@ fn page_place(words: &[&str]) -> usize
 {
     let mut place = 0;
     while place < words.len() {
-        if is_page_front(&words[place..]) {
+        if is_page_front(words_from(words, place)) {
             return place;
         }
         place += 1;
     }
     place
+}
+
+fn words_from<'w, 't>(words: &'w [&'t str], place: usize) -> &'w [&'t str]
+    requires { place ≤ length words.now }
+    ensures { map (λ word. word.now) result.now ≡ drop place (map (λ word. word.now) words.entry.now) }
+{
+    &words[place..]
 }
 
 fn paged(page: Text, order: Order) -> Order

@@ -17,11 +17,11 @@ module _ {X Y : Type 0} where
       sym (ap (filter_map f) (take_more xs i x within) ∙ filter_map-append f (take i xs) (get_or xs i x ∷ []) ∙ ap₂ ◌++◌ (sym so_far) one)
 
   module _ (f : State → X → Option Y) (old mid new : Database) (first : IsAsBefore old mid) (idle : mid.in_transaction ≡ false) (second : IsAsBefore mid new) where
-    -- one more is looked up
-    pub gathered : (xs : List X) (i : ℕ) (x : X) (ys : List Y) (y : Y) → i < length xs → x ≡ get_or xs i x → OfState old mid (λ s. ys ≡ filter_map (f s) (take i xs)) → OfState mid new (λ s. f s x ≡ Some y)
-        → OfState old new (λ s. ys ++ y ∷ [] ≡ filter_map (f s) (take (i + 1) xs))
-    gathered xs i x ys y within here so_far one clean s stored =
-        one_more (f s) xs i x ys y within here (one clean s (stored_again s old mid stored first idle)) (so_far (second.clean clean) s stored)
+    -- one more is looked up, of which it is known that it is so
+    pub gathered : (IsSo : State → X → Y → Type 0) → ((s : State) (x : X) (y : Y) → IsSo s x y → f s x ≡ Some y) → (xs : List X) (i : ℕ) (x : X) (ys : List Y) (y : Y) → i < length xs → x ≡ get_or xs i x
+        → OfState old mid (λ s. ys ≡ filter_map (f s) (take i xs)) → OfState mid new (λ s. IsSo s x y) → OfState old new (λ s. ys ++ y ∷ [] ≡ filter_map (f s) (take (i + 1) xs))
+    gathered IsSo gives xs i x ys y within here so_far one clean s stored =
+        one_more (f s) xs i x ys y within here (gives s x y (one clean s (stored_again s old mid stored first idle))) (so_far (second.clean clean) s stored)
 
     -- for items that were themselves looked up
     pub gathered_of : (of_state : State → List X) (xs : List X) (ys : List Y) → OfState old mid (λ s. xs ≡ of_state s) → OfState mid new (λ s. ys ≡ filter_map (f s) xs)

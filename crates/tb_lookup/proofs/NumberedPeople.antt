@@ -1,5 +1,5 @@
 -- The rows tell whether there is a person of a number.
-use Rattle.std.proofs.Common.{◌≡◌, ◌+◌, ◌<◌, ◌≤◌, ◌==◌, ℕ, Bool, false, List, [], ◌∷◌, filter, length, refl, ap, arith, subst}
+use Rattle.std.proofs.Common.{◌≡◌, ◌+◌, ◌<◌, ◌≤◌, ◌==◌, ℕ, suc, Bool, false, List, [], ◌∷◌, filter, length, refl, ap, arith, subst}
 use Rattle.std.proofs.lemmas.Bool.Decides.{nat_tests}
 use Rattle.std.specs.List.{list_any}
 use Rattle.sqlite.specs.State.{State as Database}
@@ -23,7 +23,7 @@ none_before id n (p ∷ people) before =
 
 counted : (n : ℕ) (people : List Person) → length (rows n people) ≡ length people
 counted n [] = refl
-counted n (p ∷ people) = ap (λ count. 1 + count) (counted (n + 1) people)
+counted n (p ∷ people) = ap suc (counted (n + 1) people)
 
 pub person_within : (old new : Database) (id : ℕ) (there : Bool) → 1 ≤ id → OfContent old new (λ c. there ≡ list_any (is_person id) c.people) → OfState old new (λ s. IsWithin id (length s.world.people) there)
 person_within old new id there from found clean s stored =

@@ -1,6 +1,6 @@
 -- The rows of a board's roles tell the people on the board.
-use Rattle.std.proofs.Common.{◌≡◌, ◌∙◌, ◌⊎◌, inl, inr, ◌+◌, ◌-◌, ◌<◌, ◌≤◌, ◌==◌, ℕ, zero, suc, true, false, List, [], ◌∷◌, Option, Some, None, filter, map, refl, sym, ap, subst, arith, IsPermutation}
-use Rattle.std.specs.Prelude.{slice_get, if◌then◌else◌}
+use Rattle.std.proofs.Common.{◌≡◌, ◌∙◌, inl, inr, ◌+◌, ◌-◌, ◌≤◌, ◌==◌, ℕ, suc, List, [], ◌∷◌, Option, Some, None, filter, refl, sym, ap, arith, IsPermutation}
+use Rattle.std.specs.Prelude.{slice_get}
 use Rattle.std.specs.Option.{option_map}
 use Rattle.std.proofs.lemmas.Bool.{cases_Bool, eqb-true, eqb-false}
 use Rattle.std.proofs.lemmas.Bool.Decides.{nat_tests}
@@ -8,8 +8,7 @@ use Rattle.sqlite.specs.State.{State as Database}
 use Rattle.tb_board.specs.declared.world.Person.{Person}
 use Rattle.tb_board.specs.declared.world.RoleOn.{RoleOn}
 use Rattle.tb_board.specs.Names.{is_name, read_name}
-use Rattle.tb_calls.specs.Calls.{State}
-use Rattle.tb_calls.specs.Roles.{person_at, person_role, with_name}
+use Rattle.tb_calls.specs.Roles.{person_role, with_name}
 use Rattle.tb_reply.specs.declared.roles.PersonRole.{PersonRole}
 use Rattle.tb_rows.specs.Rows.{person_row}
 use Rattle.tb_sql.specs.Changes.{is_person}
@@ -76,6 +75,7 @@ name_stored old new r row name found read clean s stored =
           rw some (go (slice_get s.world.people (r.person - 1)) there)
     ]
   where
+    is : IsOneOf (filter (is_person r.person) stored.content.people) (Some row)
     is = found clean stored.content stored.stands
 
     go : (p : Option Person) → option_map (person_row r.person) p ≡ Some row → option_map (with_name r) p ≡ Some (named r name)

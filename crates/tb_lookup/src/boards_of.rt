@@ -1,11 +1,12 @@
 //! The boards of a person, as the tables tell them.
 
-ghost use Rattle.std.specs.Prelude.{◌≡◌, Some, false, filter, IfOk};
+ghost use Rattle.std.specs.Prelude.{◌≡◌, false, filter, IfOk};
 ghost use Rattle.std.specs.List.{filter_map};
 ghost use Rattle.sqlite.specs.Held.{state};
 ghost use Rattle.tb_calls.specs.Roles.{board_role as board_role_in, boards_for, is_of};
 ghost use Rattle.tb_sql.specs.Opening.{IsAsBefore};
 ghost use Rattle.tb_stored.specs.Reopening.{OfState};
+ghost use Rattle.tb_lookup.specs.Named.{IsTitled};
 
 use crate::gathering::put;
 use sqlite::{Alter, Connection};
@@ -85,7 +86,7 @@ fn board_role<S: Alter>(
     requires { conn.old.in_transaction ≡ false }
     ensures idle { conn.new.in_transaction ≡ false }
     ensures found { IfOk result (λ board. OfState (state S.Store conn.old) (state S.Store conn.new)
-        (λ s. board_role_in s.world role.now ≡ Some board)) }
+        (λ s. IsTitled s.world role.now board)) }
     ensures same { IsAsBefore (state S.Store conn.old) (state S.Store conn.new) }
 {
     let Some(row) = board_row_at(conn, role.board)? else {

@@ -1,11 +1,12 @@
 //! The people on a board, as the tables tell them.
 
-ghost use Rattle.std.specs.Prelude.{◌≡◌, Some, false, filter, IfOk};
+ghost use Rattle.std.specs.Prelude.{◌≡◌, false, filter, IfOk};
 ghost use Rattle.std.specs.List.{filter_map};
 ghost use Rattle.sqlite.specs.Held.{state};
 ghost use Rattle.tb_calls.specs.Roles.{is_on, people_on, person_role as person_role_in};
 ghost use Rattle.tb_sql.specs.Opening.{IsAsBefore};
 ghost use Rattle.tb_stored.specs.Reopening.{OfState};
+ghost use Rattle.tb_lookup.specs.Named.{IsNamed};
 
 use crate::gathering::put;
 use sqlite::{Alter, Connection};
@@ -82,7 +83,7 @@ fn person_role<S: Alter>(
     requires { conn.old.in_transaction ≡ false }
     ensures idle { conn.new.in_transaction ≡ false }
     ensures found { IfOk result (λ person. OfState (state S.Store conn.old) (state S.Store conn.new)
-        (λ s. person_role_in s.world role.now ≡ Some person)) }
+        (λ s. IsNamed s.world role.now person)) }
     ensures same { IsAsBefore (state S.Store conn.old) (state S.Store conn.new) }
 {
     let Ok(number) = u32::try_from(role.person) else {

@@ -73,7 +73,7 @@ our_row_is_read old new rows shown content is =
   where
     letters : IsAscii (codes "taskboard")
     letters = IsAscii-from_all (codes "taskboard") (All-from_recursion (λ b. b < 128) (codes "taskboard")
-        (omega arith, omega arith, omega arith, omega arith, omega arith, omega arith, omega arith, omega arith, omega arith, tt))
+        (omega arith, (omega arith, (omega arith, (omega arith, (omega arith, (omega arith, (omega arith, (omega arith, (omega arith, tt))))))))))
 
     ours : IsMetaRow (out our_meta).1
     ours = record { both = refl; kind = (codes "taskboard", refl, IsUtf8-from_ascii (codes "taskboard") letters); version = (1, refl, omega arith) }

@@ -7,9 +7,10 @@ use Rattle.tb_client.proofs.asking.ask_once.Goals as goal
 
 pub returns-in_default-2-clause-none : goal.returns-in_default-2-clause-none
 returns-in_default-2-clause-none g c =
-    let none : (reply : Reply) → IsWholeAnswer c.in-Some.came reply → ⊥ = search rules in
+    let none : (reply : Reply) → IsWholeAnswer c.as_slice.result.now reply → ⊥ = rw c.in_default-2.is at c.in_ok-reply.ensures.none in
+    let same : c.as_slice.result.now ≡ c.in-Some.came = search rules in
     let follow : g.L.Line.follows (asked c.args.message.now c.in-Some.came ∷ []) c.args.line.now c.ask.new.self = search rules in
-    tried_none g.L.Line.follows c.args.message.now c.in-Some.came c.args.line.now c.ask.new.self none follow
+    tried_none g.L.Line.follows c.args.message.now c.in-Some.came c.args.line.now c.ask.new.self (rw same at none) follow
 
 pub returns-then-asks_again-clause-none : goal.returns-then-asks_again-clause-none
 returns-then-asks_again-clause-none g c =

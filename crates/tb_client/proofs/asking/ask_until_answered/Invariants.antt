@@ -1,4 +1,4 @@
-use Rattle.std.proofs.Common.{◌≤◌, ◌-◌}
+use Rattle.std.proofs.Common.{◌-◌}
 use Rattle.tb_client.proofs.Tries.{Going}
 use Rattle.tb_client.proofs.asking.ask_until_answered.Given as goal
 

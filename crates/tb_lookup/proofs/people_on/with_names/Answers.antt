@@ -2,6 +2,7 @@ use Rattle.std.proofs.Common.{rules}
 use Rattle.sqlite.specs.Held.{state}
 use Rattle.tb_calls.specs.Roles.{person_role}
 use Rattle.tb_stored.proofs.Standing.{before_then}
+use Rattle.tb_lookup.specs.Named.{IsNamed}
 use Rattle.tb_lookup.proofs.Gathered.{gathered}
 use Rattle.tb_lookup.proofs.people_on.with_names.Goals as goal
 
@@ -15,5 +16,6 @@ loop-role-preserved g c =
     record {
       idle = here.idle;
       same = before_then start before after i.same here.same;
-      people = rw c.in_ok-put.ensures (gathered (λ s. person_role s.world) start before after i.same i.idle here.same c.args.roles.now c.loop-role.role-index c.role-item.result c.loop-role.people c.in_ok-person.person (search rules) (search rules) i.people here.found);
+      people = rw c.in_ok-put.ensures (gathered (λ s. person_role s.world) start before after i.same i.idle here.same (λ s. IsNamed s.world) (λ s role person named. named.is)
+          c.args.roles.now c.loop-role.role-index _ c.loop-role.people c.in_ok-person.person (search rules) (search rules) i.people here.found);
     }

@@ -8,7 +8,7 @@ returns-clause-found g c clean =
     let old = state g.S.Store c.args.tx.now.conn.now in
     let new = state g.S.Store c.find_rows.new.tx.conn.now in
     let rows = c.in_ok-rows.rows.items in
-    rw c.is_empty.ensures (has_person old new c.args.id rows (rw (c.params-to_sql.ensures) at (c.in_ok-rows.ensures.shown clean)))
+    rw (c.is_empty.ensures, c.in_ok-rows.rows.ok.0) (has_person old new c.args.id rows (rw (c.params-to_sql.ensures) at (c.in_ok-rows.ensures.shown clean)))
 
 pub returns-in_err-rows-clause-excused : goal.returns-in_err-rows-clause-excused
 returns-in_err-rows-clause-excused g c clean =
