@@ -8,7 +8,7 @@ import sys
 import threading
 import time
 
-from connecting import connected
+from connecting import connected, free_port
 
 program, port, tasks, kills = sys.argv[1], *(int(word) for word in sys.argv[2:])
 CLIENTS = 4
@@ -270,9 +270,10 @@ class ViewsAlone(Proxy):
 
 def look_at_lost_place():
     """A call to a task by its place that gets no answer: it is to go on with the uuid, since places move."""
-    ViewsAlone(port + 2).start()
+    place = free_port()
+    ViewsAlone(place).start()
     uuid = exported()[1]["uuid"]
-    ran = send("done", "3", "2", server=f"127.0.0.1:{port + 2}", options=["--for", "1"])
+    ran = send("done", "3", "2", server=f"127.0.0.1:{place}", options=["--for", "1"])
     expect("lost", ran, 1, "", 'taskboard: 2 is "Pay rent"')
     if "taskboard: NoAnswer" not in ran.stderr or f"KEY 'done' '3' '{uuid}'" not in ran.stderr:
         fail(f"lost: {ran.stderr!r}")
