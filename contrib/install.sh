@@ -1,5 +1,5 @@
 #!/bin/sh
-# Installs the program, the backup script, their man pages, the completion for bash, the units and the documents, and says what it did.
+# Installs the program, its page, the backup script, their man pages, the completion for bash, the units and the documents, and says what it did.
 #
 #   contrib/install.sh [--prefix FOLDER]              installs below FOLDER, /usr/local where it isn't given
 #   contrib/install.sh [--prefix FOLDER] --uninstall  removes what that put there
@@ -40,6 +40,9 @@ parts() {
 644 share/doc/taskboard/docs/OPERATING.md docs/OPERATING.md
 644 share/doc/taskboard/docs/TABLES.md docs/TABLES.md
 PARTS
+    for file in "$top"/page/*; do
+        echo "644 share/taskboard/page/${file##*/} page/${file##*/}"
+    done
 }
 
 is_file_of_boards() {
@@ -88,7 +91,9 @@ remove_all() {
             echo "removed $target"
         fi
     done
-    rmdir "$root/share/doc/taskboard/docs" "$root/share/doc/taskboard" 2>/dev/null || true
+    for folder in doc/taskboard/docs doc/taskboard taskboard/page taskboard; do
+        rmdir "$root/share/$folder" 2>/dev/null || true
+    done
 }
 
 while [ $# -gt 0 ]; do

@@ -15,10 +15,10 @@ _taskboard_place() {
     local at place=0
     for ((at = 1; at <= COMP_CWORD; at++)); do
         case ${COMP_WORDS[at - 1]} in
-        --port | --connections) continue ;;
+        --port | --connections | --page) continue ;;
         esac
         case ${COMP_WORDS[at]} in
-        --port | --connections | --forever | --log) ;;
+        --port | --connections | --forever | --page | --log) ;;
         *) place=$((place + 1)) ;;
         esac
     done
@@ -31,16 +31,31 @@ _taskboard_of_serve() {
         COMPREPLY=()
         return
         ;;
+    --page)
+        _taskboard_files "$2"
+        return
+        ;;
     esac
     case $2 in
-    -*) _taskboard_words "--port --connections --forever --log" "$2" ;;
+    -*) _taskboard_words "--port --connections --forever --page --log" "$2" ;;
     *)
         if [ "$(_taskboard_place)" -eq 2 ]; then
             _taskboard_files "$2"
         else
-            _taskboard_words "--port --connections --forever --log" "$2"
+            _taskboard_words "--port --connections --forever --page --log" "$2"
         fi
         ;;
+    esac
+}
+
+# The words of a script, behind the options, the server, the member and the key.
+_taskboard_of_send() {
+    case ${COMP_WORDS[COMP_CWORD - 1]} in
+    --id | --for) return ;;
+    esac
+    case $2 in
+    -*) _taskboard_words "--id --for" "$2" ;;
+    *) _taskboard_words "list export todo task people me add done delete reopen start stop modify annotate denotate depend undepend sweep import import-todo person board role" "$2" ;;
     esac
 }
 
@@ -48,11 +63,12 @@ _taskboard() {
     local order=${COMP_WORDS[1]}
     COMPREPLY=()
     if [ "$COMP_CWORD" -eq 1 ]; then
-        _taskboard_words "init serve run import list export todo check" "$2"
+        _taskboard_words "init serve send run import list export todo check --help --version" "$2"
         return
     fi
     case $order:$COMP_CWORD in
     serve:*) _taskboard_of_serve "$@" ;;
+    send:*) _taskboard_of_send "$@" ;;
     init:2 | import:2 | list:2 | export:2 | todo:2 | check:2) _taskboard_files "$2" ;;
     import:7) _taskboard_words "json todo" "$2" ;;
     esac

@@ -9,6 +9,7 @@ import re
 import shutil
 import subprocess
 import sys
+import urllib.request
 
 from talking import Server, make_file
 
@@ -69,6 +70,18 @@ def first_run():
     compare("README.md", blocks[at - 1][1].splitlines()[0], blocks[at][1])
 
 
+def in_the_browser():
+    """The README's first file of boards, and the page that is served with it."""
+    init, serve = next(block for _, block in blocks_of("README.md") if "--page" in block).splitlines()
+    run(init)
+    file, words = re.fullmatch(r".* serve (\S+) --port 8080 (.*)", serve).groups()
+    with Server(PROGRAM, PORT, file, words=words.split(), errors=subprocess.DEVNULL):
+        with urllib.request.urlopen(f"http://127.0.0.1:{PORT}/", timeout=10) as answer:
+            if answer.read() != (TOP / "page/index.html").read_bytes():
+                sys.exit(f"README.md: {serve}\nserves another page")
+    ran.append("README.md")
+
+
 def boards_in_a_file():
     """The README's file of boards: made, served, asked by curl, and read by the program once it isn't served."""
     served, taken = [block for _, block in blocks_of("README.md") if "taskboard import b.db" in block or "taskboard serve b.db" in block]
@@ -83,8 +96,12 @@ def boards_in_a_file():
         compare("README.md", add, wanted)
         compare("README.md", add, wanted)
         listed = run(view)
+        sent, seen = next(block for _, block in blocks_of("README.md") if "taskboard send" in block).splitlines()
+        if '"dropped":0' not in run(sent) or not run(seen).endswith("2 of 2 tasks"):
+            sys.exit(f"README.md: {sent}\nadds no task")
+        ran.append("README.md")
     imported, printed = run(taken.splitlines()[0]), run(taken.splitlines()[1])
-    if "Buy milk" not in listed or '"new":3' not in imported or not printed.endswith("4 of 4 tasks"):
+    if "Buy milk" not in listed or '"new":3' not in imported or not printed.endswith("5 of 5 tasks"):
         sys.exit(f"README.md: {listed}\n{imported}\n{printed}")
     ran.append("README.md")
     copying = next(block for _, block in blocks_of("README.md") if "contrib/backup.sh" in block)
@@ -99,7 +116,9 @@ def asked_by_curl():
     lines = "\n".join(block for _, block in blocks_of("docs/HTTP.md")).split("\n")
     starts = [at for at, line in enumerate(lines) if COMMAND.match(line)] + [len(lines)]
     known = ""
-    with Server(PROGRAM, PORT, errors=subprocess.DEVNULL):
+    os.mkdir("small")
+    pathlib.Path("small/index.html").write_text("<p>Hi</p>")
+    with Server(PROGRAM, PORT, words=("--page", "small", "--forever"), errors=subprocess.DEVNULL):
         for at, end in zip(starts, starts[1:]):
             command, wanted = lines[at], "\n".join(lines[at + 1 : end]).strip("\n")
             if re.match(r"who=|id\(\)|t=", command):
@@ -129,9 +148,10 @@ def worked_examples():
 
 
 os.symlink(PROGRAM, "taskboard")
-for name in ("examples", "contrib"):
+for name in ("examples", "contrib", "page"):
     shutil.copytree(TOP / name, name)
 first_run()
+in_the_browser()
 for path in ["README.md", *(f"docs/{path.name}" for path in sorted((TOP / "docs").glob("*.md")))]:
     fenced(path)
 if shutil.which("curl"):

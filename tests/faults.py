@@ -71,7 +71,7 @@ def making(before):
                 os.remove(name)
         made = subprocess.run([*before, PROGRAM, "init", "b.db", "ann", "ann-key-1"], capture_output=True, timeout=60)
         again = subprocess.run([PROGRAM, "init", "b.db", "ann", "ann-key-1"], capture_output=True, text=True, timeout=60)
-        if (again.returncode, again.stderr) not in ((0, ""), (1, "taskboard: NotEmpty\n")) or made.returncode == again.returncode == 0:
+        if (again.returncode, again.stderr.partition("\n")[0]) not in ((0, ""), (1, "taskboard: NotEmpty")) or made.returncode == again.returncode == 0:
             raise Wrong(f"made by {made}, and again by {again}")
         judge.judge(0)
         return made.returncode != 0

@@ -123,7 +123,7 @@ class Server:
     def expect_end(self):
         """It says why it ends, and that there was an error."""
         told = self.process.communicate(timeout=10)[1].decode()
-        if self.process.returncode != 1 or not re.search(r"(^|\n)taskboard: (Memory|Store)\n$", told):
+        if self.process.returncode != 1 or not re.search(r"(^|\n)taskboard: (Memory|Store)\n.+\n$", told):
             raise Wrong(f"it ends with {self.process.returncode} and tells {told!r}")
 
 
@@ -257,7 +257,7 @@ class Example:
                 if not refused:
                     return number - 1
                 self.counts["answered"] += 1
-            elif refused and (done.returncode, done.stderr) == (1, b"taskboard: Memory\n") and self.written.startswith(done.stdout):
+            elif refused and (done.returncode, done.stderr.partition(b"\n")[0]) == (1, b"taskboard: Memory") and self.written.startswith(done.stdout):
                 self.counts["Memory"] += 1
             else:
                 raise Wrong(f"over lists: {done}")

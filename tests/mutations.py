@@ -40,7 +40,7 @@ class Wrong(Exception):
 
 def good_messages():
     """The bytes of connections that are answered 200."""
-    connections = [connection for path in files_of_scenes() for scene in scenes_of(path) for connection in scene]
+    connections = [connection for path in files_of_scenes() for page, scene in scenes_of(path) if not page for connection in scene]
     return sorted({sent for sent, wanted, taken in connections if taken is None and wanted.startswith(b"HTTP/1.1 200") and len(sent) <= LONGEST})
 
 

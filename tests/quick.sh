@@ -1,6 +1,6 @@
 #!/bin/sh
 # What the program shows by itself, in minutes and without a prover: the worked scripts, the bytes of connections, also broken ones, orders
-# over real files, a server that is killed or whose file fails, silent, slow and many clients, a page in a browser, files that another
+# over real files, a server that is killed or whose file fails, silent, slow and many clients, its page in a browser, files that another
 # hand changed, copies of a file that is served, a machine that fails or has no memory, and what the documents show (docs/TESTING.md).
 # What a machine lacks is skipped by name.
 set -u
@@ -43,9 +43,11 @@ attempt crowd.sh python3
 attempt clients.sh python3
 attempt backup.sh python3
 attempt browser.sh python3
+attempt page.sh python3
 attempt faults.sh python3
 attempt power.sh python3 strace
 attempt memory.sh python3 cc
+attempt client.sh python3
 attempt documents.sh python3
 
 if [ -n "$failed" ]; then

@@ -16,15 +16,17 @@ def bytes_of(word, rest):
 
 
 def scenes_of(path):
-    """The scenes of a file that a real server can play: each is the connections that one file of boards is sent, as bytes sent and wanted,
-    and how many of these the client takes before it goes away; None where it stays."""
-    scenes, sent, wanted, taken, plays, again = [], b"", b"", None, True, False
+    """The scenes of a file that a real server can play: each is the files of its page, and the connections that one file of boards is sent,
+    as bytes sent and wanted, and how many of these the client takes before it goes away; None where it stays."""
+    scenes, page, sent, wanted, taken, plays, again = [], {}, b"", b"", None, True, False
     for line in path.read_bytes().decode().split("\n"):
         word, _, rest = line.partition(" ")
         if word.startswith(">"):
             sent += bytes_of(word, rest)
         elif word.startswith("<"):
             wanted += bytes_of(word, rest)
+        elif word == "file":
+            page[rest.partition(" ")[0]] = bytes_of(">>", rest.partition(" ")[2])
         elif word == "writer" and re.fullmatch(r"fails after \d+", rest):
             taken = int(rest.split()[2])
         elif word in ("moments", "parts", "reader", "writer"):
@@ -33,7 +35,7 @@ def scenes_of(path):
             again = True
         elif word == "end":
             if not again:
-                scenes.append([])
-            scenes[-1].append((sent, wanted[:taken], taken, plays))
-            sent, wanted, taken, plays, again = b"", b"", None, True, False
-    return [[connection[:3] for connection in scene] for scene in scenes if all(connection[3] for connection in scene)]
+                scenes.append((page, []))
+            scenes[-1][1].append((sent, wanted[:taken], taken, plays))
+            page, sent, wanted, taken, plays, again = {}, b"", b"", None, True, False
+    return [(page, [connection[:3] for connection in scene]) for page, scene in scenes if all(connection[3] for connection in scene)]

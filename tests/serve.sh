@@ -12,14 +12,19 @@ expect() {
     fi
 }
 
-# Runs the program with the words behind the first two, and compares its status and all that it prints.
+# Runs the program with the words behind the first two, and compares its status, what it prints and the first line of what it tells; a
+# fault has a line behind it.
 ends() {
     wanted_status=$1
     wanted=$2
     shift 2
     status=0
-    printed=$("$program" "$@" 2>&1) || status=$?
-    expect "$*" "$wanted" "$printed"
+    printed=$("$program" "$@" 2>told) || status=$?
+    expect "$*" "$wanted" "$printed$(head -n 1 told)"
+    if [ -s told ] && [ "$(wc -l <told)" -lt 2 ]; then
+        echo "$*: nothing says what to do"
+        exit 1
+    fi
     expect "status of $*" "$wanted_status" "$status"
 }
 
@@ -84,8 +89,17 @@ ends 1 "taskboard: BadBody" import b.db ann ann-key-1 "$second" 1 json <text
 ends 0 "boards 1 tasks 2 faults 0" check b.db
 
 ends 1 "taskboard: Store" init no/such/folder.db ann ann-key-1
-ends 1 "taskboard: NotOurs" check other-file.db
-ends 1 "taskboard: NotOurs" list missing.db ann ann-key-1 1
+python3 -c 'import sqlite3; sqlite3.connect("strange.db").execute("CREATE TABLE note(text)")'
+ends 1 "taskboard: NotOurs" check strange.db
+ends 1 "taskboard: Store" list missing.db ann ann-key-1 1
+if [ -e missing.db ] || [ -e missing.db-wal ]; then
+    echo "an order on a file that isn't there made it"
+    exit 1
+fi
+if [ "$(stat -c %a b.db)" != 600 ]; then
+    echo "others may read a new file"
+    exit 1
+fi
 ends 1 "taskboard: Store" list . ann ann-key-1 1
 echo 'no database' >letter.txt
 ends 1 "taskboard: Store" list letter.txt ann ann-key-1 1

@@ -33,7 +33,7 @@ if [ "$status" != 1 ] || [ "$answer" != '{"name":"Store"}' ]; then
     exit 1
 fi
 line='^taskboard: the file failed while POST /boards/1/tasks of ann was handled at [0-9]*T[0-9]*Z; its outcome is known when the file is opened again$'
-if [ "$(grep -c "$line" told)" != 1 ] || [ "$(tail -n 1 told)" != "taskboard: Store" ]; then
+if [ "$(grep -c "$line" told)" != 1 ] || ! grep -qx "taskboard: Store" told; then
     echo "standard error doesn't tell of the message that failed:"
     cat told
     exit 1

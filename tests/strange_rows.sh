@@ -21,7 +21,8 @@ call = "00000000-0000-4000-8000-000000000001"
 
 def ran(words, text=""):
     done = subprocess.run([program, *words], input=text.encode(), capture_output=True)
-    return done.returncode, (done.stdout + done.stderr).decode()
+    fault, end, _ = done.stderr.partition(b"\n")
+    return done.returncode, (done.stdout + fault + end).decode()
 
 
 def depends_on(place, identifier):

@@ -5,6 +5,7 @@ each byte or stall, and connections at once in every order. A writer that fails 
 Moments in answers are those of the machine's clock, so they are only compared as moments.
 `crates/examples/data/README.md` says what the lines mean."""
 import os
+import pathlib
 import socket
 import struct
 import subprocess
@@ -18,6 +19,16 @@ from talking import without_moments
 
 program, port = os.path.abspath(sys.argv[1]), free_port()
 BEHIND = b"GET /boards/1/list HTTP/1.1\r\nHost: a\r\nx-member: root\r\nx-key: root-key-1\r\nConnection: close\r\n\r\n"
+
+
+def written(page, room):
+    """The words of an order that serves a page of these files, which are written into the folder `page` of a room."""
+    if not page:
+        return []
+    os.mkdir(f"{room}/page")
+    for name, text in page.items():
+        pathlib.Path(room, "page", name).write_bytes(text)
+    return ["--page", "page"]
 
 
 def answered(sent, taken=None):
@@ -38,12 +49,14 @@ def answered(sent, taken=None):
 
 def difference(scene):
     """How a new server goes otherwise than a scene is written, or no word; and whether the clock's second changed before that."""
+    page, connections = scene
     with tempfile.TemporaryDirectory() as room:
         subprocess.run([program, "init", "b.db", "root", "root-key-1"], cwd=room, check=True)
-        server = subprocess.Popen([program, "serve", "b.db", "--port", str(port), "--connections", str(len(scene))], cwd=room, stderr=subprocess.DEVNULL)
+        words = ["--port", str(port), "--connections", str(len(connections)), *written(page, room)]
+        server = subprocess.Popen([program, "serve", "b.db", *words], cwd=room, stderr=subprocess.DEVNULL)
         second = int(time.time())
         try:
-            for sent, wanted, taken in scene:
+            for sent, wanted, taken in connections:
                 got = answered(sent, taken)
                 if without_moments(got) != without_moments(wanted):
                     return f"wanted {wanted[:600]!r}, got {got[:600]!r}", int(time.time()) != second

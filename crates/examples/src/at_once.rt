@@ -8,6 +8,7 @@ use std::{io, mem};
 use tb_desk::{Desk, ListKeep};
 use tb_peers::{Happening, Peer, Tools, play};
 use tb_serve::{ListClock, serve};
+use tb_site::{Paths, Site};
 use tb_task::Moment;
 
 /// The number that stands for all bytes.
@@ -108,6 +109,7 @@ impl Client {
 struct Server {
     alloc: Global,
     tools: Tools,
+    paths: Paths,
     peers: Vec<Peer>,
     desk: Desk<ListKeep>,
     other: Desk<ListKeep>,
@@ -118,6 +120,7 @@ impl Server {
         Ok(Server {
             alloc: owner.alloc,
             tools: Tools::new(owner.alloc)?,
+            paths: Paths::new(owner.alloc, Site::none(owner.alloc))?,
             peers: Vec::new(owner.alloc),
             desk: Desk::new(owner.lists()?),
             other: Desk::new(owner.lists()?),
@@ -177,6 +180,7 @@ impl Server {
         match play(
             self.alloc,
             &mut self.tools,
+            &self.paths,
             peers,
             &mut self.desk,
             happenings,
@@ -205,7 +209,8 @@ impl Server {
         self.happen(&[(client.place, Happening::Turn(Moment::read(USUAL)))])?;
         let left = self.peer(client)?.held().len();
         let message = &held.as_slice()[..held.len().saturating_sub(left)];
-        serve_alone(self.alloc, message, &mut client.alone, &mut self.other);
+        let (paths, told) = (&self.paths, &mut client.alone);
+        serve_alone(self.alloc, paths, message, told, &mut self.other);
         Ok(())
     }
 
@@ -215,8 +220,9 @@ impl Server {
             let connection = scene.get(client.place).ok_or(unreadable())?;
             let sent = connection.sent.as_slice();
             let rest = sent.get(client.bytes..).unwrap_or(&[]);
-            serve_alone(self.alloc, rest, &mut client.told, &mut self.desk);
-            serve_alone(self.alloc, rest, &mut client.alone, &mut self.other);
+            let paths = &self.paths;
+            serve_alone(self.alloc, paths, rest, &mut client.told, &mut self.desk);
+            serve_alone(self.alloc, paths, rest, &mut client.alone, &mut self.other);
             client.expect(self.alloc, connection)?;
         }
         Ok(())
@@ -224,9 +230,22 @@ impl Server {
 }
 
 /// Serves bytes on a connection of their own, if there are any.
-fn serve_alone(alloc: Global, bytes: &[u8], told: &mut Vec<u8>, desk: &mut Desk<ListKeep>) {
+fn serve_alone(
+    alloc: Global,
+    paths: &Paths,
+    bytes: &[u8],
+    told: &mut Vec<u8>,
+    desk: &mut Desk<ListKeep>,
+) {
     if !bytes.is_empty() {
         let moments = [Moment::read(USUAL)];
-        let _ = serve(alloc, bytes, told, desk, &mut ListClock::new(&moments));
+        let _ = serve(
+            alloc,
+            paths,
+            bytes,
+            told,
+            desk,
+            &mut ListClock::new(&moments),
+        );
     }
 }

@@ -10,9 +10,10 @@ use tb_board::{Change, Key, Name};
 use tb_calls::{Call, Keep, KeepFault, KeptReply};
 use tb_core::{Command, Seen};
 use tb_desk::Desk;
-use tb_reply::Reply;
+use tb_reply::{BoardRole, PersonRole, Reply};
 use tb_script::{LinesFault, run_lines_on};
 use tb_task::TaskId;
+use tb_values::Items;
 
 type Got<T> = Result<T, KeepFault>;
 
@@ -82,6 +83,21 @@ impl<K: Keep> Keep for Breaking<K> {
     fn look(&mut self, alloc: Global, name: &Name, command: &Command) -> Got<Seen> {
         self.call()?;
         self.keep.look(alloc, name, command)
+    }
+
+    fn boards_of(&mut self, alloc: Global, name: &Name) -> Got<Items<BoardRole>> {
+        self.call()?;
+        self.keep.boards_of(alloc, name)
+    }
+
+    fn people_for(
+        &mut self,
+        alloc: Global,
+        name: &Name,
+        board: u32,
+    ) -> Got<Option<Items<PersonRole>>> {
+        self.call()?;
+        self.keep.people_for(alloc, name, board)
     }
 
     fn commit(&mut self, alloc: Global, changes: &[Change], call: &Call, reply: &Reply) -> Got<()> {

@@ -1,11 +1,12 @@
 //! Runs the cases of the folder that it is started in, each a file: scripts (`NAME.script`), connections (`NAME.wire`), and stops and
 //! files that are opened again (`NAME.case`). With a word it answers standard input: over a store in the file of that name, or for
-//! `--memory` over one in memory. `data/README.md` says what the files hold. It stands on `tb_script` for lines, on `tb_serve` and
+//! `--memory` over one in memory. With two it sends the script in the file of the first over files that stop. `data/README.md` says what the files hold. It stands on `tb_script` for lines, on `tb_serve` and
 //! `tb_peers` for messages, on `tb_keeper` and `tb_sql` for stores, and on `sqlite_disk` for disks that stop.
 #![tactic(auto)]
 
 mod at_once;
 mod breaking;
+mod hiccup;
 mod lines;
 mod looks;
 mod play;
@@ -25,10 +26,11 @@ fn main(rt: HostRuntime) -> io::Result<()> {
         return Err(io::Error::other("the words can't be read"));
     };
     let _program = words.next();
-    match (words.next(), words.next()) {
-        (None, _) => tell_all(&rt, &owner),
-        (Some(place), None) => answer_input(&rt, &owner, place.as_str()),
-        (Some(_), Some(_)) => Err(io::Error::other("there is more than one word")),
+    match (words.next(), words.next(), words.next()) {
+        (None, _, _) => tell_all(&rt, &owner),
+        (Some(place), None, _) => answer_input(&rt, &owner, place.as_str()),
+        (Some(file), Some(ways), None) => script::stop(&rt, &owner, file.as_str(), ways.as_str()),
+        _ => Err(io::Error::other("there are more than two words")),
     }
 }
 

@@ -9,6 +9,7 @@ use std::io::{self, Read, Write};
 use tb_calls::Keep;
 use tb_desk::Desk;
 use tb_serve::{ListClock, ServeEnd, serve};
+use tb_site::Paths;
 
 /// Plays the scenes of a file.
 pub fn run(rt: &HostRuntime, owner: &Owner, file: &str) -> io::Result<String> {
@@ -36,17 +37,20 @@ fn play_everywhere(owner: &Owner, scene: &[Connection<'_>]) -> io::Result<usize>
     if !first.parts.is_empty() {
         return play_in_all_orders(owner, scene);
     }
+    let paths = first.paths(owner.alloc)?;
     for way in first.ways(owner.alloc)?.iter() {
-        play(owner, &mut Desk::new(owner.lists()?), scene, *way)?;
+        play(owner, &paths, &mut Desk::new(owner.lists()?), scene, *way)?;
     }
     let conn = sqlite::Connection::open_in_memory(owner.alloc)?;
-    play(owner, &mut desk_over(owner, conn)?, scene, first.whole()?)?;
+    let whole = first.whole()?;
+    play(owner, &paths, &mut desk_over(owner, conn)?, scene, whole)?;
     Ok(0)
 }
 
 /// Plays the connections of a scene, the first in this way.
 fn play<K: Keep>(
     owner: &Owner,
+    paths: &Paths,
     desk: &mut Desk<K>,
     scene: &[Connection<'_>],
     way: Way,
@@ -54,14 +58,20 @@ fn play<K: Keep>(
     let mut first_way = Some(way);
     for connection in scene {
         let whole = connection.whole()?;
-        connection.play(owner, desk, first_way.take().unwrap_or(whole))?;
+        connection.play(owner, paths, desk, first_way.take().unwrap_or(whole))?;
     }
     Ok(())
 }
 
 impl Connection<'_> {
     /// Serves it at its moments.
-    fn play<K: Keep>(&self, owner: &Owner, desk: &mut Desk<K>, way: Way) -> io::Result<()> {
+    fn play<K: Keep>(
+        &self,
+        owner: &Owner,
+        paths: &Paths,
+        desk: &mut Desk<K>,
+        way: Way,
+    ) -> io::Result<()> {
         let source = Pieces {
             bytes: self.sent.get(..way.len).unwrap_or(b""),
             cut: way.cut,
@@ -75,7 +85,7 @@ impl Connection<'_> {
         };
         let moments = self.moments(owner.alloc)?;
         let mut clock = ListClock::new(moments.as_slice());
-        let end = serve(owner.alloc, source, &mut writer, desk, &mut clock);
+        let end = serve(owner.alloc, paths, source, &mut writer, desk, &mut clock);
         self.expect(owner, way, writer.taken, end)
     }
 

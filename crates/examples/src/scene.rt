@@ -3,11 +3,13 @@
 use crate::lines::{push_line, read_count, unreadable};
 use std::alloc::{AllocError, Global};
 use std::io;
+use tb_site::{FoundFile, Paths, Site, make_page};
 use tb_task::Moment;
+use tb_values::{Items, Text};
 
 /// The words of the lines that hold no bytes.
-const WORDS: [&str; 10] = [
-    "", "#", "again", "cuts", "end", "fronts", "moments", "pieces", "reader", "writer",
+const WORDS: [&str; 11] = [
+    "", "#", "again", "cuts", "end", "file", "fronts", "moments", "pieces", "reader", "writer",
 ];
 
 /// When messages come, where nothing else is written.
@@ -105,6 +107,23 @@ impl<'t> Connection<'t> {
         None
     }
 
+    /// What paths lead to on the server of its scene: a file of the page for each line `file`.
+    pub fn paths(&self, alloc: Global) -> io::Result<Paths> {
+        let mut found = Vec::new(alloc);
+        for (word, rest) in self.words.iter() {
+            if *word == "file" {
+                found.push(found_file(alloc, rest)?)?;
+            }
+        }
+        if found.is_empty() {
+            return Ok(Paths::new(alloc, Site::none(alloc))?);
+        }
+        match make_page(alloc, &found) {
+            Ok(site) => Ok(Paths::new(alloc, site)?),
+            Err(fault) => Err(io::Error::other(format!(in alloc; "{fault:?}")?.as_str())),
+        }
+    }
+
     /// As it is, with bytes that all come at once.
     pub fn whole(&self) -> io::Result<Way> {
         Ok(Way {
@@ -172,6 +191,17 @@ impl<'t> Connection<'t> {
         wanted.extend_from_slice(end.as_bytes())?;
         Ok(wanted)
     }
+}
+
+/// A file of a page: its name, a space and its bytes.
+fn found_file(alloc: Global, line: &str) -> io::Result<FoundFile> {
+    let (name, text) = line.split_once(' ').unwrap_or((line, ""));
+    let mut body = Vec::new(alloc);
+    push_line(alloc, &mut body, ">", text)?;
+    Ok(FoundFile {
+        name: Text::from_str(alloc, name)?,
+        body: Items::from_vec(body),
+    })
 }
 
 /// Adds parts, which stand in a line behind their number.

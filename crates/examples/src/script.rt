@@ -1,7 +1,8 @@
 //! Scripts, each answered in every way.
 
 use crate::breaking::answer_through_break;
-use crate::lines::compare;
+use crate::lines::{compare, unreadable};
+use crate::stops::{stop_at_some, stop_each};
 use crate::store::{Owner, answer_in, ended};
 use std::alloc::AllocError;
 use std::{fs, io};
@@ -9,6 +10,12 @@ use tb_script::run_lines;
 
 /// A script of more bytes is answered over lists and over a store in memory alone.
 const MOST_BYTES: usize = 8192;
+
+/// A script of more bytes isn't sent over files that stop.
+const MOST_STOPPED: usize = 2048;
+
+/// How far the calls at which its files stop or fail are apart. `tests/stops.sh` stops them at each.
+const STEP: u64 = 47;
 
 const STORE: &str = "boards.db";
 
@@ -37,7 +44,26 @@ pub fn run(rt: &HostRuntime, owner: &Owner, name: &str) -> io::Result<String> {
             compare(owner.alloc, wanted.as_slice(), calls.as_bytes())?;
         }
     }
+    if case.script.len() <= MOST_STOPPED {
+        let lines = lines_of(owner, case.script.as_slice())?;
+        stop_at_some(owner, lines.as_slice(), case.script.len(), STEP)?;
+    }
     Ok(String::from_str(owner.alloc, "ok")?)
+}
+
+/// Sends the script in that file over files that stop or fail, as these words say, and tells how often they did.
+pub fn stop(rt: &HostRuntime, owner: &Owner, file: &str, words: &str) -> io::Result<()> {
+    let script = fs::read(rt, file)?;
+    let count = stop_each(owner, lines_of(owner, script.as_slice())?.as_slice(), words)?;
+    println!(rt; "{count}")
+}
+
+/// The lines of a script that isn't strange: no line is empty.
+fn lines_of<'s>(owner: &Owner, script: &'s [u8]) -> io::Result<Vec<&'s str>> {
+    let text = str::from_utf8(script).or(Err(unreadable()))?;
+    let lines = text.split('\n').filter(|line| !line.is_empty());
+    let lines: Vec<&str> = lines.collect(owner.alloc)?;
+    Ok(lines)
 }
 
 impl Case<'_> {

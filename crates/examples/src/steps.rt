@@ -2,7 +2,7 @@
 
 use crate::lines::{Told, compare, unreadable};
 use crate::looks::{count_kept, tell_audit, tell_tables};
-use crate::stops::{Disk, read_files, stop_each};
+use crate::stops::{Frail, read_files, stop_each};
 use crate::store::{Owner, open_store};
 use sqlite::{Connection, FileStore, Files, Options};
 use sqlite_disk::Crash;
@@ -13,19 +13,19 @@ use tb_desk::Desk;
 use tb_keeper::SqlKeep;
 use tb_script::run_lines_on;
 
-type Database = Connection<FileStore<Disk>>;
+type Database = Connection<FileStore<Frail>>;
 
 /// Two files, or what is open of them.
 #[derive(Drop)]
 pub enum Stage {
-    Files(Files<Disk>),
+    Files(Files<Frail>),
     Database(Database),
-    Store(SqlKeep<FileStore<Disk>>),
+    Store(SqlKeep<FileStore<Frail>>),
 }
 
 impl Stage {
     /// The files, of which the log isn't copied.
-    fn into_files(self) -> Files<Disk> {
+    pub fn into_files(self) -> Files<Frail> {
         match self {
             Stage::Files(files) => files,
             Stage::Database(conn) => conn.into_store().close(),
@@ -50,7 +50,7 @@ impl Stage {
     }
 
     /// Opens the database, and the store in it. Gives the word for why one isn't open too, or none.
-    fn open(self, owner: &Owner, how: &str) -> (Stage, &'static str) {
+    pub fn open(self, owner: &Owner, how: &str) -> (Stage, &'static str) {
         let files = self.into_files();
         if !files.may_be_used() {
             return (Stage::Files(files), "Unusable");
@@ -66,7 +66,7 @@ impl Stage {
 }
 
 /// Copies the log into the other file, and closes both. Gives the word for what failed too, or none.
-fn close(conn: Database) -> (Stage, &'static str) {
+pub fn close(conn: Database) -> (Stage, &'static str) {
     match conn.close_files() {
         Ok(files) => (Stage::Files(files), ""),
         Err((_, store)) => (Stage::Files(store.close()), "NotCopied"),
@@ -128,22 +128,26 @@ impl<'o, 't> Steps<'o, 't> {
                 Ok(Stage::Files(read_files(self.owner.alloc, rest)?))
             }
             "each" => {
-                let text = stop_each(self.owner, self.sent.as_slice(), rest)?;
-                self.told.answer(text.as_str())?;
+                self.tell_stops(rest)?;
                 Ok(stage)
             }
             _ => self.take(stage, line),
         }
     }
 
-    pub fn take_all(&mut self, mut stage: Stage, steps: &[&'t str]) -> io::Result<Stage> {
-        for step in steps {
-            stage = self.take(stage, step)?;
+    /// Stops the lines that were sent at each call of a file.
+    fn tell_stops(&mut self, words: &str) -> io::Result<()> {
+        match stop_each(self.owner, self.sent.as_slice(), words) {
+            Ok(0) => self.told.answer("NeverStopped")?,
+            Ok(_) => self.told.answer("stands")?,
+            Err(error) => self
+                .told
+                .line("< ", format!(in self.owner.alloc; "{error}")?.as_str())?,
         }
-        Ok(stage)
+        Ok(())
     }
 
-    pub fn take(&mut self, stage: Stage, step: &'t str) -> io::Result<Stage> {
+    fn take(&mut self, stage: Stage, step: &'t str) -> io::Result<Stage> {
         let (word, rest) = step.split_once(' ').unwrap_or((step, ""));
         let (stage, text) = match word {
             "open" | "make" | "take" => stage.open(self.owner, word),

@@ -1,149 +1,275 @@
-//! Lines that are sent over files that stop at one call after the other, compared with what lists answer.
+//! Lines that are sent over files that stop, or fail once, at one of their calls after the other, compared with what lists answer.
 
-use crate::lines::{read_count, unreadable};
-use crate::steps::{Stage, Steps};
+use crate::hiccup::Hiccup;
+use crate::lines::{Told, read_count, unreadable};
+use crate::looks::{count_kept, tell_audit};
+use crate::steps::{Stage, Steps, close};
 use crate::store::Owner;
-use sqlite_disk::{Files, Fuse, Memory};
+use sqlite::FileStore;
+use sqlite_disk::{Disk, Files, Fuse, Memory};
 use std::alloc::{AllocError, Global};
 use std::io;
 use tb_calls::Keep;
-use tb_desk::Desk;
+use tb_desk::{Desk, ListKeep};
+use tb_keeper::SqlKeep;
 
-pub type Disk = Fuse<Memory>;
+/// A file in memory that may stop, and may fail one call.
+pub type Frail = Hiccup<Fuse<Memory>>;
 
-/// The line that shows board 1.
-const EXPORT: &str =
-    "20260201T000000Z\troot\troot-key-1\t00000009-0000-8000-8000-000000000999\texport\t1";
+/// The ways of a file: it stops after some calls, or fails the call behind these and goes on.
+const WAYS: [&str; 4] = ["log", "file", "log_once", "file_once"];
 
-/// What is told where the disk has stopped.
-const FAULTS: [&str; 4] = ["< Store", "< Unopened", "< Unusable", "< NotCopied"];
+/// The lines that show the boards: two as the first person sees them, and one as another does.
+const LOOKS: [&str; 3] = [
+    "20260201T000000Z\troot\troot-key-1\t00000009-0000-8000-8000-000000000999\texport\t1",
+    "20260201T000000Z\troot\troot-key-1\t00000009-0000-8000-8000-000000000999\texport\t2",
+    "20260201T000000Z\tbob\tbob-key-01\t00000009-0000-8000-8000-000000000999\tlist\t1",
+];
 
-/// New files. For the words `log N` or `file N` that one stops after N calls.
-pub fn read_files(alloc: Global, words: &str) -> io::Result<Files<Disk>> {
-    let (name, calls) = words.split_once(' ').unwrap_or((words, "0"));
-    let calls = read_count(calls)? as u64;
-    let (log_calls, file_calls) = match name {
-        "" => (u64::MAX, u64::MAX),
-        "log" => (calls, u64::MAX),
-        "file" => (u64::MAX, calls),
+/// What is told where a store isn't opened.
+const FAULTS: [&str; 3] = ["Store", "Unopened", "Unusable"];
+
+/// What a store tells that has failed.
+const FAILED: &str = "< Store\n";
+
+/// New files, with which nothing happens, or what the words `WAY CALLS` say.
+pub fn read_files(alloc: Global, words: &str) -> io::Result<Files<Frail>> {
+    let (way, calls) = match words.split_once(' ') {
+        None if words.is_empty() => ("", 0),
+        Some((way, calls)) if WAYS.contains(&way) => (way, read_count(calls)? as u64),
         _ => return Err(unreadable()),
     };
-    Ok(Files {
-        log: Fuse::new(Memory::new(alloc), log_calls),
-        db: Fuse::new(Memory::new(alloc), file_calls),
-    })
+    Ok(frail(Memory::new(alloc), Memory::new(alloc), way, calls))
 }
 
-/// For the words `NAME A B` stops that file after each number of calls from A up to B, and tells how many trials were stopped.
-pub fn stop_each(owner: &Owner, lines: &[&str], words: &str) -> io::Result<String> {
-    let (name, ends) = words.split_once(' ').ok_or(unreadable())?;
-    let (first, end) = ends.split_once(' ').ok_or(unreadable())?;
-    let trial = Trial::over_lists(owner, lines)?;
-    let (mut stopped, mut whole) = (0u64, 0u64);
-    for calls in read_count(first)?..read_count(end)? {
-        let words = format!(in owner.alloc; "{name} {calls}")?;
-        match trial.run(words.as_str()) {
-            Ok(true) => whole = whole.saturating_add(1),
-            Ok(false) => stopped = stopped.saturating_add(1),
-            Err(error) => return Ok(format!(in owner.alloc; "after {calls} calls: {error}")?),
+/// Files of which one goes this way after so many calls.
+fn frail(log: Memory, db: Memory, way: &str, calls: u64) -> Files<Frail> {
+    let after = |one| if one == way { calls } else { u64::MAX };
+    Files {
+        log: Hiccup::new(Fuse::new(log, after("log")), after("log_once")),
+        db: Hiccup::new(Fuse::new(db, after("file")), after("file_once")),
+    }
+}
+
+fn copy(alloc: Global, file: &Frail) -> io::Result<Memory> {
+    let mut memory = Memory::new(alloc);
+    memory.write_at(0, file.inner().inner().bytes())?;
+    memory.sync()?;
+    Ok(memory)
+}
+
+/// Sends lines over files that go one way after no call, after one and so on, for the words `WAY`. For `WAY WAY STEP` they go the second
+/// way behind that, both after numbers of calls that are so far apart. Tells how often a file went its way.
+pub fn stop_each(owner: &Owner, lines: &[&str], words: &str) -> io::Result<u64> {
+    let trial = Trial::new(owner, lines)?;
+    match words.split_once(' ') {
+        None => trial.stop_once(words, 0, 1),
+        Some((first, rest)) => {
+            let (second, step) = rest.split_once(' ').ok_or(unreadable())?;
+            trial.stop_twice(first, second, read_count(step)? as u64)
         }
     }
-    Ok(format!(in owner.alloc; "{stopped} stopped, {whole} whole")?)
 }
 
-/// Lines, what lists answer to each, and what they tell of the board before the first and after each.
+/// Sends lines over files that go one way, after some numbers of calls, so far apart; which these are depends on how many bytes are sent.
+pub fn stop_at_some(owner: &Owner, lines: &[&str], bytes: usize, step: u64) -> io::Result<()> {
+    let way = match bytes % 4 {
+        0 => "log",
+        1 => "file",
+        2 => "log_once",
+        _ => "file_once",
+    };
+    let first = (bytes as u64).checked_rem(step).unwrap_or(0);
+    Trial::new(owner, lines)?.stop_once(way, first, step)?;
+    Ok(())
+}
+
+/// Files behind some sessions, in each of which the same lines were sent.
 #[derive(Drop)]
 struct Trial<'t> {
     owner: &'t Owner,
     lines: &'t [&'t str],
-    answers: Vec<String>,
-    boards: Vec<String>,
+    /// What stands of all that was sent.
+    stood: Vec<&'t str>,
+    files: Files<Frail>,
+    /// In the last session all lines were answered, and no call failed.
+    is_whole: bool,
 }
 
-fn answer_to<K: Keep>(owner: &Owner, desk: &mut Desk<K>, line: &str) -> Result<String, AllocError> {
+/// What a desk answers to lines.
+fn answers_to<K: Keep>(
+    owner: &Owner,
+    desk: &mut Desk<K>,
+    lines: &[&str],
+) -> Result<String, AllocError> {
     let mut steps = Steps::new(owner);
-    steps.send(desk, line)?;
+    for line in lines {
+        steps.send(desk, line)?;
+    }
     Ok(steps.told.text)
 }
 
+/// What is seen of the boards, and how many of the lines have a kept reply.
+fn look_at<K: Keep + Drop>(
+    owner: &Owner,
+    keep: K,
+    lines: &[&str],
+) -> Result<(K, String), AllocError> {
+    let mut desk = Desk::new(keep);
+    let text = answers_to(owner, &mut desk, &LOOKS)?;
+    let mut keep = desk.into_keep();
+    let alloc = owner.alloc;
+    let mut told = Told { alloc, text };
+    count_kept(&mut keep, lines, &mut told)?;
+    Ok((keep, told.text))
+}
+
 impl<'t> Trial<'t> {
-    fn over_lists(owner: &'t Owner, lines: &'t [&'t str]) -> io::Result<Trial<'t>> {
-        let mut desk = Desk::new(owner.lists()?);
-        let mut answers = Vec::new(owner.alloc);
-        let mut boards = Vec::new(owner.alloc);
-        boards.push(answer_to(owner, &mut desk, EXPORT)?)?;
-        for line in lines {
-            answers.push(answer_to(owner, &mut desk, line)?)?;
-            boards.push(answer_to(owner, &mut desk, EXPORT)?)?;
-        }
+    /// New files, to which nothing was sent.
+    fn new(owner: &'t Owner, lines: &'t [&'t str]) -> io::Result<Trial<'t>> {
         Ok(Trial {
             owner,
             lines,
-            answers,
-            boards,
+            stood: Vec::new(owner.alloc),
+            files: read_files(owner.alloc, "")?,
+            is_whole: true,
         })
     }
 
-    /// Sends all lines over files that may stop, and after the stop again. True where nothing stopped the first time.
-    fn run(&self, words: &str) -> io::Result<bool> {
-        let all = self.lines.len();
-        let files = read_files(self.owner.alloc, words)?;
-        let (stage, answered, is_whole) = self.send(Stage::Files(files))?;
-        let stage = self.look(stage, answered)?;
-        let (stage, again, _) = self.send(stage)?;
-        if again != all {
-            return Err(io::Error::other("not all are answered again"));
-        }
-        let _stage = self.look(stage, all)?;
-        Ok(is_whole && answered == all)
-    }
-
-    /// Sends all lines, and closes the files. Tells how many are answered, and whether nothing was stopped.
-    fn send(&self, stage: Stage) -> io::Result<(Stage, usize, bool)> {
-        let mut steps = Steps::new(self.owner);
-        let mut stage = steps.take(stage, "open")?;
-        if matches!(stage, Stage::Store(_)) {
-            stage = steps.take_all(stage, self.lines)?;
-            stage = steps.take(stage, "close")?;
-        }
-        let (answered, rest) = self.answered(steps.told.text.as_str());
-        if !rest.lines().all(|line| FAULTS.contains(&line)) {
-            return Err(io::Error::other("an answer that is not of the lists"));
-        }
-        Ok((stage, answered, rest.is_empty()))
-    }
-
-    /// How many lines are answered as by lists, and what is told behind these.
-    fn answered<'a>(&self, told: &'a str) -> (usize, &'a str) {
-        let mut rest = told;
-        for (count, answer) in self.answers.iter().enumerate() {
-            match rest.strip_prefix(answer.as_str()) {
-                Some(behind) => rest = behind,
-                None => return (count, rest),
+    /// Sends the lines once more, after each number of calls from the first on, in steps, up to one that isn't come to.
+    fn stop_once(&self, way: &str, first: u64, step: u64) -> io::Result<u64> {
+        for count in 0..u64::MAX {
+            let calls = first.saturating_add(count.saturating_mul(step));
+            let stopped = self.session(way, calls)?;
+            if stopped.is_whole {
+                return Ok(count);
+            }
+            if !stopped.session("", 0)?.is_whole {
+                let alloc = self.owner.alloc;
+                let text = format!(in alloc;
+                    "{way} after {calls} calls: not all are answered again"
+                )?;
+                return Err(io::Error::other(text.as_str()));
             }
         }
-        (self.answers.len(), rest)
+        Ok(u64::MAX)
     }
 
-    /// The files after a stop, in which so many of the lines stand, or one more.
-    fn look(&self, stage: Stage, answered: usize) -> io::Result<Stage> {
-        let mut steps = Steps::new(self.owner);
-        steps.sent.extend_from_slice(self.lines)?;
-        let stage = steps.take_all(stage.stop(), &["open", EXPORT, "audit", "kept"])?;
-        let told = steps.told.text.as_str();
-        if self.stands(told, answered)? || self.stands(told, answered.saturating_add(1))? {
-            return Ok(stage.stop());
+    fn stop_twice(&self, first: &str, second: &str, step: u64) -> io::Result<u64> {
+        let mut count = 0u64;
+        for turn in 0..u64::MAX {
+            let from = turn.checked_rem(step).ok_or(unreadable())?;
+            let stopped = self.session(first, turn.saturating_mul(step))?;
+            if stopped.is_whole {
+                break;
+            }
+            count = count.saturating_add(stopped.stop_once(second, from, step)?);
+        }
+        Ok(count)
+    }
+
+    /// Sends the lines over files with the same content, of which one goes this way after so many calls.
+    fn session(&self, way: &str, calls: u64) -> io::Result<Trial<'t>> {
+        let alloc = self.owner.alloc;
+        let (log, db) = (copy(alloc, &self.files.log)?, copy(alloc, &self.files.db)?);
+        match self.send(frail(log, db, way, calls)) {
+            Ok(trial) => Ok(trial),
+            Err(error) => {
+                let text = format!(in alloc; "{way} after {calls} calls: {error}")?;
+                Err(io::Error::other(text.as_str()))
+            }
+        }
+    }
+
+    /// Sends the lines over these files. When they are opened again as many lines stand as were answered, or one more.
+    fn send(&self, files: Files<Frail>) -> io::Result<Trial<'t>> {
+        let (stage, word) = Stage::Files(files).open(self.owner, "open");
+        let (stage, answered, is_whole) = match stage {
+            Stage::Store(keep) => self.send_to(keep)?,
+            stage => (stage, 0, false),
+        };
+        if !word.is_empty() && !FAULTS.contains(&word) {
+            return Err(io::Error::other(word));
+        }
+        let files = stage.into_files();
+        let has_failed = files.log.has_failed() || files.db.has_failed();
+        // Files of which one failed once are opened again as they are, where they may be.
+        let stage = if has_failed && files.may_be_used() {
+            Stage::Files(files)
+        } else {
+            Stage::Files(files).stop()
+        };
+        let (files, seen) = self.look(stage)?;
+        Ok(Trial {
+            owner: self.owner,
+            lines: self.lines,
+            stood: self.standing(seen.as_str(), answered)?,
+            files,
+            is_whole: is_whole && !has_failed,
+        })
+    }
+
+    /// Sends the lines to a store and closes it. Tells how many are answered before it fails, and whether all are and it is closed.
+    fn send_to(&self, keep: SqlKeep<FileStore<Frail>>) -> io::Result<(Stage, usize, bool)> {
+        let (mut desk, mut lists) = (Desk::new(keep), self.lists()?);
+        let (mut answered, mut has_failed) = (0usize, false);
+        for line in self.lines {
+            let told = answers_to(self.owner, &mut desk, &[*line])?;
+            let wanted = answers_to(self.owner, &mut lists, &[*line])?;
+            if told.as_str() == FAILED {
+                has_failed = true;
+            } else if told.as_str() != wanted.as_str() {
+                return Err(io::Error::other("an answer that is not of the lists"));
+            } else if !has_failed {
+                answered = answered.saturating_add(1);
+            } else if !wanted.as_str().starts_with("< 400 - ") {
+                return Err(io::Error::other("a store that has failed answers"));
+            }
+        }
+        let (stage, word) = close(desk.into_keep().close());
+        Ok((stage, answered, !has_failed && word.is_empty()))
+    }
+
+    /// What is seen of the boards in the files, where an audit has no fault. They are stopped then.
+    fn look(&self, stage: Stage) -> io::Result<(Files<Frail>, String)> {
+        let (stage, word) = stage.open(self.owner, "open");
+        let Stage::Store(keep) = stage else {
+            return Err(io::Error::other(word));
+        };
+        let (mut keep, seen) = look_at(self.owner, keep, self.lines)?;
+        let alloc = self.owner.alloc;
+        let text = String::new(alloc);
+        let mut told = Told { alloc, text };
+        tell_audit(&mut keep, &mut told)?;
+        if told.text.ends_with(", faults 0\n") {
+            Ok((Stage::Store(keep).stop().into_files(), seen))
+        } else {
+            Err(io::Error::other("the audit has faults"))
+        }
+    }
+
+    /// What stands, where this is seen after so many answers.
+    fn standing(&self, seen: &str, answered: usize) -> io::Result<Vec<&'t str>> {
+        for count in [answered, answered.saturating_add(1)] {
+            let Some(front) = self.lines.get(..count) else {
+                continue;
+            };
+            let mut lists = self.lists()?;
+            answers_to(self.owner, &mut lists, front)?;
+            let (_, wanted) = look_at(self.owner, lists.into_keep(), self.lines)?;
+            if seen == wanted.as_str() {
+                let mut stood = Vec::from_slice(self.owner.alloc, self.stood.as_slice())?;
+                stood.extend_from_slice(front)?;
+                return Ok(stood);
+            }
         }
         Err(io::Error::other("another state stands"))
     }
 
-    /// Whether so many lines stand, with the board of the lists and an audit without a fault.
-    fn stands(&self, told: &str, count: usize) -> Result<bool, AllocError> {
-        let Some(board) = self.boards.as_slice().get(count) else {
-            return Ok(false);
-        };
-        let all = self.boards.len();
-        let end = format!(in self.owner.alloc; ", faults 0\n< {count} of {all}\n")?;
-        Ok(told.starts_with(board.as_str()) && told.ends_with(end.as_str()))
+    /// A desk over lists, which was sent what stands.
+    fn lists(&self) -> io::Result<Desk<ListKeep>> {
+        let mut desk = Desk::new(self.owner.lists()?);
+        answers_to(self.owner, &mut desk, self.stood.as_slice())?;
+        Ok(desk)
     }
 }

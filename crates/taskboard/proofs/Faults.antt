@@ -3,7 +3,7 @@ use Rattle.std.proofs.Common.{◌≡◌, true, true≢false, refl, sym}
 use Rattle.tb_orders.specs.Telling as orders
 use Rattle.tb_outcome.specs.Faults.{is_of_printing}
 use Rattle.tb_program.specs.declared.fault.Fault.{Fault}
-use Rattle.tb_program.specs.declared.fault.Fault.TheVariants.{Bad, BadBody, Memory, NoClock, NoListen, NotEmpty, NotOurs, ReadFailed, Store, WriteFailed, WrongVersion}
+use Rattle.tb_program.specs.declared.fault.Fault.TheVariants.{Bad, BadBody, Memory, NoAnswer, NoClock, NoKey, NoListen, NoPage, NotEmpty, NotOurs, ReadFailed, Store, WriteFailed, WrongVersion}
 use Rattle.taskboard.specs.Telling.{is_of_checking, is_of_imports}
 
 pub of_input : (fault : Fault) → orders.is_of_inputs fault ≡ true → is_of_imports fault ≡ true
@@ -12,6 +12,9 @@ of_input BadBody is = refl
 of_input Memory is = refl
 of_input NoClock is = refl
 of_input NoListen is = absurd (true≢false (sym is))
+of_input NoAnswer is = absurd (true≢false (sym is))
+of_input NoKey is = absurd (true≢false (sym is))
+of_input NoPage is = absurd (true≢false (sym is))
 of_input NotEmpty is = absurd (true≢false (sym is))
 of_input NotOurs is = refl
 of_input ReadFailed is = refl
@@ -25,6 +28,9 @@ of_audit BadBody is = absurd (true≢false (sym is))
 of_audit Memory is = refl
 of_audit NoClock is = absurd (true≢false (sym is))
 of_audit NoListen is = absurd (true≢false (sym is))
+of_audit NoAnswer is = absurd (true≢false (sym is))
+of_audit NoKey is = absurd (true≢false (sym is))
+of_audit NoPage is = absurd (true≢false (sym is))
 of_audit NotEmpty is = absurd (true≢false (sym is))
 of_audit NotOurs is = refl
 of_audit ReadFailed is = absurd (true≢false (sym is))
@@ -38,6 +44,9 @@ of_keep BadBody is = absurd (true≢false (sym is))
 of_keep Memory is = refl
 of_keep NoClock is = absurd (true≢false (sym is))
 of_keep NoListen is = absurd (true≢false (sym is))
+of_keep NoAnswer is = absurd (true≢false (sym is))
+of_keep NoKey is = absurd (true≢false (sym is))
+of_keep NoPage is = absurd (true≢false (sym is))
 of_keep NotEmpty is = absurd (true≢false (sym is))
 of_keep NotOurs is = refl
 of_keep ReadFailed is = absurd (true≢false (sym is))

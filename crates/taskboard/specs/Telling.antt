@@ -1,16 +1,17 @@
 -- Which faults come of an order over a file.
-use Rattle.std.specs.Prelude.{ℕ, Bool, true, Option, Some, None}
+use Rattle.std.specs.Prelude.{ℕ, Bool, true, false, Option, Some, None}
 use Rattle.tb_command_line.specs.declared.order.Connections.{Connections}
 use Rattle.tb_command_line.specs.declared.order.Connections.TheVariants.{UpTo, Forever}
 use Rattle.tb_outcome.specs.Faults.{is_of_opening}
 use Rattle.tb_program.specs.declared.fault.Fault.{Fault}
 use Rattle.tb_event_loop.specs.declared.fault.LoopFault.{LoopFault}
 use Rattle.tb_event_loop.specs.declared.fault.LoopFault.TheVariants as ending
-use Rattle.tb_program.specs.declared.fault.Fault.TheVariants.{BadBody, Memory, NoClock, NoListen, ReadFailed, Store, WriteFailed}
+use Rattle.tb_program.specs.declared.fault.Fault.TheVariants.{Bad, BadBody, Memory, NoAnswer, NoClock, NoKey, NoListen, NoPage, ReadFailed, Store, WriteFailed}
 
 -- of serving it
 abbrev pub is_of_serving : Fault → Bool
 is_of_serving NoListen = true
+is_of_serving NoPage = true
 is_of_serving fault = is_of_opening fault
 
 -- of comparing what it stores
@@ -39,3 +40,18 @@ fault_of_loop ending.Store = Store
 abbrev pub limit_of : Connections → Option ℕ
 limit_of (UpTo count) = Some count
 limit_of Forever = None
+
+-- of a key that stands on no command line
+abbrev pub is_of_keys : Fault → Bool
+is_of_keys Memory = true
+is_of_keys NoKey = true
+is_of_keys _ = false
+
+-- of sending
+abbrev pub is_of_sending : Fault → Bool
+is_of_sending Bad = true
+is_of_sending BadBody = true
+is_of_sending NoAnswer = true
+is_of_sending ReadFailed = true
+is_of_sending WriteFailed = true
+is_of_sending fault = is_of_keys fault

@@ -4,11 +4,16 @@ ghost use Rattle.tb_program.specs.declared.fault.Fault.TheVariants.{Store};
 ghost use Rattle.tb_outcome.specs.Faults.{is_of_files, is_of_opening};
 
 use sqlite::{Connection, Error, ErrorCode, File, FileStore};
+use std::fs;
+use std::os::unix::fs::OpenOptionsExt;
 use tb_desk::Desk;
 use tb_headline::session::resume;
 use tb_keeper::SqlKeep;
 use tb_outcome::fault_of_opening;
 use tb_program::Fault;
+
+/// The mode of a file that its owner alone may read and write.
+const PRIVATE: u32 = 0o600;
 
 /// The store of a real file.
 pub(crate) type RealFile = FileStore<File>;
@@ -26,10 +31,13 @@ pub(crate) fn open_file(rt: &HostRuntime, path: &str) -> Result<Connection<RealF
     }
 }
 
-/// Begins a session over the boards in the file at a path.
+/// Begins a session over the boards in the file at a path. A file that isn't there isn't made.
 pub(crate) fn open_desk(rt: &HostRuntime, path: &str) -> Result<Desk<SqlKeep<RealFile>>, Fault>
     ensures { IfErr result (λ fault. is_of_opening fault ≡ true) }
 {
+    if fs::metadata(rt, path).is_err() {
+        return Err(Fault::Store);
+    }
     let conn = open_file(rt, path)?;
     match resume(rt.alloc(), conn) {
         Ok(desk) => Ok(desk),
@@ -52,4 +60,13 @@ pub(crate) fn close_keep(keep: SqlKeep<RealFile>) -> Result<(), Fault>
         Ok(()) => Ok(()),
         Err(_) => Err(Fault::Store),
     }
+}
+
+/// Makes an empty file that its owner alone may read, where none is at a path. Its log is made with the same mode.
+pub(crate) fn make_private(rt: &HostRuntime, path: &str) {
+    let _ = fs::OpenOptions::new()
+        .write(true)
+        .create_new(true)
+        .mode(PRIVATE)
+        .open(rt, path);
 }

@@ -1,52 +1,89 @@
 //! The program `taskboard`: boards of tasks in a file, served to a team, and scripts over boards in memory.
-//! It owns the orders over a real file, the machine's clock and a port. It stands on `tb_orders` and `tb_outcome` for orders, on
+//! It owns the orders over a real file, the machine's clock and ports. It stands on `tb_orders` and `tb_outcome` for orders, on
 //! `tb_keeper` for the file, and on `tb_server` and `tb_script` for messages and lines.
 #![tactic(auto)]
 
 ghost use Rattle.std.specs.Prelude.{◌≡◌, IfErr, true};
 ghost use Rattle.tb_outcome.specs.Faults.{is_of_scripts};
 
+mod cause;
 mod check;
 mod clock;
 mod file;
 mod import;
 mod init;
+mod key;
+mod send;
 mod serve;
 mod view;
+mod wrong;
 
+use crate::cause::{tell_cause, tell_words};
 use crate::check::check_file;
 use crate::import::import_into_file;
 use crate::init::make_file;
+use crate::send::{name_call, send_order};
 use crate::serve::serve_file;
 use crate::view::print_board;
 use std::process::ExitCode;
 use tb_command_line::Order;
 use tb_orders::{Ending, read_order};
 use tb_outcome::{fault_of_script, print_fault, status_of};
-use tb_program::Fault;
+use tb_program::{Fault, print_text};
 use tb_script::run_lines;
 
+/// Which program this is.
+const VERSION: &str = "\
+taskboard 1
+tables of version 1
+proved with rattle-kit-13f logic dac8208d650f15bf
+";
+
 fn main(rt: HostRuntime) -> ExitCode {
-    let end = run(&rt);
-    if let Err(fault) = end {
-        let _ = print_fault(fault, &mut rt.stderr());
-    }
+    let end = match read_order(&rt) {
+        Ok(order) => end_of(&rt, order),
+        Err(fault) => {
+            let _ = print_fault(fault, &mut rt.stderr());
+            tell_words(&rt, fault);
+            Err(fault)
+        }
+    };
     ExitCode::from(status_of(end))
 }
 
-fn run(rt: &HostRuntime) -> Result<Ending, Fault> {
-    carry_out(rt, read_order(rt)?)
+/// How an order ends, whose fault is told with its cause.
+fn end_of(rt: &HostRuntime, mut order: Order) -> Result<Ending, Fault> {
+    if let Order::Send(order) = &mut order {
+        name_call(rt, order);
+    }
+    let end = carry_out(rt, &mut order);
+    if let Err(fault) = end {
+        let _ = print_fault(fault, &mut rt.stderr());
+        tell_cause(rt, fault, &order);
+    }
+    end
 }
 
-fn carry_out(rt: &HostRuntime, order: Order) -> Result<Ending, Fault> {
+fn carry_out(rt: &HostRuntime, order: &mut Order) -> Result<Ending, Fault> {
     match order {
-        Order::Init(order) => make_file(rt, &order),
-        Order::Serve(order) => serve_file(rt, &order),
+        Order::Init(order) => make_file(rt, order),
+        Order::Serve(order) => serve_file(rt, order),
         Order::Run => run_script(rt),
-        Order::Import(order) => import_into_file(rt, &order),
-        Order::View(order) => print_board(rt, &order),
-        Order::Check(file) => check_file(rt, &file),
+        Order::Import(order) => import_into_file(rt, order),
+        Order::View(order) => print_board(rt, order),
+        Order::Check(file) => check_file(rt, file),
+        Order::Send(order) => send_order(rt, order),
+        Order::Help(topic) => tell(rt, topic.text()),
+        Order::Version => tell(rt, VERSION),
     }
+}
+
+/// Prints what the program tells of itself.
+fn tell(rt: &HostRuntime, text: &str) -> Result<Ending, Fault>
+    ensures { IfErr result (λ fault. fault ≡ Fault.WriteFailed) }
+{
+    print_text(&mut rt.stdout(), text)?;
+    Ok(Ending::Accepted)
 }
 
 fn run_script(rt: &HostRuntime) -> Result<Ending, Fault>

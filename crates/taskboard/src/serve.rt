@@ -5,22 +5,29 @@ ghost use Rattle.tb_event_loop.specs.History.{still_to_end};
 
 use crate::clock::MachineClock;
 use crate::file::{close_desk, open_desk};
+use std::fs;
 use std::io::Write;
+use std::os::unix::fs::PermissionsExt;
 use tb_command_line::{Connections, ServeOrder};
 use tb_event_loop::{EventLoop, Journal, LoopFault};
 use tb_orders::Ending;
 use tb_program::{Fault, loopback};
 use tb_server::Server;
+use tb_site::{PageFault, Site, read_page};
 use tb_timeouts::LIMITS;
+
+/// What others may do to a file.
+const OTHERS: u32 = 0o077;
 
 /// Serves a file on a port of the loopback, up to the number of connections, or without end: then it ends by a fault alone.
 pub(crate) fn serve_file(rt: &HostRuntime, order: &ServeOrder) -> Result<Ending, Fault>
     ensures fault { IfErr result (λ fault. is_of_serving fault ≡ true) }
     ensures ends { OnOk result (IsSome (limit_of order.now.connections)) }
 {
+    let page = page_of(rt, order)?;
     let desk = open_desk(rt, order.file.as_str())?;
     let mut event_loop = listen(rt, order)?;
-    let mut server = Server::new(rt.alloc(), desk, MachineClock { rt })?;
+    let mut server = Server::new(rt.alloc(), desk, MachineClock { rt }, page)?;
     tell_start(rt, order);
     let mut journal = Journal::new(rt.alloc(), rt, rt.stderr(), order.log);
     if let Err(fault) = event_loop.serve(&mut server, &mut journal) {
@@ -65,7 +72,21 @@ fn fault_of_loop(fault: LoopFault) -> Fault
     }
 }
 
-// Tells that it listens.
+// The files that browsers are given, none where no folder is named.
+fn page_of(rt: &HostRuntime, order: &ServeOrder) -> Result<Site, Fault>
+    ensures { IfErr result (λ fault. is_of_serving fault ≡ true) }
+{
+    let Some(folder) = &order.page else {
+        return Ok(Site::none(rt.alloc()));
+    };
+    match read_page(rt, folder.as_str()) {
+        Ok(page) => Ok(page),
+        Err(PageFault::Memory) => Err(Fault::Memory),
+        Err(_) => Err(Fault::NoPage),
+    }
+}
+
+// Tells that it listens, and that others may read the file, if they may.
 fn tell_start(rt: &HostRuntime, order: &ServeOrder) {
     let _ = writeln!(
         rt.stderr(),
@@ -73,4 +94,18 @@ fn tell_start(rt: &HostRuntime, order: &ServeOrder) {
         order.file.as_str(),
         order.port
     );
+    if is_open_to_others(rt, order.file.as_str()) {
+        let _ = writeln!(
+            rt.stderr(),
+            "taskboard: others may read or write {}, with the keys in it: chmod 600",
+            order.file.as_str()
+        );
+    }
+}
+
+fn is_open_to_others(rt: &HostRuntime, path: &str) -> bool {
+    match fs::metadata(rt, path) {
+        Ok(found) => found.permissions().mode() & OTHERS != 0,
+        Err(_) => false,
+    }
 }

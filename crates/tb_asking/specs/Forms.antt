@@ -37,3 +37,5 @@ target_of (resource.ImportTodo board) = Call (Lines board)
 target_of (resource.List board) = View (view.Listing board)
 target_of (resource.Export board) = View (view.Export board)
 target_of (resource.Todo board) = View (view.Todo board)
+target_of (resource.PeopleOn board) = View (view.People board)
+target_of resource.Me = View view.Me

@@ -84,5 +84,7 @@ pub(crate) fn target_of(resource: Resource) -> Target
         Resource::List(board) => Target::View(View::Listing(board)),
         Resource::Export(board) => Target::View(View::Export(board)),
         Resource::Todo(board) => Target::View(View::Todo(board)),
+        Resource::PeopleOn(board) => Target::View(View::People(board)),
+        Resource::Me => Target::View(View::Me),
     }
 }

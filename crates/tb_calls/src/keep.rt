@@ -6,14 +6,16 @@ ghost use Rattle.tb_board.specs.World.{key_of};
 ghost use Rattle.tb_calls.specs.declared.fault.KeepFault.TheVariants.{Memory, Store};
 ghost use Rattle.tb_calls.specs.Calls.{State};
 ghost use Rattle.tb_calls.specs.Keeping.{HoldsEither, IsStill, MayCommit, Only, is_store, with_reply};
+ghost use Rattle.tb_calls.specs.Roles.{boards_of, people_for};
 
 use crate::call::{Call, KeptReply};
 use crate::fault::KeepFault;
 use std::alloc::Global;
 use tb_board::{Change, Key, Name};
 use tb_core::{Command, Seen};
-use tb_reply::Reply;
+use tb_reply::{BoardRole, PersonRole, Reply};
 use tb_task::TaskId;
+use tb_values::Items;
 
 /// Keeps people, boards and roles, and the replies given. A keeper is sound where it holds a state, and its content is the state that
 /// it holds: what is promised is promised for each state that it holds. A keeper may look in a store at each call: what it answers is
@@ -59,6 +61,27 @@ pub trait Keep {
     /// What the command of a person who is known looks at.
     fn look(&mut self, alloc: Global, name: &Name, command: &Command) -> Result<Seen, KeepFault>
         ensures answer { is_honest self.new ≡ true → (s : State) → holds self.old s → IsSome (key_of s.world name.now) → IfOk result (λ seen. seen ≡ seen_of s.world name.now command.now) }
+        ensures same { IsStill (holds self.old) (after_stop self.old) (holds self.new) (after_stop self.new) }
+        ensures failed { has_failed self.new ≡ is_store result }
+        ensures honest { is_honest self.new ≡ true → is_honest self.old ≡ true }
+        ensures closed { has_failed self.old ≡ true → IsErrOf result Store };
+
+    /// The boards on which the person of that name has a role, by number.
+    fn boards_of(&mut self, alloc: Global, name: &Name) -> Result<Items<BoardRole>, KeepFault>
+        ensures answer { is_honest self.new ≡ true → (s : State) → holds self.old s → IfOk result (λ boards. boards ≡ boards_of s.world name.now) }
+        ensures same { IsStill (holds self.old) (after_stop self.old) (holds self.new) (after_stop self.new) }
+        ensures failed { has_failed self.new ≡ is_store result }
+        ensures honest { is_honest self.new ≡ true → is_honest self.old ≡ true }
+        ensures closed { has_failed self.old ≡ true → IsErrOf result Store };
+
+    /// Those who have a role on a board, in the order in which they came. None where the person of that name has none there.
+    fn people_for(
+        &mut self,
+        alloc: Global,
+        name: &Name,
+        board: u32,
+    ) -> Result<Option<Items<PersonRole>>, KeepFault>
+        ensures answer { is_honest self.new ≡ true → (s : State) → holds self.old s → IfOk result (λ people. people ≡ people_for s.world name.now board) }
         ensures same { IsStill (holds self.old) (after_stop self.old) (holds self.new) (after_stop self.new) }
         ensures failed { has_failed self.new ≡ is_store result }
         ensures honest { is_honest self.new ≡ true → is_honest self.old ≡ true }

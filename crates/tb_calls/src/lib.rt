@@ -7,10 +7,12 @@ mod call;
 mod fault;
 mod keep;
 mod lookup;
+mod roles;
 mod view;
 
 pub use call::{Call, KeptReply};
 pub use fault::KeepFault;
 pub use keep::Keep;
 pub use lookup::{kept_reply, key_in};
+pub use roles::{boards_of, people_for};
 pub use view::View;

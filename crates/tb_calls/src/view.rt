@@ -11,4 +11,8 @@ pub enum View {
     Todo(u32),
     /// One task of a board as JSON.
     One(u32, TaskId),
+    /// Those who have a role on a board.
+    People(u32),
+    /// The boards on which the person who looks has a role.
+    Me,
 }

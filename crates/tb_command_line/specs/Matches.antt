@@ -42,7 +42,7 @@ serve_at rows = do
   file ← text_at (codes "file") rows
   p ← value_at port_in (codes "port") rows
   n ← connections_at rows
-  Ok (order.Serve (record { file = file; port = p; connections = n; log = flag_at (codes "log") rows }))
+  Ok (order.Serve (record { file = file; port = p; connections = n; page = None; log = flag_at (codes "log") rows }))
 
 abbrev pub import_at : List Row → Result Order WordsFault
 import_at rows = do

@@ -107,7 +107,7 @@ abbrev pub serve_of : Text → Text → Option Text → Bool → Bool → Result
 serve_of file port count is_forever log = do
   p ← or_bad (port_in port)
   n ← or_bad (connections_in count is_forever)
-  Ok (order.Serve (record { file = file; port = p; connections = n; log = log }))
+  Ok (order.Serve (record { file = file; port = p; connections = n; page = None; log = log }))
 
 abbrev pub import_of : Text → Text → Text → Text → Text → Text → Result Order WordsFault
 import_of file member key id board kind = do

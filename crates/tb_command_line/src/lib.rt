@@ -2,12 +2,16 @@
 //! Stands on `clap` for the splitting of words, on `tb_board` for names and keys, and on `tb_task` for identifiers.
 #![tactic(auto)]
 
+mod help;
 mod order;
+mod page;
 mod reading;
+mod sending;
+mod telling;
 mod words;
 
 pub use order::{
-    Connections, ImportKind, ImportOrder, InitOrder, Order, ServeOrder, ViewKind, ViewOrder,
-    WordsFault,
+    Connections, ImportKind, ImportOrder, InitOrder, Order, SendOrder, ServeOrder, Topic, ViewKind,
+    ViewOrder, WordsFault,
 };
 pub use words::command_of;

@@ -3,9 +3,11 @@ ghost use Rattle.std.specs.Prelude.{◌≡◌};
 ghost use Rattle.tb_command_line.specs.declared.order.WordsFault.TheVariants.{Memory};
 
 use std::alloc::AllocError;
+use std::fmt;
+use std::fmt::{Debug, Formatter};
 use tb_board::{Key, Name};
 use tb_task::TaskId;
-use tb_values::Text;
+use tb_values::{Items, Text};
 
 /// What the program is to do.
 #[derive(Debug, Drop)]
@@ -17,6 +19,9 @@ pub enum Order {
     View(ViewOrder),
     /// Compares what the file stores with what its tasks say.
     Check(Text),
+    Send(SendOrder),
+    Help(Topic),
+    Version,
 }
 
 /// A new file of boards, and its first person.
@@ -33,6 +38,8 @@ pub struct ServeOrder {
     pub file: Text,
     pub port: u16,
     pub connections: Connections,
+    /// The folder whose files are answered beside the boards.
+    pub page: Option<Text>,
     /// Each message has a line on standard error.
     pub log: bool,
 }
@@ -78,6 +85,52 @@ pub enum ViewKind {
     Export,
     Listing,
     Todo,
+}
+
+/// A call or view that is sent to a server until it is answered.
+#[derive(Drop)]
+pub struct SendOrder {
+    /// An address and a port, as they were written.
+    pub server: Text,
+    pub member: Name,
+    /// None where it is kept elsewhere.
+    pub key: Option<Key>,
+    /// None where a new one is to be made.
+    pub id: Option<TaskId>,
+    /// How long it is sent again.
+    pub seconds: u32,
+    /// The word of a script, and its arguments.
+    pub words: Items<Text>,
+}
+
+impl Debug for SendOrder {
+    fn fmt<W: fmt::Write>(&self, f: &mut Formatter<W>) -> fmt::Result {
+        write!(
+            f,
+            "SendOrder {{ server: {:?}, member: {:?}, key: {:?}, id: {:?}, seconds: {}, words: {} }}",
+            self.server,
+            self.member,
+            self.key,
+            self.id,
+            self.seconds,
+            self.words.len()
+        )
+    }
+}
+
+/// What help is asked for.
+#[derive(Clone, Copy, Debug, PartialEq, Eq)]
+pub enum Topic {
+    Program,
+    Init,
+    Serve,
+    Run,
+    Import,
+    Export,
+    List,
+    Todo,
+    Check,
+    Send,
 }
 
 /// Why words are no order.

@@ -71,6 +71,7 @@ fn read_serve(alloc: Global, found: &ArgMatches<'_>) -> Result<Order, WordsFault
         file,
         port,
         connections,
+        page: None,
         log,
     }))
 }

@@ -1,14 +1,20 @@
 //! The command line that names the orders.
-ghost use Rattle.std.specs.Prelude.{◌≡◌, IfOk, Bool, List, codes, false, map, true, ℕ};
+ghost use Rattle.std.specs.Prelude.{◌≡◌, ◌∷◌, IfOk, Bool, List, None, Ok, Some, codes, false, map, true, ℕ};
 ghost use Rattle.std.specs.List.{list_all};
 ghost use Rattle.clap.specs.Simple.{app_of, new_app};
 ghost use Rattle.clap.specs.Walk.{rule_of};
 ghost use Rattle.tb_command_line.specs.Grammar.{IsShaped, bare, check_app, counted_serve_app, file_app, flag_rule, import_app, init_app, input_app, member_app, needed, option_rule, program_app, serve_app, view_app};
 ghost use Rattle.tb_command_line.specs.Orders.{Request, is_plain, order_of, texts_of, words_of};
 ghost use Rattle.tb_command_line.specs.Outcome.{Reads};
+ghost use Rattle.tb_command_line.specs.Pages.{page_in, with_page, without_page};
+ghost use Rattle.tb_command_line.specs.Sending.{send_of, told_of};
+ghost use Rattle.tb_command_line.specs.declared.order.Order.{Order};
 
 use crate::order::{Order, WordsFault};
+use crate::page::read_paged;
 use crate::reading::read_order;
+use crate::sending::read_send;
+use crate::telling::read_told;
 use clap::error::ErrorKind;
 use clap::{Arg, ArgAction, Command};
 use std::alloc::{AllocError, Global};
@@ -16,6 +22,24 @@ use std::alloc::{AllocError, Global};
 /// The order that the words after the program's name are. Of words in none of the forms, and of words that begin with a hyphen where
 /// no option stands, nothing is promised: tests show that they are bad.
 pub fn command_of(alloc: Global, words: &[&str]) -> Result<Order, WordsFault>
+    ensures listed { (request : Request) → without_page (map (λ word. word.now) words.entry.now) ≡ words_of request
+        → list_all is_plain (texts_of request) ≡ true
+        → Reads result (with_page (page_in (map (λ word. word.now) words.entry.now)) (order_of request)) }
+    ensures told { (order : Order) → told_of (map (λ word. word.now) words.entry.now) ≡ Some order → result ≡ Ok order }
+    ensures sent { (rest : List (List ℕ)) → map (λ word. word.now) words.entry.now ≡ codes "send" ∷ rest
+        → told_of (codes "send" ∷ rest) ≡ None → Reads result (send_of rest) }
+{
+    if let Some(order) = read_told(words) {
+        return Ok(order);
+    }
+    match words.split_first() {
+        Some((first, rest)) if *first == "send" => read_send(alloc, rest),
+        _ => read_paged(alloc, words),
+    }
+}
+
+/// The order that words for `clap` are.
+pub(crate) fn read_listed(alloc: Global, words: &[&str]) -> Result<Order, WordsFault>
     ensures { (request : Request) → map (λ word. word.now) words.entry.now ≡ words_of request
         → list_all is_plain (texts_of request) ≡ true → Reads result (order_of request) }
 {

@@ -97,7 +97,7 @@ impl<K: Keep> Desk<K> {
         }
     }
 
-    /// What a person with a key is shown of a board at a moment.
+    /// What a view of a person with a key is answered at a moment.
     pub fn view(
         &mut self,
         alloc: Global,

@@ -8,11 +8,11 @@ ghost use Rattle.tb_calls.specs.Opening.{opening};
 use std::alloc::{AllocError, Global};
 use std::collections::BTreeMap;
 use tb_board::{Change, Key, Name, World};
-use tb_calls::{Call, Keep, KeepFault, KeptReply, kept_reply, key_in};
+use tb_calls::{Call, Keep, KeepFault, KeptReply, boards_of, kept_reply, key_in, people_for};
 use tb_core::{Command, Seen, look_for};
-use tb_reply::Reply;
+use tb_reply::{BoardRole, PersonRole, Reply};
 use tb_task::TaskId;
-use tb_values::Duplicate;
+use tb_values::{Duplicate, Items};
 
 /// The name of a call, under which its reply is kept.
 #[derive(PartialEq, Eq, PartialOrd, Ord, Drop)]
@@ -81,6 +81,19 @@ impl Keep for ListKeep {
 
     fn look(&mut self, _alloc: Global, name: &Name, command: &Command) -> Result<Seen, KeepFault> {
         Ok(look_for(&self.world, name, command)?)
+    }
+
+    fn boards_of(&mut self, alloc: Global, name: &Name) -> Result<Items<BoardRole>, KeepFault> {
+        Ok(boards_of(alloc, &self.world, name)?)
+    }
+
+    fn people_for(
+        &mut self,
+        alloc: Global,
+        name: &Name,
+        board: u32,
+    ) -> Result<Option<Items<PersonRole>>, KeepFault> {
+        Ok(people_for(alloc, &self.world, name, board)?)
     }
 
     fn commit(

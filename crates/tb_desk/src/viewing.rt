@@ -1,26 +1,29 @@
 //! How a view is answered, over any keeper.
-ghost use Rattle.std.specs.Prelude.{◌≡◌, Err, IfOk, IsErrOf, Ok, find, option_map, true};
+ghost use Rattle.std.specs.Prelude.{◌≡◌, Err, IfOk, IsErrOf, IsSome, Ok, Some, find, option_map, true};
 ghost use Rattle.tb_board.specs.Board.{has_id};
+ghost use Rattle.tb_board.specs.World.{key_of, number_of};
+ghost use Rattle.tb_core.specs.Apply.{board_for};
 ghost use Rattle.tb_json.specs.Writing.{shown_text};
+ghost use Rattle.tb_report.specs.Listing.{listing as listing_of};
 ghost use Rattle.tb_report.specs.Shown.{shown as shown_tasks, shown_task as shown_task_of};
 ghost use Rattle.tb_todotxt.specs.FileTexts.{file_text};
 ghost use Rattle.tb_calls.specs.declared.fault.KeepFault.TheVariants.{Store};
 ghost use Rattle.tb_calls.specs.Calls.{State};
 ghost use Rattle.tb_calls.specs.Keeping.{IsStill, is_store};
-ghost use Rattle.tb_desk.specs.Views.{board_of as board_of_view, board_view, export_text, one_text, seen_view, shown_in, view_reply};
+ghost use Rattle.tb_desk.specs.Views.{export_text, one_text, people_shown, seen_on, shown_in, view_of, view_reply};
 
 use std::alloc::{AllocError, Global};
 use tb_board::{Board, Key, Name};
 use tb_calls::{Keep, KeepFault, View};
 use tb_core::{Command, Refusal, SeenBoard};
 use tb_json::{write_task, write_tasks};
-use tb_reply::{Reply, reply_to_refused};
+use tb_reply::{PersonRole, Reply, reply_to_refused, write_me, write_people};
 use tb_report::{listing, shown, shown_task};
 use tb_task::{Moment, Task, TaskId};
 use tb_todotxt::write_file;
-use tb_values::{Shared, Text};
+use tb_values::{Items, Shared, Text};
 
-/// What a person with a key is shown of a board.
+/// What a view of a person with a key is answered.
 pub(crate) fn show<K: Keep>(
     keep: &mut K,
     alloc: Global,
@@ -39,26 +42,69 @@ pub(crate) fn show<K: Keep>(
         Some(known) if known.as_str() == key.as_str() => {}
         _ => return Ok(reply_to_refused(alloc, Refusal::UnknownCaller)?),
     }
-    let look = Command::Sweep {
-        board: board_of(view),
-    };
-    let seen = keep.look(alloc, name, &look)?;
-    Ok(reply_to_view(alloc, &seen.board, view, at)?)
+    let shown = look_at(keep, alloc, name, view, at)?;
+    Ok(reply_with(alloc, shown)?)
 }
 
-fn reply_to_view(
+/// What a view shows a person who is known, or why it doesn't.
+fn look_at<K: Keep>(
+    keep: &mut K,
     alloc: Global,
-    seen: &Option<SeenBoard>,
+    name: &Name,
     view: &View,
     at: Moment,
-) -> Result<Reply, AllocError>
-    ensures { IfOk result (λ r. r ≡ view_reply (seen_view seen.now view.now at)) }
+) -> Result<Result<Text, Refusal>, KeepFault>
+    ensures told { K.is_honest keep.new ≡ true → (s : State) → K.holds keep.old s → IsSome (key_of s.world name.now)
+        → IfOk result (λ shown. shown ≡ view_of s.world name.now view.now at) }
+    ensures same { IsStill (K.holds keep.old) (K.after_stop keep.old) (K.holds keep.new) (K.after_stop keep.new) }
+    ensures honest { K.is_honest keep.new ≡ true → K.is_honest keep.old ≡ true }
+    ensures failed { K.has_failed keep.new ≡ is_store result }
+    ensures closed { K.has_failed keep.old ≡ true → IsErrOf result Store }
 {
-    let shown = match seen {
-        Some(seen) => show_board(alloc, seen.board.get(), view, at)?,
-        None => Err(Refusal::NoBoard),
-    };
-    reply_with(alloc, shown)
+    match view {
+        View::Listing(board) => {
+            let seen = see(keep, alloc, name, *board)?;
+            Ok(show_listing(alloc, &seen, at)?)
+        }
+        View::Export(board) => {
+            let seen = see(keep, alloc, name, *board)?;
+            Ok(show_export(alloc, &seen, at)?)
+        }
+        View::Todo(board) => {
+            let seen = see(keep, alloc, name, *board)?;
+            Ok(show_todo(alloc, &seen, at)?)
+        }
+        View::One(board, id) => {
+            let seen = see(keep, alloc, name, *board)?;
+            Ok(show_one(alloc, &seen, *id, at)?)
+        }
+        View::People(board) => {
+            let people = keep.people_for(alloc, name, *board)?;
+            Ok(show_people(alloc, *board, &people)?)
+        }
+        View::Me => {
+            let boards = keep.boards_of(alloc, name)?;
+            Ok(Ok(write_me(alloc, name, boards.as_slice())?))
+        }
+    }
+}
+
+/// A board, where a person who is known has a role on it.
+fn see<K: Keep>(
+    keep: &mut K,
+    alloc: Global,
+    name: &Name,
+    board: u32,
+) -> Result<Option<SeenBoard>, KeepFault>
+    ensures told { K.is_honest keep.new ≡ true → (s : State) → K.holds keep.old s → IsSome (key_of s.world name.now)
+        → IfOk result (λ seen. seen ≡ board_for s.world (number_of s.world name.now) (Some board)) }
+    ensures same { IsStill (K.holds keep.old) (K.after_stop keep.old) (K.holds keep.new) (K.after_stop keep.new) }
+    ensures honest { K.is_honest keep.new ≡ true → K.is_honest keep.old ≡ true }
+    ensures failed { K.has_failed keep.new ≡ is_store result }
+    ensures closed { K.has_failed keep.old ≡ true → IsErrOf result Store }
+{
+    let seen = keep.look(alloc, name, &Command::Sweep { board })?;
+    Ok(seen.board)
 }
 
 #[tactic(auto, unfolding(crate::specs::Views::view_reply))]
@@ -75,45 +121,76 @@ fn reply_with(alloc: Global, shown: Result<Text, Refusal>) -> Result<Reply, Allo
     }
 }
 
-fn board_of(view: &View) -> u32
-    ensures { result ≡ board_of_view view.now }
-{
-    match view {
-        View::Listing(board) | View::Export(board) | View::Todo(board) | View::One(board, _) =>
-            *board,
-    }
-}
-
-fn show_board(
+fn show_listing(
     alloc: Global,
-    board: &Board,
-    view: &View,
+    seen: &Option<SeenBoard>,
     at: Moment,
 ) -> Result<Result<Text, Refusal>, AllocError>
-    ensures { IfOk result (λ shown. shown ≡ board_view board.now view.now at) }
+    ensures { IfOk result (λ shown. shown ≡ seen_on seen.now (λ b. Ok (listing_of b at))) }
 {
-    match view {
-        View::Listing(_) => Ok(Ok(listing(alloc, board, at)?)),
-        View::Export(_) => Ok(Ok(export(alloc, board, at)?)),
-        View::Todo(_) => Ok(Ok(todo(alloc, board, at)?)),
-        View::One(_, id) => show_one(alloc, board, task_on(board, *id), at),
+    match seen {
+        Some(seen) => Ok(Ok(listing(alloc, seen.board.get(), at)?)),
+        None => Ok(Err(Refusal::NoBoard)),
     }
 }
 
 /// All tasks of a board as JSON.
-fn export(alloc: Global, board: &Board, at: Moment) -> Result<Text, AllocError>
-    ensures { IfOk result (λ text. text ≡ export_text board.now at) }
+fn show_export(
+    alloc: Global,
+    seen: &Option<SeenBoard>,
+    at: Moment,
+) -> Result<Result<Text, Refusal>, AllocError>
+    ensures { IfOk result (λ shown. shown ≡ seen_on seen.now (λ b. Ok (export_text b at))) }
 {
-    let tasks = shown(alloc, board, at)?;
-    write_tasks(alloc, tasks.as_slice())
+    let Some(seen) = seen else {
+        return Ok(Err(Refusal::NoBoard));
+    };
+    let tasks = shown(alloc, seen.board.get(), at)?;
+    Ok(Ok(write_tasks(alloc, tasks.as_slice())?))
 }
 
 /// A line for each task of a board that has one.
-fn todo(alloc: Global, board: &Board, at: Moment) -> Result<Text, AllocError>
-    ensures { IfOk result (λ text. text ≡ file_text (shown_tasks board.now at)) }
+fn show_todo(
+    alloc: Global,
+    seen: &Option<SeenBoard>,
+    at: Moment,
+) -> Result<Result<Text, Refusal>, AllocError>
+    ensures { IfOk result (λ shown. shown ≡ seen_on seen.now (λ b. Ok (file_text (shown_tasks b at)))) }
 {
-    let tasks = shown(alloc, board, at)?;
-    write_file(alloc, tasks.as_slice())
+    let Some(seen) = seen else {
+        return Ok(Err(Refusal::NoBoard));
+    };
+    let tasks = shown(alloc, seen.board.get(), at)?;
+    Ok(Ok(write_file(alloc, tasks.as_slice())?))
+}
+
+/// A task as JSON.
+fn show_one(
+    alloc: Global,
+    seen: &Option<SeenBoard>,
+    id: TaskId,
+    at: Moment,
+) -> Result<Result<Text, Refusal>, AllocError>
+    ensures { IfOk result (λ shown. shown ≡ seen_on seen.now (λ b. one_text b (find (has_id id) b.tasks) at)) }
+{
+    match seen {
+        Some(seen) => show_task(alloc, seen.board.get(), id, at),
+        None => Ok(Err(Refusal::NoBoard)),
+    }
+}
+
+fn show_task(
+    alloc: Global,
+    board: &Board,
+    id: TaskId,
+    at: Moment,
+) -> Result<Result<Text, Refusal>, AllocError>
+    ensures { IfOk result (λ shown. shown ≡ one_text board.now (find (has_id id) board.now.tasks) at) }
+{
+    match task_on(board, id) {
+        Some(task) => Ok(Ok(write_one(alloc, board, task, at)?)),
+        None => Ok(Err(Refusal::NoTask)),
+    }
 }
 
 fn task_on(board: &Board, id: TaskId) -> Option<&Shared<Task>>
@@ -126,21 +203,6 @@ fn task_on(board: &Board, id: TaskId) -> Option<&Shared<Task>>
         .find(|task| task.get().id == id)
 }
 
-/// A task as JSON.
-fn show_one(
-    alloc: Global,
-    board: &Board,
-    task: Option<&Shared<Task>>,
-    at: Moment,
-) -> Result<Result<Text, Refusal>, AllocError>
-    ensures { IfOk result (λ shown. shown ≡ one_text board.now (option_map (λ task. task.now) task.entry) at) }
-{
-    let Some(task) = task else {
-        return Ok(Err(Refusal::NoTask));
-    };
-    Ok(Ok(write_one(alloc, board, task, at)?))
-}
-
 fn write_one(
     alloc: Global,
     board: &Board,
@@ -151,4 +213,18 @@ fn write_one(
 {
     let shown = shown_task(alloc, board, task, at)?;
     write_task(alloc, &shown)
+}
+
+/// The people on a board, where they may be seen.
+fn show_people(
+    alloc: Global,
+    board: u32,
+    people: &Option<Items<PersonRole>>,
+) -> Result<Result<Text, Refusal>, AllocError>
+    ensures { IfOk result (λ shown. shown ≡ people_shown board people.now) }
+{
+    match people {
+        Some(people) => Ok(Ok(write_people(alloc, board, people.as_slice())?)),
+        None => Ok(Err(Refusal::NoBoard)),
+    }
 }

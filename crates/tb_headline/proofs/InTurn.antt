@@ -37,14 +37,14 @@ served s [] [] t is = tt
 served s [] (r ∷ rs) t on = absurd on
 served s (x ∷ xs) [] t on = absurd on
 served s (x ∷ xs) (r ∷ rs) t (serves, on) =
-    ((any_turns s x.talks x.steps serves.end x.later serves.run).1, served (left_by s x) xs rs t on)
+    ((any_turns x.site s x.talks x.steps serves.end x.later serves.run).1, served (left_by s x) xs rs t on)
 
 pub headline_of_connections : HeadlineOfConnections
 headline_of_connections s calls xs rs t good sends known on =
     (headline s calls (sendings xs) rs t good sends known (lives s xs rs t on), served s xs rs t on)
 
 pub stops_join : StopsJoin
-stops_join s end t talks later steps more sent run (stood, low, high, is) same =
+stops_join site s end t talks later steps more sent run (stood, low, high, is) same =
     let calls = calls_handled steps in (
       stood,
       record {

@@ -17,6 +17,7 @@ use Rattle.tb_peers.specs.Happening.{IsStopped, Plays, Stops}
 use Rattle.tb_peers.specs.Server.{calls_at, server}
 use Rattle.tb_serve.specs.Telling.{StandsAt, after}
 use Rattle.tb_turns.specs.Turns.{Happening, Run, Talk}
+use Rattle.tb_site.specs.declared.site.Site.{Site}
 
 -- where all calls were answered
 all_stand : (s : State) (calls : List Call) (now stops : State → Type 0)
@@ -35,35 +36,35 @@ one_more s calls more now stops stood =
     let none : length calls + 0 ≡ length calls = omega arith in
     subst (λ (n : ℕ). StandsAfter s (calls ++ more) n now stops) none (stands_behind s calls more 0 now stops stood)
 
-pub played : (failed : Bool) (people boards : ℕ) (es : List (ℕ × Board)) (d : Database) → HasCleanDisk d
+pub played : (site : Site) (failed : Bool) (people boards : ℕ) (es : List (ℕ × Board)) (d : Database) → HasCleanDisk d
     → (s : State) (done : List (ℕ × Happening (Option ℕ))) (talks later : ℕ → Talk)
-    → Plays s done talks later (Holds failed people boards es d) (MayLeave d)
-    → IsPlayed s done talks later (Holds failed people boards es d) (MayLeave d) d
-played failed people boards es d clean s done talks later (steps, end, done_is, run, stands) =
+    → Plays site s done talks later (Holds failed people boards es d) (MayLeave d)
+    → IsPlayed site s done talks later (Holds failed people boards es d) (MayLeave d) d
+played site failed people boards es d clean s done talks later (steps, end, done_is, run, stands) =
     let now = Holds failed people boards es d in
-    let turns = any_turns s talks steps end later run in
+    let turns = any_turns site s talks steps end later run in
     let calls = calls_handled steps in
     let here : StandsAt (after s calls) now (MayLeave d) =
     subst (λ (u : State). StandsAt u now (MayLeave d)) turns.0 stands in
     record {
       steps = steps;
       done_is = done_is;
-      run = subst (λ (u : State). Run server s talks steps u later) turns.0 run;
+      run = subst (λ (u : State). Run (server site) s talks steps u later) turns.0 run;
       served = turns.1;
       at = record { held = here.held; only = here.stops };
       leaves = leaves failed people boards es d clean s calls (length calls) (all_stand s calls now (MayLeave d) here);
     }
 
-pub cut : (failed : Bool) (people boards : ℕ) (es : List (ℕ × Board)) (d : Database) → HasCleanDisk d
+pub cut : (site : Site) (failed : Bool) (people boards : ℕ) (es : List (ℕ × Board)) (d : Database) → HasCleanDisk d
     → (s : State) (done : List (ℕ × Happening (Option ℕ))) (talks later : ℕ → Talk)
-    → IsStopped s done talks later (Holds failed people boards es d) (MayLeave d)
-    → IsCut s done talks later (Holds failed people boards es d) (MayLeave d) d
-cut failed people boards es d clean s done talks later is =
+    → IsStopped site s done talks later (Holds failed people boards es d) (MayLeave d)
+    → IsCut site s done talks later (Holds failed people boards es d) (MayLeave d) d
+cut site failed people boards es d clean s done talks later is =
     let now = Holds failed people boards es d in
-    let turns = any_turns s talks is.ks is.end is.middle is.run in
+    let turns = any_turns site s talks is.ks is.end is.middle is.run in
     let calls = calls_handled is.ks in
-    let last : Stops (after s calls) is.last (is.middle is.place) (later is.place) now (MayLeave d) =
-    subst (λ (u : State). Stops u is.last (is.middle is.place) (later is.place) now (MayLeave d)) turns.0 is.stopped in
+    let last : Stops site (after s calls) is.last (is.middle is.place) (later is.place) now (MayLeave d) =
+    subst (λ (u : State). Stops site u is.last (is.middle is.place) (later is.place) now (MayLeave d)) turns.0 is.stopped in
     record {
       steps = is.ks;
       middle = is.middle;
@@ -71,7 +72,7 @@ cut failed people boards es d clean s done talks later is =
       last = is.last;
       rest = is.rest;
       done_is = is.done_is;
-      run = subst (λ (u : State). Run server s talks is.ks u is.middle) turns.0 is.run;
+      run = subst (λ (u : State). Run (server site) s talks is.ks u is.middle) turns.0 is.run;
       served = turns.1;
       failed = last;
       others = is.others;

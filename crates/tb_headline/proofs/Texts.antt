@@ -1,5 +1,5 @@
 -- What a message is told that asks for a call.
-use Rattle.std.proofs.Common.{◌≡◌, ℕ, [], ◌∷◌, Option, Some, None, Result, Ok, Err, ap}
+use Rattle.std.proofs.Common.{◌≡◌, ℕ, [], ◌∷◌, Option, Some, None, Result, Ok, Err, refl, sym, ap, ◌∙◌}
 use Rattle.tb_asking.specs.declared.asked.Asked.{Asked}
 use Rattle.tb_asking.specs.declared.asked.Asked.TheVariants as some
 use Rattle.tb_asking.specs.declared.rejection.Rejection.{Rejection}
@@ -12,7 +12,11 @@ use Rattle.tb_http.specs.declared.message.Message.{Message}
 use Rattle.tb_http.specs.Message.{takes_body}
 use Rattle.tb_http.specs.Wire.{is_last}
 use Rattle.tb_serve.specs.declared.told.Told.{Told}
-use Rattle.tb_serve.specs.Telling.{called_by, calls_in, told_at, told_by, told_reply, told_text}
+use Rattle.tb_serve.proofs.Pages.{no_calls}
+use Rattle.tb_serve.specs.Telling.{called_by, calls_in, file_or, told_at, told_by, told_reply, told_text}
+use Rattle.tb_site.specs.declared.site.Site.{Site}
+use Rattle.tb_site.specs.declared.site.SiteFile.{SiteFile}
+use Rattle.tb_site.specs.Site.{file_for}
 
 first_is : (c call : Call) → c ∷ [] ≡ call ∷ [] → c ≡ call
 first_is c call is = cc
@@ -30,7 +34,16 @@ told_at_reply : (s : State) (message : Message) (at : Option ℕ) (call : Call) 
 told_at_reply s message None call is = absurd (cc)
 told_at_reply s message (Some at) call is = told_by_reply s at (asked_of message at) call is
 
+no_call : (call : Call) → [] ≡ call ∷ [] → ⊥
+no_call call is = cc
+
+-- such a message is told no file
+told_with_reply : (site : Site) (s : State) (message : Message) (at : Option ℕ) (call : Call) (found : Option SiteFile) → calls_in message at ≡ call ∷ []
+    → file_for site message ≡ found → file_or found (told_at s message at) ≡ told_reply Json (reply s [] call)
+told_with_reply site s message at call None is same = told_at_reply s message at call is
+told_with_reply site s message at call (Some file) is same = absurd (no_call call (sym (no_calls site message at file same) ∙ is))
+
 pub tells_replies : TellsReplies
-tells_replies s before m call is =
+tells_replies site s before m call is =
     ap (λ (told : Told). told_text told (is_last m.received.closes before) (takes_body m.received.message))
-    (told_at_reply s m.received.message m.at call is)
+    (told_with_reply site s m.received.message m.at call (file_for site m.received.message) is refl)

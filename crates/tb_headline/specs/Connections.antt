@@ -16,10 +16,12 @@ use Rattle.tb_reply.specs.declared.reply.Reply.{Reply}
 use Rattle.tb_serve.specs.Telling.{after, told_reply, told_text}
 use Rattle.tb_turns.specs.Told.{handled}
 use Rattle.tb_turns.specs.Turns.{Run, Step, Talk}
+use Rattle.tb_site.specs.declared.site.Site.{Site}
 
--- A session that serves connections: what they hold when it begins, its steps, what they hold when
--- it ends, and its calls as calls of a list.
+-- A session that serves connections: its page, what they hold when it begins, its steps, what they
+-- hold when it ends, and its calls as calls of a list.
 pub record Service : Type 0 where
+  pub site : Site
   pub talks : ℕ → Talk
   pub steps : List (Step (Option ℕ) Timed)
   pub later : ℕ → Talk
@@ -37,8 +39,8 @@ replies_among s (m ∷ ms) = replies_to s (calls_at m) ++ replies_among (after s
 
 -- the text that answers a message is made of the reply to the call that it asks for
 abbrev pub TellsReplies : Type 0
-TellsReplies = (s : State) (before : ℕ) (m : Timed) (call : Call) → calls_at m ≡ call ∷ []
-    → server.text s before m
+TellsReplies = (site : Site) (s : State) (before : ℕ) (m : Timed) (call : Call) → calls_at m ≡ call ∷ []
+    → (server site).text s before m
     ≡ told_text (told_reply Json (reply s [] call)) (is_last m.received.closes before) (takes_body m.received.message)
 
 -- The steps are a run of the server, over any connections in any turns. The calls that it handled,
@@ -46,7 +48,7 @@ TellsReplies = (s : State) (before : ℕ) (m : Timed) (call : Call) → calls_at
 -- and one more at most.
 pub record Serves (s : State) (x : Service) (replies : List Reply) : Type 0 where
   pub end : State
-  pub run : Run server s x.talks x.steps end x.later
+  pub run : Run (server x.site) s x.talks x.steps end x.later
   pub answered : calls_handled x.steps ≡ take x.sending.answered (calls_of x.sending.sent)
   pub told : replies ≡ replies_among s (handled x.steps)
   pub low : x.sending.answered ≤ x.sending.stood
@@ -56,9 +58,10 @@ pub record Serves (s : State) (x : Service) (replies : List Reply) : Type 0 wher
 abbrev pub left_by : State → Service → State
 left_by s x = after s (take x.sending.stood (calls_of x.sending.sent))
 
--- the session of these steps, which handled the first calls of those that are sent
-abbrev pub service_of : (ℕ → Talk) → List (Step (Option ℕ) Timed) → (ℕ → Talk) → List Sent → ℕ → Service
-service_of talks steps later sent stood = record {
+-- the session of this page and these steps, which handled the first calls of those that are sent
+abbrev pub service_of : Site → (ℕ → Talk) → List (Step (Option ℕ) Timed) → (ℕ → Talk) → List Sent → ℕ → Service
+service_of site talks steps later sent stood = record {
+  site = site;
   talks = talks;
   steps = steps;
   later = later;
@@ -68,12 +71,12 @@ service_of talks steps later sent stood = record {
 -- Whatever is left of a session that serves connections, by what it promises (`leaves` of
 -- `IsPlayed` and `IsCut`), it is what such a session leaves.
 abbrev pub StopsJoin : Type 0
-StopsJoin = (s end t : State) (talks later : ℕ → Talk) (steps : List (Step (Option ℕ) Timed)) (more : List Call)
-    (sent : List Sent) → Run server s talks steps end later
+StopsJoin = (site : Site) (s end t : State) (talks later : ℕ → Talk) (steps : List (Step (Option ℕ) Timed)) (more : List Call)
+    (sent : List Sent) → Run (server site) s talks steps end later
     → IsAfterSome s (calls_handled steps ++ more) (length (calls_handled steps)) t
     → calls_of sent ≡ calls_handled steps ++ more
-    → (stood : ℕ) × Serves s (service_of talks steps later sent stood) (replies_among s (handled steps))
-    × (t ≡ left_by s (service_of talks steps later sent stood))
+    → (stood : ℕ) × Serves s (service_of site talks steps later sent stood) (replies_among s (handled steps))
+    × (t ≡ left_by s (service_of site talks steps later sent stood))
 
 -- Each session begins with the state that the one before left, whenever that one stopped.
 abbrev pub ServeInTurn : State → List Service → List (List Reply) → State → Type 0
@@ -85,7 +88,7 @@ ServeInTurn s (x ∷ xs) (r ∷ rs) t = Serves s x r × ServeInTurn (left_by s x
 -- in each session each connection is served what its own messages ask for
 abbrev pub ServedInTurn : State → List Service → Type 0
 ServedInTurn s [] = Unit {0}
-ServedInTurn s (x ∷ xs) = AllServed s x.talks x.steps x.later × ServedInTurn (left_by s x) xs
+ServedInTurn s (x ∷ xs) = AllServed x.site s x.talks x.steps x.later × ServedInTurn (left_by s x) xs
 
 -- Sessions that serve connections, in which these send a list of calls, whatever turns they take,
 -- whenever the sessions stop and whatever comes again at whatever moment, lead where the list leads

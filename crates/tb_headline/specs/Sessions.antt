@@ -12,6 +12,7 @@ use Rattle.tb_reply.specs.declared.reply.Reply.{Reply}
 use Rattle.tb_serve.specs.Telling.{after}
 use Rattle.tb_turns.specs.Told.{IsSame, IsServed, handled}
 use Rattle.tb_turns.specs.Turns.{Happening, Run, Step, Talk, done_in}
+use Rattle.tb_site.specs.declared.site.Site.{Site}
 
 -- this state is held, and a stop leaves it alone
 pub record IsAt (s : State) (now : State → Type 0) (may_leave : State → Type 0) : Type 0 where
@@ -42,23 +43,23 @@ calls_handled steps = calls_among (handled steps)
 
 -- Each connection is served what its own messages ask for, up to where another is opened in its
 -- place.
-abbrev pub AllServed : State → (ℕ → Talk) → List (Step (Option ℕ) Timed) → (ℕ → Talk) → Type 0
-AllServed s talks steps later = (c : ℕ) → IsSame c steps → IsServed server c s (talks c) steps (later c)
+abbrev pub AllServed : Site → State → (ℕ → Talk) → List (Step (Option ℕ) Timed) → (ℕ → Talk) → Type 0
+AllServed site s talks steps later = (c : ℕ) → IsSame c steps → IsServed (server site) c s (talks c) steps (later c)
 
 -- All that was done to connections was done in these steps, and nothing else. They lead to the
 -- state of all their calls, each acting once; and this state alone is left.
-pub record IsPlayed (s : State) (done : List (ℕ × Happening (Option ℕ))) (talks later : ℕ → Talk)
+pub record IsPlayed (site : Site) (s : State) (done : List (ℕ × Happening (Option ℕ))) (talks later : ℕ → Talk)
     (now may_leave : State → Type 0) (d : Database) : Type 0 where
   pub steps : List (Step (Option ℕ) Timed)
   pub done_is : done_in steps ≡ done
-  pub run : Run server s talks steps (after s (calls_handled steps)) later
-  pub served : AllServed s talks steps later
+  pub run : Run (server site) s talks steps (after s (calls_handled steps)) later
+  pub served : AllServed site s talks steps later
   pub at : IsAt (after s (calls_handled steps)) now may_leave
   pub leaves : Leaves s (calls_handled steps) (length (calls_handled steps)) d
 
 -- The same up to the turn of a connection in which the store failed: the call of the message that
 -- was taken then, if it asked for one, may be left or not, and all before it are.
-pub record IsCut (s : State) (done : List (ℕ × Happening (Option ℕ))) (talks later : ℕ → Talk)
+pub record IsCut (site : Site) (s : State) (done : List (ℕ × Happening (Option ℕ))) (talks later : ℕ → Talk)
     (now may_leave : State → Type 0) (d : Database) : Type 0 where
   pub steps : List (Step (Option ℕ) Timed)
   pub middle : ℕ → Talk
@@ -66,9 +67,9 @@ pub record IsCut (s : State) (done : List (ℕ × Happening (Option ℕ))) (talk
   pub last : Happening (Option ℕ)
   pub rest : List (ℕ × Happening (Option ℕ))
   pub done_is : done_in steps ++ (place, last) ∷ rest ≡ done
-  pub run : Run server s talks steps (after s (calls_handled steps)) middle
-  pub served : AllServed s talks steps middle
+  pub run : Run (server site) s talks steps (after s (calls_handled steps)) middle
+  pub served : AllServed site s talks steps middle
   -- what came of that turn; its first part is the message
-  pub failed : Stops (after s (calls_handled steps)) last (middle place) (later place) now may_leave
+  pub failed : Stops site (after s (calls_handled steps)) last (middle place) (later place) now may_leave
   pub others : (c : ℕ) → (place == c) ≡ false → later c ≡ middle c
   pub leaves : Leaves s (calls_handled steps ++ calls_at failed.0) (length (calls_handled steps)) d

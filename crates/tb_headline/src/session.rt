@@ -18,6 +18,7 @@ use tb_desk::{Desk, RunEnd};
 use tb_keeper::{CreateFault, SqlKeep};
 use tb_peers::{Happening, Peer, Tools, play};
 use tb_serve::ServeFault;
+use tb_site::Paths;
 use tb_sql::opening::OpenFault;
 
 /// Makes a store in an empty database, for one person, who owns the one board, and begins a session over it.
@@ -76,21 +77,22 @@ pub fn run<S: Alter>(alloc: Global, desk: &mut Desk<SqlKeep<S>>, calls: &[Call])
 pub fn serve<S: Alter>(
     alloc: Global,
     tools: &mut Tools,
+    paths: &Paths,
     peers: &mut [Peer],
     desk: &mut Desk<SqlKeep<S>>,
     happenings: &[(usize, Happening<'_>)],
 ) -> Result<(), ServeFault>
     ensures played { WhileHonest (state S.Store desk.new.conn) ((s : State)
         → IsAt s (⟦<SqlKeep<S> as Keep>⟧.holds desk.old) (⟦<SqlKeep<S> as Keep>⟧.after_stop desk.old)
-        → OnOk result (IsPlayed s (done_at (length peers.old) happenings.now) (talk_at peers.old) (talk_at peers.new)
+        → OnOk result (IsPlayed paths.now.site s (done_at (length peers.old) happenings.now) (talk_at peers.old) (talk_at peers.new)
         (⟦<SqlKeep<S> as Keep>⟧.holds desk.new) (⟦<SqlKeep<S> as Keep>⟧.after_stop desk.new) (state S.Store desk.new.conn))) }
     ensures cut { WhileHonest (state S.Store desk.new.conn) ((s : State)
         → IsAt s (⟦<SqlKeep<S> as Keep>⟧.holds desk.old) (⟦<SqlKeep<S> as Keep>⟧.after_stop desk.old)
-        → OnErr result (IsCut s (done_at (length peers.old) happenings.now) (talk_at peers.old) (talk_at peers.new)
+        → OnErr result (IsCut paths.now.site s (done_at (length peers.old) happenings.now) (talk_at peers.old) (talk_at peers.new)
         (⟦<SqlKeep<S> as Keep>⟧.holds desk.new) (⟦<SqlKeep<S> as Keep>⟧.after_stop desk.new) (state S.Store desk.new.conn))) }
     ensures honest { HasCleanDisk (state S.Store desk.new.conn) → HasCleanDisk (state S.Store desk.old.conn) }
     ensures fault { IfErr result (λ fault. fault ≡ ServeFault.Store) }
     ensures failed { IsErr result → ⟦<SqlKeep<S> as Keep>⟧.has_failed desk.new ≡ true }
 {
-    play(alloc, tools, peers, desk, happenings)
+    play(alloc, tools, paths, peers, desk, happenings)
 }

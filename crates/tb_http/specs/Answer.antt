@@ -1,7 +1,9 @@
 -- The answer to a message: its head (RFC 9112, sections 4 and 5), and its body.
 use Rattle.std.specs.Prelude.{ℕ, ◌==◌, Bool, true, false, ◌||◌, if◌then◌else◌, List, [], ◌++◌, length, codes, decimal, Option, Some, None}
 use Rattle.tb_http.specs.declared.answer.ContentType.{ContentType}
-use Rattle.tb_http.specs.declared.answer.ContentType.TheVariants.{Json, PlainText}
+use Rattle.tb_http.specs.declared.answer.ContentType.TheVariants.{Json, PlainText, File}
+use Rattle.tb_http.specs.declared.answer.MediaType.{MediaType}
+use Rattle.tb_http.specs.declared.answer.MediaType.TheVariants.{Html, Css, JavaScript, Svg, Png, Icon}
 use Rattle.tb_http.specs.declared.answer.Answer.{Answer}
 use Rattle.tb_http.specs.declared.route.Verb.{Verb}
 use Rattle.tb_http.specs.declared.fault.WireFault.{WireFault}
@@ -35,9 +37,34 @@ status_line status = codes "HTTP/1.1 " ++ (decimal status ++ (codes " " ++ (phra
 unfoldable pub field_line : List ℕ → List ℕ → List ℕ
 field_line name value = name ++ (codes ": " ++ (value ++ codes "\r\n"))
 
+-- what a file of a page is
+abbrev pub media_text : MediaType → List ℕ
+media_text Html = codes "text/html; charset=utf-8"
+media_text Css = codes "text/css; charset=utf-8"
+media_text JavaScript = codes "text/javascript; charset=utf-8"
+media_text Svg = codes "image/svg+xml"
+media_text Png = codes "image/png"
+media_text Icon = codes "image/x-icon"
+
 abbrev pub type_text : ContentType → List ℕ
 type_text Json = codes "application/json"
 type_text PlainText = codes "text/plain; charset=utf-8"
+type_text (File media) = media_text media
+
+-- what a browser may do with a file of a page (Content Security Policy Level 3): its scripts, styles and pictures are files of the
+-- page too, none of them stands within it, it talks to this server alone, and no other page shows it within itself
+unfoldable pub content_policy : List ℕ
+content_policy = codes "default-src 'none'; script-src 'self'; style-src 'self'; img-src 'self'; connect-src 'self'; base-uri 'none'; form-action 'none'; frame-ancestors 'none'"
+
+-- the lines that the answer to a file of a page has beside the others; other answers have none of them
+abbrev pub policy_lines : ContentType → List ℕ
+policy_lines Json = []
+policy_lines PlainText = []
+policy_lines (File media) =
+    field_line (codes "cache-control") (codes "no-cache")
+    ++ (field_line (codes "content-security-policy") content_policy
+    ++ (field_line (codes "referrer-policy") (codes "no-referrer")
+    ++ field_line (codes "x-content-type-options") (codes "nosniff")))
 
 abbrev pub connection_text : Bool → List ℕ
 connection_text true = codes "close"
@@ -55,8 +82,9 @@ answer_head answer size =
     ++ (field_line (codes "content-type") (type_text answer.content_type)
     ++ (field_line (codes "content-length") (decimal size)
     ++ (allow_line answer.allow
+    ++ (policy_lines answer.content_type
     ++ (field_line (codes "connection") (connection_text answer.is_last)
-    ++ codes "\r\n"))))
+    ++ codes "\r\n")))))
 
 -- the whole answer with this body, which isn't sent to a message of the method HEAD
 unfoldable pub answer_text : Answer → List ℕ → List ℕ

@@ -5,7 +5,7 @@ use Rattle.std.specs.List.{slice_split, slice_get}
 use Rattle.std.specs.Str.{bytes_eq}
 use Rattle.tb_task.specs.TaskId.{read_id}
 use Rattle.tb_http.specs.declared.route.Route.{Route}
-use Rattle.tb_http.specs.declared.route.Route.TheVariants.{People, Boards, Roles, Tasks, Task, TaskAction as ActionRoute, Sweep, Import, ImportTodo, List as ListRoute, Export, Todo}
+use Rattle.tb_http.specs.declared.route.Route.TheVariants.{People, Boards, Roles, Tasks, Task, TaskAction as ActionRoute, Sweep, Import, ImportTodo, List as ListRoute, Export, Todo, PeopleOn, Me}
 use Rattle.tb_http.specs.declared.route.Verb.{Verb}
 use Rattle.tb_http.specs.declared.fault.WireFault.{WireFault}
 use Rattle.tb_http.specs.declared.fault.WireFault.TheVariants as wire
@@ -76,6 +76,8 @@ resource_of ImportTodo path = option_map resource.ImportTodo (board_in path)
 resource_of ListRoute path = option_map resource.List (board_in path)
 resource_of Export path = option_map resource.Export (board_in path)
 resource_of Todo path = option_map resource.Todo (board_in path)
+resource_of PeopleOn path = option_map resource.PeopleOn (board_in path)
+resource_of Me path = Some resource.Me
 
 abbrev pub has_verb : List ℕ → Verb → Bool
 has_verb method verb = bytes_eq method (verb_name verb)

@@ -8,7 +8,7 @@ use Rattle.matchit.specs.Order.{placed}
 use Rattle.matchit.specs.Seek.{first}
 use Rattle.matchit.specs.declared.error.InsertError.{InsertError}
 use Rattle.tb_http.specs.declared.route.Route.{Route}
-use Rattle.tb_http.specs.declared.route.Route.TheVariants.{People, Boards, Roles, Tasks, Task, TaskAction, Sweep, Import, ImportTodo, List as ListRoute, Export, Todo}
+use Rattle.tb_http.specs.declared.route.Route.TheVariants.{People, Boards, Roles, Tasks, Task, TaskAction, Sweep, Import, ImportTodo, List as ListRoute, Export, Todo, PeopleOn, Me}
 use Rattle.tb_http.specs.declared.route.Verb.{Verb}
 use Rattle.tb_http.specs.declared.route.Verb.TheVariants.{Get, Post}
 
@@ -27,6 +27,8 @@ route_table =
     ∷ (codes "/boards/{b}/list", ListRoute)
     ∷ (codes "/boards/{b}/export", Export)
     ∷ (codes "/boards/{b}/todo", Todo)
+    ∷ (codes "/boards/{b}/people", PeopleOn)
+    ∷ (codes "/me", Me)
     ∷ []
 
 -- the one method of a route's paths
@@ -43,6 +45,8 @@ verb_of ImportTodo = Post
 verb_of ListRoute = Get
 verb_of Export = Get
 verb_of Todo = Get
+verb_of PeopleOn = Get
+verb_of Me = Get
 
 abbrev pub verb_name : Verb → List ℕ
 verb_name Get = codes "GET"

@@ -1,7 +1,7 @@
 //! The answer to a message. Its head is written into room that was made before, so that it takes no memory.
 ghost use Rattle.std.specs.Prelude.{◌≡◌, ◌≤◌, ◌<◌, ◌+◌, ◌++◌, length, take, codes, decimal, IfOk, OnOk, IfErr, vec_len, vec_capacity};
 ghost use Rattle.std.specs.Io.KnownBytes.{Appends};
-ghost use Rattle.tb_http.specs.Answer.{phrase_of, type_text, status_line, field_line, connection_text, allow_line, answer_head, answer_text, fault_answer};
+ghost use Rattle.tb_http.specs.Answer.{phrase_of, media_text, type_text, status_line, field_line, connection_text, allow_line, content_policy, policy_lines, answer_head, answer_text, fault_answer};
 
 use crate::fault::WireFault;
 use crate::route::Verb;
@@ -10,11 +10,24 @@ use std::alloc::{AllocError, Global};
 use std::io::Write;
 use tb_values::{WriteFault, write_whole};
 
+/// What a file of a page is.
+#[derive(Clone, Copy, Debug, PartialEq, Eq)]
+pub enum MediaType {
+    Html,
+    Css,
+    JavaScript,
+    Svg,
+    Png,
+    Icon,
+}
+
 /// What a body is.
 #[derive(Clone, Copy, Debug, PartialEq, Eq)]
 pub enum ContentType {
     Json,
     PlainText,
+    /// A file of a page. Its answer says beside the type what a browser may do with it.
+    File(MediaType),
 }
 
 /// An answer but for its body.
@@ -31,7 +44,12 @@ pub struct Answer {
 }
 
 // The longest head is shorter.
-const HEAD_ROOM: usize = 512;
+const HEAD_ROOM: usize = 1024;
+
+// What a browser may do with a file of a page: its scripts, styles and pictures are files of the page too, it talks to this server
+// alone, and no other page shows it within itself.
+const CONTENT_POLICY: &str =
+    "default-src 'none'; script-src 'self'; style-src 'self'; img-src 'self'; connect-src 'self'; base-uri 'none'; form-action 'none'; frame-ancestors 'none'";
 
 // The phrase of a status that the server answers.
 #[tactic(auto, unfolding(crate::specs::Answer::phrase_of))]
@@ -131,14 +149,60 @@ fn push_allow(head: &mut Vec<u8>, allow: Option<Verb>)
     }
 }
 
+fn media_name(media: MediaType) -> &'static str
+    ensures value { result.now ≡ media_text media }
+    ensures short { length result.now ≤ 30 }
+{
+    match media {
+        MediaType::Html => "text/html; charset=utf-8",
+        MediaType::Css => "text/css; charset=utf-8",
+        MediaType::JavaScript => "text/javascript; charset=utf-8",
+        MediaType::Svg => "image/svg+xml",
+        MediaType::Png => "image/png",
+        MediaType::Icon => "image/x-icon",
+    }
+}
+
 // The value of `content-type`.
 fn type_of(content_type: ContentType) -> &'static str
     ensures value { result.now ≡ type_text content_type }
-    ensures short { length result.now ≤ 25 }
+    ensures short { length result.now ≤ 30 }
 {
     match content_type {
         ContentType::Json => "application/json",
         ContentType::PlainText => "text/plain; charset=utf-8",
+        ContentType::File(media) => media_name(media),
+    }
+}
+
+#[tactic(auto, unfolding(crate::specs::Answer::field_line, crate::specs::Answer::content_policy))]
+fn push_content_policy(head: &mut Vec<u8>)
+    requires { vec_len head.old + 256 ≤ vec_capacity head.old }
+    ensures items { head.new.items ≡ head.old.items ++ field_line (codes "content-security-policy") content_policy }
+    ensures len { vec_len head.new ≤ vec_len head.old + 256 }
+    ensures capacity { vec_capacity head.old ≤ vec_capacity head.new }
+{
+    push(head, "content-security-policy");
+    push(head, ": ");
+    push(head, CONTENT_POLICY);
+    push(head, "\r\n");
+}
+
+// What the answer to a file of a page says of it.
+fn push_policy(head: &mut Vec<u8>, content_type: ContentType)
+    requires { vec_len head.old + 448 ≤ vec_capacity head.old }
+    ensures items { head.new.items ≡ head.old.items ++ policy_lines content_type }
+    ensures len { vec_len head.new ≤ vec_len head.old + 448 }
+    ensures capacity { vec_capacity head.old ≤ vec_capacity head.new }
+{
+    match content_type {
+        ContentType::Json | ContentType::PlainText => {}
+        ContentType::File(_) => {
+            push_field(head, "cache-control", "no-cache");
+            push_content_policy(head);
+            push_field(head, "referrer-policy", "no-referrer");
+            push_field(head, "x-content-type-options", "nosniff");
+        }
     }
 }
 
@@ -160,6 +224,7 @@ fn push_head(head: &mut Vec<u8>, answer: Answer, size: u64)
     push_field(head, "content-type", type_of(answer.content_type));
     push_length(head, size);
     push_allow(head, answer.allow);
+    push_policy(head, answer.content_type);
     push_field(head, "connection", connection_of(answer.is_last));
     push(head, "\r\n");
 }
@@ -168,12 +233,12 @@ fn push_head(head: &mut Vec<u8>, answer: Answer, size: u64)
 #[derive(Drop)]
 pub struct HeadRoom {
     text: Vec<u8>,
-    ghost room: { 512 ≤ vec_capacity text },
+    ghost room: { 1024 ≤ vec_capacity text },
 }
 
 impl HeadRoom {
     pub fn new(alloc: Global) -> Result<HeadRoom, AllocError>
-        ensures { IfOk result (λ room. 512 ≤ vec_capacity room.text) }
+        ensures { IfOk result (λ room. 1024 ≤ vec_capacity room.text) }
     {
         Ok(HeadRoom {
             text: Vec::with_capacity(alloc, HEAD_ROOM)?,

@@ -20,7 +20,7 @@ mod resource;
 mod route;
 mod sender;
 
-pub use answer::{Answer, ContentType, HeadRoom};
+pub use answer::{Answer, ContentType, HeadRoom, MediaType};
 pub use body::{
     PersonBody, RoleBody, is_empty_object, read_description, read_link, read_person, read_role,
     read_title,

@@ -46,7 +46,7 @@ impl TaskAction {
     }
 }
 
-/// What a path names: people, boards, or a part of the board of this number.
+/// What a path names: people, boards, the sender, or a part of the board of this number.
 #[derive(Clone, Copy, Debug, PartialEq, Eq)]
 pub enum Resource {
     People,
@@ -61,6 +61,8 @@ pub enum Resource {
     List(u32),
     Export(u32),
     Todo(u32),
+    PeopleOn(u32),
+    Me,
 }
 
 /// Why a request asks for no resource.
@@ -145,6 +147,8 @@ fn resource_of(route: Route, path: &str) -> Option<Resource>
         Route::List => Some(Resource::List(board_in(path)?)),
         Route::Export => Some(Resource::Export(board_in(path)?)),
         Route::Todo => Some(Resource::Todo(board_in(path)?)),
+        Route::PeopleOn => Some(Resource::PeopleOn(board_in(path)?)),
+        Route::Me => Some(Resource::Me),
     }
 }
 

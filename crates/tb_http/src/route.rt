@@ -21,6 +21,8 @@ pub enum Route {
     List,
     Export,
     Todo,
+    PeopleOn,
+    Me,
 }
 
 /// The methods that routes have.
@@ -49,7 +51,8 @@ impl Route {
         ensures { result ≡ routes.verb_of self }
     {
         match self {
-            Route::Task | Route::List | Route::Export | Route::Todo => Verb::Get,
+            Route::Task | Route::List | Route::Export | Route::Todo | Route::PeopleOn | Route::Me =>
+                Verb::Get,
             Route::People
             | Route::Boards
             | Route::Roles
@@ -93,6 +96,8 @@ fn table(alloc: Global) -> Result<Router<Route>, InsertError>
     add(&mut router, "/boards/{b}/list", Route::List)?;
     add(&mut router, "/boards/{b}/export", Route::Export)?;
     add(&mut router, "/boards/{b}/todo", Route::Todo)?;
+    add(&mut router, "/boards/{b}/people", Route::PeopleOn)?;
+    add(&mut router, "/me", Route::Me)?;
     Ok(router)
 }
 

@@ -8,4 +8,5 @@ pub mod FoundBoards
 pub mod Holding
 pub mod Images
 pub mod Looked
+pub mod SeenPeople
 pub mod WholeCount

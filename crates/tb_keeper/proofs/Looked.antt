@@ -1,5 +1,5 @@
 -- What is looked up is what a command looks at.
-use Rattle.std.proofs.Common.{◌≡◌, ◌∙◌, inl, inr, ℕ, Bool, true, true≢false, List, [], ◌∷◌, Option, Some, None, Ordering, Contains, nat_eq, option_map, unwrap_or, length, refl, sym, ap, subst}
+use Rattle.std.proofs.Common.{◌≡◌, ◌∙◌, inl, inr, ℕ, true, true≢false, List, [], ◌∷◌, Option, Some, None, Ordering, nat_eq, option_map, unwrap_or, length, refl, sym, ap, subst}
 use Rattle.std.specs.Prelude.{IfSome, IsSome, is_some}
 use Rattle.std.specs.List.{AllByRecursion}
 use Rattle.std.specs.Map.{lookup}

@@ -11,6 +11,7 @@ mod committing;
 mod creating;
 mod forms;
 mod looking;
+mod members;
 mod opening;
 mod sound_rows;
 mod sql_keep;

@@ -3,7 +3,8 @@ ghost use Rattle.sqlite.specs.Held.{state};
 ghost use Rattle.sqlite.specs.State.{HasCleanDisk, Opens};
 ghost use Rattle.tb_calls.specs.Calls.{State};
 ghost use Rattle.tb_sql.specs.Opening.{has_meta, is_ours, IsAnswered, IsAsBefore};
-ghost use Rattle.tb_sql_tables.specs.Content.{AreRows, Content};
+ghost use Rattle.tb_sql_tables.specs.Content.{AreRows, Content, Stands};
+ghost use Rattle.tb_sql_tables.specs.Failing.{FailsByFault, KeepsFaults};
 ghost use Rattle.tb_stored.specs.Reopening.{OfState};
 ghost use Rattle.tb_stored.specs.Stored.{AreTreesOf};
 ghost use Rattle.tb_keeper.specs.Holds.{Holds, IsAtHand};
@@ -38,6 +39,8 @@ impl<S: Alter> SqlKeep<S> {
         ensures unmarked { has_meta (state S.Store conn).now.schema.tables ≡ false → MatchResult result (λ keep. ⊥) (λ e. e.1 ≡ OpenFault.NotOurs) }
         ensures shown { IfErr result (λ e. (e.1 ≡ OpenFault.NotOurs) ⊎ (e.1 ≡ OpenFault.WrongVersion)
             → HasCleanDisk (state S.Store e.0) → has_meta (state S.Store conn).now.schema.tables ≡ true → IsAnswered S.Store conn (Err e.1)) }
+        ensures excused { IfErr result (λ e. e.1 ≡ OpenFault.Store → Opens (state S.Store conn)
+            → FailsByFault (state S.Store conn) (state S.Store e.0) (λ content. AreRows content (state S.Store conn).now.trees)) }
         ensures ready { IfOk result (λ keep. keep.conn.in_transaction ≡ false) }
         ensures idle { IfErr result (λ e. e.0.in_transaction ≡ false) }
     {
@@ -71,6 +74,8 @@ fn at_hand<S: Alter>(alloc: Global, conn: &mut Connection<S>) -> Result<AtHand, 
     ensures idle { conn.new.in_transaction ≡ false }
     ensures held { IfOk result (λ hand. OfState (state S.Store conn.old) (state S.Store conn.new)
         (λ s. IsAtHand hand.people hand.boards hand.cache.entries s.world)) }
+    ensures excused { result ≡ Err StoreFault.Store → FailsByFault (state S.Store conn.old) (state S.Store conn.new) (λ content. Stands content (state S.Store conn.old)) }
+    ensures faults { KeepsFaults (state S.Store conn.old) (state S.Store conn.new) }
     ensures same { IsAsBefore (state S.Store conn.old) (state S.Store conn.new) }
 {
     let Ok(cache) = BoardCache::new(alloc) else {

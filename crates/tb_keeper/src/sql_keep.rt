@@ -12,15 +12,17 @@ ghost use Rattle.tb_keeper.specs.Holds.{Holds};
 ghost use Rattle.tb_keeper.specs.Looking.{IsSeenAtHand};
 
 use crate::looking::{find_key, find_reply, look_up};
+use crate::members::{find_boards, find_people};
 use sqlite::{Alter, Connection};
 use std::alloc::Global;
 use tb_board::{Board, Change, Key, Name};
 use tb_cache::BoardCache;
 use tb_calls::{Call, Keep, KeepFault, KeptReply};
 use tb_core::{Command, Seen};
-use tb_reply::Reply;
+use tb_reply::{BoardRole, PersonRole, Reply};
 use tb_sql::store::StoreFault;
 use tb_task::TaskId;
+use tb_values::Items;
 
 /// Keeps a world and the replies given in one SQLite file. It has at hand how many people and boards there are, and the boards that
 /// were used last; all else it looks up at each call.
@@ -142,6 +144,39 @@ impl<S: Alter> Keep for SqlKeep<S> {
         }
         match look_up(alloc, &mut self.conn, &mut self.cache, name, command) {
             Ok(glance) => Ok(glance.seen(self.people, self.boards)),
+            Err(StoreFault::Memory) => Err(KeepFault::Memory),
+            Err(StoreFault::Store) => {
+                self.failed = true;
+                Err(KeepFault::Store)
+            }
+        }
+    }
+
+    fn boards_of(&mut self, alloc: Global, name: &Name) -> Result<Items<BoardRole>, KeepFault> {
+        if self.failed {
+            return Err(KeepFault::Store);
+        }
+        match find_boards(alloc, &mut self.conn, name) {
+            Ok(boards) => Ok(boards),
+            Err(StoreFault::Memory) => Err(KeepFault::Memory),
+            Err(StoreFault::Store) => {
+                self.failed = true;
+                Err(KeepFault::Store)
+            }
+        }
+    }
+
+    fn people_for(
+        &mut self,
+        alloc: Global,
+        name: &Name,
+        board: u32,
+    ) -> Result<Option<Items<PersonRole>>, KeepFault> {
+        if self.failed {
+            return Err(KeepFault::Store);
+        }
+        match find_people(alloc, &mut self.conn, name, board) {
+            Ok(people) => Ok(people),
             Err(StoreFault::Memory) => Err(KeepFault::Memory),
             Err(StoreFault::Store) => {
                 self.failed = true;

@@ -1,7 +1,10 @@
 pub mod Counting
+pub mod Gathered
 pub mod KeptOnes
 pub mod NamedPeople
 pub mod NumberedPeople
 pub mod OneOf
+pub mod OwnBoards
+pub mod PeopleOn
 pub mod StoredBoards
 pub mod StoredRoles

@@ -1,68 +1,32 @@
--- The row of a number tells whether there is a person of that number.
-use Rattle.std.proofs.Common.{◌≡◌, ◌⊎◌, inl, inr, ◌+◌, ◌<◌, ◌≤◌, ◌==◌, ℕ, false, List, [], ◌∷◌, filter, length, Option, Some, None, refl, ap, arith, IsPermutation}
-use Rattle.std.specs.Prelude.{is_some}
-use Rattle.std.proofs.lemmas.Bool.{cases_Bool}
+-- The rows tell whether there is a person of a number.
+use Rattle.std.proofs.Common.{◌≡◌, ◌+◌, ◌<◌, ◌≤◌, ◌==◌, ℕ, suc, Bool, false, List, [], ◌∷◌, filter, length, refl, ap, arith, subst}
 use Rattle.std.proofs.lemmas.Bool.Decides.{nat_tests}
+use Rattle.std.specs.List.{list_any}
+use Rattle.sqlite.specs.State.{State as Database}
 use Rattle.tb_board.specs.declared.world.Person.{Person}
-use Rattle.tb_board.specs.declared.world.World.{World}
-use Rattle.tb_rows.specs.Rows.{person_row}
 use Rattle.tb_sql.specs.Changes.{is_person}
-use Rattle.tb_sql_tables.specs.Found.{IsOneOf}
 use Rattle.tb_sql_tables.specs.declared.rows.PersonRow.{PersonRow}
+use Rattle.tb_stored.specs.Reopening.{OfContent, OfState}
 use Rattle.tb_lookup.specs.Counting.{IsWithin}
+use Rattle.tb_lookup.proofs.Counting.{AreNumbered, within_any}
 use Rattle.tb_lookup.proofs.NamedPeople.{rows}
-use Rattle.tb_lookup.proofs.OneOf.{none_found, one_found}
 
-none_before : (id n : ℕ) (people : List Person) → id < n → filter (is_person id) (rows n people) ≡ []
+numbered : (n : ℕ) (people : List Person) → AreNumbered (λ (row : PersonRow). row.id) n (rows n people)
+numbered n [] = tt
+numbered n (p ∷ people) = (refl, numbered (n + 1) people)
+
+pub none_before : (id n : ℕ) (people : List Person) → id < n → filter (is_person id) (rows n people) ≡ []
 none_before id n [] before = refl
 none_before id n (p ∷ people) before =
     let other : (n == id) ≡ false = grind (arith, nat_tests) in
     rw other (none_before id (n + 1) people (omega (arith, before)))
 
-record IsOutside (id n : ℕ) (people : List Person) : Type 0 where
-  none : filter (is_person id) (rows n people) ≡ []
-  outside : n ≤ id → n + length people ≤ id
+counted : (n : ℕ) (people : List Person) → length (rows n people) ≡ length people
+counted n [] = refl
+counted n (p ∷ people) = ap suc (counted (n + 1) people)
 
-record IsInside (id n : ℕ) (people : List Person) : Type 0 where
-  row : PersonRow
-  one : filter (is_person id) (rows n people) ≡ row ∷ []
-  inside : id < n + length people
-
-numbered : (id n : ℕ) (people : List Person) → IsOutside id n people ⊎ IsInside id n people
-numbered id n [] = inl (record { none = refl; outside = λ from. omega (arith, from) })
-numbered id n (p ∷ people) =
-    elim (cases_Bool (n == id)) [
-      | inl here ↦
-          let is : n ≡ id = grind (arith, nat_tests) in
-          inr (record {
-            row = person_row n p;
-            one = rw here (ap (λ l. person_row n p ∷ l) (none_before id (n + 1) people (omega (arith, is))));
-            inside = omega (arith, is);
-          })
-      | inr other ↦
-          let apart : n ≡ id → ⊥ = grind (arith, nat_tests) in
-          elim (numbered id (n + 1) people) [
-            | inl out ↦ inl (record { none = rw other out.none; outside = λ from. let rest = out.outside in grind (arith, nat_tests) })
-            | inr one ↦ inr (record { row = one.row; one = rw other one.one; inside = let rest = one.inside in omega (arith, rest) })
-          ]
-    ]
-
-module _ (w : World) (people : List PersonRow) (same : IsPermutation people (rows 1 w.people)) (id : ℕ) where
-  -- where no row is found there are fewer
-  beyond : 1 ≤ id → IsOneOf (filter (is_person id) people) None → length w.people < id
-  beyond from found = elim (numbered id 1 w.people) [
-    | inl out ↦ let past = out.outside from in omega (arith, past)
-    | inr one ↦ let is = one_found (is_person id) people (rows 1 w.people) same None one.row one.one found in absurd (cc)
-  ]
-
-  -- where one is found there are so many
-  reached : (row : PersonRow) → IsOneOf (filter (is_person id) people) (Some row) → id ≤ length w.people
-  reached row found = elim (numbered id 1 w.people) [
-    | inl out ↦ let is = none_found (is_person id) people (rows 1 w.people) same (Some row) out.none found in absurd (cc)
-    | inr one ↦ let inside = one.inside in omega (arith, inside)
-  ]
-
-  -- a row is found exactly where there are so many
-  pub person_within : (found : Option PersonRow) → 1 ≤ id → IsOneOf (filter (is_person id) people) found → IsWithin id (length w.people) (is_some found)
-  person_within None from none = beyond from none
-  person_within (Some row) from there = reached row there
+pub person_within : (old new : Database) (id : ℕ) (there : Bool) → 1 ≤ id → OfContent old new (λ c. there ≡ list_any (is_person id) c.people) → OfState old new (λ s. IsWithin id (length s.world.people) there)
+person_within old new id there from found clean s stored =
+    let all = rows 1 s.world.people in
+    subst (λ count. IsWithin id count there) (counted 1 s.world.people)
+    (within_any (λ (row : PersonRow). row.id) id stored.content.people all stored.rows.same.tables.people (numbered 1 s.world.people) from there (found clean stored.content stored.stands))

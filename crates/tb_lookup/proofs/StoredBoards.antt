@@ -1,10 +1,9 @@
 -- The row of a number is that of the board of the number.
-use Rattle.std.proofs.Common.{◌≡◌, ◌∙◌, ◌+◌, ◌<◌, ◌≤◌, ◌==◌, ℕ, Bool, true, false, List, [], ◌∷◌, Option, Some, None, filter, find, map, length, refl, sym, ap, subst, arith, inl, inr}
-use Rattle.std.specs.Prelude.{is_some}
-use Rattle.std.specs.List.{AllByRecursion}
+use Rattle.std.proofs.Common.{◌≡◌, ◌∙◌, ◌+◌, ◌<◌, ◌≤◌, ◌==◌, ℕ, Bool, List, [], ◌∷◌, Option, Some, None, filter, find, map, length, refl, sym, ap, subst, arith, inl, inr}
+use Rattle.std.specs.List.{AllByRecursion, list_any}
 use Rattle.std.specs.Option.{option_map}
-use Rattle.std.proofs.lemmas.Bool.{cases_Bool, eqb-true, eqb-false}
-use Rattle.std.proofs.lemmas.Bool.Decides.{eqb_tells}
+use Rattle.std.proofs.lemmas.Bool.{cases_Bool, eqb-true}
+use Rattle.std.proofs.lemmas.List.{length-map}
 use Rattle.sqlite.specs.State.{State as Database}
 use Rattle.tb_board.specs.declared.board.Board.{Board}
 use Rattle.tb_board.specs.World.{find_board, has_number}
@@ -23,6 +22,7 @@ use Rattle.tb_stored.specs.Stored.{AreRowsOf}
 use Rattle.tb_stored.proofs.Reopened.{world_is_read}
 use Rattle.tb_stored.proofs.Standing.{stood}
 use Rattle.tb_lookup.specs.Counting.{IsWithin}
+use Rattle.tb_lookup.proofs.Counting.{AreNumbered, within_any}
 use Rattle.tb_lookup.proofs.OneOf.{none_found, one_found}
 
 -- ---- the row of a number
@@ -43,7 +43,7 @@ rows_at k n (b ∷ bs) numbered = elim (cases_Bool (b.number == k)) [
   | inr other ↦ rw other (rows_at k (n + 1) bs numbered.1)
 ]
 
-row_found : (s : State) (c : Content) → AreRowsOf s c → (k : ℕ) (row : Option BoardRow) → IsOneOf (filter (is_board k) c.boards) row → row ≡ option_map board_row (find_board s.world k)
+pub row_found : (s : State) (c : Content) → AreRowsOf s c → (k : ℕ) (row : Option BoardRow) → IsOneOf (filter (is_board k) c.boards) row → row ≡ option_map board_row (find_board s.world k)
 row_found s c of_s k row is = go (find_board s.world k) (rows_at k 1 s.world.boards (numbered_from 1 s.world.boards of_s.good.numbered))
   where
     go : (b : Option Board) → AreAt (filter (is_board k) (map board_row s.world.boards)) b → row ≡ option_map board_row b
@@ -81,28 +81,12 @@ board_stored law old mid new k row b found read one two clean s stored =
 
 -- ---- the numbers of boards
 
--- a board's number is below the end, and none is below it that no board has
-abbrev Tells : ℕ → ℕ → ℕ → Option Board → Type 0
-Tells k n end None = n ≤ k → end ≤ k
-Tells k n end (Some b) = k < end
+numbered_rows : (n : ℕ) (bs : List Board) → AreNumberedFrom n bs → AreNumbered (λ (row : BoardRow). row.id) n (map board_row bs)
+numbered_rows n [] numbered = tt
+numbered_rows n (b ∷ bs) numbered = (numbered.0, numbered_rows (n + 1) bs numbered.1)
 
-told : (k n : ℕ) (bs : List Board) → AreNumberedFrom n bs → Tells k n (n + length bs) (find (has_number k) bs)
-told k n [] numbered = λ le. omega (arith, le)
-told k n (b ∷ bs) numbered = elim (cases_Bool (b.number == k)) [
-  | inl here ↦ rw here (omega (arith, numbered.0, eqb-true b.number k here))
-  | inr other ↦ rw other (go (find (has_number k) bs) (elim (eqb_tells b.number k) [ inl same ↦ absurd (eqb-false b.number k other same.1) | inr apart ↦ λ is. apart.1 (numbered.0 ∙ is) ]) (told k (n + 1) bs numbered.1))
-]
-  where
-    go : (d : Option Board) → (n ≡ k → ⊥) → Tells k (n + 1) (n + 1 + length bs) d → Tells k n (n + length (b ∷ bs)) d
-    go None apart h = λ le. let later : n + 1 + length bs ≤ k = h (omega (arith, apart, le)) in omega (arith, later)
-    go (Some d) apart h = omega (arith, h)
-
-pub board_within : (old new : Database) (k : ℕ) (row : Option BoardRow) → 1 ≤ k → OfContent old new (λ c. IsOneOf (filter (is_board k) c.boards) row) → OfState old new (λ s. IsWithin k (length s.world.boards) (is_some row))
-board_within old new k row from found clean s stored =
-    go row (find_board s.world k) (row_found s stored.content stored.rows k row (found clean stored.content stored.stands)) (told k 1 s.world.boards (numbered_from 1 s.world.boards stored.rows.good.numbered))
-  where
-    go : (row : Option BoardRow) (b : Option Board) → row ≡ option_map board_row b → Tells k 1 (1 + length s.world.boards) b → IsWithin k (length s.world.boards) (is_some row)
-    go None None is h = let over = h from in omega (arith, over)
-    go None (Some b) is h = absurd (cc)
-    go (Some r) None is h = absurd (cc)
-    go (Some r) (Some b) is h = omega (arith, h)
+pub board_within : (old new : Database) (k : ℕ) (there : Bool) → 1 ≤ k → OfContent old new (λ c. there ≡ list_any (is_board k) c.boards) → OfState old new (λ s. IsWithin k (length s.world.boards) there)
+board_within old new k there from found clean s stored =
+    let numbered = numbered_rows 1 s.world.boards (numbered_from 1 s.world.boards stored.rows.good.numbered) in
+    subst (λ count. IsWithin k count there) (length-map s.world.boards board_row)
+    (within_any (λ (row : BoardRow). row.id) k stored.content.boards (map board_row s.world.boards) stored.rows.same.tables.boards numbered from there (found clean stored.content stored.stands))

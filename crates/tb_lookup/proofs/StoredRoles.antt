@@ -8,7 +8,6 @@ use Rattle.std.proofs.lemmas.List.Sums.{length-filter}
 use Rattle.sqlite.specs.State.{State as Database}
 use Rattle.sqlite_keyed.proofs.ListLemmas.{slice_get-filter, IsPermutation-filter}
 use Rattle.sqlite_trees.proofs.ListLemmas.{filter-filter}
-use Rattle.tb_board.specs.declared.world.Role.{Role}
 use Rattle.tb_board.specs.declared.world.RoleOn.{RoleOn}
 use Rattle.tb_board.specs.declared.world.World.{World}
 use Rattle.tb_board.specs.World.{is_owner, is_role_of, owners, owns, role_of}

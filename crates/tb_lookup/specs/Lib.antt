@@ -1,4 +1,5 @@
 pub mod Counting
+pub mod Named
 pub mod People
 pub mod Replies
 pub mod Roles

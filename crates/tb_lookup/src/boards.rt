@@ -1,14 +1,16 @@
 //! Boards, as the tables tell them.
 
-ghost use Rattle.std.specs.Prelude.{◌≡◌, ◌≤◌, false, length, Err, IfOk, IfSome};
+ghost use Rattle.std.specs.Prelude.{◌≡◌, false, length, Err, IfOk, IfSome};
 ghost use Rattle.sqlite.specs.Held.{state};
 ghost use Rattle.tb_board.specs.Good.{IsGood};
 ghost use Rattle.tb_board.specs.World.{find_board};
 ghost use Rattle.tb_rows.specs.Rows.{board_row};
 ghost use Rattle.tb_sql.specs.Opening.{IsAsBefore};
+ghost use Rattle.tb_sql_tables.specs.Content.{Stands};
+ghost use Rattle.tb_sql_tables.specs.Failing.{FailsByFault, KeepsFaults};
 ghost use Rattle.tb_stored.specs.Reopening.{OfBoard, OfState};
-ghost use Rattle.tb_lookup.specs.Counting.{IsWithin};
 
+use crate::halves::{ABOVE_MOST, middle_of};
 use sqlite::{Alter, Connection};
 use std::alloc::Global;
 use tb_board::Board;
@@ -17,7 +19,7 @@ use tb_reopen::laws::rows_are_found_again;
 use tb_reopen::read_board;
 use tb_sql::store::StoreFault;
 use tb_sql_tables::rows::BoardRow;
-use tb_stored::by_key::board_row_at;
+use tb_stored::by_key::{board_row_at, has_board_at};
 use tb_stored::faults::fault_of;
 use tb_stored::reading::{gone_rows, task_rows};
 use tb_values::Shared;
@@ -86,39 +88,25 @@ fn hold_to_good(alloc: Global, board: Board) -> Result<Shared<Board>, StoreFault
     }
 }
 
-/// One more than the most boards of a world.
-const ABOVE_MOST: u32 = 10001;
-
 /// How many boards there are. They are numbered from 1, so that their number is found by halves.
 pub fn count_boards<S: Alter>(conn: &mut Connection<S>) -> Result<usize, StoreFault>
     requires { conn.old.in_transaction ≡ false }
     ensures idle { conn.new.in_transaction ≡ false }
     ensures found { IfOk result (λ count. OfState (state S.Store conn.old) (state S.Store conn.new)
         (λ s. count ≡ length s.world.boards)) }
+    ensures excused { result ≡ Err StoreFault.Store → FailsByFault (state S.Store conn.old) (state S.Store conn.new) (λ content. Stands content (state S.Store conn.old)) }
+    ensures faults { KeepsFaults (state S.Store conn.old) (state S.Store conn.new) }
     ensures same { IsAsBefore (state S.Store conn.old) (state S.Store conn.new) }
 {
     let mut low = 0;
     let mut above = ABOVE_MOST;
     while low + 1 < above {
-        let middle = low + (above - low) / 2;
-        if has_board(conn, middle)? {
+        let middle = middle_of(low, above);
+        if has_board_at(conn, middle)? {
             low = middle;
         } else {
             above = middle;
         }
     }
     Ok(low as usize)
-}
-
-/// Whether there is a board of this number.
-fn has_board<S: Alter>(conn: &mut Connection<S>, number: u32) -> Result<bool, StoreFault>
-    requires idle { conn.old.in_transaction ≡ false }
-    requires from_one { 1 ≤ number }
-    ensures idle { conn.new.in_transaction ≡ false }
-    ensures found { IfOk result (λ there. OfState (state S.Store conn.old) (state S.Store conn.new)
-        (λ s. IsWithin number (length s.world.boards) there)) }
-    ensures same { IsAsBefore (state S.Store conn.old) (state S.Store conn.new) }
-{
-    let row = board_row_at(conn, number)?;
-    Ok(row.is_some())
 }

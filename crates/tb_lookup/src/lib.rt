@@ -5,6 +5,10 @@
 #![tactic(auto)]
 
 pub mod boards;
+pub mod boards_of;
+mod gathering;
+mod halves;
 pub mod people;
+pub mod people_on;
 pub mod replies;
 pub mod roles;

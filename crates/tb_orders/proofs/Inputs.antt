@@ -16,7 +16,7 @@ use Rattle.tb_orders.specs.Orders.{AsksFor, calls_made, ending_of, line_text}
 use Rattle.tb_orders.specs.Telling.{is_of_imports, is_of_inputs, is_of_messages}
 use Rattle.tb_orders.specs.declared.ending.Ending.{Ending}
 use Rattle.tb_program.specs.declared.fault.Fault.{Fault}
-use Rattle.tb_program.specs.declared.fault.Fault.TheVariants.{Bad, BadBody, Memory, NoClock, NoListen, NotEmpty, NotOurs, ReadFailed, Store, WriteFailed, WrongVersion}
+use Rattle.tb_program.specs.declared.fault.Fault.TheVariants.{Bad, BadBody, Memory, NoAnswer, NoClock, NoKey, NoListen, NoPage, NotEmpty, NotOurs, ReadFailed, Store, WriteFailed, WrongVersion}
 
 is_call_or_not : (r : Result Asked Rejection) → ((call : Call) × (r ≡ Ok (asked.Call call))) ⊎ ((call : Call) → r ≡ Ok (asked.Call call) → ⊥)
 is_call_or_not (Ok (asked.Call call)) = inl (call, refl)
@@ -86,6 +86,9 @@ unread_made BadBody is = refl
 unread_made Memory is = refl
 unread_made NoClock is = refl
 unread_made NoListen is = absurd (true≢false (sym is))
+unread_made NoAnswer is = absurd (true≢false (sym is))
+unread_made NoKey is = absurd (true≢false (sym is))
+unread_made NoPage is = absurd (true≢false (sym is))
 unread_made NotEmpty is = absurd (true≢false (sym is))
 unread_made NotOurs is = absurd (true≢false (sym is))
 unread_made ReadFailed is = refl
@@ -99,6 +102,9 @@ of_message BadBody is = refl
 of_message Memory is = refl
 of_message NoClock is = refl
 of_message NoListen is = absurd (true≢false (sym is))
+of_message NoAnswer is = absurd (true≢false (sym is))
+of_message NoKey is = absurd (true≢false (sym is))
+of_message NoPage is = absurd (true≢false (sym is))
 of_message NotEmpty is = absurd (true≢false (sym is))
 of_message NotOurs is = absurd (true≢false (sym is))
 of_message ReadFailed is = refl
@@ -112,6 +118,9 @@ of_import BadBody is = refl
 of_import Memory is = refl
 of_import NoClock is = absurd (true≢false (sym is))
 of_import NoListen is = absurd (true≢false (sym is))
+of_import NoAnswer is = absurd (true≢false (sym is))
+of_import NoKey is = absurd (true≢false (sym is))
+of_import NoPage is = absurd (true≢false (sym is))
 of_import NotEmpty is = absurd (true≢false (sym is))
 of_import NotOurs is = absurd (true≢false (sym is))
 of_import ReadFailed is = absurd (true≢false (sym is))

@@ -1,9 +1,12 @@
 //! The words that the program was started with.
-ghost use Rattle.std.specs.Prelude.{◌≡◌, IfErr, IfOk, drop, map, true};
+ghost use Rattle.std.specs.Prelude.{◌≡◌, ◌∷◌, IfErr, IfOk, List, None, Ok, OnOk, Some, codes, drop, map, true, ℕ};
 ghost use Rattle.std.specs.List.{list_all};
 ghost use Rattle.std.specs.String.{string_bytes};
 ghost use Rattle.std.specs.Vec.Iter.{into_iter_items};
 ghost use Rattle.tb_command_line.specs.Orders.{Request, is_plain, order_of, texts_of, words_of};
+ghost use Rattle.tb_command_line.specs.Pages.{page_in, with_page, without_page};
+ghost use Rattle.tb_command_line.specs.Sending.{send_of, told_of};
+ghost use Rattle.tb_command_line.specs.declared.order.Order.{Order};
 ghost use Rattle.tb_orders.specs.Telling.{Told, is_of_words};
 
 use std::alloc::{AllocError, Global};
@@ -25,8 +28,12 @@ pub fn read_order(rt: &HostRuntime) -> Result<Order, Fault>
 
 /// The order that the words after the first are, which names the program.
 fn order_after_name(alloc: Global, words: Args) -> Result<Order, Fault>
-    ensures order { (request : Request) → map string_bytes (drop 1 (into_iter_items words)) ≡ words_of request
-        → list_all is_plain (texts_of request) ≡ true → Told result (order_of request) }
+    ensures order { (request : Request) → without_page (map string_bytes (drop 1 (into_iter_items words))) ≡ words_of request
+        → list_all is_plain (texts_of request) ≡ true
+        → Told result (with_page (page_in (map string_bytes (drop 1 (into_iter_items words)))) (order_of request)) }
+    ensures told { (order : Order) → told_of (map string_bytes (drop 1 (into_iter_items words))) ≡ Some order → OnOk result (result ≡ Ok order) }
+    ensures sent { (rest : List (List ℕ)) → map string_bytes (drop 1 (into_iter_items words)) ≡ codes "send" ∷ rest
+        → told_of (codes "send" ∷ rest) ≡ None → Told result (send_of rest) }
     ensures fault { IfErr result (λ fault. is_of_words fault ≡ true) }
 {
     let words = after_first(alloc, words)?;
@@ -36,8 +43,12 @@ fn order_after_name(alloc: Global, words: Args) -> Result<Order, Fault>
 
 /// The order that words are, or the program's fault.
 pub fn order_of(alloc: Global, words: &[&str]) -> Result<Order, Fault>
-    ensures order { (request : Request) → map (λ word. word.now) words.entry.now ≡ words_of request
-        → list_all is_plain (texts_of request) ≡ true → Told result (order_of request) }
+    ensures order { (request : Request) → without_page (map (λ word. word.now) words.entry.now) ≡ words_of request
+        → list_all is_plain (texts_of request) ≡ true
+        → Told result (with_page (page_in (map (λ word. word.now) words.entry.now)) (order_of request)) }
+    ensures told { (order : Order) → told_of (map (λ word. word.now) words.entry.now) ≡ Some order → result ≡ Ok order }
+    ensures sent { (rest : List (List ℕ)) → map (λ word. word.now) words.entry.now ≡ codes "send" ∷ rest
+        → told_of (codes "send" ∷ rest) ≡ None → Told result (send_of rest) }
     ensures fault { IfErr result (λ fault. is_of_words fault ≡ true) }
 {
     match command_of(alloc, words) {

@@ -16,6 +16,7 @@ use Rattle.tb_serve.specs.Serving.{Sends, Turns, reads_one}
 use Rattle.tb_serve.specs.declared.serving.Turn.{Turn}
 use Rattle.tb_serve.specs.declared.serving.Turn.TheVariants.{Told, Failed, Unread}
 use Rattle.tb_turns.specs.Turns.{Talk, silent, opens, comes, turns, goes, opened, came, gone, took, failed, refused, rested, went, sent_of}
+use Rattle.tb_site.specs.declared.site.Site.{Site}
 
 -- a fault of the bytes, whatever comes behind them, is one of theirs
 pub fault_now : (bytes : List ℕ) (fault : WireFault) → HasFault bytes fault → Faults bytes fault
@@ -52,12 +53,12 @@ abbrev pub Refused : Talk → Turn → List ℕ → Bool → Type 0
 Refused old turn bytes is_closing =
     (fault : WireFault) → turn ≡ Unread fault → HasFault old.bytes fault × (bytes ≡ old.bytes) × (is_closing ≡ true)
 
-told_happens : (s : State) (at : Option ℕ) (old : Talk) (bytes : List ℕ) (messages : ℕ) (is_closing : Bool) (out : List ℕ) (is_whole : Bool) (text : List ℕ) (now stops : State → Type 0)
+told_happens : (site : Site) (s : State) (at : Option ℕ) (old : Talk) (bytes : List ℕ) (messages : ℕ) (is_closing : Bool) (out : List ℕ) (is_whole : Bool) (text : List ℕ) (now stops : State → Type 0)
     → old.is_closing ≡ false → out ≡ old.out ++ sent_of is_whole text
-    → Turns s (at ∷ []) old.messages old.bytes Told text now stops (Some bytes) is_closing → messages ≡ old.messages + 1
-    → HappensTo (outcome Told is_whole) s (turns at) old
+    → Turns site s (at ∷ []) old.messages old.bytes Told text now stops (Some bytes) is_closing → messages ≡ old.messages + 1
+    → HappensTo site (outcome Told is_whole) s (turns at) old
     (talk_of bytes messages (takes_no_more is_closing Told is_whole) out) now stops
-told_happens s at old bytes messages is_closing out true text now stops unclosed sent turned counted =
+told_happens site s at old bytes messages is_closing out true text now stops unclosed sent turned counted =
     let m : Timed = record { received = turned.0; at = at } in (
       took m true,
       refl,
@@ -71,7 +72,7 @@ told_happens s at old bytes messages is_closing out true text now stops unclosed
       ),
       turned.5.1,
     )
-told_happens s at old bytes messages is_closing out false text now stops unclosed sent turned counted =
+told_happens site s at old bytes messages is_closing out false text now stops unclosed sent turned counted =
     let m : Timed = record { received = turned.0; at = at } in (
       took m false,
       refl,
@@ -85,12 +86,12 @@ told_happens s at old bytes messages is_closing out false text now stops unclose
       turned.5.1,
     )
 
-failed_happens : (s : State) (at : Option ℕ) (old : Talk) (bytes : List ℕ) (messages : ℕ) (is_closing : Bool) (out : List ℕ) (is_whole : Bool) (text : List ℕ) (now stops : State → Type 0)
+failed_happens : (site : Site) (s : State) (at : Option ℕ) (old : Talk) (bytes : List ℕ) (messages : ℕ) (is_closing : Bool) (out : List ℕ) (is_whole : Bool) (text : List ℕ) (now stops : State → Type 0)
     → old.is_closing ≡ false → out ≡ old.out ++ sent_of is_whole text
-    → Turns s (at ∷ []) old.messages old.bytes (Failed keep.Memory) text now stops (Some bytes) is_closing → messages ≡ old.messages + 1
-    → HappensTo (outcome (Failed keep.Memory) is_whole) s (turns at) old
+    → Turns site s (at ∷ []) old.messages old.bytes (Failed keep.Memory) text now stops (Some bytes) is_closing → messages ≡ old.messages + 1
+    → HappensTo site (outcome (Failed keep.Memory) is_whole) s (turns at) old
     (talk_of bytes messages true out) now stops
-failed_happens s at old bytes messages is_closing out true text now stops unclosed sent turned counted =
+failed_happens site s at old bytes messages is_closing out true text now stops unclosed sent turned counted =
     let m : Timed = record { received = turned.0; at = at } in (
       failed m text true,
       refl,
@@ -104,7 +105,7 @@ failed_happens s at old bytes messages is_closing out true text now stops unclos
       ),
       turned.5.1,
     )
-failed_happens s at old bytes messages is_closing out false text now stops unclosed sent turned counted =
+failed_happens site s at old bytes messages is_closing out false text now stops unclosed sent turned counted =
     let m : Timed = record { received = turned.0; at = at } in (
       failed m text false,
       refl,
@@ -119,12 +120,12 @@ failed_happens s at old bytes messages is_closing out false text now stops unclo
       turned.5.1,
     )
 
-stopped_happens : (s : State) (at : Option ℕ) (old : Talk) (bytes : List ℕ) (messages : ℕ) (is_closing : Bool) (out : List ℕ) (is_whole : Bool) (text : List ℕ) (now stops : State → Type 0)
+stopped_happens : (site : Site) (s : State) (at : Option ℕ) (old : Talk) (bytes : List ℕ) (messages : ℕ) (is_closing : Bool) (out : List ℕ) (is_whole : Bool) (text : List ℕ) (now stops : State → Type 0)
     → old.is_closing ≡ false → out ≡ old.out ++ sent_of is_whole text
-    → Turns s (at ∷ []) old.messages old.bytes (Failed keep.Store) text now stops (Some bytes) is_closing → messages ≡ old.messages + 1
-    → HappensTo (outcome (Failed keep.Store) is_whole) s (turns at) old
+    → Turns site s (at ∷ []) old.messages old.bytes (Failed keep.Store) text now stops (Some bytes) is_closing → messages ≡ old.messages + 1
+    → HappensTo site (outcome (Failed keep.Store) is_whole) s (turns at) old
     (talk_of bytes messages true out) now stops
-stopped_happens s at old bytes messages is_closing out is_whole text now stops unclosed sent turned counted =
+stopped_happens site s at old bytes messages is_closing out is_whole text now stops unclosed sent turned counted =
     let m : Timed = record { received = turned.0; at = at } in (
       m,
       text,
@@ -140,13 +141,13 @@ stopped_happens s at old bytes messages is_closing out is_whole text now stops u
       turned.5.1,
     )
 
-unread_happens : (s : State) (at : Option ℕ) (old : Talk) (bytes : List ℕ) (messages : ℕ) (is_closing : Bool) (out : List ℕ) (fault : WireFault) (is_whole : Bool) (text : List ℕ) (now stops : State → Type 0)
+unread_happens : (site : Site) (s : State) (at : Option ℕ) (old : Talk) (bytes : List ℕ) (messages : ℕ) (is_closing : Bool) (out : List ℕ) (fault : WireFault) (is_whole : Bool) (text : List ℕ) (now stops : State → Type 0)
     → old.is_closing ≡ false → out ≡ old.out ++ sent_of is_whole text
-    → Turns s (at ∷ []) old.messages old.bytes (Unread fault) text now stops (Some bytes) is_closing
+    → Turns site s (at ∷ []) old.messages old.bytes (Unread fault) text now stops (Some bytes) is_closing
     → Refused old (Unread fault) bytes is_closing → messages ≡ old.messages
-    → HappensTo (outcome (Unread fault) is_whole) s (turns at) old
+    → HappensTo site (outcome (Unread fault) is_whole) s (turns at) old
     (talk_of bytes messages true out) now stops
-unread_happens s at old bytes messages is_closing out fault true text now stops unclosed sent turned refuses counted =
+unread_happens site s at old bytes messages is_closing out fault true text now stops unclosed sent turned refuses counted =
     let no = refuses fault refl in (
       refused text true,
       tt,
@@ -154,7 +155,7 @@ unread_happens s at old bytes messages is_closing out fault true text now stops 
       ((fault, no.0, turned.1), unclosed, talk_is bytes old.bytes messages old.messages true true out _ no.1 counted refl sent),
       turned.2,
     )
-unread_happens s at old bytes messages is_closing out fault false text now stops unclosed sent turned refuses counted =
+unread_happens site s at old bytes messages is_closing out fault false text now stops unclosed sent turned refuses counted =
     let no = refuses fault refl in (
       refused text false,
       tt,
@@ -163,66 +164,66 @@ unread_happens s at old bytes messages is_closing out fault false text now stops
       turned.2,
     )
 
-turn_happens : (s : State) (at : Option ℕ) (old : Talk) (bytes : List ℕ) (messages : ℕ) (is_closing : Bool) (out : List ℕ) (turn : Turn) (is_whole : Bool) (text : List ℕ) (now stops : State → Type 0)
+turn_happens : (site : Site) (s : State) (at : Option ℕ) (old : Talk) (bytes : List ℕ) (messages : ℕ) (is_closing : Bool) (out : List ℕ) (turn : Turn) (is_whole : Bool) (text : List ℕ) (now stops : State → Type 0)
     → old.is_closing ≡ false → out ≡ old.out ++ sent_of is_whole text
-    → Turns s (at ∷ []) old.messages old.bytes turn text now stops (Some bytes) is_closing
+    → Turns site s (at ∷ []) old.messages old.bytes turn text now stops (Some bytes) is_closing
     → Refused old turn bytes is_closing → messages ≡ old.messages + reads_one turn
-    → HappensTo (outcome turn is_whole) s (turns at) old
+    → HappensTo site (outcome turn is_whole) s (turns at) old
     (talk_of bytes messages (takes_no_more is_closing turn is_whole) out) now stops
-turn_happens s at old bytes messages is_closing out Told is_whole text now stops unclosed sent turned refuses counted =
-    told_happens s at old bytes messages is_closing out is_whole text now stops unclosed sent turned counted
-turn_happens s at old bytes messages is_closing out (Failed keep.Memory) is_whole text now stops unclosed sent turned refuses counted =
-    failed_happens s at old bytes messages is_closing out is_whole text now stops unclosed sent turned counted
-turn_happens s at old bytes messages is_closing out (Failed keep.Store) is_whole text now stops unclosed sent turned refuses counted =
-    stopped_happens s at old bytes messages is_closing out is_whole text now stops unclosed sent turned counted
-turn_happens s at old bytes messages is_closing out (Unread fault) is_whole text now stops unclosed sent turned refuses counted =
+turn_happens site s at old bytes messages is_closing out Told is_whole text now stops unclosed sent turned refuses counted =
+    told_happens site s at old bytes messages is_closing out is_whole text now stops unclosed sent turned counted
+turn_happens site s at old bytes messages is_closing out (Failed keep.Memory) is_whole text now stops unclosed sent turned refuses counted =
+    failed_happens site s at old bytes messages is_closing out is_whole text now stops unclosed sent turned counted
+turn_happens site s at old bytes messages is_closing out (Failed keep.Store) is_whole text now stops unclosed sent turned refuses counted =
+    stopped_happens site s at old bytes messages is_closing out is_whole text now stops unclosed sent turned counted
+turn_happens site s at old bytes messages is_closing out (Unread fault) is_whole text now stops unclosed sent turned refuses counted =
     let none : old.messages + 0 ≡ old.messages = omega arith in
-    unread_happens s at old bytes messages is_closing out fault is_whole text now stops unclosed sent turned refuses (counted ∙ none)
+    unread_happens site s at old bytes messages is_closing out fault is_whole text now stops unclosed sent turned refuses (counted ∙ none)
 
 -- the same, where a call's clauses give it
-abbrev pub Answers : State → Option ℕ → Talk → List ℕ → Bool → List ℕ → Turn → Bool → (State → Type 0) → (State → Type 0) → Type 0
-Answers s at old bytes is_closing out turn is_whole now stops =
+abbrev pub Answers : Site → State → Option ℕ → Talk → List ℕ → Bool → List ℕ → Turn → Bool → (State → Type 0) → (State → Type 0) → Type 0
+Answers site s at old bytes is_closing out turn is_whole now stops =
     (text : List ℕ) × (out ≡ old.out ++ sent_of is_whole text)
-    × Turns s (at ∷ []) old.messages old.bytes turn text now stops (Some bytes) is_closing
+    × Turns site s (at ∷ []) old.messages old.bytes turn text now stops (Some bytes) is_closing
 
-pub answer_happens : (s : State) (at : Option ℕ) (old : Talk) (bytes : List ℕ) (messages : ℕ) (is_closing : Bool) (out : List ℕ) (turn : Turn) (is_whole : Bool) (now stops : State → Type 0)
+pub answer_happens : (site : Site) (s : State) (at : Option ℕ) (old : Talk) (bytes : List ℕ) (messages : ℕ) (is_closing : Bool) (out : List ℕ) (turn : Turn) (is_whole : Bool) (now stops : State → Type 0)
     (ends : Bool) (r : Result (Unit {0}) ServeFault)
-    → old.is_closing ≡ false → Answers s at old bytes is_closing out turn is_whole now stops
+    → old.is_closing ≡ false → Answers site s at old bytes is_closing out turn is_whole now stops
     → Refused old turn bytes is_closing → messages ≡ old.messages + reads_one turn
     → ends ≡ takes_no_more is_closing turn is_whole → r ≡ outcome turn is_whole
-    → HappensTo r s (turns at) old (talk_of bytes messages ends out) now stops
-answer_happens s at old bytes messages is_closing out turn is_whole now stops ends r unclosed answers refuses counted ends_is is =
+    → HappensTo site r s (turns at) old (talk_of bytes messages ends out) now stops
+answer_happens site s at old bytes messages is_closing out turn is_whole now stops ends r unclosed answers refuses counted ends_is is =
     let new : Bool → Talk = λ b. talk_of bytes messages b out in
-    subst (λ (b : Bool). HappensTo r s (turns at) old (new b) now stops) (sym ends_is)
-    (subst (λ (q : Result (Unit {0}) ServeFault). HappensTo q s (turns at) old (new (takes_no_more is_closing turn is_whole)) now stops) (sym is)
-    (turn_happens s at old bytes messages is_closing out turn is_whole answers.0 now stops unclosed answers.1 answers.2 refuses counted))
+    subst (λ (b : Bool). HappensTo site r s (turns at) old (new b) now stops) (sym ends_is)
+    (subst (λ (q : Result (Unit {0}) ServeFault). HappensTo site q s (turns at) old (new (takes_no_more is_closing turn is_whole)) now stops) (sym is)
+    (turn_happens site s at old bytes messages is_closing out turn is_whole answers.0 now stops unclosed answers.1 answers.2 refuses counted))
 
 -- ---- what else may be done to it
 
-pub rests_closed : (s : State) (at : Option ℕ) (talk : Talk) (now stops : State → Type 0) → talk.is_closing ≡ true → now s → Only s stops → Comes None s (turns at) talk talk now stops
-rests_closed s at talk now stops closed held only = (rested, tt, refl, (inl closed, refl), record { held = held; stops = only })
+pub rests_closed : (site : Site) (s : State) (at : Option ℕ) (talk : Talk) (now stops : State → Type 0) → talk.is_closing ≡ true → now s → Only s stops → Comes site None s (turns at) talk talk now stops
+rests_closed site s at talk now stops closed held only = (rested, tt, refl, (inl closed, refl), record { held = held; stops = only })
 
-pub rests_waiting : {D : Type 0} (holds after_stop : D → State → Type 0) (s : State) (at : Option ℕ) (old new : Talk) (d e : D)
-    → IsUnfinished old.bytes → new ≡ old → e ≡ d → holds d s → Only s (after_stop d) → Comes None s (turns at) old new (holds e) (after_stop e)
-rests_waiting {D = D} holds after_stop s at old new d e unfinished same is held only =
-    subst (λ (x : D). Comes None s (turns at) old new (holds x) (after_stop x)) (sym is)
+pub rests_waiting : {D : Type 0} (site : Site) (holds after_stop : D → State → Type 0) (s : State) (at : Option ℕ) (old new : Talk) (d e : D)
+    → IsUnfinished old.bytes → new ≡ old → e ≡ d → holds d s → Only s (after_stop d) → Comes site None s (turns at) old new (holds e) (after_stop e)
+rests_waiting {D = D} site holds after_stop s at old new d e unfinished same is held only =
+    subst (λ (x : D). Comes site None s (turns at) old new (holds x) (after_stop x)) (sym is)
     (rested, tt, refl, (inr unfinished, same), record { held = held; stops = only })
 
-pub opened_comes : (s : State) (old new : Talk) (now stops : State → Type 0) → new ≡ silent → now s → Only s stops → Comes None s opens old new now stops
-opened_comes s old new now stops is held only = (opened, refl, refl, is, record { held = held; stops = only })
+pub opened_comes : (site : Site) (s : State) (old new : Talk) (now stops : State → Type 0) → new ≡ silent → now s → Only s stops → Comes site None s opens old new now stops
+opened_comes site s old new now stops is held only = (opened, refl, refl, is, record { held = held; stops = only })
 
-pub came_happens : (s : State) (old new : Talk) (piece : List ℕ) (now stops : State → Type 0)
+pub came_happens : (site : Site) (s : State) (old new : Talk) (piece : List ℕ) (now stops : State → Type 0)
     → new ≡ record { bytes = old.bytes ++ piece; messages = old.messages; is_closing = old.is_closing; out = old.out }
-    → now s → Only s stops → Comes None s (comes piece) old new now stops
-came_happens s old new piece now stops is held only = (came piece, inl refl, refl, is, record { held = held; stops = only })
+    → now s → Only s stops → Comes site None s (comes piece) old new now stops
+came_happens site s old new piece now stops is held only = (came piece, inl refl, refl, is, record { held = held; stops = only })
 
-pub gone_happens : (s : State) (old new : Talk) (piece : List ℕ) (now stops : State → Type 0)
+pub gone_happens : (site : Site) (s : State) (old new : Talk) (piece : List ℕ) (now stops : State → Type 0)
     → new ≡ record { bytes = old.bytes; messages = old.messages; is_closing = true; out = old.out }
-    → now s → Only s stops → HappensTo {T = Unit {0}} (Err fault.Memory) s (comes piece) old new now stops
-gone_happens s old new piece now stops is held only = (gone, inr refl, refl, is, record { held = held; stops = only })
+    → now s → Only s stops → HappensTo {T = Unit {0}} site (Err fault.Memory) s (comes piece) old new now stops
+gone_happens site s old new piece now stops is held only = (gone, inr refl, refl, is, record { held = held; stops = only })
 
-pub went_happens : (s : State) (old new : Talk) (count : ℕ) (now stops : State → Type 0)
+pub went_happens : (site : Site) (s : State) (old new : Talk) (count : ℕ) (now stops : State → Type 0)
     → new ≡ record { bytes = old.bytes; messages = old.messages; is_closing = old.is_closing; out = drop count old.out }
-    → now s → Only s stops → Comes None s (goes count) old new now stops
-went_happens s old new count now stops is held only =
+    → now s → Only s stops → Comes site None s (goes count) old new now stops
+went_happens site s old new count now stops is held only =
     (went (take count old.out), refl, refl, (drop count old.out, sym (take-append-drop count old.out), is), record { held = held; stops = only })

@@ -10,21 +10,22 @@ use Rattle.tb_serve.specs.Telling.{after}
 use Rattle.tb_turns.specs.Told.{IsSteady, handled, led_to, taken_on, texts}
 use Rattle.tb_turns.proofs.Interleaved.{served, state_is}
 use Rattle.tb_turns.proofs.Alone.{alone}
+use Rattle.tb_site.specs.declared.site.Site.{Site}
 
-steady : IsSteady server
-steady bytes m rest piece begins = message_more bytes piece m.received.message m.received.closes rest begins
+steady : (site : Site) → IsSteady (server site)
+steady site bytes m rest piece begins = message_more bytes piece m.received.message m.received.closes rest begins
 
-pub led_is : (s : State) (ms : List Timed) → led_to server s ms ≡ after s (calls_among ms)
-led_is s [] = refl
-led_is s (m ∷ ms) = led_is (after s (calls_at m)) ms ∙ sym (after_all-append s (calls_at m) (calls_among ms))
+pub led_is : (site : Site) (s : State) (ms : List Timed) → led_to (server site) s ms ≡ after s (calls_among ms)
+led_is site s [] = refl
+led_is site s (m ∷ ms) = led_is site (after s (calls_at m)) ms ∙ sym (after_all-append s (calls_at m) (calls_among ms))
 
 pub any_turns : AnyTurns
-any_turns s talks ks end later run =
-    (state_is server s talks ks end later run ∙ led_is s (handled ks), λ c same. served server steady c s talks ks end later run same)
+any_turns site s talks ks end later run =
+    (state_is (server site) s talks ks end later run ∙ led_is site s (handled ks), λ c same. served (server site) (steady site) c s talks ks end later run same)
 
-texts_are : (s : State) (before : ℕ) (ms : List Timed) → texts server s before ms ≡ answers s (moments_of ms) before (received_of ms)
-texts_are s before [] = refl
-texts_are s before (m ∷ ms) = ap (λ more. answer_to s m.at before m.received ++ more) (texts_are (after s (calls_at m)) (before + 1) ms)
+texts_are : (site : Site) (s : State) (before : ℕ) (ms : List Timed) → texts (server site) s before ms ≡ answers site s (moments_of ms) before (received_of ms)
+texts_are site s before [] = refl
+texts_are site s before (m ∷ ms) = ap (λ more. answer_to site s m.at before m.received ++ more) (texts_are site (after s (calls_at m)) (before + 1) ms)
 
 pub one_alone : OneAlone
-one_alone c s before ks at well = alone server c s before ks at well ∙ texts_are s before (taken_on c ks)
+one_alone site c s before ks at well = alone (server site) c s before ks at well ∙ texts_are site s before (taken_on c ks)

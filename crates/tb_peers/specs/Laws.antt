@@ -6,6 +6,7 @@ use Rattle.tb_peers.specs.Server.{Timed, calls_among, server}
 use Rattle.tb_serve.specs.Serving.{answers}
 use Rattle.tb_serve.specs.Telling.{after}
 use Rattle.tb_turns.specs.Turns.{Run, Step, Talk}
+use Rattle.tb_site.specs.declared.site.Site.{Site}
 use Rattle.tb_turns.specs.Told.{AllAt, AllWell, IsSame, IsServed, handled, taken_on, told_on}
 
 -- Whatever turns connections take: the state is the one that all their calls lead to, each acting once, in the order in
@@ -14,9 +15,9 @@ use Rattle.tb_turns.specs.Told.{AllAt, AllWell, IsSame, IsServed, handled, taken
 -- was handed is a front of its answers, in their order. All this is said up to where another is opened in its place.
 abbrev pub AnyTurns : Type 0
 AnyTurns =
-    (s : State) (talks : ℕ → Talk) (ks : List (Step (Option ℕ) Timed)) (end : State) (later : ℕ → Talk)
-    → Run server s talks ks end later
-    → (end ≡ after s (calls_among (handled ks))) × ((c : ℕ) → IsSame c ks → IsServed server c s (talks c) ks (later c))
+    (site : Site) (s : State) (talks : ℕ → Talk) (ks : List (Step (Option ℕ) Timed)) (end : State) (later : ℕ → Talk)
+    → Run (server site) s talks ks end later
+    → (end ≡ after s (calls_among (handled ks))) × ((c : ℕ) → IsSame c ks → IsServed (server site) c s (talks c) ks (later c))
 
 abbrev pub moments_of : List Timed → List (Option ℕ)
 moments_of [] = []
@@ -29,5 +30,5 @@ received_of (m ∷ ms) = m.received ∷ received_of ms
 -- where all is of one connection, and goes well, it is told what one that is served alone is told
 abbrev pub OneAlone : Type 0
 OneAlone =
-    (c : ℕ) (s : State) (before : ℕ) (ks : List (Step (Option ℕ) Timed)) → AllAt c ks → AllWell ks
-    → told_on server c s before ks ≡ answers s (moments_of (taken_on c ks)) before (received_of (taken_on c ks))
+    (site : Site) (c : ℕ) (s : State) (before : ℕ) (ks : List (Step (Option ℕ) Timed)) → AllAt c ks → AllWell ks
+    → told_on (server site) c s before ks ≡ answers site s (moments_of (taken_on c ks)) before (received_of (taken_on c ks))

@@ -15,12 +15,14 @@ use tb_calls::{Keep, KeepFault};
 use tb_desk::Desk;
 use tb_http::Inbox;
 use tb_serve::{Exchange, ServeFault, Turn, handle_message, send_unread};
+use tb_site::Paths;
 use tb_task::Moment;
 
 // Takes the next message and handles it, if it is whole.
 fn exchange_next<K: Keep>(
     alloc: Global,
     tools: &mut Tools,
+    paths: &Paths,
     inbox: &mut Inbox,
     out: &mut Vec<u8>,
     desk: &mut Desk<K>,
@@ -31,7 +33,7 @@ fn exchange_next<K: Keep>(
         × (inbox.new ≡ inbox.old) × (out.new.items ≡ out.old.items) × (desk.new ≡ desk.old)) }
     ensures exchanges { K.is_honest desk.new ≡ true → (s : State) → K.holds desk.old s
         → Only s (K.after_stop desk.old) → IfSome result (λ exchange.
-        Exchanges s (at ∷ []) inbox.old.messages inbox.old.bytes (Some out.old.items) (Some out.new.items) exchange
+        Exchanges paths.now.site s (at ∷ []) inbox.old.messages inbox.old.bytes (Some out.old.items) (Some out.new.items) exchange
         (K.holds desk.new) (K.after_stop desk.new) (Some inbox.new.bytes) inbox.new.is_closing) }
     ensures follows { IfSome result (λ exchange.
         Follows (has_stopped (exchanging.outcome exchange.turn exchange.is_whole))
@@ -50,7 +52,7 @@ fn exchange_next<K: Keep>(
             let is_last = inbox.closing();
             Some(handle_message(
                 alloc,
-                &tools.routes,
+                paths,
                 &mut tools.head,
                 out,
                 desk,
@@ -80,6 +82,7 @@ fn keep_whole(out: &mut Vec<u8>, kept: usize, is_whole: bool)
 pub(crate) fn answer_whole<K: Keep>(
     alloc: Global,
     tools: &mut Tools,
+    paths: &Paths,
     inbox: &mut Inbox,
     out: &mut Vec<u8>,
     desk: &mut Desk<K>,
@@ -91,7 +94,7 @@ pub(crate) fn answer_whole<K: Keep>(
     ensures answers { K.is_honest desk.new ≡ true → (s : State) → K.holds desk.old s
         → Only s (K.after_stop desk.old) → IfSome result (λ exchange.
         (text : List ℕ) × (out.new.items ≡ out.old.items ++ sent_of exchange.is_whole text)
-        × Turns s (at ∷ []) inbox.old.messages inbox.old.bytes exchange.turn text
+        × Turns paths.now.site s (at ∷ []) inbox.old.messages inbox.old.bytes exchange.turn text
         (K.holds desk.new) (K.after_stop desk.new) (Some inbox.new.bytes) inbox.new.is_closing) }
     ensures follows { IfSome result (λ exchange.
         Follows (has_stopped (exchanging.outcome exchange.turn exchange.is_whole))
@@ -105,7 +108,7 @@ pub(crate) fn answer_whole<K: Keep>(
         exchange.turn ≡ Turn.Failed KeepFault.Store → K.has_failed desk.new ≡ true) }
 {
     let kept = out.len();
-    let exchange = exchange_next(alloc, tools, inbox, out, desk, at)?;
+    let exchange = exchange_next(alloc, tools, paths, inbox, out, desk, at)?;
     keep_whole(out, kept, exchange.is_whole);
     Some(exchange)
 }

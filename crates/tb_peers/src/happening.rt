@@ -4,6 +4,7 @@ ghost use Rattle.tb_calls.specs.Calls.{State};
 ghost use Rattle.tb_calls.specs.Keeping.{Only};
 ghost use Rattle.tb_peers.specs.Following.{Follows, has_stopped};
 ghost use Rattle.tb_peers.specs.Happening.{Comes, Happens, HappensTo, done_of, talk_at};
+ghost use Rattle.tb_site.specs.declared.site.Site.{Site};
 ghost use Rattle.tb_turns.specs.Turns.{opens, comes, goes};
 
 use crate::peer::Peer;
@@ -12,6 +13,7 @@ use std::alloc::Global;
 use tb_calls::Keep;
 use tb_desk::Desk;
 use tb_serve::ServeFault;
+use tb_site::Paths;
 use tb_task::Moment;
 
 /// What is done to a connection.
@@ -28,15 +30,15 @@ pub enum Happening<'a> {
 }
 
 fn open<K: Keep>(alloc: Global, peer: &mut Peer, desk: &Desk<K>)
-    ensures { (s : State) → K.holds desk.now s → Only s (K.after_stop desk.now)
-        → Comes None s opens peer.old peer.new (K.holds desk.now) (K.after_stop desk.now) }
+    ensures { (site : Site) → (s : State) → K.holds desk.now s → Only s (K.after_stop desk.now)
+        → Comes site None s opens peer.old peer.new (K.holds desk.now) (K.after_stop desk.now) }
 {
     *peer = Peer::new(alloc);
 }
 
 fn come<K: Keep>(peer: &mut Peer, desk: &Desk<K>, piece: &[u8]) -> Result<(), ServeFault>
-    ensures happens { (s : State) → K.holds desk.now s → Only s (K.after_stop desk.now)
-        → HappensTo result s (comes piece.now) peer.old peer.new (K.holds desk.now) (K.after_stop desk.now) }
+    ensures happens { (site : Site) → (s : State) → K.holds desk.now s → Only s (K.after_stop desk.now)
+        → HappensTo site result s (comes piece.now) peer.old peer.new (K.holds desk.now) (K.after_stop desk.now) }
     ensures memory { IfErr result (λ fault. fault ≡ ServeFault.Memory) }
 {
     match peer.take(piece) {
@@ -46,8 +48,8 @@ fn come<K: Keep>(peer: &mut Peer, desk: &Desk<K>, piece: &[u8]) -> Result<(), Se
 }
 
 fn go<K: Keep>(alloc: Global, peer: &mut Peer, desk: &Desk<K>, count: usize)
-    ensures { (s : State) → K.holds desk.now s → Only s (K.after_stop desk.now)
-        → Comes None s (goes count) peer.old peer.new (K.holds desk.now) (K.after_stop desk.now) }
+    ensures { (site : Site) → (s : State) → K.holds desk.now s → Only s (K.after_stop desk.now)
+        → Comes site None s (goes count) peer.old peer.new (K.holds desk.now) (K.after_stop desk.now) }
 {
     peer.mark_sent(alloc, count);
 }
@@ -56,13 +58,14 @@ fn go<K: Keep>(alloc: Global, peer: &mut Peer, desk: &Desk<K>, count: usize)
 fn happen_to<K: Keep>(
     alloc: Global,
     tools: &mut Tools,
+    paths: &Paths,
     peer: &mut Peer,
     desk: &mut Desk<K>,
     happening: &Happening<'_>,
 ) -> Result<(), ServeFault>
     ensures happens { K.is_honest desk.new ≡ true → (s : State) → K.holds desk.old s
         → Only s (K.after_stop desk.old)
-        → HappensTo result s (done_of happening.now) peer.old peer.new (K.holds desk.new) (K.after_stop desk.new) }
+        → HappensTo paths.now.site result s (done_of happening.now) peer.old peer.new (K.holds desk.new) (K.after_stop desk.new) }
     ensures follows { Follows (has_stopped result) (K.holds desk.old) (K.after_stop desk.old)
         (K.holds desk.new) (K.after_stop desk.new) }
     ensures honest { K.is_honest desk.new ≡ true → K.is_honest desk.old ≡ true }
@@ -74,7 +77,7 @@ fn happen_to<K: Keep>(
             Ok(())
         }
         Happening::Came(piece) => come(peer, desk, piece),
-        Happening::Turn(at) => peer.answer_next(alloc, tools, desk, *at),
+        Happening::Turn(at) => peer.answer_next(alloc, tools, paths, desk, *at),
         Happening::Went(count) => {
             go(alloc, peer, desk, *count);
             Ok(())
@@ -88,6 +91,7 @@ fn happen_to<K: Keep>(
 pub fn happen<K: Keep>(
     alloc: Global,
     tools: &mut Tools,
+    paths: &Paths,
     peers: &mut [Peer],
     desk: &mut Desk<K>,
     place: usize,
@@ -96,14 +100,14 @@ pub fn happen<K: Keep>(
     requires { place < length peers.old }
     ensures happens { K.is_honest desk.new ≡ true → (s : State) → K.holds desk.old s
         → Only s (K.after_stop desk.old)
-        → Happens result s place (done_of happening.now) (talk_at peers.old) (talk_at peers.new)
+        → Happens paths.now.site result s place (done_of happening.now) (talk_at peers.old) (talk_at peers.new)
         (K.holds desk.new) (K.after_stop desk.new) }
     ensures follows { Follows (has_stopped result) (K.holds desk.old) (K.after_stop desk.old)
         (K.holds desk.new) (K.after_stop desk.new) }
     ensures honest { K.is_honest desk.new ≡ true → K.is_honest desk.old ≡ true }
     ensures failed { result ≡ Err ServeFault.Store → K.has_failed desk.new ≡ true }
 {
-    happen_to(alloc, tools, &mut peers[place], desk, happening)
+    happen_to(alloc, tools, paths, &mut peers[place], desk, happening)
 }
 
 /// Whether the store failed, so that nothing more is served.

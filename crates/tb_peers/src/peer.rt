@@ -16,6 +16,7 @@ use tb_calls::Keep;
 use tb_desk::Desk;
 use tb_http::Inbox;
 use tb_serve::ServeFault;
+use tb_site::Paths;
 use tb_task::Moment;
 
 /// How many bytes of room a connection keeps for its answers.
@@ -151,12 +152,13 @@ impl Peer {
         &mut self,
         alloc: Global,
         tools: &mut Tools,
+        paths: &Paths,
         desk: &mut Desk<K>,
         at: Option<Moment>,
     ) -> Result<(), ServeFault>
         ensures happens { K.is_honest desk.new ≡ true → (s : State) → K.holds desk.old s
             → Only s (K.after_stop desk.old)
-            → HappensTo result s (turns at) self.old self.new (K.holds desk.new) (K.after_stop desk.new) }
+            → HappensTo paths.now.site result s (turns at) self.old self.new (K.holds desk.new) (K.after_stop desk.new) }
         ensures follows { Follows (has_stopped result) (K.holds desk.old) (K.after_stop desk.old)
             (K.holds desk.new) (K.after_stop desk.new) }
         ensures honest { K.is_honest desk.new ≡ true → K.is_honest desk.old ≡ true }
@@ -167,8 +169,15 @@ impl Peer {
         }
         drop_front(&mut self.out, self.sent);
         self.sent = 0;
-        let Some(exchange) = answer_whole(alloc, tools, &mut self.inbox, &mut self.out, desk, at)
-        else {
+        let Some(exchange) = answer_whole(
+            alloc,
+            tools,
+            paths,
+            &mut self.inbox,
+            &mut self.out,
+            desk,
+            at,
+        ) else {
             return Ok(());
         };
         self.is_closing = takes_no_more(self.inbox.closing(), exchange);

@@ -11,22 +11,24 @@ use std::alloc::Global;
 use tb_calls::Keep;
 use tb_desk::Desk;
 use tb_serve::ServeFault;
+use tb_site::Paths;
 
 // One thing is done, where there is such a place. Only a failure of the store ends all.
 fn play_one<K: Keep>(
     alloc: Global,
     tools: &mut Tools,
+    paths: &Paths,
     peers: &mut [Peer],
     desk: &mut Desk<K>,
     entry: &(usize, Happening<'_>),
 ) -> Result<(), ServeFault>
     ensures plays { K.is_honest desk.new ≡ true → (s : State) → K.holds desk.old s
         → Only s (K.after_stop desk.old)
-        → OnOk result (Plays s (done_at (length peers.old) (entry.now ∷ [])) (talk_at peers.old) (talk_at peers.new)
+        → OnOk result (Plays paths.now.site s (done_at (length peers.old) (entry.now ∷ [])) (talk_at peers.old) (talk_at peers.new)
         (K.holds desk.new) (K.after_stop desk.new)) }
     ensures stopped { K.is_honest desk.new ≡ true → (s : State) → K.holds desk.old s
         → Only s (K.after_stop desk.old)
-        → OnErr result (IsStopped s (done_at (length peers.old) (entry.now ∷ [])) (talk_at peers.old) (talk_at peers.new)
+        → OnErr result (IsStopped paths.now.site s (done_at (length peers.old) (entry.now ∷ [])) (talk_at peers.old) (talk_at peers.new)
         (K.holds desk.new) (K.after_stop desk.new)) }
     ensures fault { IfErr result (λ fault. fault ≡ ServeFault.Store) }
     ensures honest { K.is_honest desk.new ≡ true → K.is_honest desk.old ≡ true }
@@ -37,7 +39,7 @@ fn play_one<K: Keep>(
     if *place >= peers.len() {
         return Ok(());
     }
-    let outcome = happen(alloc, tools, peers, desk, *place, happening);
+    let outcome = happen(alloc, tools, paths, peers, desk, *place, happening);
     if stops_all(outcome) {
         return Err(ServeFault::Store);
     }
@@ -49,24 +51,25 @@ fn play_one<K: Keep>(
 pub fn play<K: Keep>(
     alloc: Global,
     tools: &mut Tools,
+    paths: &Paths,
     peers: &mut [Peer],
     desk: &mut Desk<K>,
     happenings: &[(usize, Happening<'_>)],
 ) -> Result<(), ServeFault>
     ensures plays { K.is_honest desk.new ≡ true → (s : State) → K.holds desk.old s
         → Only s (K.after_stop desk.old)
-        → OnOk result (Plays s (done_at (length peers.old) happenings.now) (talk_at peers.old) (talk_at peers.new)
+        → OnOk result (Plays paths.now.site s (done_at (length peers.old) happenings.now) (talk_at peers.old) (talk_at peers.new)
         (K.holds desk.new) (K.after_stop desk.new)) }
     ensures stopped { K.is_honest desk.new ≡ true → (s : State) → K.holds desk.old s
         → Only s (K.after_stop desk.old)
-        → OnErr result (IsStopped s (done_at (length peers.old) happenings.now) (talk_at peers.old) (talk_at peers.new)
+        → OnErr result (IsStopped paths.now.site s (done_at (length peers.old) happenings.now) (talk_at peers.old) (talk_at peers.new)
         (K.holds desk.new) (K.after_stop desk.new)) }
     ensures fault { IfErr result (λ fault. fault ≡ ServeFault.Store) }
     ensures honest { K.is_honest desk.new ≡ true → K.is_honest desk.old ≡ true }
     ensures failed { IsErr result → K.has_failed desk.new ≡ true }
 {
     for entry in happenings {
-        play_one(alloc, tools, peers, desk, entry)?;
+        play_one(alloc, tools, paths, peers, desk, entry)?;
     }
     Ok(())
 }

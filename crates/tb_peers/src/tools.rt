@@ -1,11 +1,10 @@
 //! What connections share.
 use std::alloc::{AllocError, Global};
-use tb_http::{FieldRoom, HeadRoom, Routes};
+use tb_http::{FieldRoom, HeadRoom};
 
 /// What connections share, since one message is handled at a time.
 #[derive(Drop)]
 pub struct Tools {
-    pub(crate) routes: Routes,
     pub(crate) head: HeadRoom,
     pub(crate) fields: FieldRoom,
 }
@@ -13,7 +12,6 @@ pub struct Tools {
 impl Tools {
     pub fn new(alloc: Global) -> Result<Tools, AllocError> {
         Ok(Tools {
-            routes: Routes::new(alloc)?,
             head: HeadRoom::new(alloc)?,
             fields: FieldRoom::new(alloc)?,
         })

@@ -1,14 +1,17 @@
 -- The faults as they are told.
 use Rattle.std.specs.Prelude.{ℕ, Bool, true, false, List, codes}
 use Rattle.tb_program.specs.declared.fault.Fault.{Fault}
-use Rattle.tb_program.specs.declared.fault.Fault.TheVariants.{Bad, BadBody, Memory, NoClock, NoListen, NotEmpty, NotOurs, ReadFailed, Store, WriteFailed, WrongVersion}
+use Rattle.tb_program.specs.declared.fault.Fault.TheVariants.{Bad, BadBody, Memory, NoAnswer, NoClock, NoKey, NoListen, NoPage, NotEmpty, NotOurs, ReadFailed, Store, WriteFailed, WrongVersion}
 
 abbrev pub name_of : Fault → List ℕ
 name_of Bad = codes "Bad"
 name_of BadBody = codes "BadBody"
 name_of Memory = codes "Memory"
+name_of NoAnswer = codes "NoAnswer"
 name_of NoClock = codes "NoClock"
+name_of NoKey = codes "NoKey"
 name_of NoListen = codes "NoListen"
+name_of NoPage = codes "NoPage"
 name_of NotEmpty = codes "NotEmpty"
 name_of NotOurs = codes "NotOurs"
 name_of ReadFailed = codes "ReadFailed"

@@ -13,10 +13,16 @@ pub enum Fault {
     /// The text of an import is too long, or can't be read as its kind.
     BadBody,
     Memory,
+    /// No server answered while the message was sent again.
+    NoAnswer,
     /// The machine's clock gives no moment.
     NoClock,
+    /// The key can't be read from where it is kept, or others may read it there.
+    NoKey,
     /// The port can't be listened on.
     NoListen,
+    /// The folder of the page can't be read.
+    NoPage,
     /// The file has a table, an index or a view already.
     NotEmpty,
     /// The file doesn't have our tables.
@@ -38,8 +44,11 @@ impl Fault {
             Fault::Bad => "Bad",
             Fault::BadBody => "BadBody",
             Fault::Memory => "Memory",
+            Fault::NoAnswer => "NoAnswer",
             Fault::NoClock => "NoClock",
+            Fault::NoKey => "NoKey",
             Fault::NoListen => "NoListen",
+            Fault::NoPage => "NoPage",
             Fault::NotEmpty => "NotEmpty",
             Fault::NotOurs => "NotOurs",
             Fault::ReadFailed => "ReadFailed",

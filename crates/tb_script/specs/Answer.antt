@@ -4,7 +4,7 @@ use Rattle.std.specs.List.{filter_map}
 use Rattle.std.specs.Str.{is_utf8}
 use Rattle.tb_calls.specs.declared.call.Call.{Call}
 use Rattle.tb_calls.specs.declared.view.View.{View}
-use Rattle.tb_calls.specs.declared.view.View.TheVariants.{Listing, Export, Todo, One}
+use Rattle.tb_calls.specs.declared.view.View.TheVariants.{Listing, Export, Todo, One, People, Me}
 use Rattle.tb_calls.specs.Calls.{State, once, plain, reply}
 use Rattle.tb_calls.specs.Opening.{opening}
 use Rattle.tb_desk.specs.Views.{shown_in}
@@ -29,12 +29,14 @@ is_readable line = nat_le (length line) 1048576 && is_utf8 line
 unfoldable pub request_of : List ℕ → Result Asked Unreadable
 request_of line = if is_readable line then asked line else Err BadLine
 
--- one task is shown on a line of its own
+-- one task, people and boards are shown on a line of their own
 abbrev pub accepted_text : View → List ℕ → List ℕ
 accepted_text (Listing n) body = body
 accepted_text (Export n) body = body
 accepted_text (Todo n) body = body
 accepted_text (One n id) body = body ++ 10 ∷ []
+accepted_text (People n) body = body ++ 10 ∷ []
+accepted_text Me body = body ++ 10 ∷ []
 
 -- a view's text, or the reply that refuses it
 abbrev pub view_text : View → Reply → List ℕ

@@ -9,7 +9,7 @@ use Rattle.tb_core.specs.declared.action.Action.TheVariants.{Done, Delete, Reope
 use Rattle.tb_core.specs.declared.command.Command.TheVariants.{Add, Depend, ImportJson, ImportTodo, Modify, NewBoard, NewPerson, OnTask, SetRole, Sweep, Undepend}
 use Rattle.tb_script.specs.declared.asked.Request.{Request}
 use Rattle.tb_script.specs.declared.asked.Request.TheVariants.{Call, View as ViewOf}
-use Rattle.tb_calls.specs.declared.view.View.TheVariants.{Listing, Export, Todo, One}
+use Rattle.tb_calls.specs.declared.view.View.TheVariants.{Listing, Export, Todo, One, People, Me}
 use Rattle.tb_script.specs.declared.line_fault.Unreadable.{Unreadable}
 use Rattle.tb_script.specs.declared.line_fault.Unreadable.TheVariants.{BadLine}
 use Rattle.tb_script.specs.Arguments.{board_number, role_named}
@@ -17,6 +17,10 @@ use Rattle.tb_script.specs.Bodies.{edits_in, import_in, incoming_in, tasks_in}
 use Rattle.tb_script.specs.Outcome.{or_bad_line}
 
 -- ---- a word has its number of arguments
+
+abbrev pub none : {A : Type 0} → A → List (List ℕ) → Result A Unreadable
+none asks [] = Ok asks
+none asks (a ∷ more) = Err BadLine
 
 abbrev pub one : {A : Type 0} → (List ℕ → Result A Unreadable) → List (List ℕ) → Result A Unreadable
 one asks (a ∷ []) = asks a
@@ -71,6 +75,11 @@ abbrev pub showing : List (List ℕ) → Result Request Unreadable
 showing arguments = do
   t ← two task arguments
   Ok (ViewOf (One t.0 t.1))
+
+abbrev pub people : List ℕ → Result Request Unreadable
+people board = do
+  n ← or_bad_line (board_number board)
+  Ok (ViewOf (People n))
 
 -- ---- commands
 
@@ -168,4 +177,6 @@ request_in word arguments at =
     else if bytes_eq word (codes "person") then two new_person arguments
     else if bytes_eq word (codes "board") then one new_board arguments
     else if bytes_eq word (codes "role") then three set_role arguments
+    else if bytes_eq word (codes "people") then one people arguments
+    else if bytes_eq word (codes "me") then none (ViewOf Me) arguments
     else Err BadLine

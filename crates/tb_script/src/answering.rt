@@ -107,8 +107,8 @@ fn write_view(alloc: Global, view: &View, reply: Reply) -> Result<Text, AllocErr
         return write_reply(alloc, &reply);
     }
     match view {
-        View::One(_, _) => end_line(reply.body),
-        _ => Ok(reply.body),
+        View::One(_, _) | View::People(_) | View::Me => end_line(reply.body),
+        View::Listing(_) | View::Export(_) | View::Todo(_) => Ok(reply.body),
     }
 }
 

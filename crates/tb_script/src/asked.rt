@@ -9,7 +9,7 @@ use tb_task::Moment;
 pub enum Request {
     /// A command, which may change the world.
     Call(Command),
-    /// A look at a board, which changes nothing.
+    /// A look, which changes nothing.
     View(View),
 }
 
@@ -20,7 +20,7 @@ pub enum Asked {
     View(Look),
 }
 
-/// A look at a board, by whom and when.
+/// A look, by whom and when.
 #[derive(Drop)]
 pub struct Look {
     pub member: Name,

@@ -2,7 +2,9 @@
 ghost use Rattle.std.specs.Prelude.{◌≡◌, map};
 ghost use Rattle.tb_core.specs.declared.action.Action.TheVariants.{Annotate, Denotate};
 ghost use Rattle.tb_script.specs.Outcome.{Reads};
-ghost use Rattle.tb_script.specs.Words.{acting, acting_with, adding, new_board, export, set_role, importing, importing_todo, new_person, link, linking, listing, modifying, one, request_in, showing, sweeping, task, three, todo, two, unlinking};
+ghost use Rattle.tb_script.specs.declared.asked.Request.TheVariants.{View as ViewOf};
+ghost use Rattle.tb_calls.specs.declared.view.View.TheVariants.{Me};
+ghost use Rattle.tb_script.specs.Words.{acting, acting_with, adding, new_board, export, set_role, importing, importing_todo, new_person, link, linking, listing, modifying, none, one, people, request_in, showing, sweeping, task, three, todo, two, unlinking};
 
 use crate::arguments::{read_board, read_heading, read_person, read_role, read_secret, read_uuid};
 use crate::asked::Request;
@@ -45,6 +47,8 @@ pub(crate) fn read_request(
         "person" => read_new_person(alloc, arguments),
         "board" => read_new_board(alloc, arguments),
         "role" => read_set_role(alloc, arguments),
+        "people" => read_people(arguments),
+        "me" => read_me(arguments),
         _ => Err(LineFault::bad_line()),
     }
 }
@@ -121,6 +125,24 @@ fn read_shown(arguments: &[&str]) -> Result<Request, LineFault>
 {
     let (board, id) = read_task_alone(arguments)?;
     Ok(Request::View(View::One(board, id)))
+}
+
+fn read_people(arguments: &[&str]) -> Result<Request, LineFault>
+    ensures { Reads result (one people (map (λ argument. argument.now) arguments.entry.now)) }
+{
+    let [board] = arguments else {
+        return Err(LineFault::bad_line());
+    };
+    Ok(Request::View(View::People(read_board(board)?)))
+}
+
+fn read_me(arguments: &[&str]) -> Result<Request, LineFault>
+    ensures { Reads result (none (ViewOf Me) (map (λ argument. argument.now) arguments.entry.now)) }
+{
+    match arguments {
+        [] => Ok(Request::View(View::Me)),
+        _ => Err(LineFault::bad_line()),
+    }
 }
 
 fn read_add(alloc: Global, arguments: &[&str], at: Moment) -> Result<Request, LineFault>

@@ -18,61 +18,62 @@ use Rattle.tb_serve.specs.declared.serving.Turn.TheVariants.{Told, Failed, Unrea
 use Rattle.tb_serve.specs.Serving.{Exchanges, Handles, HandlesMessage, IsServed, Sends, Turns, answer_to, answers, calls_of, ended_by, ended_well, ends_last, goes_on, later, left_by, next, no_start, none_closes}
 use Rattle.tb_serve.specs.Telling.{StandsAt, after, calls_in}
 use Rattle.tb_serve.proofs.Lists.{answers-push, brings-push, calls-push, ends-push, left-push, none-push, reached, reached-after}
+use Rattle.tb_site.specs.declared.site.Site.{Site}
 
 -- ---- a message that was read and handled
 
-turned : (s : State) (clock : List (Option ℕ)) (before : ℕ) (bytes rest : List ℕ) (message : Message) (closes is_closing flag : Bool) (at : Option ℕ) (turn : Turn) (text : List ℕ) (now stops : State → Type 0)
+turned : (site : Site) (s : State) (clock : List (Option ℕ)) (before : ℕ) (bytes rest : List ℕ) (message : Message) (closes is_closing flag : Bool) (at : Option ℕ) (turn : Turn) (text : List ℕ) (now stops : State → Type 0)
     → BeginsWithMessage bytes message closes rest → is_closing ≡ is_last closes before → flag ≡ is_last closes before → at ≡ next clock
-    → Handles s at flag message turn text now stops → Turns s clock before bytes turn text now stops (Some rest) is_closing
-turned s clock before bytes rest message closes is_closing flag at Told text now stops begins last same is handles =
-    let P : Bool → Option ℕ → Type 0 = λ c a. Handles s a c message Told text now stops in
+    → Handles site s at flag message turn text now stops → Turns site s clock before bytes turn text now stops (Some rest) is_closing
+turned site s clock before bytes rest message closes is_closing flag at Told text now stops begins last same is handles =
+    let P : Bool → Option ℕ → Type 0 = λ c a. Handles site s a c message Told text now stops in
     let m : Received = record { message = message; closes = closes } in
     (m, rest, begins, refl, last, subst (λ (a : Option ℕ). P (is_last closes before) a) is (subst (λ (c : Bool). P c at) same handles))
-turned s clock before bytes rest message closes is_closing flag at (Failed fault) text now stops begins last same is handles =
-    let P : Bool → Option ℕ → Type 0 = λ c a. Handles s a c message (Failed fault) text now stops in
+turned site s clock before bytes rest message closes is_closing flag at (Failed fault) text now stops begins last same is handles =
+    let P : Bool → Option ℕ → Type 0 = λ c a. Handles site s a c message (Failed fault) text now stops in
     let m : Received = record { message = message; closes = closes } in
     (m, rest, begins, refl, last, subst (λ (a : Option ℕ). P (is_last closes before) a) is (subst (λ (c : Bool). P c at) same handles))
-turned s clock before bytes rest message closes is_closing flag at (Unread fault) text now stops begins last same is handles = absurd handles
+turned site s clock before bytes rest message closes is_closing flag at (Unread fault) text now stops begins last same is handles = absurd handles
 
-pub exchanged : (s : State) (known left : Option (List ℕ)) (moments later_moments : Option (List (Option ℕ))) (before : ℕ) (message : Message) (is_closing flag : Bool) (at : Option ℕ) (old new : Option (List ℕ)) (exchange : Exchange) (now stops : State → Type 0)
+pub exchanged : (site : Site) (s : State) (known left : Option (List ℕ)) (moments later_moments : Option (List (Option ℕ))) (before : ℕ) (message : Message) (is_closing flag : Bool) (at : Option ℕ) (old new : Option (List ℕ)) (exchange : Exchange) (now stops : State → Type 0)
     → IfSome known (λ bytes. IsSomeAnd left (λ rest. (closes : Bool) × BeginsWithMessage bytes message closes rest × (is_closing ≡ is_last closes before)))
     → flag ≡ is_closing
     → IfSome moments (λ clock. (at ≡ next clock) × (later_moments ≡ Some (later clock)))
-    → HandlesMessage s at flag message old new exchange.turn exchange.is_whole now stops
-    → IfSome known (λ bytes. IfSome moments (λ clock. Exchanges s clock before bytes old new exchange now stops left is_closing))
-exchanged s None left moments later_moments before message is_closing flag at old new exchange now stops begins same given handles = tt
-exchanged s (Some bytes) left None later_moments before message is_closing flag at old new exchange now stops begins same given handles = tt
-exchanged s (Some bytes) None (Some clock) later_moments before message is_closing flag at old new exchange now stops begins same given handles = absurd begins
-exchanged s (Some bytes) (Some rest) (Some clock) later_moments before message is_closing flag at old new exchange now stops begins same given handles = (
+    → HandlesMessage site s at flag message old new exchange.turn exchange.is_whole now stops
+    → IfSome known (λ bytes. IfSome moments (λ clock. Exchanges site s clock before bytes old new exchange now stops left is_closing))
+exchanged site s None left moments later_moments before message is_closing flag at old new exchange now stops begins same given handles = tt
+exchanged site s (Some bytes) left None later_moments before message is_closing flag at old new exchange now stops begins same given handles = tt
+exchanged site s (Some bytes) None (Some clock) later_moments before message is_closing flag at old new exchange now stops begins same given handles = absurd begins
+exchanged site s (Some bytes) (Some rest) (Some clock) later_moments before message is_closing flag at old new exchange now stops begins same given handles = (
   handles.0,
   handles.1,
-  turned s clock before bytes rest message begins.0 is_closing flag at exchange.turn handles.0 now stops begins.1 begins.2 (same ∙ begins.2) given.0 handles.2,
+  turned site s clock before bytes rest message begins.0 is_closing flag at exchange.turn handles.0 now stops begins.1 begins.2 (same ∙ begins.2) given.0 handles.2,
 )
 
 -- ---- a run of turns
 
 -- The messages so far were all answered whole.
-pub record SoFar (s : State) (moments : List (Option ℕ)) (bytes : List ℕ) (known : Option (List ℕ)) (clock : Option (List (Option ℕ))) (old new : Option (List ℕ)) (now : State → Type 0) (stops : State → Type 0) (count : ℕ) (is_closing : Bool) : Type 0 where
+pub record SoFar (site : Site) (s : State) (moments : List (Option ℕ)) (bytes : List ℕ) (known : Option (List ℕ)) (clock : Option (List (Option ℕ))) (old new : Option (List ℕ)) (now : State → Type 0) (stops : State → Type 0) (count : ℕ) (is_closing : Bool) : Type 0 where
   pub told : List Received
   pub left : List ℕ
   pub brings : Brings bytes told left
   pub is_left : known ≡ Some left
   pub clock_is : clock ≡ Some (left_by moments told)
-  pub written : Appends old new (answers s moments 0 told)
+  pub written : Appends old new (answers site s moments 0 told)
   pub stands : StandsAt (after s (calls_of moments told)) now stops
   pub counted : count ≡ length told
   pub unclosed : is_closing ≡ false → none_closes 0 told ≡ true
   pub closing : is_closing ≡ true → ends_last 0 told ≡ true
 
-abbrev pub Runs : State → Option (List ℕ) → Option (List (Option ℕ)) → Option (List ℕ) → Option (List (Option ℕ)) → Option (List ℕ) → Option (List ℕ) → (State → Type 0) → (State → Type 0) → ℕ → Bool → Type 0
-Runs s source moments known clock old new now stops count is_closing =
-    IfSome source (λ bytes. IfSome moments (λ all. SoFar s all bytes known clock old new now stops count is_closing))
+abbrev pub Runs : Site → State → Option (List ℕ) → Option (List (Option ℕ)) → Option (List ℕ) → Option (List (Option ℕ)) → Option (List ℕ) → Option (List ℕ) → (State → Type 0) → (State → Type 0) → ℕ → Bool → Type 0
+Runs site s source moments known clock old new now stops count is_closing =
+    IfSome source (λ bytes. IfSome moments (λ all. SoFar site s all bytes known clock old new now stops count is_closing))
 
-pub run_none : (s : State) (source : Option (List ℕ)) (moments : Option (List (Option ℕ))) (old : Option (List ℕ)) (now stops : State → Type 0) (count : ℕ) (is_closing : Bool)
-    → count ≡ 0 → is_closing ≡ false → now s → Only s stops → Runs s source moments source moments old old now stops count is_closing
-run_none s None moments old now stops count is_closing none opened held only = tt
-run_none s (Some bytes) None old now stops count is_closing none opened held only = tt
-run_none s (Some bytes) (Some all) old now stops count is_closing none opened held only = record {
+pub run_none : (site : Site) (s : State) (source : Option (List ℕ)) (moments : Option (List (Option ℕ))) (old : Option (List ℕ)) (now stops : State → Type 0) (count : ℕ) (is_closing : Bool)
+    → count ≡ 0 → is_closing ≡ false → now s → Only s stops → Runs site s source moments source moments old old now stops count is_closing
+run_none site s None moments old now stops count is_closing none opened held only = tt
+run_none site s (Some bytes) None old now stops count is_closing none opened held only = tt
+run_none site s (Some bytes) (Some all) old now stops count is_closing none opened held only = record {
   told = [];
   left = bytes;
   brings = refl;
@@ -89,27 +90,27 @@ at_some : {A : Type 0} (o : Option A) (x : A) (P : A → Type 0) → o ≡ Some 
 at_some o x P is p = subst (λ v. IfSome v P) is p
 
 -- what the next turn says, behind the messages so far
-abbrev pub Goes : Option (List ℕ) → Option (List (Option ℕ)) → ℕ → Option (List ℕ) → Option (List ℕ) → Exchange → (State → Type 0) → (State → Type 0) → (State → Type 0) → (State → Type 0) → Option (List ℕ) → Bool → Type 0
-Goes known clock count new newer exchange now stops next_now next_stops left is_closing =
-    (t : State) → now t → Only t stops → IfSome known (λ bytes. IfSome clock (λ moments. Exchanges t moments count bytes new newer exchange next_now next_stops left is_closing))
+abbrev pub Goes : Site → Option (List ℕ) → Option (List (Option ℕ)) → ℕ → Option (List ℕ) → Option (List ℕ) → Exchange → (State → Type 0) → (State → Type 0) → (State → Type 0) → (State → Type 0) → Option (List ℕ) → Bool → Type 0
+Goes site known clock count new newer exchange now stops next_now next_stops left is_closing =
+    (t : State) → now t → Only t stops → IfSome known (λ bytes. IfSome clock (λ moments. Exchanges site t moments count bytes new newer exchange next_now next_stops left is_closing))
 
-here : (s : State) (all : List (Option ℕ)) (bytes : List ℕ) (known : Option (List ℕ)) (clock : Option (List (Option ℕ))) (old new newer : Option (List ℕ)) (now stops next_now next_stops : State → Type 0) (count : ℕ) (is_closing closing : Bool) (exchange : Exchange) (left : Option (List ℕ))
-    → (r : SoFar s all bytes known clock old new now stops count is_closing) → Goes known clock count new newer exchange now stops next_now next_stops left closing
-    → Exchanges (after s (calls_of all r.told)) (left_by all r.told) count r.left new newer exchange next_now next_stops left closing
-here s all bytes known clock old new newer now stops next_now next_stops count is_closing closing exchange left r goes =
+here : (site : Site) (s : State) (all : List (Option ℕ)) (bytes : List ℕ) (known : Option (List ℕ)) (clock : Option (List (Option ℕ))) (old new newer : Option (List ℕ)) (now stops next_now next_stops : State → Type 0) (count : ℕ) (is_closing closing : Bool) (exchange : Exchange) (left : Option (List ℕ))
+    → (r : SoFar site s all bytes known clock old new now stops count is_closing) → Goes site known clock count new newer exchange now stops next_now next_stops left closing
+    → Exchanges site (after s (calls_of all r.told)) (left_by all r.told) count r.left new newer exchange next_now next_stops left closing
+here site s all bytes known clock old new newer now stops next_now next_stops count is_closing closing exchange left r goes =
     let t = after s (calls_of all r.told) in
-    at_some clock (left_by all r.told) (λ moments. Exchanges t moments count r.left new newer exchange next_now next_stops left closing) r.clock_is
-    (at_some known r.left (λ b. IfSome clock (λ moments. Exchanges t moments count b new newer exchange next_now next_stops left closing)) r.is_left (goes t r.stands.held r.stands.stops))
+    at_some clock (left_by all r.told) (λ moments. Exchanges site t moments count r.left new newer exchange next_now next_stops left closing) r.clock_is
+    (at_some known r.left (λ b. IfSome clock (λ moments. Exchanges site t moments count b new newer exchange next_now next_stops left closing)) r.is_left (goes t r.stands.held r.stands.stops))
 
 -- one message more was told, and its answer written whole
-more : (s : State) (all : List (Option ℕ)) (bytes : List ℕ) (known : Option (List ℕ)) (clock later_clock : Option (List (Option ℕ))) (old new newer : Option (List ℕ)) (now stops next_now next_stops : State → Type 0) (count : ℕ) (is_closing closing : Bool) (left : Option (List ℕ)) (text : List ℕ)
-    → (r : SoFar s all bytes known clock old new now stops count is_closing)
+more : (site : Site) (s : State) (all : List (Option ℕ)) (bytes : List ℕ) (known : Option (List ℕ)) (clock later_clock : Option (List (Option ℕ))) (old new newer : Option (List ℕ)) (now stops next_now next_stops : State → Type 0) (count : ℕ) (is_closing closing : Bool) (left : Option (List ℕ)) (text : List ℕ)
+    → (r : SoFar site s all bytes known clock old new now stops count is_closing)
     → Appends new newer text
-    → Turns (after s (calls_of all r.told)) (left_by all r.told) count r.left Told text next_now next_stops left closing
+    → Turns site (after s (calls_of all r.told)) (left_by all r.told) count r.left Told text next_now next_stops left closing
     → is_closing ≡ false
     → later_clock ≡ Some (later (left_by all r.told))
-    → SoFar s all bytes left later_clock old newer next_now next_stops (count + 1) closing
-more s all bytes known clock later_clock old new newer now stops next_now next_stops count is_closing closing left text r wrote turn unclosed passed =
+    → SoFar site s all bytes left later_clock old newer next_now next_stops (count + 1) closing
+more site s all bytes known clock later_clock old new newer now stops next_now next_stops count is_closing closing left text r wrote turn unclosed passed =
     let told = r.told in
     let t = after s (calls_of all told) in
     let at = next (left_by all told) in
@@ -117,10 +118,10 @@ more s all bytes known clock later_clock old new newer now stops next_now next_s
     let calls = calls_in m.message at in
     let counted : count ≡ 0 + length told = omega (arith, r.counted) in
     let last : closing ≡ is_last m.closes (0 + length told) = turn.4 ∙ ap (λ k. is_last m.closes k) counted in
-    let text_is : text ≡ answer_to (reached s all told) at (0 + length told) m =
-    turn.5.0 ∙ ap (λ u. answer_to u at count m) (sym (reached-after s all told)) ∙ ap (λ k. answer_to (reached s all told) at k m) counted in
-    let whole : answers s all 0 told ++ text ≡ answers s all 0 (told ++ m ∷ []) =
-    ap (λ x. answers s all 0 told ++ x) text_is ∙ sym (answers-push s all 0 told m) in
+    let text_is : text ≡ answer_to site (reached s all told) at (0 + length told) m =
+    turn.5.0 ∙ ap (λ u. answer_to site u at count m) (sym (reached-after s all told)) ∙ ap (λ k. answer_to site (reached s all told) at k m) counted in
+    let whole : answers site s all 0 told ++ text ≡ answers site s all 0 (told ++ m ∷ []) =
+    ap (λ x. answers site s all 0 told ++ x) text_is ∙ sym (answers-push site s all 0 told m) in
     let stood : after t calls ≡ after s (calls_of all (told ++ m ∷ [])) =
     sym (after_all-append s (calls_of all told) calls) ∙ ap (λ cs. after s cs) (sym (calls-push all told m)) in
     record {
@@ -141,23 +142,23 @@ told_on Told is_whole on = (refl, on)
 told_on (Failed fault) is_whole on = absurd (cc)
 told_on (Unread fault) is_whole on = absurd (cc)
 
-pub run_more : (s : State) (source : Option (List ℕ)) (moments : Option (List (Option ℕ))) (known : Option (List ℕ)) (clock later_clock : Option (List (Option ℕ))) (old new newer : Option (List ℕ)) (now stops next_now next_stops : State → Type 0) (count next_count : ℕ) (is_closing closing : Bool) (exchange : Exchange) (left : Option (List ℕ))
-    → Runs s source moments known clock old new now stops count is_closing
-    → Goes known clock count new newer exchange now stops next_now next_stops left closing
+pub run_more : (site : Site) (s : State) (source : Option (List ℕ)) (moments : Option (List (Option ℕ))) (known : Option (List ℕ)) (clock later_clock : Option (List (Option ℕ))) (old new newer : Option (List ℕ)) (now stops next_now next_stops : State → Type 0) (count next_count : ℕ) (is_closing closing : Bool) (exchange : Exchange) (left : Option (List ℕ))
+    → Runs site s source moments known clock old new now stops count is_closing
+    → Goes site known clock count new newer exchange now stops next_now next_stops left closing
     → is_closing ≡ false
     → goes_on exchange.turn exchange.is_whole ≡ true
     → IfSome clock (λ c. later_clock ≡ Some (later c))
     → next_count ≡ count + 1
-    → Runs s source moments left later_clock old newer next_now next_stops next_count closing
-run_more s None moments known clock later_clock old new newer now stops next_now next_stops count next_count is_closing closing exchange left run goes unclosed on passed counted = tt
-run_more s (Some bytes) None known clock later_clock old new newer now stops next_now next_stops count next_count is_closing closing exchange left run goes unclosed on passed counted = tt
-run_more s (Some bytes) (Some all) known clock later_clock old new newer now stops next_now next_stops count next_count is_closing closing exchange left run goes unclosed on passed counted =
-    let at = here s all bytes known clock old new newer now stops next_now next_stops count is_closing closing exchange left run goes in
+    → Runs site s source moments left later_clock old newer next_now next_stops next_count closing
+run_more site s None moments known clock later_clock old new newer now stops next_now next_stops count next_count is_closing closing exchange left run goes unclosed on passed counted = tt
+run_more site s (Some bytes) None known clock later_clock old new newer now stops next_now next_stops count next_count is_closing closing exchange left run goes unclosed on passed counted = tt
+run_more site s (Some bytes) (Some all) known clock later_clock old new newer now stops next_now next_stops count next_count is_closing closing exchange left run goes unclosed on passed counted =
+    let at = here site s all bytes known clock old new newer now stops next_now next_stops count is_closing closing exchange left run goes in
     let t = after s (calls_of all run.told) in
-    subst (λ (k : ℕ). SoFar s all bytes left later_clock old newer next_now next_stops k closing) (sym counted)
-    (more s all bytes known clock later_clock old new newer now stops next_now next_stops count is_closing closing left at.0 run
+    subst (λ (k : ℕ). SoFar site s all bytes left later_clock old newer next_now next_stops k closing) (sym counted)
+    (more site s all bytes known clock later_clock old new newer now stops next_now next_stops count is_closing closing left at.0 run
     (subst (λ (b : Bool). Sends new newer [] at.0 b) (told_on exchange.turn exchange.is_whole on).1 at.1)
-    (subst (λ (u : Turn). Turns t (left_by all run.told) count run.left u at.0 next_now next_stops left closing) (told_on exchange.turn exchange.is_whole on).0 at.2)
+    (subst (λ (u : Turn). Turns site t (left_by all run.told) count run.left u at.0 next_now next_stops left closing) (told_on exchange.turn exchange.is_whole on).0 at.2)
     unclosed
     (at_some clock (left_by all run.told) (λ c. later_clock ≡ Some (later c)) run.clock_is passed))
 
@@ -204,19 +205,19 @@ sends_behind old new newer front text true before sends = Appends-then old new n
 sends_behind old new newer front text false before sends = (sends.0, sends.1, Appends-then old new newer front (take sends.0 text) before sends.2)
 
 -- the end of a connection whose bytes and moments may be known
-abbrev pub Ends : State → Option (List ℕ) → Option (List (Option ℕ)) → Option (List ℕ) → Option (List ℕ) → (State → Type 0) → (State → Type 0) → ServeEnd → Type 0
-Ends s source moments old new now stops end = IfSome source (λ bytes. IfSome moments (λ all. IsServed s all bytes old new now stops end))
+abbrev pub Ends : Site → State → Option (List ℕ) → Option (List (Option ℕ)) → Option (List ℕ) → Option (List ℕ) → (State → Type 0) → (State → Type 0) → ServeEnd → Type 0
+Ends site s source moments old new now stops end = IfSome source (λ bytes. IfSome moments (λ all. IsServed site s all bytes old new now stops end))
 
 -- by an exchange that was no whole answer to a message
-pub run_ends : (s : State) (source : Option (List ℕ)) (moments : Option (List (Option ℕ))) (known : Option (List ℕ)) (clock : Option (List (Option ℕ))) (old new newer : Option (List ℕ)) (now stops next_now next_stops : State → Type 0) (count : ℕ) (is_closing closing : Bool) (exchange : Exchange) (left : Option (List ℕ)) (end : ServeEnd)
-    → Runs s source moments known clock old new now stops count is_closing
-    → Goes known clock count new newer exchange now stops next_now next_stops left closing
+pub run_ends : (site : Site) (s : State) (source : Option (List ℕ)) (moments : Option (List (Option ℕ))) (known : Option (List ℕ)) (clock : Option (List (Option ℕ))) (old new newer : Option (List ℕ)) (now stops next_now next_stops : State → Type 0) (count : ℕ) (is_closing closing : Bool) (exchange : Exchange) (left : Option (List ℕ)) (end : ServeEnd)
+    → Runs site s source moments known clock old new now stops count is_closing
+    → Goes site known clock count new newer exchange now stops next_now next_stops left closing
     → is_closing ≡ false → goes_on exchange.turn exchange.is_whole ≡ false → end ≡ ended_by count exchange
-    → Ends s source moments old newer next_now next_stops end
-run_ends s None moments known clock old new newer now stops next_now next_stops count is_closing closing exchange left end run goes unclosed cut counts = tt
-run_ends s (Some bytes) None known clock old new newer now stops next_now next_stops count is_closing closing exchange left end run goes unclosed cut counts = tt
-run_ends s (Some bytes) (Some all) known clock old new newer now stops next_now next_stops count is_closing closing exchange left end run goes unclosed cut counts =
-    let at = here s all bytes known clock old new newer now stops next_now next_stops count is_closing closing exchange left run goes in
+    → Ends site s source moments old newer next_now next_stops end
+run_ends site s None moments known clock old new newer now stops next_now next_stops count is_closing closing exchange left end run goes unclosed cut counts = tt
+run_ends site s (Some bytes) None known clock old new newer now stops next_now next_stops count is_closing closing exchange left end run goes unclosed cut counts = tt
+run_ends site s (Some bytes) (Some all) known clock old new newer now stops next_now next_stops count is_closing closing exchange left end run goes unclosed cut counts =
+    let at = here site s all bytes known clock old new newer now stops next_now next_stops count is_closing closing exchange left run goes in
     let t = after s (calls_of all run.told) in
     inr (inl (record {
       told = run.told;
@@ -226,18 +227,18 @@ run_ends s (Some bytes) (Some all) known clock old new newer now stops next_now 
       exchange = exchange;
       ends = cut;
       text = at.0;
-      sends = sends_behind old new newer (answers s all 0 run.told) at.0 exchange.is_whole run.written at.1;
-      turns = (left, closing, subst (λ (k : ℕ). Turns t (left_by all run.told) k run.left exchange.turn at.0 next_now next_stops left closing) run.counted at.2);
+      sends = sends_behind old new newer (answers site s all 0 run.told) at.0 exchange.is_whole run.written at.1;
+      turns = (left, closing, subst (λ (k : ℕ). Turns site t (left_by all run.told) k run.left exchange.turn at.0 next_now next_stops left closing) run.counted at.2);
       counts = counts ∙ ap (λ k. ended_by k exchange) run.counted;
     }))
 
 -- by a message that closes it
-pub run_closed : (s : State) (source : Option (List ℕ)) (moments : Option (List (Option ℕ))) (known : Option (List ℕ)) (clock : Option (List (Option ℕ))) (old new : Option (List ℕ)) (now stops : State → Type 0) (count : ℕ) (is_closing : Bool) (end : ServeEnd)
-    → Runs s source moments known clock old new now stops count is_closing → is_closing ≡ true → end ≡ ended_well count
-    → Ends s source moments old new now stops end
-run_closed s None moments known clock old new now stops count is_closing end run closed counts = tt
-run_closed s (Some bytes) None known clock old new now stops count is_closing end run closed counts = tt
-run_closed s (Some bytes) (Some all) known clock old new now stops count is_closing end run closed counts =
+pub run_closed : (site : Site) (s : State) (source : Option (List ℕ)) (moments : Option (List (Option ℕ))) (known : Option (List ℕ)) (clock : Option (List (Option ℕ))) (old new : Option (List ℕ)) (now stops : State → Type 0) (count : ℕ) (is_closing : Bool) (end : ServeEnd)
+    → Runs site s source moments known clock old new now stops count is_closing → is_closing ≡ true → end ≡ ended_well count
+    → Ends site s source moments old new now stops end
+run_closed site s None moments known clock old new now stops count is_closing end run closed counts = tt
+run_closed site s (Some bytes) None known clock old new now stops count is_closing end run closed counts = tt
+run_closed site s (Some bytes) (Some all) known clock old new now stops count is_closing end run closed counts =
     inl (record {
       told = run.told;
       left = run.left;
@@ -249,9 +250,9 @@ run_closed s (Some bytes) (Some all) known clock old new now stops count is_clos
     })
 
 -- without memory to begin with
-pub unstarted : (s : State) (source : Option (List ℕ)) (moments : Option (List (Option ℕ))) (old : Option (List ℕ)) (now stops : State → Type 0) (end : ServeEnd)
-    → now s → Only s stops → end ≡ no_start → Ends s source moments old old now stops end
-unstarted s None moments old now stops end held only counts = tt
-unstarted s (Some bytes) None old now stops end held only counts = tt
-unstarted s (Some bytes) (Some all) old now stops end held only counts =
+pub unstarted : (site : Site) (s : State) (source : Option (List ℕ)) (moments : Option (List (Option ℕ))) (old : Option (List ℕ)) (now stops : State → Type 0) (end : ServeEnd)
+    → now s → Only s stops → end ≡ no_start → Ends site s source moments old old now stops end
+unstarted site s None moments old now stops end held only counts = tt
+unstarted site s (Some bytes) None old now stops end held only counts = tt
+unstarted site s (Some bytes) (Some all) old now stops end held only counts =
     inr (inr (record { written = Appends-nil old; stands = record { held = held; stops = only }; counts = counts }))

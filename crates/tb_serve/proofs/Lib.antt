@@ -1,4 +1,5 @@
 pub mod Connection
 pub mod Faults
 pub mod Lists
+pub mod Pages
 pub mod Standing

@@ -7,6 +7,7 @@ use Rattle.tb_http.specs.Stream.{Brings, Received}
 use Rattle.tb_http.specs.Wire.{BeginsWithMessage, is_last}
 use Rattle.tb_serve.specs.Serving.{answer_to, answers, calls_of, ends_last, later, left_by, next, none_closes}
 use Rattle.tb_serve.specs.Telling.{after, calls_in}
+use Rattle.tb_site.specs.declared.site.Site.{Site}
 
 pub brings-push : (bytes : List ℕ) (ms : List Received) (left : List ℕ) (m : Received) (rest : List ℕ)
     → Brings bytes ms left → BeginsWithMessage left m.message m.closes rest → Brings bytes (ms ++ m ∷ []) rest
@@ -25,20 +26,20 @@ reached-after s clock (m ∷ ms) =
     reached-after (after s (calls_in m.message (next clock))) (later clock) ms
     ∙ sym (after_all-append s (calls_in m.message (next clock)) (calls_of (later clock) ms))
 
-pub answers-push : (s : State) (clock : List (Option ℕ)) (before : ℕ) (ms : List Received) (m : Received)
-    → answers s clock before (ms ++ m ∷ []) ≡ answers s clock before ms ++ answer_to (reached s clock ms) (next (left_by clock ms)) (before + length ms) m
-answers-push s clock before [] m =
+pub answers-push : (site : Site) (s : State) (clock : List (Option ℕ)) (before : ℕ) (ms : List Received) (m : Received)
+    → answers site s clock before (ms ++ m ∷ []) ≡ answers site s clock before ms ++ answer_to site (reached s clock ms) (next (left_by clock ms)) (before + length ms) m
+answers-push site s clock before [] m =
     let count : before ≡ before + 0 = omega arith in
-    append-nil (answer_to s (next clock) before m) ∙ ap (λ k. answer_to s (next clock) k m) count
-answers-push s clock before (n ∷ ms) m =
+    append-nil (answer_to site s (next clock) before m) ∙ ap (λ k. answer_to site s (next clock) k m) count
+answers-push site s clock before (n ∷ ms) m =
     let t = after s (calls_in n.message (next clock)) in
-    let first = answer_to s (next clock) before n in
-    let more = answers t (later clock) (before + 1) ms in
+    let first = answer_to site s (next clock) before n in
+    let more = answers site t (later clock) (before + 1) ms in
     let at = next (left_by (later clock) ms) in
     let count : (before + 1) + length ms ≡ before + length (n ∷ ms) = omega arith in
-    ap (λ text. first ++ text) (answers-push t (later clock) (before + 1) ms m)
-    ∙ sym (append_assoc first more (answer_to (reached t (later clock) ms) at ((before + 1) + length ms) m))
-    ∙ ap (λ k. (first ++ more) ++ answer_to (reached t (later clock) ms) at k m) count
+    ap (λ text. first ++ text) (answers-push site t (later clock) (before + 1) ms m)
+    ∙ sym (append_assoc first more (answer_to site (reached t (later clock) ms) at ((before + 1) + length ms) m))
+    ∙ ap (λ k. (first ++ more) ++ answer_to site (reached t (later clock) ms) at k m) count
 
 pub calls-push : (clock : List (Option ℕ)) (ms : List Received) (m : Received)
     → calls_of clock (ms ++ m ∷ []) ≡ calls_of clock ms ++ calls_in m.message (next (left_by clock ms))

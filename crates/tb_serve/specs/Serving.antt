@@ -20,7 +20,8 @@ use Rattle.tb_serve.specs.declared.serving.ServeFault.{ServeFault}
 use Rattle.tb_serve.specs.declared.serving.ServeFault.TheVariants as fault
 use Rattle.tb_serve.specs.declared.serving.Turn.{Turn}
 use Rattle.tb_serve.specs.declared.serving.Turn.TheVariants.{Told, Failed, Unread}
-use Rattle.tb_serve.specs.Telling.{FailedAt, StandsAt, after, calls_in, failed_text, told_at, told_text}
+use Rattle.tb_serve.specs.Telling.{FailedAt, StandsAt, after, calls_in, failed_text, told_text, told_with}
+use Rattle.tb_site.specs.declared.site.Site.{Site}
 
 -- ---- moments
 
@@ -41,8 +42,8 @@ left_by clock (m ∷ ms) = left_by (later clock) ms
 -- ---- answers and calls
 
 -- the answer to a message, to which so many came before
-abbrev pub answer_to : State → Option ℕ → ℕ → Received → List ℕ
-answer_to s at before m = told_text (told_at s m.message at) (is_last m.closes before) (takes_body m.message)
+abbrev pub answer_to : Site → State → Option ℕ → ℕ → Received → List ℕ
+answer_to site s at before m = told_text (told_with site s m.message at) (is_last m.closes before) (takes_body m.message)
 
 -- the calls among messages, at the clock's moments
 abbrev pub calls_of : List (Option ℕ) → List Received → List Call
@@ -50,10 +51,10 @@ calls_of clock [] = []
 calls_of clock (m ∷ ms) = calls_in m.message (next clock) ++ calls_of (later clock) ms
 
 -- the answers to messages, each in the state that the calls before it led to
-abbrev pub answers : State → List (Option ℕ) → ℕ → List Received → List ℕ
-answers s clock before [] = []
-answers s clock before (m ∷ ms) =
-    answer_to s (next clock) before m ++ answers (after s (calls_in m.message (next clock))) (later clock) (before + 1) ms
+abbrev pub answers : Site → State → List (Option ℕ) → ℕ → List Received → List ℕ
+answers site s clock before [] = []
+answers site s clock before (m ∷ ms) =
+    answer_to site s (next clock) before m ++ answers site (after s (calls_in m.message (next clock))) (later clock) (before + 1) ms
 
 -- none of the messages closes the connection
 abbrev pub none_closes : ℕ → List Received → Bool
@@ -83,12 +84,12 @@ Sends old new front text true = Appends old new (front ++ text)
 Sends old new front text false = (count : ℕ) × (count < length text) × Appends old new (front ++ take count text)
 
 -- What came of a message that was read, which closes the connection or not, the text that answers it, and what stands then.
-abbrev pub Handles : State → Option ℕ → Bool → Message → Turn → List ℕ → (State → Type 0) → (State → Type 0) → Type 0
-Handles s at closes message Told text now may_leave =
-    (text ≡ told_text (told_at s message at) closes (takes_body message)) × StandsAt (after s (calls_in message at)) now may_leave
-Handles s at closes message (Failed fault) text now may_leave =
+abbrev pub Handles : Site → State → Option ℕ → Bool → Message → Turn → List ℕ → (State → Type 0) → (State → Type 0) → Type 0
+Handles site s at closes message Told text now may_leave =
+    (text ≡ told_text (told_with site s message at) closes (takes_body message)) × StandsAt (after s (calls_in message at)) now may_leave
+Handles site s at closes message (Failed fault) text now may_leave =
     (text ≡ failed_text fault (takes_body message)) × FailedAt fault s (calls_in message at) now may_leave
-Handles s at closes message (Unread fault) text now may_leave = ⊥
+Handles site s at closes message (Unread fault) text now may_leave = ⊥
 
 -- what stands behind a message that was read, whatever it was told
 abbrev pub Settles : State → Option ℕ → Message → Turn → (State → Type 0) → (State → Type 0) → Type 0
@@ -97,26 +98,26 @@ Settles s at message (Failed fault) now may_leave = FailedAt fault s (calls_in m
 Settles s at message (Unread fault) now may_leave = ⊥
 
 -- Handled, with what was written of the text.
-abbrev pub HandlesMessage : State → Option ℕ → Bool → Message → Option (List ℕ) → Option (List ℕ) → Turn → Bool → (State → Type 0) → (State → Type 0) → Type 0
-HandlesMessage s at closes message old new turn is_whole now may_leave =
-    (text : List ℕ) × Sends old new [] text is_whole × Handles s at closes message turn text now may_leave
+abbrev pub HandlesMessage : Site → State → Option ℕ → Bool → Message → Option (List ℕ) → Option (List ℕ) → Turn → Bool → (State → Type 0) → (State → Type 0) → Type 0
+HandlesMessage site s at closes message old new turn is_whole now may_leave =
+    (text : List ℕ) × Sends old new [] text is_whole × Handles site s at closes message turn text now may_leave
 
 -- What comes of the bytes at the front of which the next message stands, if one does. What is left of them is told where the
 -- connection goes on.
-abbrev pub Turns : State → List (Option ℕ) → ℕ → List ℕ → Turn → List ℕ → (State → Type 0) → (State → Type 0) → Option (List ℕ) → Bool → Type 0
-Turns s clock before bytes (Unread fault) text now may_leave left is_closing =
+abbrev pub Turns : Site → State → List (Option ℕ) → ℕ → List ℕ → Turn → List ℕ → (State → Type 0) → (State → Type 0) → Option (List ℕ) → Bool → Type 0
+Turns site s clock before bytes (Unread fault) text now may_leave left is_closing =
     Faults bytes fault × (text ≡ unread_text fault) × StandsAt s now may_leave
-Turns s clock before bytes Told text now may_leave left is_closing =
+Turns site s clock before bytes Told text now may_leave left is_closing =
     (m : Received) × (rest : List ℕ) × BeginsWithMessage bytes m.message m.closes rest × (left ≡ Some rest)
-    × (is_closing ≡ is_last m.closes before) × Handles s (next clock) (is_last m.closes before) m.message Told text now may_leave
-Turns s clock before bytes (Failed fault) text now may_leave left is_closing =
+    × (is_closing ≡ is_last m.closes before) × Handles site s (next clock) (is_last m.closes before) m.message Told text now may_leave
+Turns site s clock before bytes (Failed fault) text now may_leave left is_closing =
     (m : Received) × (rest : List ℕ) × BeginsWithMessage bytes m.message m.closes rest × (left ≡ Some rest)
-    × (is_closing ≡ is_last m.closes before) × Handles s (next clock) (is_last m.closes before) m.message (Failed fault) text now may_leave
+    × (is_closing ≡ is_last m.closes before) × Handles site s (next clock) (is_last m.closes before) m.message (Failed fault) text now may_leave
 
 -- What came of the next message, what was written of its answer, and what stands then.
-abbrev pub Exchanges : State → List (Option ℕ) → ℕ → List ℕ → Option (List ℕ) → Option (List ℕ) → Exchange → (State → Type 0) → (State → Type 0) → Option (List ℕ) → Bool → Type 0
-Exchanges s clock before bytes old new exchange now may_leave left is_closing =
-    (text : List ℕ) × Sends old new [] text exchange.is_whole × Turns s clock before bytes exchange.turn text now may_leave left is_closing
+abbrev pub Exchanges : Site → State → List (Option ℕ) → ℕ → List ℕ → Option (List ℕ) → Option (List ℕ) → Exchange → (State → Type 0) → (State → Type 0) → Option (List ℕ) → Bool → Type 0
+Exchanges site s clock before bytes old new exchange now may_leave left is_closing =
+    (text : List ℕ) × Sends old new [] text exchange.is_whole × Turns site s clock before bytes exchange.turn text now may_leave left is_closing
 
 -- ---- how a connection ends
 
@@ -186,18 +187,18 @@ abbrev pub no_start : ServeEnd
 no_start = record { messages = 0; answered = 0; fault = Some fault.Memory }
 
 -- The connection ended behind messages that were all answered whole, the last of which closes it, and none before.
-pub record IsClosed (s : State) (clock : List (Option ℕ)) (bytes : List ℕ) (old new : Option (List ℕ)) (now : State → Type 0) (may_leave : State → Type 0) (end : ServeEnd) : Type 0 where
+pub record IsClosed (site : Site) (s : State) (clock : List (Option ℕ)) (bytes : List ℕ) (old new : Option (List ℕ)) (now : State → Type 0) (may_leave : State → Type 0) (end : ServeEnd) : Type 0 where
   pub told : List Received
   pub left : List ℕ
   pub brings : Brings bytes told left
   pub last : ends_last 0 told ≡ true
-  pub written : Appends old new (answers s clock 0 told)
+  pub written : Appends old new (answers site s clock 0 told)
   pub stands : StandsAt (after s (calls_of clock told)) now may_leave
   pub counts : end ≡ ended_well (length told)
 
 -- The connection ended behind messages that were all answered whole and none of which closes it, by an exchange that was
 -- no whole answer to a message.
-pub record IsEnded (s : State) (clock : List (Option ℕ)) (bytes : List ℕ) (old new : Option (List ℕ)) (now : State → Type 0) (may_leave : State → Type 0) (end : ServeEnd) : Type 0 where
+pub record IsEnded (site : Site) (s : State) (clock : List (Option ℕ)) (bytes : List ℕ) (old new : Option (List ℕ)) (now : State → Type 0) (may_leave : State → Type 0) (end : ServeEnd) : Type 0 where
   pub told : List Received
   pub left : List ℕ
   pub brings : Brings bytes told left
@@ -205,9 +206,9 @@ pub record IsEnded (s : State) (clock : List (Option ℕ)) (bytes : List ℕ) (o
   pub exchange : Exchange
   pub ends : goes_on exchange.turn exchange.is_whole ≡ false
   pub text : List ℕ
-  pub sends : Sends old new (answers s clock 0 told) text exchange.is_whole
+  pub sends : Sends old new (answers site s clock 0 told) text exchange.is_whole
   pub turns : (rest : Option (List ℕ)) × (is_closing : Bool)
-      × Turns (after s (calls_of clock told)) (left_by clock told) (length told) left exchange.turn text now may_leave rest is_closing
+      × Turns site (after s (calls_of clock told)) (left_by clock told) (length told) left exchange.turn text now may_leave rest is_closing
   pub counts : end ≡ ended_by (length told) exchange
 
 -- There was no memory to begin with.
@@ -217,7 +218,7 @@ pub record IsUnstarted (s : State) (old new : Option (List ℕ)) (now : State �
   pub counts : end ≡ no_start
 
 -- how the serving of a connection ends
-abbrev pub IsServed : State → List (Option ℕ) → List ℕ → Option (List ℕ) → Option (List ℕ) → (State → Type 0) → (State → Type 0) → ServeEnd → Type 0
-IsServed s clock bytes old new now may_leave end =
-    IsClosed s clock bytes old new now may_leave end
-    ⊎ (IsEnded s clock bytes old new now may_leave end ⊎ IsUnstarted s old new now may_leave end)
+abbrev pub IsServed : Site → State → List (Option ℕ) → List ℕ → Option (List ℕ) → Option (List ℕ) → (State → Type 0) → (State → Type 0) → ServeEnd → Type 0
+IsServed site s clock bytes old new now may_leave end =
+    IsClosed site s clock bytes old new now may_leave end
+    ⊎ (IsEnded site s clock bytes old new now may_leave end ⊎ IsUnstarted s old new now may_leave end)

@@ -11,7 +11,7 @@ use Rattle.tb_calls.specs.Keeping.{Only, StandsAfter}
 use Rattle.tb_desk.specs.Views.{shown_in}
 use Rattle.tb_http.specs.declared.answer.Answer.{Answer}
 use Rattle.tb_http.specs.declared.answer.ContentType.{ContentType}
-use Rattle.tb_http.specs.declared.answer.ContentType.TheVariants.{Json, PlainText}
+use Rattle.tb_http.specs.declared.answer.ContentType.TheVariants.{Json, PlainText, File}
 use Rattle.tb_http.specs.declared.fault.WireFault.{WireFault}
 use Rattle.tb_http.specs.declared.fault.WireFault.TheVariants as wire
 use Rattle.tb_http.specs.declared.message.Message.{Message}
@@ -24,6 +24,9 @@ use Rattle.tb_asking.specs.declared.rejection.Rejection.{Rejection}
 use Rattle.tb_serve.specs.declared.told.Told.{Told}
 use Rattle.tb_asking.specs.Asking.{asked_of}
 use Rattle.tb_asking.specs.Rejections.{allowed_by, body_of, fault_of}
+use Rattle.tb_site.specs.declared.site.Site.{Site}
+use Rattle.tb_site.specs.declared.site.SiteFile.{SiteFile}
+use Rattle.tb_site.specs.Site.{file_for}
 
 -- ---- what is told
 
@@ -36,6 +39,8 @@ view_type (view.Listing board) number = if number == 0 then PlainText else Json
 view_type (view.Todo board) number = if number == 0 then PlainText else Json
 view_type (view.Export board) number = Json
 view_type (view.One board id) number = Json
+view_type (view.People board) number = Json
+view_type view.Me number = Json
 
 abbrev pub told_view : View → Reply → Told
 told_view view reply = told_reply (view_type view reply.number) reply
@@ -56,10 +61,22 @@ abbrev pub told_by : State → ℕ → Result Asked Rejection → Told
 told_by s at (Ok asked) = told_asked s at asked
 told_by s at (Err rejection) = told_rejection rejection
 
--- what a message is told that the clock gave a moment, or none
+-- what the boards tell a message that the clock gave a moment, or none
 abbrev pub told_at : State → Message → Option ℕ → Told
 told_at s message None = told_fault wire.NoClock None (fault_body wire.NoClock)
 told_at s message (Some at) = told_by s at (asked_of message at)
+
+-- a file of the page
+abbrev pub told_file : SiteFile → Told
+told_file file = record { status = 200; content_type = File file.media; allow = None; body = file.body }
+
+abbrev pub file_or : Option SiteFile → Told → Told
+file_or None told = told
+file_or (Some file) told = told_file file
+
+-- What a message is told: a file of the page, where it is told one, whatever the state and the moment are, and else what the boards tell.
+abbrev pub told_with : Site → State → Message → Option ℕ → Told
+told_with site s message at = file_or (file_for site message) (told_at s message at)
 
 abbrev pub answer_of : Told → Bool → Bool → Answer
 answer_of told is_last sends_body = record {

@@ -1,6 +1,6 @@
 //! The server: each message of a connection answered in turn.
-//! It stands on `tb_http` for messages and answers' heads, on `tb_asking` for what a message asks for, and on `tb_desk` for calls and
-//! views.
+//! It stands on `tb_http` for messages and answers' heads, on `tb_site` for the files of a page, on `tb_asking` for what a message asks
+//! for, and on `tb_desk` for calls and views.
 #![tactic(auto)]
 
 mod clock;

@@ -13,7 +13,8 @@ use std::alloc::Global;
 use std::io::{Read, Write};
 use tb_calls::{Keep, KeepFault};
 use tb_desk::Desk;
-use tb_http::{Answer, ContentType, HeadRoom, Message, Reader, Routes, WireFault};
+use tb_http::{Answer, ContentType, HeadRoom, Message, Reader, WireFault};
+use tb_site::Paths;
 use tb_task::Moment;
 
 /// Why the serving of a connection ended before its messages did.
@@ -196,10 +197,10 @@ fn send<W: Write>(room: &mut HeadRoom, writer: &mut W, answer: Answer, body: &[u
     room.send(writer, answer, body).is_ok()
 }
 
-/// Handles a message that was read, and answers it. The answer is sent when the call stands.
+/// Handles a message that was read, and answers it: with a file of the page, where it is told one. The answer is sent when the call stands.
 pub fn handle_message<W: Write, K: Keep>(
     alloc: Global,
-    routes: &Routes,
+    paths: &Paths,
     room: &mut HeadRoom,
     writer: &mut W,
     desk: &mut Desk<K>,
@@ -209,7 +210,7 @@ pub fn handle_message<W: Write, K: Keep>(
 ) -> Exchange
     ensures handles { K.is_honest desk.new ≡ true → (s : State) → K.holds desk.old s
         → Only s (K.after_stop desk.old)
-        → HandlesMessage s at is_last message.now (W.contents writer.old) (W.contents writer.new)
+        → HandlesMessage paths.now.site s at is_last message.now (W.contents writer.old) (W.contents writer.new)
         result.turn result.is_whole (K.holds desk.new) (K.after_stop desk.new) }
     ensures stands { (s : State) → K.holds desk.old s → Only s (K.after_stop desk.old)
         → Settles s at message.now result.turn (K.holds desk.new) (K.after_stop desk.new) }
@@ -217,7 +218,14 @@ pub fn handle_message<W: Write, K: Keep>(
     ensures honest { K.is_honest desk.new ≡ true → K.is_honest desk.old ≡ true }
     ensures failed { result.turn ≡ Turn.Failed KeepFault.Store → K.has_failed desk.new ≡ true }
 {
-    match tell(alloc, routes, desk, message, at) {
+    if let Some(file) = paths.file(message) {
+        let answer = file.answer(is_last, message.takes_body());
+        return Exchange {
+            turn: Turn::Told,
+            is_whole: send(room, writer, answer, file.body.as_slice()),
+        };
+    }
+    match tell(alloc, &paths.routes, desk, message, at) {
         Ok(told) => {
             let answer = told.answer(is_last, message.takes_body());
             Exchange {
@@ -235,7 +243,7 @@ pub fn handle_message<W: Write, K: Keep>(
 // Reads the next message, and answers it.
 fn serve_message<R: Read + Drop, W: Write, K: Keep, C: Clock>(
     alloc: Global,
-    routes: &Routes,
+    paths: &Paths,
     room: &mut HeadRoom,
     reader: &mut Reader<R>,
     writer: &mut W,
@@ -246,7 +254,7 @@ fn serve_message<R: Read + Drop, W: Write, K: Keep, C: Clock>(
     ensures exchanges { K.is_honest desk.new ≡ true → (s : State) → K.holds desk.old s
         → Only s (K.after_stop desk.old)
         → IfSome reader.old.bytes (λ bytes. IfSome (C.answers clock.old) (λ moments.
-        Exchanges s moments reader.old.messages bytes (W.contents writer.old) (W.contents writer.new) result
+        Exchanges paths.now.site s moments reader.old.messages bytes (W.contents writer.old) (W.contents writer.new) result
         (K.holds desk.new) (K.after_stop desk.new) reader.new.bytes reader.new.is_closing)) }
     ensures honest { K.is_honest desk.new ≡ true → K.is_honest desk.old ≡ true }
     ensures failed { result.turn ≡ Turn.Failed KeepFault.Store → K.has_failed desk.new ≡ true }
@@ -258,7 +266,7 @@ fn serve_message<R: Read + Drop, W: Write, K: Keep, C: Clock>(
         Ok(message) => {
             let at = clock.now();
             let is_last = reader.closing();
-            handle_message(alloc, routes, room, writer, desk, &message, at, is_last)
+            handle_message(alloc, paths, room, writer, desk, &message, at, is_last)
         }
         Err(fault) => Exchange {
             turn: Turn::Unread(fault),
@@ -270,7 +278,7 @@ fn serve_message<R: Read + Drop, W: Write, K: Keep, C: Clock>(
 // Answers a connection's messages, with all room made.
 fn serve_all<R: Read + Drop, W: Write, K: Keep, C: Clock>(
     alloc: Global,
-    routes: &Routes,
+    paths: &Paths,
     room: &mut HeadRoom,
     reader: &mut Reader<R>,
     writer: &mut W,
@@ -282,14 +290,14 @@ fn serve_all<R: Read + Drop, W: Write, K: Keep, C: Clock>(
     ensures served { K.is_honest desk.new ≡ true → (s : State) → K.holds desk.old s
         → Only s (K.after_stop desk.old)
         → IfSome reader.old.bytes (λ bytes. IfSome (C.answers clock.old) (λ moments.
-        IsServed s moments bytes (W.contents writer.old) (W.contents writer.new) (K.holds desk.new) (K.after_stop desk.new) result)) }
+        IsServed paths.now.site s moments bytes (W.contents writer.old) (W.contents writer.new) (K.holds desk.new) (K.after_stop desk.new) result)) }
     ensures honest { K.is_honest desk.new ≡ true → K.is_honest desk.old ≡ true }
     ensures failed { result.fault ≡ Some ServeFault.Store → K.has_failed desk.new ≡ true }
     ensures clock { IfSome (C.answers clock.old) (λ moments. C.answers clock.new ≡ Some (drop result.messages moments)) }
 {
     let mut answered = 0;
     'messages: while !reader.closing() {
-        let exchange = serve_message(alloc, routes, room, reader, writer, desk, clock);
+        let exchange = serve_message(alloc, paths, room, reader, writer, desk, clock);
         if !exchange.goes_on() {
             return exchange.ends(answered);
         }
@@ -306,6 +314,7 @@ fn serve_all<R: Read + Drop, W: Write, K: Keep, C: Clock>(
 /// taken for it: at most 1,000, and none behind one that closes the connection. The desk handles a call before the first byte of its answer is written.
 pub fn serve<R: Read + Drop, W: Write, K: Keep, C: Clock>(
     alloc: Global,
+    paths: &Paths,
     source: R,
     writer: &mut W,
     desk: &mut Desk<K>,
@@ -314,21 +323,18 @@ pub fn serve<R: Read + Drop, W: Write, K: Keep, C: Clock>(
     ensures served { K.is_honest desk.new ≡ true → (s : State) → K.holds desk.old s
         → Only s (K.after_stop desk.old)
         → IfSome (R.remaining source) (λ bytes. IfSome (C.answers clock.old) (λ moments.
-        IsServed s moments bytes (W.contents writer.old) (W.contents writer.new) (K.holds desk.new) (K.after_stop desk.new) result)) }
+        IsServed paths.now.site s moments bytes (W.contents writer.old) (W.contents writer.new) (K.holds desk.new) (K.after_stop desk.new) result)) }
     ensures honest { K.is_honest desk.new ≡ true → K.is_honest desk.old ≡ true }
     ensures failed { result.fault ≡ Some ServeFault.Store → K.has_failed desk.new ≡ true }
     ensures clock { IfSome (C.answers clock.old) (λ moments. C.answers clock.new ≡ Some (drop result.messages moments)) }
 {
-    let Ok(routes) = Routes::new(alloc) else {
-        return UNSTARTED;
-    };
     let Ok(mut room) = HeadRoom::new(alloc) else {
         return UNSTARTED;
     };
     let Ok(mut reader) = Reader::new(alloc, source) else {
         return UNSTARTED;
     };
-    serve_all(alloc, &routes, &mut room, &mut reader, writer, desk, clock)
+    serve_all(alloc, paths, &mut room, &mut reader, writer, desk, clock)
 }
 
 // There was no memory to begin with.

@@ -15,30 +15,31 @@ use Rattle.tb_serve.specs.declared.serving.ServeFault.{ServeFault}
 use Rattle.tb_serve.specs.declared.serving.ServeFault.TheVariants.{ReadFailed, WriteFailed, Store, Memory}
 use Rattle.tb_server.specs.Serves.{IsTimed, Makes, Serves, at_places}
 use Rattle.tb_turns.specs.Turns.{Event, Happening, Moves, MovesIf, Talk, after_event, silent}
+use Rattle.tb_site.specs.declared.site.Site.{Site}
 
-moves_if : (place c : ℕ) (is : Bool) (s : State) (e : Event Timed) (talks later : ℕ → Talk) → (place == c) ≡ is → Moves server s e (talks place) (later place)
-    → ((d : ℕ) → (place == d) ≡ false → later d ≡ talks d) → MovesIf server is s e (talks c) (later c)
-moves_if place c true s e talks later at moves others = subst (λ (d : ℕ). Moves server s e (talks d) (later d)) (eqb-true place c at) moves
-moves_if place c false s e talks later at moves others = others c at
+moves_if : (site : Site) (place c : ℕ) (is : Bool) (s : State) (e : Event Timed) (talks later : ℕ → Talk) → (place == c) ≡ is → Moves (server site) s e (talks place) (later place)
+    → ((d : ℕ) → (place == d) ≡ false → later d ≡ talks d) → MovesIf (server site) is s e (talks c) (later c)
+moves_if site place c true s e talks later at moves others = subst (λ (d : ℕ). Moves (server site) s e (talks d) (later d)) (eqb-true place c at) moves
+moves_if site place c false s e talks later at moves others = others c at
 
-comes_plays : (fault : Option ServeFault) (s : State) (place : ℕ) (timed : Happening (Option ℕ)) (talks later : ℕ → Talk) (now stops : State → Type 0)
-    → Comes fault s timed (talks place) (later place) now stops → ((d : ℕ) → (place == d) ≡ false → later d ≡ talks d)
-    → Plays s ((place, timed) ∷ []) talks later now stops
-comes_plays fault s place timed talks later now stops is others = (
+comes_plays : (site : Site) (fault : Option ServeFault) (s : State) (place : ℕ) (timed : Happening (Option ℕ)) (talks later : ℕ → Talk) (now stops : State → Type 0)
+    → Comes site fault s timed (talks place) (later place) now stops → ((d : ℕ) → (place == d) ≡ false → later d ≡ talks d)
+    → Plays site s ((place, timed) ∷ []) talks later now stops
+comes_plays site fault s place timed talks later now stops is others = (
   record { place = place; happening = timed; event = is.0 } ∷ [],
-  after_event server s is.0,
+  after_event (server site) s is.0,
   refl,
-  (is.1, later, λ c. moves_if place c (place == c) s is.0 talks later refl is.3 others, (refl, λ c. refl)),
+  (is.1, later, λ c. moves_if site place c (place == c) s is.0 talks later refl is.3 others, (refl, λ c. refl)),
   is.4,
 )
 
-happens_makes : {T : Type 0} (r : Result T ServeFault) (s : State) (place : ℕ) (timed : Happening (Option ℕ)) (talks later : ℕ → Talk) (now stops : State → Type 0)
-    → Happens r s place timed talks later now stops → Makes (has_stopped r) s ((place, timed) ∷ []) talks later now stops
-happens_makes (Ok x) s place timed talks later now stops is = comes_plays None s place timed talks later now stops is.0 is.1
-happens_makes (Err ReadFailed) s place timed talks later now stops is = absurd is.0
-happens_makes (Err WriteFailed) s place timed talks later now stops is = comes_plays (Some WriteFailed) s place timed talks later now stops is.0 is.1
-happens_makes (Err Memory) s place timed talks later now stops is = comes_plays (Some Memory) s place timed talks later now stops is.0 is.1
-happens_makes (Err Store) s place timed talks later now stops is = record {
+happens_makes : {T : Type 0} (site : Site) (r : Result T ServeFault) (s : State) (place : ℕ) (timed : Happening (Option ℕ)) (talks later : ℕ → Talk) (now stops : State → Type 0)
+    → Happens site r s place timed talks later now stops → Makes site (has_stopped r) s ((place, timed) ∷ []) talks later now stops
+happens_makes site (Ok x) s place timed talks later now stops is = comes_plays site None s place timed talks later now stops is.0 is.1
+happens_makes site (Err ReadFailed) s place timed talks later now stops is = absurd is.0
+happens_makes site (Err WriteFailed) s place timed talks later now stops is = comes_plays site (Some WriteFailed) s place timed talks later now stops is.0 is.1
+happens_makes site (Err Memory) s place timed talks later now stops is = comes_plays site (Some Memory) s place timed talks later now stops is.0 is.1
+happens_makes site (Err Store) s place timed talks later now stops is = record {
   ks = [];
   end = s;
   middle = talks;
@@ -57,38 +58,40 @@ none_there : (count place : ℕ) (timed : Happening (Option ℕ)) → count ≤ 
 none_there count place timed past = ap (λ b. cond b ((place, timed) ∷ []) []) (le-ltb place count past)
 
 -- one thing was done, at a place that there is, to the connections as they were lent
-pub one_served : {T : Type 0} (r : Result T ServeFault) (stopped : Bool) (place : ℕ) (one : Done) (timed : Happening (Option ℕ)) (talks lent later : List Talk)
+pub one_served : {T : Type 0} (site : Site) (r : Result T ServeFault) (stopped : Bool) (place : ℕ) (one : Done) (timed : Happening (Option ℕ)) (talks lent later : List Talk)
     (was_honest is_honest : Bool) (old old_stops now stops : State → Type 0)
     → has_stopped r ≡ stopped → place < length talks → length later ≡ length talks → lent ≡ talks → IsTimed one timed
     → (is_honest ≡ true → was_honest ≡ true)
-    → (is_honest ≡ true → (s : State) → old s → Only s old_stops → Happens r s place timed (talk_at lent) (talk_at later) now stops)
+    → (is_honest ≡ true → (s : State) → old s → Only s old_stops → Happens site r s place timed (talk_at lent) (talk_at later) now stops)
     → Follows (has_stopped r) old old_stops now stops
-    → Serves stopped ((place, one) ∷ []) talks later was_honest is_honest old old_stops now stops
-one_served r stopped place one timed talks lent later was_honest is_honest old old_stops now stops is inside places same fits honest happens follows =
-    subst (λ (b : Bool). Serves b ((place, one) ∷ []) talks later was_honest is_honest old old_stops now stops) is (record {
+    → Serves site site stopped ((place, one) ∷ []) talks later was_honest is_honest old old_stops now stops
+one_served site r stopped place one timed talks lent later was_honest is_honest old old_stops now stops is inside places same fits honest happens follows =
+    subst (λ (b : Bool). Serves site site b ((place, one) ∷ []) talks later was_honest is_honest old old_stops now stops) is (record {
+      page = refl;
       places = places;
       calls = follows;
       timed = (place, timed) ∷ [];
       fits = (refl, fits, tt);
       honest = honest;
-      run = λ y s held only. subst (λ (l : List (ℕ × Happening (Option ℕ))). Makes (has_stopped r) s l (talk_at talks) (talk_at later) now stops)
+      run = λ y s held only. subst (λ (l : List (ℕ × Happening (Option ℕ))). Makes site (has_stopped r) s l (talk_at talks) (talk_at later) now stops)
           (sym (one_there (length talks) place timed inside))
-          (happens_makes r s place timed (talk_at talks) (talk_at later) now stops
-          (subst (λ (l : List Talk). Happens r s place timed (talk_at l) (talk_at later) now stops) same (happens y s held only)));
+          (happens_makes site r s place timed (talk_at talks) (talk_at later) now stops
+          (subst (λ (l : List Talk). Happens site r s place timed (talk_at l) (talk_at later) now stops) same (happens y s held only)));
     })
 
 -- there is no such place
-pub passed : (place : ℕ) (one : Done) (timed : Happening (Option ℕ)) (talks : List Talk) (is_honest : Bool) (now stops : State → Type 0)
-    → length talks ≤ place → IsTimed one timed → Serves false ((place, one) ∷ []) talks talks is_honest is_honest now stops now stops
-passed place one timed talks is_honest now stops past fits = record {
+pub passed : (site : Site) (place : ℕ) (one : Done) (timed : Happening (Option ℕ)) (talks : List Talk) (is_honest : Bool) (now stops : State → Type 0)
+    → length talks ≤ place → IsTimed one timed → Serves site site false ((place, one) ∷ []) talks talks is_honest is_honest now stops now stops
+passed site place one timed talks is_honest now stops past fits = record {
+  page = refl;
   places = refl;
   calls = following.unchanged now stops;
   timed = (place, timed) ∷ [];
   fits = (refl, fits, tt);
   honest = λ y. y;
-  run = λ y s held only. subst (λ (l : List (ℕ × Happening (Option ℕ))). Makes false s l (talk_at talks) (talk_at talks) now stops)
+  run = λ y s held only. subst (λ (l : List (ℕ × Happening (Option ℕ))). Makes site false s l (talk_at talks) (talk_at talks) now stops)
       (sym (none_there (length talks) place timed past))
-      (plays_none s (talk_at talks) now stops held only);
+      (plays_none site s (talk_at talks) now stops held only);
 }
 
 -- what was lent of a list is given back as a whole

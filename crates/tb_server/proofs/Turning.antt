@@ -6,10 +6,11 @@ use Rattle.tb_peers.proofs.Serving.{any_turns}
 use Rattle.tb_serve.specs.Telling.{StandsAt}
 use Rattle.tb_server.specs.Laws.{MakesTurns}
 use Rattle.tb_turns.specs.Turns.{Talk}
+use Rattle.tb_site.specs.declared.site.Site.{Site}
 
-pub makes_turns : (talks later : List Talk) (was_honest is_honest : Bool) (old old_stops now stops : State → Type 0)
-    → MakesTurns talks later was_honest is_honest old old_stops now stops
-makes_turns talks later was_honest is_honest old old_stops now stops history serves honest s held only =
+pub makes_turns : (site kept : Site) (talks later : List Talk) (was_honest is_honest : Bool) (old old_stops now stops : State → Type 0)
+    → MakesTurns site kept talks later was_honest is_honest old old_stops now stops
+makes_turns site kept talks later was_honest is_honest old old_stops now stops history serves honest s held only =
     let run = serves.run honest s held only in
-    let turns = any_turns s (talk_at talks) run.0 run.1 (talk_at later) run.3 in
+    let turns = any_turns site s (talk_at talks) run.0 run.1 (talk_at later) run.3 in
     (run.0, run.2, subst (λ (t : State). StandsAt t now stops) turns.0 run.4, turns.1)

@@ -8,6 +8,7 @@ use Rattle.tb_peers.specs.Following.{Follows}
 use Rattle.tb_peers.specs.Happening.{Plays, Stops, talk_at}
 use Rattle.tb_peers.specs.Server.{Timed, server}
 use Rattle.tb_turns.specs.Turns.{Happening, Run, Step, Talk, done_in, opens, comes, turns, goes}
+use Rattle.tb_site.specs.declared.site.Site.{Site}
 
 -- what was done, with a moment where it was a turn
 abbrev pub IsTimed : Done → Happening (Option ℕ) → Type 0
@@ -28,7 +29,7 @@ abbrev pub at_places : ℕ → List (ℕ × Happening (Option ℕ)) → List (�
 at_places count timed = filter (λ one. nat_lt one.0 count) timed
 
 -- The store failed on the last of what was done: a run was made of all before it, and its call may have acted.
-pub record StopsAtLast (s : State) (timed : List (ℕ × Happening (Option ℕ))) (talks later : ℕ → Talk)
+pub record StopsAtLast (site : Site) (s : State) (timed : List (ℕ × Happening (Option ℕ))) (talks later : ℕ → Talk)
     (now stops : State → Type 0) : Type 0 where
   pub ks : List (Step (Option ℕ) Timed)
   pub end : State
@@ -36,21 +37,23 @@ pub record StopsAtLast (s : State) (timed : List (ℕ × Happening (Option ℕ))
   pub place : ℕ
   pub last : Happening (Option ℕ)
   pub done_is : done_in ks ++ (place, last) ∷ [] ≡ timed
-  pub run : Run server s talks ks end middle
-  pub stopped : Stops end last (middle place) (later place) now stops
+  pub run : Run (server site) s talks ks end middle
+  pub stopped : Stops site end last (middle place) (later place) now stops
   pub others : (c : ℕ) → (place == c) ≡ false → later c ≡ middle c
 
 -- A run of the connections is made of all that was done, and the desk stands at its end; or the store failed at last.
-abbrev pub Makes : Bool → State → List (ℕ × Happening (Option ℕ)) → (ℕ → Talk) → (ℕ → Talk)
+abbrev pub Makes : Site → Bool → State → List (ℕ × Happening (Option ℕ)) → (ℕ → Talk) → (ℕ → Talk)
     → (State → Type 0) → (State → Type 0) → Type 0
-Makes false s timed talks later now stops = Plays s timed talks later now stops
-Makes true s timed talks later now stops = StopsAtLast s timed talks later now stops
+Makes site false s timed talks later now stops = Plays site s timed talks later now stops
+Makes site true s timed talks later now stops = StopsAtLast site s timed talks later now stops
 
 -- What was done to the connections of a server, one thing after the other, and what it made of them and of the desk:
 -- nothing but this is done to any of them, and to what the desk holds. What connections are told is said of a store that
 -- is honest to the end.
-pub record Serves (stopped : Bool) (history : List (ℕ × Done)) (talks later : List Talk) (was_honest is_honest : Bool)
+pub record Serves (site kept : Site) (stopped : Bool) (history : List (ℕ × Done)) (talks later : List Talk) (was_honest is_honest : Bool)
     (old old_stops now stops : State → Type 0) : Type 0 where
+  -- the page stays
+  pub page : kept ≡ site
   -- no place came or went
   pub places : length later ≡ length talks
   -- the desk stands where the calls lead that it handled
@@ -62,4 +65,4 @@ pub record Serves (stopped : Bool) (history : List (ℕ × Done)) (talks later :
   -- These very bytes came, these turns were had, this much was sent. The calls are those of the messages that the bytes
   -- bring, by the law of any turns of `tb_peers`.
   pub run : is_honest ≡ true → (s : State) → old s → Only s old_stops
-      → Makes stopped s (at_places (length talks) timed) (talk_at talks) (talk_at later) now stops
+      → Makes site stopped s (at_places (length talks) timed) (talk_at talks) (talk_at later) now stops

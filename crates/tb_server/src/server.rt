@@ -12,6 +12,7 @@ use tb_desk::Desk;
 use tb_event_loop::{Happening, Service, StoreFailed};
 use tb_peers::{Happening as PeerHappening, Peer, Tools, happen, stops_all};
 use tb_serve::Clock;
+use tb_site::{Paths, Site};
 use tb_timeouts::CONNECTIONS;
 
 /// Answers the messages of many connections over the boards of a desk, each at the moment that its clock tells.
@@ -21,13 +22,20 @@ pub struct Server<K: Keep, C: Clock> {
     pub(crate) desk: Desk<K>,
     clock: C,
     tools: Tools,
+    pub(crate) paths: Paths,
     pub(crate) peers: Vec<Peer>,
 }
 
 impl<K: Keep + Drop, C: Clock + Drop> Server<K, C> {
-    /// A server over a desk, whose places are all empty.
-    pub fn new(alloc: Global, desk: Desk<K>, clock: C) -> Result<Server<K, C>, AllocError>
+    /// A server of a page over a desk, whose places are all empty.
+    pub fn new(
+        alloc: Global,
+        desk: Desk<K>,
+        clock: C,
+        site: Site,
+    ) -> Result<Server<K, C>, AllocError>
         ensures desk { IfOk result (λ server. server.desk ≡ desk) }
+        ensures page { IfOk result (λ server. server.paths.site ≡ site) }
         ensures silent { IfOk result (λ server. (c : ℕ) → talk_at server.peers.items c ≡ silent) }
     {
         Ok(Server {
@@ -35,6 +43,7 @@ impl<K: Keep + Drop, C: Clock + Drop> Server<K, C> {
             desk,
             clock,
             tools: Tools::new(alloc)?,
+            paths: Paths::new(alloc, site)?,
             peers: silent_peers(alloc)?,
         })
     }
@@ -48,6 +57,7 @@ impl<K: Keep + Drop, C: Clock + Drop> Server<K, C> {
             desk,
             clock: _,
             tools: _,
+            paths: _,
             peers: _,
         } = self;
         desk
@@ -78,7 +88,7 @@ fn at_moment<'a, C: Clock>(clock: &mut C, happening: &Happening<'a>) -> PeerHapp
 }
 
 impl<K: Keep, C: Clock> Service for Server<K, C> {
-    ghost follows = { λ stopped history old new. Serves stopped history old.peers.items new.peers.items
+    ghost follows = { λ stopped history old new. Serves old.paths.site new.paths.site stopped history old.peers.items new.peers.items
         (K.is_honest old.desk) (K.is_honest new.desk)
         (K.holds old.desk) (K.after_stop old.desk) (K.holds new.desk) (K.after_stop new.desk) };
 
@@ -90,10 +100,10 @@ impl<K: Keep, C: Clock> Service for Server<K, C> {
 
     ghost closes_at = { λ server place. (talk_at server.peers.items place).is_closing };
 
-    ghost unchanged = { λ s. serves_none s.peers.items (K.is_honest s.desk)
+    ghost unchanged = { λ s. serves_none s.paths.site s.peers.items (K.is_honest s.desk)
         (K.holds s.desk) (K.after_stop s.desk) };
 
-    ghost joined = { λ stopped first more a b c. serves_then stopped first more a.peers.items b.peers.items c.peers.items
+    ghost joined = { λ stopped first more a b c. serves_then a.paths.site b.paths.site c.paths.site stopped first more a.peers.items b.peers.items c.peers.items
         (K.is_honest a.desk) (K.is_honest b.desk) (K.is_honest c.desk)
         (K.holds a.desk) (K.after_stop a.desk) (K.holds b.desk) (K.after_stop b.desk) (K.holds c.desk) (K.after_stop c.desk) };
 
@@ -105,6 +115,7 @@ impl<K: Keep, C: Clock> Service for Server<K, C> {
         let outcome = happen(
             self.alloc,
             &mut self.tools,
+            &self.paths,
             &mut self.peers,
             &mut self.desk,
             place,

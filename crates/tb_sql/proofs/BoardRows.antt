@@ -1,6 +1,7 @@
 -- What the statements on boards do.
-use Rattle.std.proofs.Common.{◌≡◌, ◌∙◌, ℕ, pos, List, [], ◌∷◌, map, codes, true, option_map, slice_get, refl, subst, arith}
-use Rattle.std.specs.Prelude.{filter}
+use Rattle.std.proofs.Common.{◌≡◌, ◌∙◌, ◌⊎◌, ℕ, pos, List, [], ◌∷◌, map, codes, length, not, true, option_map, slice_get, refl, subst, arith}
+use Rattle.std.specs.Prelude.{filter, ◌==◌}
+use Rattle.std.specs.List.{list_any}
 use Rattle.std.specs.declared.cmp.Ordering.TheVariants.{Less}
 use Rattle.std.proofs.lemmas.Int.{ints}
 use Rattle.std.proofs.lemmas.Bool.Decides.{nat_tests}
@@ -16,15 +17,18 @@ use Rattle.sqlite_schema.specs.declared.command.Command.TheVariants.{Insert, Upd
 use Rattle.sqlite_schema.specs.declared.command.Source.TheVariants.{Values}
 use Rattle.sqlite_tied.specs.Compute.{everything}
 use Rattle.sqlite.specs.Listing.{understood}
-use Rattle.sqlite.specs.State.{State, Shown}
+use Rattle.sqlite.specs.declared.error.Error.{Error}
+use Rattle.sqlite.specs.State.{FailsToQuery, IsTooLate, State, Shown}
 use Rattle.tb_sql_tables.specs.declared.rows.BoardRow.{BoardRow}
 use Rattle.tb_sql_tables.specs.Tables.{board_plain, board_table, board_tree, store_schema}
 use Rattle.tb_sql_tables.specs.Rows.{board_row}
 use Rattle.tb_sql_tables.specs.Reading.{board_of}
 use Rattle.tb_sql_tables.specs.Content.{Changes, Finds, Ran}
+use Rattle.tb_sql_tables.specs.Failing.{IsExcused}
 use Rattle.tb_sql_tables.specs.Found.{AreFound, IsOneOf}
 use Rattle.tb_sql_tables.proofs.Contents.{boards_changed}
-use Rattle.tb_sql_tables.proofs.Effects.{each, all_left, keyed_updated, keyed_shown, found, found_one}
+use Rattle.tb_sql_tables.proofs.Effects.{each, all_left, keyed_updated, keyed_shown, found, found_any, found_one}
+use Rattle.tb_sql_tables.proofs.Failing.{Suits, fails_so}
 use Rattle.tb_sql_tables.proofs.Inserts.{cast_integer, cast_null}
 use Rattle.tb_sql_tables.proofs.Inside.{shown_open}
 use Rattle.tb_sql_tables.proofs.Keyed.{keyed_put}
@@ -137,3 +141,32 @@ find_board old new id rows shown = record {
       let answer = keyed_shown board_row (is_board id) content.boards board_tree refl find_text by_id shown_terms [] asks_one old new params rows is.schema shown same is.rows.tables.boards in
       found_one board_of (query_of board_tree by_id shown_terms []) (λ row. output_at board_tree refl by_id shown_terms [] params (board_row row)) _ rows (each (λ row. refl) _) answer;
 }
+
+-- ---- whether there is one of a number
+
+abbrev pub has_text : List ℕ
+has_text = codes "SELECT id FROM board WHERE id = ?1"
+
+abbrev id_alone : List Term
+id_alone = col 1 0 ∷ []
+
+asks_whether : Asks has_text board_tree by_id id_alone []
+unfolding understood everything
+asks_whether = record { names = codes "id" ∷ []; means = record { is = refl; bare = (refl, refl) }; unlisted = refl }
+
+suits : (id : ℕ) → Suits has_text board_tree by_id id_alone [] (Int (pos id) ∷ [])
+unfolding understood everything
+suits id = record { whole = refl; given = refl; typed = refl }
+
+pub has_board : (old new : State) (id : ℕ) (rows : List Row) → Shown has_text (Int (pos id) ∷ []) old new rows → Finds (λ content. not (length rows == 0) ≡ list_any (is_board id) content.boards) old
+has_board old new id rows shown = record {
+  was_open = shown_open has_text _ old new rows shown;
+  found = λ content is.
+      let params = Int (pos id) ∷ [] in
+      let same = each (λ (row : BoardRow). and_true _ ∙ equal_numbers row.id id) content.boards in
+      let answer = keyed_shown board_row (is_board id) content.boards board_tree refl has_text by_id id_alone [] asks_whether old new params rows is.schema shown same is.rows.tables.boards in
+      found_any (query_of board_tree by_id id_alone []) (λ row. output_at board_tree refl by_id id_alone [] params (board_row row)) (is_board id) content.boards rows answer;
+}
+
+pub board_excused : (old new : State) (id : ℕ) (e : Error) → FailsToQuery has_text (Int (pos id) ∷ []) old new e ⊎ IsTooLate has_text (Int (pos id) ∷ []) old new e → IsExcused old new e
+board_excused old new id e failed other ready content is = fails_so has_text board_tree by_id id_alone [] asks_whether _ (suits id) old new e is.schema ready other failed

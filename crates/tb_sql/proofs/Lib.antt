@@ -1,6 +1,7 @@
 pub mod PersonRows
 pub mod BoardRows
 pub mod RoleRows
+pub mod OwnRoleRows
 pub mod TaskRows
 pub mod LinkRows
 pub mod InstanceRows

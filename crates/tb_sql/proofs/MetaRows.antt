@@ -1,17 +1,27 @@
 -- What the query of the first table finds.
-use Rattle.std.proofs.Common.{◌≡◌, List, [], ◌∷◌, map, codes, true, refl, subst, IsPermutation}
+use Rattle.std.proofs.Common.{◌≡◌, ◌≢◌, ◌<◌, ◌⊎◌, ◌∙◌, All, Result, Ok, Err, IfErr, List, [], ◌∷◌, map, codes, true, refl, sym, ap, subst, arith, IsPermutation}
+use Rattle.std.proofs.lemmas.List.Elements.{All-from_recursion}
 use Rattle.std.proofs.lemmas.List.Sorted.{IsPermutation-refl}
+use Rattle.std.proofs.lemmas.Str.{IsUtf8-from_ascii}
+use Rattle.std.proofs.lemmas.Str.Ascii.{IsAscii-from_all}
+use Rattle.std.specs.Str.{IsAscii}
 use Rattle.sqlite_value.specs.Order.{Row}
 use Rattle.sqlite_sql.specs.Query.{Output}
 use Rattle.sqlite_sql.specs.Term.{Term, col}
 use Rattle.sqlite_tied.specs.Compute.{everything}
 use Rattle.sqlite.specs.Listing.{understood}
-use Rattle.sqlite.specs.State.{State, Shown}
+use Rattle.sqlite.specs.declared.error.Error.{Error}
+use Rattle.sqlite.specs.declared.error.Error.TheVariants.{SqliteFailure}
+use Rattle.sqlite.specs.declared.error.ErrorCode.TheVariants.{OutOfMemory}
+use Rattle.sqlite.specs.State.{FailsToQuery, IsTooLate, State, Shown}
+use Rattle.sqlite.proofs.Callers.{one_permutation}
 use Rattle.tb_sql_tables.specs.declared.rows.MetaRow.{MetaRow}
 use Rattle.tb_sql_tables.specs.Tables.{meta_tree}
-use Rattle.tb_sql_tables.specs.Reading.{meta_of}
-use Rattle.tb_sql_tables.specs.Content.{Finds}
+use Rattle.tb_sql_tables.specs.Reading.{meta_of, IsMetaRow}
+use Rattle.tb_sql_tables.specs.Content.{Content, Finds, IsContent}
+use Rattle.tb_sql_tables.specs.Failing.{IsExcused}
 use Rattle.tb_sql_tables.proofs.Effects.{each, all_left, keyed_shown, found_in_order, found_same}
+use Rattle.tb_sql_tables.proofs.Failing.{Suits, fails_so}
 use Rattle.tb_sql_tables.proofs.Inside.{shown_open}
 use Rattle.tb_sql_tables.proofs.Queries.{query_of, output_at}
 use Rattle.tb_sql_tables.proofs.Statements.{Asks}
@@ -44,3 +54,31 @@ all_metas old new rows shown schema metas stored =
 
 pub shown_metas : (old new : State) (rows : List Row) → Shown meta_text [] old new rows → AreShown old new (map meta_of rows)
 shown_metas old new rows shown = record { rows = rows; shown = shown; read = refl }
+
+-- ---- why the query fails
+
+suits : Suits meta_text meta_tree [] shown_terms [] []
+unfolding understood everything
+suits = record { whole = refl; given = refl; typed = refl }
+
+pub meta_excused : (old new : State) (e : Error) → FailsToQuery meta_text [] old new e ⊎ IsTooLate meta_text [] old new e → IsExcused old new e
+meta_excused old new e failed other ready content is = fails_so meta_text meta_tree [] shown_terms [] asks [] suits old new e is.schema ready other failed
+
+-- the row of a store is read without a refusal
+pub our_row_is_read : (old new : State) (rows : List Row) → Shown meta_text [] old new rows → (content : Content) → IsContent content old.now → All IsMetaRow rows
+our_row_is_read old new rows shown content is =
+    let answer = keyed_shown row_of_meta (λ row. true) (our_meta ∷ []) meta_tree refl meta_text [] shown_terms [] asks old new [] rows is.schema shown (refl, tt) is.rows.tables.meta in
+    let one : answer.ordered ≡ out our_meta ∷ [] = one_permutation (out our_meta) answer.ordered answer.same in
+    subst (All IsMetaRow) (sym (answer.shown ∙ ap (map (λ (o : Output). o.1)) one)) (All-from_recursion IsMetaRow ((out our_meta).1 ∷ []) (ours, tt))
+  where
+    letters : IsAscii (codes "taskboard")
+    letters = IsAscii-from_all (codes "taskboard") (All-from_recursion (λ b. b < 128) (codes "taskboard")
+        (omega arith, (omega arith, (omega arith, (omega arith, (omega arith, (omega arith, (omega arith, (omega arith, (omega arith, tt))))))))))
+
+    ours : IsMetaRow (out our_meta).1
+    ours = record { both = refl; kind = (codes "taskboard", refl, IsUtf8-from_ascii (codes "taskboard") letters); version = (1, refl, omega arith) }
+
+pub row_excused : {X : Type 0} (old new : State) (rows : List Row) (result : Result X Error) → ((content : Content) → IsContent content old.now → All IsMetaRow rows)
+    → IfErr result (λ e. e ≢ SqliteFailure OutOfMemory → ¬ All IsMetaRow rows) → IfErr result (IsExcused old new)
+row_excused old new rows (Ok x) reads refused = tt
+row_excused old new rows (Err e) reads refused = λ other ready content is. absurd (refused other (reads content is))

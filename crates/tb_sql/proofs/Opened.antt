@@ -1,5 +1,5 @@
 -- What a connection that has just been opened shows.
-use Rattle.std.proofs.Common.{◌≡◌, ◌∙◌, ◌&&◌, Bool, List, [], ◌∷◌, length, IsPermutation, IsTrue, true, false, Ok, Err, arith, inl, inr, refl, sym, ap, subst}
+use Rattle.std.proofs.Common.{◌≡◌, ◌∙◌, ◌&&◌, ◌==◌, Bool, List, [], ◌∷◌, codes, bytes_eq, cond, length, Result, IsPermutation, IsTrue, true, false, Ok, Err, arith, inl, inr, refl, sym, ap, subst}
 use Rattle.std.proofs.lemmas.List.Sorted.{length_permutation, All-permutation}
 use Rattle.std.proofs.lemmas.List.Elements.{All-from_recursion, recursion_from_All}
 use Rattle.sqlite_trees.specs.Tree.{Trees}
@@ -13,7 +13,9 @@ use Rattle.tb_sql_tables.specs.Content.{Content, AreRows, IsContent, Stands, Sta
 use Rattle.tb_sql_tables.proofs.Once.{schema_once}
 use Rattle.tb_sql_tables.specs.declared.rows.MetaRow.{MetaRow}
 use Rattle.tb_sql.specs.declared.opening.OpenFault.{OpenFault}
-use Rattle.tb_sql.specs.declared.opening.OpenFault.TheVariants.{NotOurs}
+use Rattle.tb_sql.specs.declared.opening.OpenFault.TheVariants.{Memory, NotOurs, Store, WrongVersion}
+use Rattle.tb_sql.specs.declared.store.StoreFault.{StoreFault}
+use Rattle.tb_sql.specs.declared.store.StoreFault.TheVariants.{Memory as StoreMemory, Store as StoreFailed}
 use Rattle.tb_sql.specs.Opening.{are_tables, has_meta, if_ours, is_ours, judged, our_meta, taken, IsAsBefore, is_meta, is_person, is_board, is_role, is_task, is_link, is_instance, is_gone, is_kept}
 
 -- rows of a content make the schema that of a store
@@ -142,3 +144,20 @@ ours_taken schema metas ours is = subst (λ b. Ok tt ≡ if_ours b (judged metas
 
 pub others_taken : (schema : Schema) (metas : List MetaRow) → is_ours schema ≡ false → Ok tt ≡ judged metas → Err NotOurs ≡ taken schema metas
 others_taken schema metas other is = subst (λ said. Err NotOurs ≡ if_ours (is_ours schema) said) is (subst (λ b. Err NotOurs ≡ if_ours b (Ok tt)) (sym other) refl)
+
+-- ---- why the store is told to have failed
+
+pub told_so : (fault : StoreFault) (told : OpenFault) → (fault ≡ StoreMemory → told ≡ Memory) → told ≡ Store → fault ≡ StoreFailed
+told_so StoreMemory told memory is = absurd (let other : told ≡ Memory = memory refl in cc)
+told_so StoreFailed told memory is = refl
+
+-- the rows of the first table don't say it
+pub never_judged : (metas : List MetaRow) → judged metas ≡ Err Store → ⊥
+never_judged [] is = absurd (cc)
+never_judged (meta ∷ []) is = go (bytes_eq meta.kind (codes "taskboard")) (meta.version == 1) is
+  where
+    go : (kind version : Bool) → ◌≡◌ {A = Result (Unit {0}) OpenFault} (cond kind (cond version (Ok tt) (Err WrongVersion)) (Err NotOurs)) (Err Store) → ⊥
+    go true true is = absurd (cc)
+    go true false is = absurd (cc)
+    go false version is = absurd (cc)
+never_judged (a ∷ b ∷ metas) is = absurd (cc)

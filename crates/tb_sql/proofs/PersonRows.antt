@@ -1,6 +1,7 @@
 -- What the statements on people do.
-use Rattle.std.proofs.Common.{◌≡◌, ◌∙◌, ℕ, pos, List, [], ◌∷◌, map, codes, true, option_map, slice_get, refl, subst, arith}
-use Rattle.std.specs.Prelude.{filter}
+use Rattle.std.proofs.Common.{◌≡◌, ◌∙◌, ◌⊎◌, ℕ, pos, List, [], ◌∷◌, map, codes, length, not, true, option_map, slice_get, refl, subst, arith}
+use Rattle.std.specs.Prelude.{filter, ◌==◌}
+use Rattle.std.specs.List.{list_any}
 use Rattle.std.specs.declared.cmp.Ordering.TheVariants.{Less}
 use Rattle.std.proofs.lemmas.Int.{ints}
 use Rattle.std.proofs.lemmas.Bool.Decides.{nat_tests}
@@ -16,15 +17,18 @@ use Rattle.sqlite_schema.specs.declared.command.Command.TheVariants.{Insert}
 use Rattle.sqlite_schema.specs.declared.command.Source.TheVariants.{Values}
 use Rattle.sqlite_tied.specs.Compute.{everything}
 use Rattle.sqlite.specs.Listing.{understood}
-use Rattle.sqlite.specs.State.{State, Shown}
+use Rattle.sqlite.specs.declared.error.Error.{Error}
+use Rattle.sqlite.specs.State.{FailsToQuery, IsTooLate, State, Shown}
 use Rattle.tb_sql_tables.specs.declared.rows.PersonRow.{PersonRow}
 use Rattle.tb_sql_tables.specs.Tables.{person_plain, person_table, person_tree, store_schema}
 use Rattle.tb_sql_tables.specs.Rows.{person_row}
 use Rattle.tb_sql_tables.specs.Reading.{person_of}
 use Rattle.tb_sql_tables.specs.Content.{Changes, Finds, Ran}
+use Rattle.tb_sql_tables.specs.Failing.{IsExcused}
 use Rattle.tb_sql_tables.specs.Found.{AreFound, IsOneOf}
 use Rattle.tb_sql_tables.proofs.Contents.{people_changed}
-use Rattle.tb_sql_tables.proofs.Effects.{each, all_left, keyed_shown, found, found_one}
+use Rattle.tb_sql_tables.proofs.Effects.{each, all_left, keyed_shown, found, found_any, found_one}
+use Rattle.tb_sql_tables.proofs.Failing.{Suits, fails_so}
 use Rattle.tb_sql_tables.proofs.Inserts.{cast_integer, cast_null}
 use Rattle.tb_sql_tables.proofs.Inside.{shown_open}
 use Rattle.tb_sql_tables.proofs.Keyed.{keyed_put}
@@ -113,11 +117,42 @@ find_person old new name rows shown = record {
       found_one person_of (query_of person_tree by_name shown_terms []) (λ row. output_at person_tree refl by_name shown_terms [] params (person_row row)) _ rows (each (λ row. refl) _) answer;
 }
 
-abbrev pub find_at_text : List ℕ
-find_at_text = codes "SELECT id, name, secret FROM person WHERE id = ?1"
+-- ---- whether there is one of a number
+
+abbrev pub has_text : List ℕ
+has_text = codes "SELECT id FROM person WHERE id = ?1"
 
 abbrev by_id : List Term
 by_id = equal 0 0 ∷ []
+
+abbrev id_alone : List Term
+id_alone = col 1 0 ∷ []
+
+asks_whether : Asks has_text person_tree by_id id_alone []
+unfolding understood everything
+asks_whether = record { names = codes "id" ∷ []; means = record { is = refl; bare = (refl, refl) }; unlisted = refl }
+
+suits : (id : ℕ) → Suits has_text person_tree by_id id_alone [] (Int (pos id) ∷ [])
+unfolding understood everything
+suits id = record { whole = refl; given = refl; typed = refl }
+
+pub has_person : (old new : State) (id : ℕ) (rows : List Row) → Shown has_text (Int (pos id) ∷ []) old new rows → Finds (λ content. not (length rows == 0) ≡ list_any (is_person id) content.people) old
+has_person old new id rows shown = record {
+  was_open = shown_open has_text _ old new rows shown;
+  found = λ content is.
+      let params = Int (pos id) ∷ [] in
+      let same = each (λ (row : PersonRow). and_true _ ∙ equal_numbers row.id id) content.people in
+      let answer = keyed_shown person_row (is_person id) content.people person_tree refl has_text by_id id_alone [] asks_whether old new params rows is.schema shown same is.rows.tables.people in
+      found_any (query_of person_tree by_id id_alone []) (λ row. output_at person_tree refl by_id id_alone [] params (person_row row)) (is_person id) content.people rows answer;
+}
+
+pub person_excused : (old new : State) (id : ℕ) (e : Error) → FailsToQuery has_text (Int (pos id) ∷ []) old new e ⊎ IsTooLate has_text (Int (pos id) ∷ []) old new e → IsExcused old new e
+person_excused old new id e failed other ready content is = fails_so has_text person_tree by_id id_alone [] asks_whether _ (suits id) old new e is.schema ready other failed
+
+-- ---- the one of a number
+
+abbrev pub find_at_text : List ℕ
+find_at_text = codes "SELECT id, name, secret FROM person WHERE id = ?1"
 
 asks_one_at : Asks find_at_text person_tree by_id shown_terms []
 unfolding understood everything

@@ -1,4 +1,5 @@
 pub mod Changes
 pub mod Lending
 pub mod Opening
+pub mod OwnRoles
 pub mod Writing

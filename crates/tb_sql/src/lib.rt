@@ -16,5 +16,6 @@ pub mod meta;
 pub mod opening;
 pub mod people;
 pub mod roles;
+pub mod roles_of;
 pub mod store;
 pub mod tasks;

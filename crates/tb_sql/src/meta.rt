@@ -1,9 +1,10 @@
 //! The statement on the table that tells what the file is.
 
-ghost use Rattle.std.specs.Prelude.{◌≡◌, [], ◌∷◌, IsTrue, IfOk};
+ghost use Rattle.std.specs.Prelude.{◌≡◌, [], ◌∷◌, IsTrue, IfErr, IfOk};
 ghost use Rattle.sqlite.specs.Held.{state};
 ghost use Rattle.sqlite.specs.State.{HasCleanDisk, KeepsCommit, Survives};
 ghost use Rattle.tb_sql_tables.specs.Content.{Finds};
+ghost use Rattle.tb_sql_tables.specs.Failing.{IsExcused};
 ghost use Rattle.tb_sql.specs.Opening.{our_meta, AreMetas, AreShown};
 
 use sqlite::{Alter, Error, Transaction};
@@ -19,6 +20,7 @@ pub fn select_meta<S: Alter>(tx: &mut Transaction<'_, S>) -> Result<Items<MetaRo
         → IfOk result (λ metas. Finds (λ _. metas ≡ our_meta ∷ []) (state S.Store tx.old.conn.now)) }
     ensures told { HasCleanDisk (state S.Store tx.new.conn.now) → IfOk result (λ metas. AreMetas (state S.Store tx.old.conn.now).now metas) }
     ensures shown { HasCleanDisk (state S.Store tx.new.conn.now) → IfOk result (λ metas. AreShown (state S.Store tx.old.conn.now) (state S.Store tx.new.conn.now) metas) }
+    ensures excused { HasCleanDisk (state S.Store tx.new.conn.now) → IfErr result (IsExcused (state S.Store tx.old.conn.now) (state S.Store tx.new.conn.now)) }
     ensures kept { HasCleanDisk (state S.Store tx.new.conn.now) → IsTrue (state S.Store tx.old.conn.now).in_transaction
         → KeepsCommit (state S.Store tx.old.conn.now) (state S.Store tx.new.conn.now) }
     ensures survives { Survives (state S.Store tx.old.conn.now) (state S.Store tx.new.conn.now) (λ _. ⊥) }

@@ -6,6 +6,7 @@ ghost use Rattle.sqlite.specs.State.{HasCleanDisk, Opens};
 ghost use Rattle.tb_sql_tables.specs.Tables.{meta_tree, no_schema, store_schema};
 ghost use Rattle.tb_sql_tables.specs.declared.rows.MetaRow.{MetaRow as Meta};
 ghost use Rattle.tb_sql_tables.specs.Content.{Content, AreRows, HasKeyed, IsContent, Stands, StandsEmpty};
+ghost use Rattle.tb_sql_tables.specs.Failing.{FailsByFault, KeepsFaults};
 ghost use Rattle.tb_sql.specs.Opening.{has_meta, is_ours, judged, our_meta, row_of_meta, Answers, AreMetas, AreShownFrom, IsAnswered, IsAsBefore};
 
 use crate::layout::{has_meta, is_ours};
@@ -61,6 +62,8 @@ fn read_meta<S: Alter>(conn: &mut Connection<S>) -> Result<Items<MetaRow>, Store
     ensures found { IfOk result (λ metas. HasCleanDisk (state S.Store conn.new) → (content : Content) → IsContent content (state S.Store conn.old).now → metas ≡ our_meta ∷ []) }
     ensures told { IfOk result (λ metas. HasCleanDisk (state S.Store conn.new) → AreMetas (state S.Store conn.old).now metas) }
     ensures shown { IfOk result (λ metas. HasCleanDisk (state S.Store conn.new) → AreShownFrom S.Store conn.old metas) }
+    ensures excused { result ≡ Err StoreFault.Store → FailsByFault (state S.Store conn.old) (state S.Store conn.new) (λ content. IsContent content (state S.Store conn.old).now) }
+    ensures faults { KeepsFaults (state S.Store conn.old) (state S.Store conn.new) }
     ensures same { IsAsBefore (state S.Store conn.old) (state S.Store conn.new) }
 {
     let mut tx = conn.transaction();
@@ -100,6 +103,9 @@ pub fn accept<S: Alter>(conn: &mut Connection<S>) -> Result<(), OpenFault>
     ensures answered { HasCleanDisk (state S.Store conn.new) → has_meta (state S.Store conn.old).now.schema.tables ≡ true → IsAnswered S.Store conn.old result }
     ensures told { HasCleanDisk (state S.Store conn.new) → (state S.Store conn.old).now.schema ≡ store_schema
         → (metas : List Meta) → HasKeyed (map row_of_meta metas) ((state S.Store conn.old).now.trees meta_tree) → Answers (judged metas) result }
+    ensures excused { result ≡ Err OpenFault.Store → Opens (state S.Store conn.old)
+        → FailsByFault (state S.Store conn.old) (state S.Store conn.new) (λ content. AreRows content (state S.Store conn.old).now.trees) }
+    ensures faults { KeepsFaults (state S.Store conn.old) (state S.Store conn.new) }
     ensures same { IsAsBefore (state S.Store conn.old) (state S.Store conn.new) }
 {
     let ours = is_ours(conn.schema());

@@ -1,9 +1,11 @@
 //! The statements on the people.
 
-ghost use Rattle.std.specs.Prelude.{◌≡◌, IsTrue, IfOk, OnOk, OnErr, filter};
+ghost use Rattle.std.specs.Prelude.{◌≡◌, IsTrue, IfErr, IfOk, OnOk, OnErr, filter};
+ghost use Rattle.std.specs.List.{list_any};
 ghost use Rattle.sqlite.specs.Held.{state};
 ghost use Rattle.sqlite.specs.State.{HasCleanDisk, KeepsCommit, Survives};
 ghost use Rattle.tb_sql_tables.specs.Content.{Changes, Finds};
+ghost use Rattle.tb_sql_tables.specs.Failing.{IsExcused};
 ghost use Rattle.tb_sql_tables.specs.Found.{AreFound, IsOneOf};
 ghost use Rattle.tb_sql.specs.Changes.{with_person, is_named, is_person, IsPersonBefore};
 
@@ -82,4 +84,18 @@ pub fn find_person_at<S: Alter>(
         params![id],
     )?;
     read_first(&rows)
+}
+
+/// Whether there is a person of a number. Nothing of the row is read.
+pub fn has_person<S: Alter>(tx: &mut Transaction<'_, S>, id: u32) -> Result<bool, Error>
+    ensures same_reference { tx.new.conn.ghost_name ≡ tx.old.conn.ghost_name }
+    ensures found { HasCleanDisk (state S.Store tx.new.conn.now)
+        → IfOk result (λ there. Finds (λ content. there ≡ list_any (is_person id) content.people) (state S.Store tx.old.conn.now)) }
+    ensures excused { HasCleanDisk (state S.Store tx.new.conn.now) → IfErr result (IsExcused (state S.Store tx.old.conn.now) (state S.Store tx.new.conn.now)) }
+    ensures kept { HasCleanDisk (state S.Store tx.new.conn.now) → IsTrue (state S.Store tx.old.conn.now).in_transaction
+        → KeepsCommit (state S.Store tx.old.conn.now) (state S.Store tx.new.conn.now) }
+    ensures survives { Survives (state S.Store tx.old.conn.now) (state S.Store tx.new.conn.now) (λ _. ⊥) }
+{
+    let rows = find_rows(tx, "SELECT id FROM person WHERE id = ?1", params![id])?;
+    Ok(!rows.is_empty())
 }

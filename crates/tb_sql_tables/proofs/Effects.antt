@@ -1,8 +1,10 @@
 -- What the statements do to a table, of the typed rows that it holds.
 use Rattle.std.proofs.Common.{◌≡◌, ◌∙◌, ℕ, List, [], ◌∷◌, map, drop, slice_get, Bool, true, false, not, cond, Some, None, refl, sym, ap, ap₂, subst, IsPermutation, IsSorted, length, option_map, inl, arith}
-use Rattle.std.specs.Prelude.{filter}
-use Rattle.std.specs.List.{AllByRecursion}
+use Rattle.std.specs.Prelude.{filter, ◌==◌, ◌||◌}
+use Rattle.std.specs.List.{AllByRecursion, list_any}
+use Rattle.std.proofs.lemmas.Bool.Decides.{nat_tests}
 use Rattle.std.specs.declared.cmp.Ordering.TheVariants.{Less}
+use Rattle.std.proofs.lemmas.List.{length-map}
 use Rattle.std.proofs.lemmas.List.Sorted.{IsPermutation-map, IsPermutation-sym, IsPermutation-trans, length_permutation, All-permutation, Contains-permutation}
 use Rattle.std.proofs.lemmas.List.Elements.{All-from_recursion, recursion_from_All}
 use Rattle.sqlite_rules.proofs.ListLemmas.{contains_had}
@@ -168,3 +170,17 @@ module _ {X : Type 0} (read : Row → X) (query : Query) (out : X → Output) (x
           empty [] e = refl
           empty (z ∷ zs) e = absurd (omega arith)
       first_one (r ∷ answer) same = Contains-permutation (read r ∷ map read answer) xs (read r) (IsPermutation-sym xs _ same) (contains_had (read r ∷ map read answer) (read r) (inl refl))
+
+any_left : {X : Type 0} (t : X → Bool) (xs : List X) → not (length (filter t xs) == 0) ≡ list_any t xs
+any_left t [] = refl
+any_left t (x ∷ xs) = elim (t x) as (λ b. not (length (cond b (x ∷ filter t xs) (filter t xs)) == 0) ≡ (b || list_any t xs)) [
+  | true ↦ let some : (length (x ∷ filter t xs) == 0) ≡ false = grind (arith, nat_tests) in ap not some
+  | false ↦ any_left t xs
+]
+
+-- the answer has a row where one of them passes the test
+pub found_any : {X : Type 0} (query : Query) (out : X → Output) (t : X → Bool) (xs : List X) (rows : List Row) → IsShownOf query out (filter t xs) rows → not (length rows == 0) ≡ list_any t xs
+found_any query out t xs rows is =
+    let shown : length rows ≡ length is.ordered = ap length is.shown ∙ length-map is.ordered (λ (o : Output). o.1) in
+    let same : length is.ordered ≡ length (filter t xs) = omega (arith, length_permutation (map out (filter t xs)) is.ordered is.same, length-map (filter t xs) out) in
+    ap (λ n. not (n == 0)) (shown ∙ same) ∙ any_left t xs

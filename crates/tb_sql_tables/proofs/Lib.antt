@@ -16,3 +16,4 @@ pub mod Effects
 pub mod Standing
 pub mod Reordered
 pub mod Creates
+pub mod Failing

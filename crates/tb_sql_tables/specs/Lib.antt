@@ -1,4 +1,5 @@
 pub mod Content
+pub mod Failing
 pub mod Found
 pub mod Reading
 pub mod Rows

@@ -1,5 +1,5 @@
 -- What the rows of a query read as. The columns stand in the order of the table's.
-use Rattle.std.specs.Prelude.{List, [], ℕ, pos, Option, Some, None}
+use Rattle.std.specs.Prelude.{◌≡◌, ◌<◌, ◌^◌, List, [], length, ℕ, pos, IsUtf8, Option, Some, None}
 use Rattle.std.specs.Int.{from_be_bytes, w128}
 use Rattle.sqlite_value.specs.declared.value.Value.{Value}
 use Rattle.sqlite_value.specs.declared.value.Value.TheVariants.{Int, Text as Words, Blob as Bytes}
@@ -76,3 +76,18 @@ kept_of cells = record {
   status = number_of (column cells 4);
   body = words_of (column cells 5);
 }
+
+-- ---- what is read without a refusal
+
+-- a number that fits
+abbrev pub IsNumber : Value → Type 0
+IsNumber value = (n : ℕ) × (value ≡ Int (pos n)) × (n < 2 ^ 32)
+
+abbrev pub IsText : Value → Type 0
+IsText value = (text : List ℕ) × (value ≡ Words text) × IsUtf8 text
+
+-- the columns of the first table
+pub record IsMetaRow (cells : Row) : Type 0 where
+  pub both : length cells ≡ 2
+  pub kind : IsText (column cells 0)
+  pub version : IsNumber (column cells 1)

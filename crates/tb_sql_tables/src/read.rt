@@ -1,8 +1,9 @@
 //! The rows of a query, read as rows of a table.
 
-ghost use Rattle.std.specs.Prelude.{◌≡◌, IfOk, map, option_map, slice_get};
+ghost use Rattle.std.specs.Prelude.{◌≡◌, ◌≢◌, ◌<◌, All, IfErr, IfOk, length, map, option_map, slice_get};
 ghost use Rattle.sqlite_value.specs.Order.{column};
-ghost use Rattle.tb_sql_tables.specs.Reading.{number_of, words_of, bytes_of, identifier_of, mask_of, meta_of, person_of, board_of, role_of, task_of, link_of, instance_of, gone_of, kept_of};
+ghost use Rattle.sqlite.specs.declared.error.ErrorCode.TheVariants.{OutOfMemory};
+ghost use Rattle.tb_sql_tables.specs.Reading.{IsNumber, IsMetaRow, IsText, number_of, words_of, bytes_of, identifier_of, mask_of, meta_of, person_of, board_of, role_of, task_of, link_of, instance_of, gone_of, kept_of};
 
 use crate::rows::{
     BoardRow, GoneRow, InstanceRow, KeptRow, LinkRow, MetaRow, PersonRow, RoleRow, TaskRow,
@@ -21,18 +22,24 @@ pub trait Stored: Drop + Sized {
 
     ghost read_as: { Cells → Self };
 
+    // Of which rows it is said that they are read.
+    ghost is_readable: { Cells → Type 0 } = { λ _. ⊥ };
+
     fn read(row: &Row) -> Result<Self, Error>
-        ensures { IfOk result (λ it. it ≡ read_as row.now) };
+        ensures value { IfOk result (λ it. it ≡ read_as row.now) }
+        ensures refused { IfErr result (λ e. e ≢ Error.SqliteFailure OutOfMemory → ¬ is_readable row.now) };
 }
 
 fn number_at(row: &Row, at: usize) -> Result<u32, Error>
-    ensures { IfOk result (λ number. number ≡ number_of (column row.now at)) }
+    ensures value { IfOk result (λ number. number ≡ number_of (column row.now at)) }
+    ensures refused { IfErr result (λ e. e ≢ Error.SqliteFailure OutOfMemory → at < length row.now → ¬ IsNumber (column row.now at)) }
 {
     row.get(at)
 }
 
 fn text_at(row: &Row, at: usize) -> Result<Text, Error>
-    ensures { IfOk result (λ text. text ≡ words_of (column row.now at)) }
+    ensures value { IfOk result (λ text. text ≡ words_of (column row.now at)) }
+    ensures refused { IfErr result (λ e. e ≢ Error.SqliteFailure OutOfMemory → at < length row.now → ¬ IsText (column row.now at)) }
 {
     let text: String = row.get(at)?;
     Ok(Text::from_string(text))
@@ -69,6 +76,8 @@ fn mask_at(row: &Row, at: usize) -> Result<Option<Text>, Error>
 
 impl Stored for MetaRow {
     ghost read_as = { meta_of };
+
+    ghost is_readable = { IsMetaRow };
 
     fn read(row: &Row) -> Result<MetaRow, Error> {
         Ok(MetaRow {
@@ -183,7 +192,8 @@ impl Stored for KeptRow {
 
 /// Each of the rows, in their order.
 pub fn read_all<T: Stored>(alloc: Global, rows: &[Row]) -> Result<Items<T>, Error>
-    ensures { IfOk result (λ items. items ≡ map T.Stored.read_as rows.now) }
+    ensures value { IfOk result (λ items. items ≡ map T.Stored.read_as rows.now) }
+    ensures refused { IfErr result (λ e. e ≢ Error.SqliteFailure OutOfMemory → ¬ All T.Stored.is_readable rows.now) }
 {
     let mut items = Items::new(alloc);
     'rows: for row in rows {

@@ -1,8 +1,8 @@
 //! A statement of any text, inside a transaction.
 
-ghost use Rattle.std.specs.Prelude.{◌≡◌, IsTrue, IfOk, OnOk, OnErr};
+ghost use Rattle.std.specs.Prelude.{◌≡◌, ◌⊎◌, IsTrue, IfErr, IfOk, OnOk, OnErr};
 ghost use Rattle.sqlite.specs.Held.{state};
-ghost use Rattle.sqlite.specs.State.{HasCleanDisk, KeepsCommit, Shown, Survives};
+ghost use Rattle.sqlite.specs.State.{FailsToQuery, HasCleanDisk, IsTooLate, KeepsCommit, Shown, Survives};
 ghost use Rattle.sqlite.specs.Values.{bound};
 ghost use Rattle.tb_sql_tables.specs.Content.{Ran};
 
@@ -35,6 +35,9 @@ pub fn find_rows<S: Alter>(
     ensures same_reference { tx.new.conn.ghost_name ≡ tx.old.conn.ghost_name }
     ensures shown { HasCleanDisk (state S.Store tx.new.conn.now)
         → IfOk result (λ rows. Shown sql.now (bound params.now) (state S.Store tx.old.conn.now) (state S.Store tx.new.conn.now) rows.items) }
+    ensures refused { HasCleanDisk (state S.Store tx.new.conn.now)
+        → IfErr result (λ e. FailsToQuery sql.now (bound params.now) (state S.Store tx.old.conn.now) (state S.Store tx.new.conn.now) e
+        ⊎ IsTooLate sql.now (bound params.now) (state S.Store tx.old.conn.now) (state S.Store tx.new.conn.now) e) }
     ensures kept { HasCleanDisk (state S.Store tx.new.conn.now) → IsTrue (state S.Store tx.old.conn.now).in_transaction
         → KeepsCommit (state S.Store tx.old.conn.now) (state S.Store tx.new.conn.now) }
     ensures survives { Survives (state S.Store tx.old.conn.now) (state S.Store tx.new.conn.now) (λ _. ⊥) }

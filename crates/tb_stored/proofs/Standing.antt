@@ -1,5 +1,5 @@
 -- What stands on a connection.
-use Rattle.std.proofs.Common.{◌≡◌, ◌∙◌, inl, inr, false, true, sym}
+use Rattle.std.proofs.Common.{◌≡◌, ◌∙◌, inl, inr, false, true, sym, IsTrue}
 use Rattle.sqlite_trees.specs.declared.store.Store.{Ghosts}
 use Rattle.sqlite.specs.Held.{Held, state}
 use Rattle.sqlite.specs.State.{HasCleanDisk, Opens, State as Database}
@@ -7,6 +7,8 @@ use Rattle.tb_calls.specs.Calls.{State}
 use Rattle.tb_sql.specs.Opening.{IsAsBefore}
 use Rattle.tb_sql.proofs.Opened.{stands_again}
 use Rattle.tb_sql_tables.specs.Content.{AreRows, Content, Finds, IsContent, Stands}
+use Rattle.tb_sql_tables.specs.Failing.{FailsByFault, KeepsFaults}
+use Rattle.tb_sql_tables.proofs.Failing.{fault_before, fault_behind, still_ready}
 use Rattle.tb_stored.specs.Contents.{IsThere}
 use Rattle.tb_stored.specs.Stored.{IsStored}
 
@@ -44,3 +46,13 @@ stored_again s old new stored before idle = record {
   stands = stood stored.content old new stored.stands before;
   idle = idle;
 }
+
+-- ---- faults
+
+-- a look behind another fails by a fault since before both
+pub fails_then : (P Q : Content → Type 0) (a b c : Database) → (HasCleanDisk b → IsTrue b.is_open → (content : Content) → P content → Q content) → KeepsFaults a b → (HasCleanDisk c → HasCleanDisk b) → KeepsFaults b c
+    → FailsByFault b c Q → FailsByFault a c P
+fails_then P Q a b c stays kept before later fails clean ready content was = elim (still_ready a b kept (before clean) ready) [
+  | inl still ↦ fault_behind a b c kept.counts (fails clean still content (stays (before clean) still.is_open content was))
+  | inr fault ↦ fault_before a b c fault later.counts
+]

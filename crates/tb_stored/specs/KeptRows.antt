@@ -1,16 +1,15 @@
 -- The rows of the kept replies of a state.
-use Rattle.std.proofs.Common.{◌≡◌, ◌∙◌, ℕ, List, [], ◌∷◌, ◌++◌, map, None, refl, sym, ap, ap₂, subst, IsPermutation}
+use Rattle.std.proofs.Common.{◌≡◌, List, [], ◌∷◌, ◌++◌, map, None, refl, ap₂, subst, IsPermutation}
 use Rattle.std.specs.Prelude.{IsSome}
 use Rattle.std.specs.List.{AllByRecursion}
 use Rattle.std.specs.FinMap.{FinMap, entries, get, insert}
 use Rattle.std.proofs.lemmas.List.Sorted.{IsPermutation-cons, IsPermutation-map, IsPermutation-sym, IsPermutation-trans, All-permutation}
 use Rattle.std.proofs.lemmas.List.Elements.{All-from_recursion, recursion_from_All}
-use Rattle.sqlite_trees.proofs.ListLemmas.{map-map}
 use Rattle.tb_board.specs.declared.world.Person.{Person}
 use Rattle.tb_board.specs.declared.world.World.{World}
-use Rattle.tb_board.specs.World.{key_of, number_of}
+use Rattle.tb_board.specs.World.{key_of}
 use Rattle.tb_calls.specs.declared.call.KeptReply.{KeptReply}
-use Rattle.tb_calls.specs.Calls.{CallName, State, name_cmp}
+use Rattle.tb_calls.specs.Calls.{CallName, name_cmp}
 use Rattle.tb_calls.proofs.Names.{names_exact, names_total}
 use Rattle.tb_sql_tables.specs.declared.rows.KeptRow.{KeptRow}
 use Rattle.tb_stored.specs.Stored.{entry_of, kept_row, IsKnown}

@@ -1,13 +1,12 @@
 -- States by their rows.
-use Rattle.std.proofs.Common.{◌≡◌, ◌∙◌, ◌⊎◌, inl, inr, List, map, refl, sym, ap, subst, IsPermutation}
+use Rattle.std.proofs.Common.{◌≡◌, ◌⊎◌, inl, inr, List, map, sym, subst, IsPermutation}
 use Rattle.std.specs.List.{AllByRecursion}
 use Rattle.std.specs.FinMap.{entries}
 use Rattle.std.proofs.lemmas.List.Sorted.{IsPermutation-sym, IsPermutation-trans}
 use Rattle.sqlite_trees.specs.Tree.{Trees}
 use Rattle.sqlite.specs.State.{State as Database}
-use Rattle.tb_board.specs.declared.world.World.{World}
 use Rattle.tb_calls.specs.Calls.{State}
-use Rattle.tb_rows.specs.Rows.{world_rows, HaveSameRows, IsSameContent}
+use Rattle.tb_rows.specs.Rows.{world_rows, HaveSameRows}
 use Rattle.tb_sql_tables.specs.Content.{AreRows, Content}
 use Rattle.tb_stored.specs.Stored.{kept_row, state_rows, AreRowsOf, IsKnown, IsStored, IsStoredAsEither, MayLeave}
 use Rattle.tb_stored.specs.KeptRows.{same_replies}

@@ -1,16 +1,19 @@
 //! The row of a key. Each query stands in a transaction that is dropped, and leaves everything as it was.
 
-ghost use Rattle.std.specs.Prelude.{◌≡◌, false, filter, IfOk};
+ghost use Rattle.std.specs.Prelude.{◌≡◌, false, filter, Err, IfOk};
+ghost use Rattle.std.specs.List.{list_any};
 ghost use Rattle.sqlite.specs.Held.{state};
 ghost use Rattle.tb_sql.specs.Changes.{is_board, is_kept, is_named, is_person};
 ghost use Rattle.tb_sql.specs.Opening.{IsAsBefore};
+ghost use Rattle.tb_sql_tables.specs.Content.{IsContent};
+ghost use Rattle.tb_sql_tables.specs.Failing.{FailsByFault, KeepsFaults};
 ghost use Rattle.tb_sql_tables.specs.Found.{IsOneOf};
 ghost use Rattle.tb_stored.specs.Reopening.{OfContent};
 
 use sqlite::{Alter, Connection};
-use tb_sql::boards::find_board;
+use tb_sql::boards::{find_board, has_board};
 use tb_sql::kept::find_kept;
-use tb_sql::people::{find_person, find_person_at};
+use tb_sql::people::{find_person, find_person_at, has_person};
 use tb_sql::store::StoreFault;
 use tb_sql_tables::rows::{BoardRow, KeptRow, PersonRow};
 use tb_task::TaskId;
@@ -51,6 +54,44 @@ pub fn person_row_at<S: Alter>(
     drop(tx);
     match found {
         Ok(row) => Ok(row),
+        Err(error) => Err(StoreFault::before_commit(&error)),
+    }
+}
+
+/// Whether there is a person of a number.
+pub fn has_person_at<S: Alter>(conn: &mut Connection<S>, id: u32) -> Result<bool, StoreFault>
+    requires { conn.old.in_transaction ≡ false }
+    ensures idle { conn.new.in_transaction ≡ false }
+    ensures found { IfOk result (λ there. OfContent (state S.Store conn.old) (state S.Store conn.new)
+        (λ content. there ≡ list_any (is_person id) content.people)) }
+    ensures excused { result ≡ Err StoreFault.Store → FailsByFault (state S.Store conn.old) (state S.Store conn.new) (λ content. IsContent content (state S.Store conn.old).now) }
+    ensures faults { KeepsFaults (state S.Store conn.old) (state S.Store conn.new) }
+    ensures same { IsAsBefore (state S.Store conn.old) (state S.Store conn.new) }
+{
+    let mut tx = conn.transaction();
+    let found = has_person(&mut tx, id);
+    drop(tx);
+    match found {
+        Ok(there) => Ok(there),
+        Err(error) => Err(StoreFault::before_commit(&error)),
+    }
+}
+
+/// Whether there is a board of a number.
+pub fn has_board_at<S: Alter>(conn: &mut Connection<S>, id: u32) -> Result<bool, StoreFault>
+    requires { conn.old.in_transaction ≡ false }
+    ensures idle { conn.new.in_transaction ≡ false }
+    ensures found { IfOk result (λ there. OfContent (state S.Store conn.old) (state S.Store conn.new)
+        (λ content. there ≡ list_any (is_board id) content.boards)) }
+    ensures excused { result ≡ Err StoreFault.Store → FailsByFault (state S.Store conn.old) (state S.Store conn.new) (λ content. IsContent content (state S.Store conn.old).now) }
+    ensures faults { KeepsFaults (state S.Store conn.old) (state S.Store conn.new) }
+    ensures same { IsAsBefore (state S.Store conn.old) (state S.Store conn.new) }
+{
+    let mut tx = conn.transaction();
+    let found = has_board(&mut tx, id);
+    drop(tx);
+    match found {
+        Ok(there) => Ok(there),
         Err(error) => Err(StoreFault::before_commit(&error)),
     }
 }

@@ -5,4 +5,5 @@
 
 pub mod by_key;
 pub mod faults;
+pub mod own_roles;
 pub mod reading;

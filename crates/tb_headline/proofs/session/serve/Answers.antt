@@ -5,12 +5,12 @@ use Rattle.tb_headline.proofs.session.serve.Goals as goal
 
 pub returns-clause-played : goal.returns-clause-played
 returns-clause-played g c clean s at =
-    on_ok c.play.result _ _ (played _ _ _ _ _ clean s _ _ _)
+    on_ok c.play.result _ _ (played c.args.paths.now.site _ _ _ _ _ clean s _ _ _)
     (c.play.ensures.plays (honest (state g.S.Store c.play.new.desk.conn) clean) s at.held at.only)
 
 pub returns-clause-cut : goal.returns-clause-cut
 returns-clause-cut g c clean s at =
-    on_err c.play.result _ _ (cut _ _ _ _ _ clean s _ _ _)
+    on_err c.play.result _ _ (cut c.args.paths.now.site _ _ _ _ _ clean s _ _ _)
     (c.play.ensures.stopped (honest (state g.S.Store c.play.new.desk.conn) clean) s at.held at.only)
 
 pub returns-clause-honest : goal.returns-clause-honest

@@ -10,7 +10,7 @@ use Rattle.tb_peers.proofs.exchanging.exchange_next.Goals as goal
 pub returns-in-Ok-Some-clause-exchanges : goal.returns-in-Ok-Some-clause-exchanges
 returns-in-Ok-Some-clause-exchanges g c y s held only =
     let begins = rw c.in-Ok-Some.field-0-is at (c.in-Ok-Some.ensures.message c.requires) in
-    exchanged s (Some c.args.inbox.now.bytes) (Some c.next_message.new.self.bytes) (Some (c.args.at ∷ [])) (Some []) c.args.inbox.now.messages c.in-Ok-Some.message
+    exchanged c.args.paths.now.site s (Some c.args.inbox.now.bytes) (Some c.next_message.new.self.bytes) (Some (c.args.at ∷ [])) (Some []) c.args.inbox.now.messages c.in-Ok-Some.message
     c.next_message.new.self.is_closing c.closing-is_last.result c.args.at (Some c.args.out.now.items) (Some c.handle_message.new.writer.items) c.handle_message.result
     (g.K.Keep.holds c.handle_message.new.desk) (g.K.Keep.after_stop c.handle_message.new.desk)
     (begins.0, begins.1, begins.2) c.closing-is_last.ensures (refl, refl) (c.handle_message.ensures.handles y s held only)

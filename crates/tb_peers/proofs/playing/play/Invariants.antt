@@ -12,6 +12,6 @@ invariant-loop-entry g l =
       count : length l.peers ≡ length l.fn.peers;
       honest : k.is_honest l.desk ≡ true → k.is_honest l.fn.desk ≡ true;
       plays : k.is_honest l.desk ≡ true → (s : State) → k.holds l.fn.desk s → Only s (k.after_stop l.fn.desk)
-          → Plays s (done_at (length l.fn.peers) (take l.entry-index l.happenings)) (talk_at l.fn.peers) (talk_at l.peers)
+          → Plays l.paths.site s (done_at (length l.fn.peers) (take l.entry-index l.happenings)) (talk_at l.fn.peers) (talk_at l.peers)
           (k.holds l.desk) (k.after_stop l.desk);
     }

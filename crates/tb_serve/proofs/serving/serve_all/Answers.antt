@@ -11,7 +11,7 @@ messages-init g c = record {
   goes_on = λ _. omega arith;
   taken = taken_none (g.C.Clock.answers c.args.clock.now) 0 refl;
   honest = λ y. y;
-  runs = λ y s held only. run_none s c.args.reader.now.bytes (g.C.Clock.answers c.args.clock.now) (g.W.Write.contents c.args.writer.now) _ _ c.args.reader.now.messages c.args.reader.now.is_closing
+  runs = λ y s held only. run_none c.args.paths.now.site s c.args.reader.now.bytes (g.C.Clock.answers c.args.clock.now) (g.W.Write.contents c.args.writer.now) _ _ c.args.reader.now.messages c.args.reader.now.is_closing
       c.requires.first c.requires.goes_on held only;
 }
 
@@ -30,7 +30,7 @@ messages-preserved g c =
           c.messages.answered 1 _ refl c.messages.invariant.taken (subst (λ k. IfSome (g.C.Clock.answers c.messages.clock) (λ all. g.C.Clock.answers c.serve_message-exchange.new.clock ≡ Some (drop k all))) read clock);
       goes_on = λ goes. has_room _ _ (λ full. c.serve_message-exchange.ensures.limit told (omega (arith, count, full))) goes;
       honest = λ y. c.messages.invariant.honest (c.serve_message-exchange.ensures.honest y);
-      runs = λ y s held only. run_more s c.args.reader.now.bytes (g.C.Clock.answers c.args.clock.now) c.messages.reader.bytes (g.C.Clock.answers c.messages.clock) (g.C.Clock.answers c.serve_message-exchange.new.clock)
+      runs = λ y s held only. run_more c.args.paths.now.site s c.args.reader.now.bytes (g.C.Clock.answers c.args.clock.now) c.messages.reader.bytes (g.C.Clock.answers c.messages.clock) (g.C.Clock.answers c.serve_message-exchange.new.clock)
           (g.W.Write.contents c.args.writer.now) (g.W.Write.contents c.messages.writer) (g.W.Write.contents c.serve_message-exchange.new.writer)
           (g.K.Keep.holds c.messages.desk) (g.K.Keep.after_stop c.messages.desk) (g.K.Keep.holds c.serve_message-exchange.new.desk) (g.K.Keep.after_stop c.serve_message-exchange.new.desk)
           c.messages.reader.messages c.serve_message-exchange.new.reader.messages c.messages.reader.is_closing c.serve_message-exchange.new.reader.is_closing exchange c.serve_message-exchange.new.reader.bytes
@@ -45,7 +45,7 @@ returns-then-not-goes_on-clause-served g c y s held only =
     let cut = sym c.goes_on.ensures ∙ c.if-not-goes_on.true in
     let unclosed = sym c.closing.ensures ∙ c.messages-test.true in
     let counts = c.ends.ensures ∙ ap (λ k. ended_by k exchange) (sym c.messages.invariant.counted) in
-    run_ends s c.args.reader.now.bytes (g.C.Clock.answers c.args.clock.now) c.messages.reader.bytes (g.C.Clock.answers c.messages.clock)
+    run_ends c.args.paths.now.site s c.args.reader.now.bytes (g.C.Clock.answers c.args.clock.now) c.messages.reader.bytes (g.C.Clock.answers c.messages.clock)
     (g.W.Write.contents c.args.writer.now) (g.W.Write.contents c.messages.writer) (g.W.Write.contents c.serve_message-exchange.new.writer)
     (g.K.Keep.holds c.messages.desk) (g.K.Keep.after_stop c.messages.desk) (g.K.Keep.holds c.serve_message-exchange.new.desk) (g.K.Keep.after_stop c.serve_message-exchange.new.desk)
     c.messages.reader.messages c.messages.reader.is_closing c.serve_message-exchange.new.reader.is_closing exchange c.serve_message-exchange.new.reader.bytes c.ends.result
@@ -54,7 +54,7 @@ returns-then-not-goes_on-clause-served g c y s held only =
 pub returns-clause-served : goal.returns-clause-served
 returns-clause-served g c y s held only =
     let closed = sym c.closing.ensures ∙ c.messages-test.false in
-    run_closed s c.args.reader.now.bytes (g.C.Clock.answers c.args.clock.now) c.messages.reader.bytes (g.C.Clock.answers c.messages.clock)
+    run_closed c.args.paths.now.site s c.args.reader.now.bytes (g.C.Clock.answers c.args.clock.now) c.messages.reader.bytes (g.C.Clock.answers c.messages.clock)
     (g.W.Write.contents c.args.writer.now) (g.W.Write.contents c.messages.writer)
     (g.K.Keep.holds c.messages.desk) (g.K.Keep.after_stop c.messages.desk)
     c.messages.reader.messages c.messages.reader.is_closing _

@@ -12,7 +12,7 @@ invariant-messages g l = record {
   taken : IfSome (g.C.Clock.answers l.fn.clock) (λ all. g.C.Clock.answers l.clock ≡ Some (drop l.answered all));
   honest : g.K.Keep.is_honest l.desk ≡ true → g.K.Keep.is_honest l.fn.desk ≡ true;
   runs : g.K.Keep.is_honest l.desk ≡ true → (s : State) → g.K.Keep.holds l.fn.desk s → Only s (g.K.Keep.after_stop l.fn.desk)
-      → Runs s l.fn.reader.bytes (g.C.Clock.answers l.fn.clock) l.reader.bytes (g.C.Clock.answers l.clock)
+      → Runs l.paths.site s l.fn.reader.bytes (g.C.Clock.answers l.fn.clock) l.reader.bytes (g.C.Clock.answers l.clock)
       (g.W.Write.contents l.fn.writer) (g.W.Write.contents l.writer) (g.K.Keep.holds l.desk) (g.K.Keep.after_stop l.desk)
       l.reader.messages l.reader.is_closing;
 }

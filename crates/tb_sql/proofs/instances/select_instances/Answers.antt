@@ -8,4 +8,4 @@ returns-clause-found g c clean =
     let old = state g.S.Store c.args.tx.now.conn.now in
     let new = state g.S.Store c.find_rows.new.tx.conn.now in
     let rows = c.in_ok-rows.rows.items in
-    where_value c.read_all.result _ _ (rw c.deref.ensures.value at c.read_all.ensures) (select_instances old new c.args.board rows (rw (c.params-to_sql.ensures) at (c.in_ok-rows.ensures.shown clean)))
+    where_value c.read_all.result _ _ (rw c.deref.ensures.value at c.read_all.ensures.value) (select_instances old new c.args.board rows (rw (c.params-to_sql.ensures) at (c.in_ok-rows.ensures.shown clean)))

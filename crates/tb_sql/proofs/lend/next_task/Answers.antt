@@ -14,4 +14,4 @@ pub returns-in-Ok-clause-lent : goal.returns-in-Ok-clause-lent
 returns-in-Ok-clause-lent g c clean board content lent had =
     let on = c.in_default.ensures.ok clean tasks_text (Int (pos board) ∷ []) had.rows had.given in
     let found = c.in-Some.ensures in
-    one_more_lent g.S.Store board content c.args.rows.now.conn.now c.advance.new.self.conn.now lent had c.in-Some.row.now c.in-Ok.task c.in-Ok.ensures (rw (← found) at on) (c.in_default.ensures.same clean)
+    one_more_lent g.S.Store board content c.args.rows.now.conn.now c.advance.new.self.conn.now lent had c.in-Some.row.now c.in-Ok.task c.in-Ok.ensures.value (rw (← found) at on) (c.in_default.ensures.same clean)

@@ -1,8 +1,8 @@
-use Rattle.std.proofs.Common.{◌≡◌, ◌∙◌, true, false, sym, ap, inl}
+use Rattle.std.proofs.Common.{◌≡◌, ◌∙◌, Err, true, false, sym, ap, inl}
 use Rattle.sqlite.specs.Held.{state}
 use Rattle.tb_sql_tables.specs.Content.{AreRows, IsContent}
 use Rattle.tb_sql.specs.Opening.{has_meta, is_ours, judged}
-use Rattle.tb_sql.proofs.Opened.{first_refused, judged_same, others_refused, ours_not_refused, ours_taken, others_taken, refused_taken, opened_content, opened_stands, stands_again, store_has_meta, store_is_ours}
+use Rattle.tb_sql.proofs.Opened.{first_refused, judged_same, never_judged, told_so, others_refused, ours_not_refused, ours_taken, others_taken, refused_taken, opened_content, opened_stands, stands_again, store_has_meta, store_is_ours}
 use Rattle.tb_sql.proofs.opening.accept.Goals as goal
 
 pub returns-then-not-has_meta-clause-refuses : goal.returns-then-not-has_meta-clause-refuses
@@ -64,3 +64,12 @@ returns-clause-answered g c clean first =
     let metas = c.in-Ok.metas in
     let other : is_ours c.args.conn.now.schema ≡ false = ap (λ x. is_ours x) (sym c.schema.ensures.value) ∙ sym c.is_ours-ours.ensures ∙ c.if-ours.false in
     inl (metas, c.in-Ok.ensures.shown clean, others_taken c.args.conn.now.schema metas other (c.in_default.ensures ∙ ap judged c.as_slice.ensures))
+
+pub returns-in-Err-clause-excused : goal.returns-in-Err-clause-excused
+returns-in-Err-clause-excused g c is opened clean ready content rows =
+    let s = state g.S.Store c.args.conn.now in
+    let failed = told_so c.in-Err.fault c.of.result c.of.ensures.memory (cc) in
+    c.in-Err.ensures.excused (ap Err failed) clean ready content (opened_content s content opened c.schema.ensures.live rows)
+
+pub returns-in-Err-judge-clause-excused : goal.returns-in-Err-judge-clause-excused
+returns-in-Err-judge-clause-excused g c is = absurd (never_judged c.as_slice.result.now (sym c.in-Err-judge.ensures ∙ is))

@@ -11,7 +11,7 @@ use Rattle.tb_peers.proofs.peer.Peer.answer_next.Goals as goal
 
 pub returns-then-self-clause-happens : goal.returns-then-self-clause-happens
 returns-then-self-clause-happens g c y s held only =
-    rests_closed s c.args.at c.args.self.now (g.K.Keep.holds c.args.desk.now) (g.K.Keep.after_stop c.args.desk.now)
+    rests_closed c.args.paths.now.site s c.args.at c.args.self.now (g.K.Keep.holds c.args.desk.now) (g.K.Keep.after_stop c.args.desk.now)
     (subst (λ (t : Talk). t.is_closing ≡ true) c.self.view_is c.if-self.true) held only
 
 pub returns-clause-happens : goal.returns-clause-happens
@@ -24,13 +24,13 @@ returns-clause-happens g c y s held only =
     let now = g.K.Keep.holds c.answer_whole.new.desk in
     let stops = g.K.Keep.after_stop c.answer_whole.new.desk in
     let old : List ℕ → Talk = λ o. record { bytes = inside.inbox.bytes; messages = inside.inbox.messages; is_closing = inside.is_closing; out = o } in
-    let first : Answers s c.args.at (old (drop inside.sent inside.out.items)) inbox.bytes inbox.is_closing out turn is_whole now stops =
-    subst (λ (o : List ℕ). Answers s c.args.at (old o) inbox.bytes inbox.is_closing out turn is_whole now stops) c.drop_front.ensures
+    let first : Answers c.args.paths.now.site s c.args.at (old (drop inside.sent inside.out.items)) inbox.bytes inbox.is_closing out turn is_whole now stops =
+    subst (λ (o : List ℕ). Answers c.args.paths.now.site s c.args.at (old o) inbox.bytes inbox.is_closing out turn is_whole now stops) c.drop_front.ensures
     (c.in-Some.ensures.answers y s held only) in
-    answer_happens s c.args.at c.args.self.now inbox.bytes inbox.messages inbox.is_closing out turn is_whole now stops
+    answer_happens c.args.paths.now.site s c.args.at c.args.self.now inbox.bytes inbox.messages inbox.is_closing out turn is_whole now stops
     c.takes_no_more-self-inside.result c.outcome.result
     (subst (λ (t : Talk). t.is_closing ≡ false) c.self.view_is c.if-self.false)
-    (subst (λ (t : Talk). Answers s c.args.at t inbox.bytes inbox.is_closing out turn is_whole now stops) c.self.view_is first)
+    (subst (λ (t : Talk). Answers c.args.paths.now.site s c.args.at t inbox.bytes inbox.is_closing out turn is_whole now stops) c.self.view_is first)
     (subst (λ (t : Talk). Refused t turn inbox.bytes inbox.is_closing) c.self.view_is c.in-Some.ensures.refused)
     (subst (λ (t : Talk). inbox.messages ≡ t.messages + reads_one turn) c.self.view_is c.in-Some.ensures.counted)
     (c.takes_no_more-self-inside.ensures ∙ ap (λ b. takes_no_more b turn is_whole) c.closing.ensures)
@@ -46,7 +46,7 @@ returns-in_default-clause-happens g c y s held only =
     ≡ talk_of inside.inbox.bytes inside.inbox.messages inside.is_closing (drop inside.sent inside.out.items) =
     talk_is inbox.bytes inside.inbox.bytes inbox.messages inside.inbox.messages inside.is_closing inside.is_closing out (drop inside.sent inside.out.items)
     (ap (λ (h : Held). h.bytes) waits.1) (ap (λ (h : Held). h.messages) waits.1) refl (waits.2 ∙ c.drop_front.ensures) in
-    rests_waiting g.K.Keep.holds g.K.Keep.after_stop s c.args.at c.args.self.now (talk_of inbox.bytes inbox.messages inside.is_closing out)
+    rests_waiting c.args.paths.now.site g.K.Keep.holds g.K.Keep.after_stop s c.args.at c.args.self.now (talk_of inbox.bytes inbox.messages inside.is_closing out)
     c.args.desk.now c.answer_whole.new.desk (subst (λ (t : Talk). IsUnfinished t.bytes) c.self.view_is waits.0) (same ∙ c.self.view_is) waits.3 held only
 
 pub returns-then-self-clause-follows : goal.returns-then-self-clause-follows

@@ -1,0 +1,102 @@
+//! Which word is wrong of words that are no order, and what it may be.
+use std::alloc::{AllocError, Global};
+use tb_board::{Key, Name};
+use tb_task::TaskId;
+use tb_values::read_number;
+
+/// What a word of an order is.
+#[derive(Clone, Copy)]
+enum Form {
+    File,
+    Name,
+    Key,
+    Id,
+    Board,
+    Kind,
+}
+
+const NO_ORDER: &str =
+    "The first word is no order: init, serve, send, import, list, export, todo, check or run. `taskboard --help` tells more.";
+
+/// What is wrong with the words behind the program's name.
+pub(crate) fn wrong_word(alloc: Global, words: &[&str]) -> Result<&'static str, AllocError> {
+    let Some((order, rest)) = words.split_first() else {
+        return Ok(NO_ORDER);
+    };
+    match *order {
+        "init" => wrong_of(
+            alloc,
+            rest,
+            &[Form::File, Form::Name, Form::Key],
+            "`init` takes FILE NAME KEY.",
+        ),
+        "import" => wrong_of(
+            alloc,
+            rest,
+            &[
+                Form::File,
+                Form::Name,
+                Form::Key,
+                Form::Id,
+                Form::Board,
+                Form::Kind,
+            ],
+            "`import` takes FILE MEMBER KEY ID BOARD KIND.",
+        ),
+        "list" | "export" | "todo" => wrong_of(
+            alloc,
+            rest,
+            &[Form::File, Form::Name, Form::Key, Form::Board],
+            "`list`, `export` and `todo` each take FILE MEMBER KEY BOARD.",
+        ),
+        "check" => Ok("`check` takes FILE alone."),
+        "run" => Ok("`run` takes no words, and lines on standard input."),
+        "serve" => Ok(
+            "`serve` takes FILE --port P, P from 1 to 65535, and --connections N, N from 1 to 1,000,000, or --forever, and --page FOLDER and --log.",
+        ),
+        "send" => Ok(
+            "`send` takes [--id UUID] [--for SECONDS] ADDRESS:PORT MEMBER KEY WORD ARGUMENTS.., SECONDS from 1 to 86,400, MEMBER of a to z, 0 to 9, _ and -, and KEY of 8 to 64 visible ASCII characters or -.",
+        ),
+        _ => Ok(NO_ORDER),
+    }
+}
+
+/// The first word that isn't of its form, or how many there are to be.
+fn wrong_of(
+    alloc: Global,
+    words: &[&str],
+    forms: &[Form],
+    usage: &'static str,
+) -> Result<&'static str, AllocError> {
+    if words.len() != forms.len() {
+        return Ok(usage);
+    }
+    for (word, form) in words.iter().zip(forms.iter()) {
+        if !is_of(alloc, word, *form)? {
+            return Ok(text_of(*form));
+        }
+    }
+    Ok(usage)
+}
+
+fn is_of(alloc: Global, word: &str, form: Form) -> Result<bool, AllocError> {
+    match form {
+        Form::File => Ok(true),
+        Form::Name => Ok(Name::read(alloc, word)?.is_some()),
+        Form::Key => Ok(Key::read(alloc, word)?.is_some()),
+        Form::Id => Ok(TaskId::read(word).is_some()),
+        Form::Board => Ok(read_number(word, u32::MAX).is_some()),
+        Form::Kind => Ok(word == "json" || word == "todo"),
+    }
+}
+
+fn text_of(form: Form) -> &'static str {
+    match form {
+        Form::File => "The file is wrong.",
+        Form::Name => "The person's name is wrong: 1 to 32 bytes of a to z, 0 to 9, _ and -.",
+        Form::Key => "The key is wrong: 8 to 64 visible ASCII characters.",
+        Form::Id => "The identifier is wrong: a uuid, as 00000000-0000-4000-8000-000000000001.",
+        Form::Board => "The board is wrong: a number from 1, without a zero in front.",
+        Form::Kind => "The kind is wrong: json or todo.",
+    }
+}

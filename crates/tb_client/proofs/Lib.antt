@@ -1,0 +1,3 @@
+mod Floatless
+mod Replies
+mod Tries

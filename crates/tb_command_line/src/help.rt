@@ -1,0 +1,121 @@
+//! What the program tells of itself and of its orders.
+use crate::order::Topic;
+
+const PROGRAM: &str = "\
+taskboard keeps boards of tasks that a team shares, in one file.
+
+    taskboard init FILE NAME KEY
+    taskboard serve FILE --port P [--connections N or --forever] [--page FOLDER] [--log]
+    taskboard send [--id UUID] [--for SECONDS] ADDRESS:PORT MEMBER KEY WORD ARGUMENTS..
+    taskboard import FILE MEMBER KEY ID BOARD json|todo
+    taskboard list|export|todo FILE MEMBER KEY BOARD
+    taskboard check FILE
+    taskboard run
+
+`taskboard ORDER --help` tells more of one, and `taskboard --version` which program this is.
+The status is 0 where an order was accepted, 1 where it was refused or failed, and 2 where the
+words are no order. A fault is told on standard error: its name, and what to do.
+";
+
+const INIT: &str = "\
+taskboard init FILE NAME KEY
+
+Makes the tables of a new file, which you alone may read. Its first person is NAME, who is known
+by KEY, owns board 1 and alone may add people.
+
+    FILE   a name that no file has yet
+    NAME   1 to 32 bytes of a to z, 0 to 9, _ and -
+    KEY    8 to 64 visible ASCII characters; other users of this machine can see them in a list of
+           its programs
+";
+
+const SERVE: &str = "\
+taskboard serve FILE --port P [--connections N or --forever] [--page FOLDER] [--log]
+
+Answers HTTP on the loopback, up to 512 clients at once.
+
+    --port P          from 1 to 65535; those below 1,024 are the system's
+    --connections N   ends once so many connections have ended, from 1 to 1,000,000; 1,000 where
+                      neither this nor --forever is given
+    --forever         serves without end
+    --page FOLDER     answers the files of a folder beside the boards
+    --log             writes a line for each message on standard error
+";
+
+const RUN: &str = "\
+taskboard run
+
+Answers the lines of standard input over boards in memory. The fields of a line are separated by
+tabs: MOMENT MEMBER KEY ID WORD ARGUMENTS..
+";
+
+const IMPORT: &str = "\
+taskboard import FILE MEMBER KEY ID BOARD KIND
+
+Imports standard input into a board of a file that isn't served, and prints the reply's body.
+Sent again under the same ID it acts once.
+
+    MEMBER, KEY   who imports
+    ID            a uuid, as 00000000-0000-4000-8000-000000000001
+    BOARD         the number of a board, from 1
+    KIND          json, as `task export` prints it, or todo, for lines of todo.txt; up to 1,048,576
+                  bytes and 1,000 tasks
+";
+
+const VIEW: &str = "\
+taskboard list FILE MEMBER KEY BOARD      the open tasks, the most urgent first
+taskboard export FILE MEMBER KEY BOARD    all tasks, as a JSON list
+taskboard todo FILE MEMBER KEY BOARD      lines of todo.txt
+
+Prints a board of a file that isn't served. Where it is, ask the server: `taskboard send --help`.
+
+    MEMBER, KEY   who asks
+    BOARD         the number of a board, from 1
+";
+
+const CHECK: &str = "\
+taskboard check FILE
+
+Looks at all that is stored in a file that isn't served, compares it with what its tasks say, and
+prints `boards B tasks T faults F`. The status is 1 where F isn't 0.
+";
+
+const SEND: &str = "\
+taskboard send [--id UUID] [--for SECONDS] ADDRESS:PORT MEMBER KEY WORD ARGUMENTS..
+
+Sends a call or a view to a server, again and again under one identifier until it is answered, and
+prints the answer's body. However often it is sent, a call acts once.
+
+    --id UUID       the identifier of the call, to go on with one that got no answer; else a new one
+    --for SECONDS   how long it is sent again, from 1 to 86,400; 60 where it isn't given
+    ADDRESS:PORT    the server, as 127.0.0.1:8080
+    MEMBER, KEY     who sends it. Other users of this machine can see a key that stands here: with -
+                    it is read from the environment TASKBOARD_KEY, or else from the file
+                    ~/.config/taskboard/key, which you alone may read (mode 0600)
+    WORD            list B, export B, todo B, people B, me, task B TASK, add B JSON, add B WORDS ..,
+                    modify B TASK JSON, done, delete, reopen, start, stop, each B TASK, annotate,
+                    denotate, each B TASK TEXT, depend, undepend, each B TASK TASK, sweep B,
+                    import B JSON, import-todo B LINE .., person NAME KEY, board TITLE,
+                    role B NAME owner|member|none
+    TASK            a uuid, or the place of a task on the board as it is exported, from 1: the
+                    server is first asked which task that is, and it is told on standard error
+    WORDS           a line of todo.txt, as Buy milk due:2026-03-01 +Home @phone
+
+The status is 0 where it was accepted, and 1 where it was refused or no answer came.
+";
+
+impl Topic {
+    /// What it is told as.
+    pub fn text(self) -> &'static str {
+        match self {
+            Topic::Program => PROGRAM,
+            Topic::Init => INIT,
+            Topic::Serve => SERVE,
+            Topic::Run => RUN,
+            Topic::Import => IMPORT,
+            Topic::Export | Topic::List | Topic::Todo => VIEW,
+            Topic::Check => CHECK,
+            Topic::Send => SEND,
+        }
+    }
+}

@@ -1,0 +1,35 @@
+//! Why a folder makes no page.
+ghost use Rattle.std.specs.Prelude.{◌≡◌};
+ghost use Rattle.tb_site.specs.declared.fault.PageFault.TheVariants.{Memory};
+
+use std::alloc::{AllocError, AllocFailed};
+
+/// Why a folder makes no page.
+#[derive(Clone, Copy, Debug, PartialEq, Eq)]
+pub enum PageFault {
+    /// It has more than 64 files of a page.
+    TooManyFiles,
+    /// They have more than 4 MiB in all.
+    TooLarge,
+    /// It has no `index.html`.
+    NoIndex,
+    /// The folder, or one of its files, can't be read.
+    Unreadable,
+    Memory,
+}
+
+impl From<AllocError> for PageFault {
+    ghost from_gives = { λ _ e. e ≡ Memory };
+
+    fn from(_: AllocError) -> PageFault {
+        PageFault::Memory
+    }
+}
+
+impl<T: Drop> From<AllocFailed<T>> for PageFault {
+    ghost from_gives = { λ _ e. e ≡ Memory };
+
+    fn from(_: AllocFailed<T>) -> PageFault {
+        PageFault::Memory
+    }
+}

@@ -1,0 +1,34 @@
+//! The statement on the roles of one person.
+
+ghost use Rattle.std.specs.Prelude.{◌≡◌, ◌==◌, filter, IsTrue, IfOk};
+ghost use Rattle.sqlite.specs.Held.{state};
+ghost use Rattle.sqlite.specs.State.{HasCleanDisk, KeepsCommit, Survives};
+ghost use Rattle.tb_sql_tables.specs.Content.{Finds};
+ghost use Rattle.tb_sql_tables.specs.Found.{AreFound};
+ghost use Rattle.tb_sql.specs.OwnRoles.{IsBoardBefore};
+
+use sqlite::{Alter, Error, Transaction, params};
+use tb_sql_tables::read::read_all;
+use tb_sql_tables::rows::RoleRow;
+use tb_sql_tables::run::find_rows;
+use tb_values::Items;
+
+/// The roles of a person, in order of board.
+pub fn select_roles_of<S: Alter>(
+    tx: &mut Transaction<'_, S>,
+    person: u32,
+) -> Result<Items<RoleRow>, Error>
+    ensures same_reference { tx.new.conn.ghost_name ≡ tx.old.conn.ghost_name }
+    ensures found { HasCleanDisk (state S.Store tx.new.conn.now)
+        → IfOk result (λ roles. Finds (λ content. AreFound IsBoardBefore (filter (λ role. role.person == person) content.roles) roles) (state S.Store tx.old.conn.now)) }
+    ensures kept { HasCleanDisk (state S.Store tx.new.conn.now) → IsTrue (state S.Store tx.old.conn.now).in_transaction
+        → KeepsCommit (state S.Store tx.old.conn.now) (state S.Store tx.new.conn.now) }
+    ensures survives { Survives (state S.Store tx.old.conn.now) (state S.Store tx.new.conn.now) (λ _. ⊥) }
+{
+    let rows = find_rows(
+        tx,
+        "SELECT board, person, kind FROM role WHERE person = ?1 ORDER BY board",
+        params![person],
+    )?;
+    read_all(*rows.allocator(), &rows)
+}

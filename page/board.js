@@ -1,0 +1,141 @@
+// The tasks of a board, from its export: their order by urgency, which are blocked, and which pass a filter.
+//
+// Urgency is reckoned here by its definition and not read from the listing. The listing names tasks by place alone, says nothing of tags
+// and notes, and would be a second view each time, of another moment than the export.
+import { breathe } from "./dom.js";
+import { now, seconds } from "./moments.js";
+
+// How long the browser may be kept from drawing at once, in milliseconds.
+const SLICE = 8;
+// Urgency is counted in parts, of which so many make one; then each term is whole.
+const UNIT = 110376000;
+export const PRIORITIES = { H: "high", M: "medium", L: "low" };
+const PRIORITY_PARTS = { H: 6 * UNIT, M: 430466400, L: 198676800 };
+const COUNT_PARTS = [0, 88300800, 99338400, UNIT];
+
+// A task as the server tells it, and what of it is asked for often. Whatever else it has is looked up where it is shown.
+class Task {
+    constructor(line) {
+        const told = JSON.parse(line);
+        const { uuid, description, status, project = "", priority = "", recur = "", parent = "", mask = "", annotations = [], depends = [], tags = [] } = told;
+        Object.assign(this, { told, uuid, description, status, project, priority, recur, parent, mask, depends, tags, notes: annotations });
+        this.due = seconds(told.due);
+        this.entry = seconds(told.entry);
+        this.isListed = status === "pending" || status === "waiting";
+        this.isOpen = this.isListed || status === "recurring";
+        this.searched = [description, project, ...tags, ...annotations.map((note) => note.description)].join("\n").toLowerCase();
+    }
+}
+
+function urgencyParts(task, moment) {
+    const { tags, due, told, notes, status } = task;
+    let parts = tags.includes("next") ? 15 * UNIT : 0;
+    if (due !== undefined) parts += Math.min(1814400, Math.max(0, moment + 1209600 - due)) * 584 + 264902400;
+    if (task.priority) parts += PRIORITY_PARTS[task.priority];
+    if (told.scheduled && seconds(told.scheduled) < moment) parts += 5 * UNIT;
+    if (told.start) parts += 4 * UNIT;
+    parts += Math.min(2 * UNIT, 7 * Math.max(0, moment - task.entry));
+    parts += COUNT_PARTS[Math.min(3, notes.length)] + COUNT_PARTS[Math.min(3, tags.length)];
+    if (task.project) parts += UNIT;
+    if (task.isBlocking) parts += 8 * UNIT;
+    if (task.isBlocked) parts -= 5 * UNIT;
+    return status === "waiting" ? parts - 3 * UNIT : parts;
+}
+
+export const urgencyText = (task) => (task.parts / UNIT).toFixed(1);
+
+export const STATUSES = {
+    open: ["Open", (task) => task.isListed],
+    ready: ["Ready to do", (task) => task.status === "pending" && !task.isBlocked],
+    started: ["Started", (task) => task.isListed && Boolean(task.told.start)],
+    waiting: ["Waiting", (task) => task.status === "waiting"],
+    blocked: ["Blocked", (task) => task.isListed && task.isBlocked],
+    completed: ["Completed", (task) => task.status === "completed"],
+    deleted: ["Deleted", (task) => task.status === "deleted"],
+    all: ["All", (task) => task.status !== "recurring"],
+};
+
+const sortedTexts = (texts) => [...new Set(texts)].filter(Boolean).sort((one, other) => (one < other ? -1 : 1));
+
+export class Board {
+    tasks = [];
+    ordered = [];
+    byId = new Map();
+    #byLine = new Map();
+    #text = null;
+
+    // Takes an export, a task a line, in slices; lines that are known aren't read again. Gives whether anything is new.
+    async take(text) {
+        if (text === this.#text) return false;
+        const byLine = new Map();
+        const tasks = [];
+        let begun = performance.now();
+        for (const line of text.split("\n")) {
+            if (line.startsWith("{")) {
+                const bare = line.endsWith(",") ? line.slice(0, -1) : line;
+                const task = this.#byLine.get(bare) ?? new Task(bare);
+                byLine.set(bare, task);
+                tasks.push(task);
+            }
+            if (performance.now() - begun > SLICE) {
+                await breathe();
+                begun = performance.now();
+            }
+        }
+        this.#text = text;
+        this.#byLine = byLine;
+        this.tasks = tasks;
+        for (const part of [this.#link, this.#collect, this.rank]) {
+            await breathe();
+            part.call(this);
+        }
+        return true;
+    }
+
+    // Which tasks are blocked, and which are blocking.
+    #link() {
+        this.byId = new Map(this.tasks.map((task) => [task.uuid, task]));
+        const held = new Set();
+        for (const task of this.tasks) {
+            task.isBlocked = false;
+            for (const id of task.isOpen ? task.depends : []) {
+                if (!this.byId.get(id)?.isOpen) continue;
+                task.isBlocked = true;
+                held.add(id);
+            }
+        }
+        for (const task of this.tasks) task.isBlocking = task.isOpen && held.has(task.uuid);
+    }
+
+    // Which templates and instances, projects and tags there are.
+    #collect() {
+        this.templates = this.tasks.filter((task) => task.status === "recurring");
+        this.instances = new Map(this.tasks.filter((task) => task.parent).map((task) => [`${task.parent} ${Number(task.told.imask)}`, task]));
+        this.projects = sortedTexts(this.tasks.map((task) => task.project));
+        this.tags = sortedTexts(this.tasks.flatMap((task) => task.tags));
+    }
+
+    // Orders the tasks as of now: open ones by falling urgency and then place, as the listing has them; then the others, the last that ended
+    // first. What is equal keeps its place.
+    rank() {
+        const moment = now();
+        for (const task of this.tasks) {
+            task.parts = urgencyParts(task, moment);
+            task.rank = task.isOpen ? task.parts : (seconds(task.told.end) ?? task.entry) - 1e12;
+        }
+        this.ordered = [...this.tasks].sort((one, other) => other.rank - one.rank);
+    }
+
+    // The tasks that pass a filter, in their order.
+    shown({ text, project, tag, status }) {
+        const words = text.toLowerCase().split(/\s+/).filter(Boolean);
+        const passes = STATUSES[status][1];
+        const isOf = (task) => (!project || task.project === project) && (!tag || task.tags.includes(tag));
+        return this.ordered.filter((task) => passes(task) && isOf(task) && words.every((word) => task.searched.includes(word)));
+    }
+
+    // The tasks that wait for one.
+    behind(task) {
+        return this.tasks.filter((other) => other.depends.includes(task.uuid));
+    }
+}

@@ -1,0 +1,65 @@
+// What each change is to the server (path and body) and to people (a verb and what it's about), and why one was refused, in plain words.
+
+const VERBS = { done: "Complete", delete: "Delete", reopen: "Reopen", start: "Start", stop: "Stop" };
+
+function change(board, path, content, verb, subject) {
+    return { board, path, body: content === null ? "" : JSON.stringify(content), verb, subject };
+}
+
+function ofTask(board, task, action, content, verb) {
+    return { ...change(board, `/boards/${board}/tasks/${task.uuid}/${action}`, content, verb, task.description), task: task.uuid };
+}
+
+export const changes = {
+    board: (title) => change(0, "/boards", { title }, "Make the board", title),
+    person: (name, key) => change(0, "/people", { name, key }, "Add the person", name),
+    role: (board, member, role) => change(board, `/boards/${board}/roles`, { member, role }, role ? `Give the role ${role} to` : "End the role of", member),
+    add: (board, task) => ({ ...change(board, `/boards/${board}/tasks`, task, "Add", task.description), adds: true }),
+    act: (board, task, action) => ofTask(board, task, action, null, VERBS[action]),
+    modify: (board, task, edits) => ofTask(board, task, "modify", edits, "Change"),
+    annotate: (board, task, description) => ofTask(board, task, "annotate", { description }, "Note on"),
+    denotate: (board, task, description) => ofTask(board, task, "denotate", { description }, "Take a note off"),
+    depend: (board, task, on) => ofTask(board, task, "depend", { on }, "Add a dependency to"),
+    undepend: (board, task, on) => ofTask(board, task, "undepend", { on }, "Take a dependency off"),
+    sweep: (board) => change(board, `/boards/${board}/sweep`, null, "Bring up to date", "the repeating tasks"),
+    // One part of an import, as it is written; its answer is kept until it was read.
+    part: (board, path, body, name) => ({ ...change(board, `/boards/${board}/${path}`, null, "Import", name), body, reports: true }),
+};
+
+const TASK_FAULTS = {
+    EmptyDescription: "A task needs a description.",
+    BadTag: "A tag can't be empty, and has no spaces in it.",
+    BadText: "A text is longer than 16,384 bytes or has the character 0 in it. Make it shorter.",
+    BadPair: "A repeating task needs a due date and a step such as weekly, monthly or 3d. Look at both.",
+};
+
+const REFUSALS = {
+    IdReused: () => "Another change had the same identifier, so this one did nothing. Make it again.",
+    NoBoard: () => "You have no role on this board, or it isn't there. Ask an owner of the board to let you in.",
+    NotAllowed: ({ path }) => {
+        if (path === "/people") return "Only the first person of this server adds people. Ask them to.";
+        return path.endsWith("/roles") ? "Only owners set roles. Ask an owner of the board." : "Your role doesn't allow it. Ask an owner of the board.";
+    },
+    NoTask: () => "There is no such task on this board. Look at the list again, and choose another.",
+    WrongStatus: () => "The task's status doesn't allow it: perhaps someone completed, deleted or reopened it. Look at it; reopen it first where it is closed.",
+    UuidTaken: () => "The board has a task with this identifier already, so nothing was added.",
+    BadTask: ({ answer }) => TASK_FAULTS[answer.field] ?? "The board doesn't take such a task.",
+    TemplateFixed: () => "The due date and the step of a repeating task stay. Delete it, and add a new one.",
+    NoLink: () => "That note or dependency isn't there any more, so nothing is left to do.",
+    Cycle: () => "The tasks would wait for each other in a circle. Take another dependency off first.",
+    Full: () => "It is full: 10,000 tasks on a board, as many boards and people on a server. Make a new board for what is to come.",
+    NoPerson: () => "The server knows nobody of that name. Look at the spelling, or have the first person of the server add them.",
+    LastOwner: () => "The board would be left without an owner. Make someone else owner first.",
+    NameTaken: () => "Someone has this name already. Choose another.",
+    BadBody: ({ answer, reports }) => {
+        if (reports) return "The file isn't a Taskwarrior export or todo.txt that can be read. Look at it, and import it again.";
+        return `The server can't read ${answer.field ? `what was given for “${answer.field}”` : "it"}. Look at it, and try again.`;
+    },
+    BodyTooLong: () => "It is longer than 1 MiB. Make it shorter.",
+};
+
+// Why a change was refused, and what to do.
+export function reason(change) {
+    const { name } = change.answer;
+    return REFUSALS[name]?.(change) ?? `The server answers ${name}. Load this page anew, and make the change again.`;
+}

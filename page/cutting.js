@@ -1,0 +1,86 @@
+// Cuts the text of an import into parts that the server takes: at most 1,000 tasks and 1 MiB each. Tasks are passed on as they are written,
+// byte for byte. A part knows only tasks of its own and of parts before it, so templates go before their instances, and a task goes behind
+// those on which it depends.
+
+const MOST_TASKS = 1000;
+const MOST_BYTES = 1048576;
+const encoder = new TextEncoder();
+
+// The texts of the objects in a JSON list, in an object, or in lines of objects: from each outermost brace to the one that closes it.
+export function objectTexts(text) {
+    const found = [];
+    const mark = /"[^"\\]*(?:\\.[^"\\]*)*"|[{}]/gs;
+    let depth = 0;
+    let from = 0;
+    for (let match = mark.exec(text); match; match = mark.exec(text)) {
+        if (match[0] === "{" && depth++ === 0) from = match.index;
+        else if (match[0] === "}" && --depth === 0) found.push(text.slice(from, mark.lastIndex));
+    }
+    return found;
+}
+
+function read(text) {
+    try {
+        return JSON.parse(text) ?? {};
+    } catch {
+        return {};
+    }
+}
+
+// What has to go before a task: its template, and those on which it depends. A text that is no JSON is left for the server to refuse.
+function nodeOf(text) {
+    const { uuid = "", parent = "", depends = "" } = read(text);
+    return { text, id: String(uuid).toLowerCase(), before: `${depends},${parent}`.toLowerCase().split(","), isBegun: false };
+}
+
+// The texts in such an order. Those in a circle stay as they come: the server refuses them.
+function inOrder(texts) {
+    const nodes = texts.map(nodeOf);
+    const byId = new Map(nodes.map((node) => [node.id, node]));
+    const ordered = [];
+    const path = [];
+    const begin = (node) => {
+        node.isBegun = true;
+        path.push(node);
+    };
+    for (const root of nodes) {
+        if (!root.isBegun) begin(root);
+        while (path.length > 0) {
+            const ahead = byId.get(path.at(-1).before.shift());
+            if (ahead && !ahead.isBegun) begin(ahead);
+            else if (path.at(-1).before.length === 0) ordered.push(path.pop().text);
+        }
+    }
+    return ordered;
+}
+
+// As many texts in a part as it may have.
+function cut(texts) {
+    const parts = [];
+    let bytes = MOST_BYTES;
+    for (const text of texts) {
+        const size = encoder.encode(text).length + 2;
+        if (parts.length === 0 || parts.at(-1).length === MOST_TASKS || bytes + size > MOST_BYTES - 4) {
+            parts.push([]);
+            bytes = 0;
+        }
+        parts.at(-1).push(text);
+        bytes += size;
+    }
+    return parts;
+}
+
+// Which call takes a file, how many tasks it has, and the bodies of the calls.
+export function cutImport(text) {
+    if (/^\s*[[{]/.test(text)) {
+        const texts = objectTexts(text);
+        const isOne = texts.length <= MOST_TASKS && encoder.encode(text).length <= MOST_BYTES;
+        const parts = isOne ? [text] : cut(inOrder(texts)).map((part) => `[${part.join(",\n")}]`);
+        return { path: "import", count: texts.length, parts };
+    }
+    const lines = text.split(/\r?\n/).filter((line) => !/^[ \t]*$/.test(line));
+    return { path: "import-todo", count: lines.length, parts: cut(lines).map((part) => `${part.join("\n")}\n`) };
+}
+
+// The description of one task of a part, to name the one that was refused.
+export const descriptionAt = (text, at) => String(read(objectTexts(text)[at]).description ?? "");

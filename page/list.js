@@ -1,0 +1,119 @@
+// A long list of rows, of which only those in sight, and a few around them, are there. All rows are of one height, which the style says.
+
+const AROUND = 5;
+
+export class List {
+    #tasks = [];
+    #rows = new Map();
+    #height = 0;
+    #current = "";
+
+    // `place` is the element that holds the rows; `makeRow` makes a task's row, and `lookOf` a text that is another when the row has to be.
+    constructor(place, makeRow, lookOf) {
+        Object.assign(this, { place, makeRow, lookOf });
+        const redraw = () => requestAnimationFrame(() => this.draw());
+        addEventListener("scroll", redraw, { passive: true });
+        addEventListener("resize", () => {
+            this.#height = 0;
+            redraw();
+        });
+        place.addEventListener("keydown", (event) => this.#move(event));
+        place.addEventListener("focusin", (event) => (this.#current = event.target.closest(".row").dataset.uuid));
+    }
+
+    // Shows these tasks. Unless they are asked for by the person, what is at the upper edge of the window stays there.
+    show(tasks, isAsked) {
+        const edge = this.#firstInSight();
+        const anchor = edge > 0 && !isAsked ? this.#tasks[edge]?.uuid : "";
+        this.#tasks = tasks;
+        this.draw();
+        const at = anchor ? tasks.findIndex((task) => task.uuid === anchor) : -1;
+        if (at >= 0 && at !== edge) {
+            scrollBy(0, (at - edge) * this.#height);
+            this.draw();
+        }
+    }
+
+    #measure() {
+        const probe = Object.assign(document.createElement("div"), { className: "row" });
+        this.place.append(probe);
+        this.#height = probe.offsetHeight;
+        probe.remove();
+    }
+
+    #firstInSight() {
+        return this.#height ? Math.floor(-this.place.getBoundingClientRect().top / this.#height) : 0;
+    }
+
+    draw() {
+        if (!this.place.offsetParent) return;
+        if (!this.#height) this.#measure();
+        const height = this.#height;
+        this.place.style.height = `${this.#tasks.length * height}px`;
+        const first = Math.max(0, this.#firstInSight() - AROUND);
+        const last = Math.min(this.#tasks.length, this.#firstInSight() + Math.ceil(innerHeight / height) + AROUND);
+        const rows = new Map();
+        for (let at = first; at < last; at++) rows.set(this.#tasks[at].uuid, this.#rowAt(at));
+        this.#put(rows);
+    }
+
+    #rowAt(at) {
+        const task = this.#tasks[at];
+        const look = this.lookOf(task);
+        let row = this.#rows.get(task.uuid);
+        if (row?.task !== task || row.look !== look) row = Object.assign(this.makeRow(task), { task, look });
+        row.dataset.uuid = task.uuid;
+        row.style.top = `${at * this.#height}px`;
+        row.at = at;
+        row.ariaPosInSet = at + 1;
+        row.ariaSetSize = this.#tasks.length;
+        return row;
+    }
+
+    // Puts the rows into the page in their order, touching none that stands right. A row that had the focus has it again when it was
+    // made anew, and where its task is gone the next row.
+    #put(rows) {
+        const focused = this.place.contains(document.activeElement) ? document.activeElement : null;
+        const from = focused?.closest(".row").at;
+        for (const [uuid, row] of this.#rows) {
+            if (rows.get(uuid) !== row) row.remove();
+        }
+        let next = this.place.firstChild;
+        for (const row of rows.values()) {
+            if (row === next) next = next.nextSibling;
+            else this.place.insertBefore(row, next);
+        }
+        this.#rows = rows;
+        if (focused && !this.place.contains(document.activeElement)) {
+            const isGone = !this.#tasks.some((task) => task.uuid === this.#current);
+            const row = isGone ? [...rows.values()].find((other) => other.at >= from) ?? this.place.lastChild : rows.get(this.#current);
+            row?.querySelector(`.${focused.classList[0]}`).focus({ preventScroll: true });
+        }
+        this.#setTabStop();
+    }
+
+    // One row takes the focus by Tab: the one that had it last, else the first in sight; arrows go from row to row.
+    #setTabStop() {
+        const stop = this.#rows.get(this.#current) ?? this.place.firstChild;
+        for (const row of this.#rows.values()) row.querySelector(".open").tabIndex = row === stop ? 0 : -1;
+    }
+
+    #move(event) {
+        const page = Math.max(1, Math.floor(innerHeight / this.#height) - 4);
+        const steps = { ArrowDown: 1, ArrowUp: -1, PageDown: page, PageUp: -page, Home: -Infinity, End: Infinity };
+        if (!(event.key in steps) || event.ctrlKey || event.metaKey || event.altKey) return;
+        event.preventDefault();
+        const { at } = event.target.closest(".row");
+        this.#focusAt(Math.min(this.#tasks.length - 1, Math.max(0, at + steps[event.key])));
+    }
+
+    #focusAt(at) {
+        const top = this.place.getBoundingClientRect().top + at * this.#height;
+        const edge = document.querySelector("header").offsetHeight;
+        this.#current = this.#tasks[at].uuid;
+        if (top < edge) scrollBy(0, top - edge);
+        else if (top + this.#height > innerHeight) scrollBy(0, top + this.#height - innerHeight);
+        this.draw();
+        this.#rows.get(this.#current).querySelector(".open").focus({ preventScroll: true });
+    }
+}

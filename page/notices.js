@@ -1,0 +1,116 @@
+// What the page tells: whether all is answered, what isn't yet, what was refused and why, what an import did, and a way back.
+import { NoAnswer } from "./asking.js";
+import { changes, reason } from "./changes.js";
+import { button, counted, fill, find, make, said, span } from "./dom.js";
+import { ago } from "./moments.js";
+import { forget, keep, sendNow, settled, vainTries, waiting } from "./sending.js";
+import { listen } from "./state.js";
+
+const [TOLD_FOR, LATE, MOST_SHOWN] = [10000, 400, 20];
+const WAYS_BACK = { done: "Completed", delete: "Deleted" };
+let [isThere, timer, look] = [true, 0, ""];
+
+const endToast = () => fill(find("toast"));
+const quoted = (text) => make("q", {}, said(text, 120));
+const about = (change) => [`${change.verb} `, quoted(change.subject)];
+
+function toast(...children) {
+    fill(find("toast"), ...children, button("Close", endToast, { class: "quiet" }));
+    clearTimeout(timer);
+    timer = setTimeout(endToast, TOLD_FOR);
+}
+
+// A change that couldn't be put on the device isn't sent.
+export function tellFault(fault) {
+    console.error(fault);
+    toast(`This browser can't keep the change on this device, so it wasn't made (${fault.name}). Free some room or leave private browsing, and try again.`);
+}
+
+export function tellRefusal(fault) {
+    toast(fault instanceof NoAnswer ? "The server doesn't answer. Try again when it is there." : "The server refuses this.");
+}
+
+function drawState() {
+    const all = waiting();
+    const isLate = all.length > 0 && (!isThere || all[0].made < Date.now() - LATE);
+    if (all.length > 0 && !isLate) setTimeout(drawState, LATE);
+    if (all.length === 0) find("unanswered").hidden = true;
+    const words = isThere ? (all.length === 0 ? "All is answered" : "Sending") : "The server doesn't answer";
+    find("state").textContent = isLate ? `${all.length} ${all.length === 1 ? "change isn't" : "changes aren't"} answered yet` : words;
+    find("state").className = `state ${isThere && !isLate ? "good" : "busy"}`;
+    find("state").disabled = all.length === 0;
+    find("state").setAttribute("aria-expanded", !find("unanswered").hidden);
+}
+
+function drawUnanswered() {
+    const all = waiting();
+    const giveUp = (one) => confirm("Send this change no more? It may have acted already, if only its answer was lost.") && forget(one);
+    const row = (one) => make("li", {}, make("span", {}, about(one)), span("about", ago(one.made), button("Give up", () => giveUp(one), { class: "quiet" })));
+    const away = `The server doesn't answer (${vainTries()} tries). They are on this device, and are sent again until it does; none happens twice.`;
+    find("unanswered-why").textContent = isThere ? "They are on this device, and go to the server in this order." : away;
+    fill(find("unanswered-list"), all.slice(0, MOST_SHOWN).map(row), all.length > MOST_SHOWN ? make("li", {}, `and ${all.length - MOST_SHOWN} more`) : "");
+}
+
+function refusal(change) {
+    const parts = "The parts behind it weren't sent. Mend the file, and import it again: tasks that are there already stay as they are.";
+    const told = [
+        make("p", {}, make("strong", {}, "Refused: "), about(change)),
+        make("p", {}, reason(change)),
+        change.culprit ? make("p", {}, "It is the task ", quoted(change.culprit), ".") : "",
+        change.takenBack ? make("p", {}, change.reports ? parts : "What belonged to it wasn't sent.") : "",
+    ];
+    return make("li", { class: "notice refused" }, make("div", {}, told), button("Dismiss", () => forget(change)));
+}
+
+// What the parts of an import did together, those that are answered.
+function report(parts) {
+    const sum = (name) => parts.reduce((total, part) => total + (part.answer[name] ?? 0), 0);
+    const told = [
+        `${counted(sum("new"))} new; ${counted(sum("known"))} known already, which stay as they are`,
+        "dropped" in parts[0].answer && `${counted(sum("dropped"))} members dropped that a task can't keep`,
+        sum("orphans") && `${counted(sum("orphans"))} instances without their template, now plain tasks`,
+        sum("unlinked") && `${counted(sum("unlinked"))} links to unknown tasks dropped`,
+    ].filter(Boolean);
+    const soFar = parts[0].parts > 1 ? ` (${parts.length} of ${parts[0].parts} parts)` : "";
+    const text = make("p", {}, make("strong", {}, "Imported "), quoted(parts[0].file), `${soFar}: ${told.join("; ")}.`);
+    return make("li", { class: "notice" }, text, button("Dismiss", () => forget(...parts)));
+}
+
+function drawNotices() {
+    const all = settled();
+    const seen = all.map((one) => one.order).join();
+    if (seen === look) return;
+    look = seen;
+    const imports = Object.groupBy(all.filter(({ state }) => state === "done"), (one) => one.group || one.id);
+    fill(find("notices"), all.filter(({ state }) => state === "refused").map(refusal), Object.values(imports).map(report));
+}
+
+const draw = () => [drawState, drawUnanswered, drawNotices].forEach((part) => part());
+
+// Offers a way back from what closed a task.
+function offerBack({ change, status }) {
+    const word = WAYS_BACK[change.path.split("/").at(-1)];
+    if (status !== 200 || !word || document.hidden) return;
+    const task = { uuid: change.task, description: change.subject };
+    const undo = button("Undo", () => {
+        endToast();
+        keep(changes.act(change.board, task, "reopen")).catch(tellFault);
+    });
+    toast(make("span", {}, `${word} `, quoted(change.subject)), undo);
+}
+
+export function beginNotices() {
+    find("state").addEventListener("click", () => {
+        find("unanswered").hidden = !find("unanswered").hidden;
+        draw();
+        find("unanswered").scrollIntoView({ block: "nearest" });
+    });
+    find("send-now").addEventListener("click", sendNow);
+    listen("kept", draw);
+    listen("answered", offerBack);
+    listen("reach", (reached) => {
+        const isNews = reached !== isThere || !reached;
+        isThere = reached;
+        if (isNews) draw();
+    });
+}

@@ -1,0 +1,160 @@
+// One task beside the list: what it says, what can be done with it, its notes, what it waits for and what waits for it.
+import { PRIORITIES, urgencyText } from "./board.js";
+import { changes } from "./changes.js";
+import { button, fill, find, make, oneLine, said, span, whenSent } from "./dom.js";
+import { Fields } from "./fields.js";
+import { inFull, seconds } from "./moments.js";
+import { tellFault } from "./notices.js";
+import { keep, waiting } from "./sending.js";
+import { go, listen, state } from "./state.js";
+
+const MOST_CHOICES = 6;
+const MOMENTS = { due: "Due", wait: "Waits until", scheduled: "Scheduled", until: "Until", start: "Started", entry: "Made", modified: "Changed", end: "Ended" };
+// What is shown elsewhere. Any other member is one of the user's own, and is shown under its name.
+const KNOWN = "uuid description status project priority tags recur annotations depends parent imask mask".split(" ");
+// The uuid of the task that is shown; the task as it was drawn, and what was drawn of others; and the fields while it is edited.
+let [shown, drawn, look, fields] = ["", null, "", null];
+
+const hold = (change) => keep(change).catch(tellFault);
+const act = (action) => () => hold(changes.act(state.number, task(), action));
+
+function task() {
+    const isThere = state.board?.number === state.number && ["tasks", "repeating"].includes(state.view);
+    return isThere ? state.board.byId.get(state.chosen) : undefined;
+}
+
+function actions(one) {
+    const isStarted = Boolean(one.told.start);
+    return [
+        one.isListed ? button("Done", act("done"), { class: "primary" }) : "",
+        one.isOpen ? "" : button("Reopen", act("reopen"), { class: "primary" }),
+        one.status === "pending" ? button(isStarted ? "Stop" : "Start", act(isStarted ? "stop" : "start")) : "",
+        one.isOpen ? button("Edit", () => showEdit(true), { id: "edit" }) : "",
+        one.isOpen ? button(one.isListed ? "Delete" : "Delete, and make no more", act("delete"), { class: "danger" }) : "",
+    ];
+}
+
+function facts(one) {
+    const { told } = one;
+    const texts = { Priority: PRIORITIES[one.priority], Project: one.project, Tags: one.tags.map((tag) => `@${tag}`).join(" "), Repeats: one.recur };
+    const facts = [
+        ...Object.entries(texts).filter(([, text]) => text),
+        ...Object.entries(MOMENTS).filter(([name]) => told[name]).map(([name, label]) => [label, inFull(seconds(told[name]))]),
+        ...Object.entries(told).filter(([name]) => !(name in MOMENTS) && !KNOWN.includes(name)).map(([name, value]) => [name, String(value)]),
+    ];
+    const rows = facts.map(([name, text]) => [make("dt", {}, said(name, 60)), make("dd", {}, make("bdi", {}, text))]);
+    const template = state.board.byId.get(one.parent);
+    if (template) rows.push([make("dt", {}, "Instance of"), make("dd", {}, button(said(template.description, 80), () => go(state.number, "repeating", template.uuid), { class: "link" }))]);
+    return rows.flat();
+}
+
+const remove = (label, change) => button("Remove", () => hold(change), { class: "quiet", "aria-label": label });
+
+function noteRow(one, { description, entry }) {
+    const away = remove(`Remove the note: ${oneLine(description, 60)}`, changes.denotate(state.number, one, description));
+    return make("li", {}, make("bdi", { class: "long" }, description), span("about", inFull(seconds(entry)), away));
+}
+
+function taskRow(other, ...beside) {
+    const link = button(said(other.description, 120), () => go(state.number, "tasks", other.uuid), { class: other.isOpen ? "link" : "link over" });
+    return make("li", {}, link, span("about", other.isOpen ? "" : other.status, ...beside));
+}
+
+function aheadRow(one, id) {
+    const other = state.board.byId.get(id);
+    const end = remove(`Wait no more for ${oneLine(other.description, 60)}`, changes.undepend(state.number, one, id));
+    return taskRow(other, one.isOpen ? end : "");
+}
+
+// The open tasks that have the words in the field, to choose one on which the task shall depend.
+function drawChoices() {
+    const one = task();
+    const text = find("depend-text").value.trim();
+    const all = text && one ? state.board.shown({ text, project: "", tag: "", status: "open" }) : [];
+    const found = all.filter((other) => other !== one && !one.depends.includes(other.uuid));
+    const choose = (other) => {
+        hold(changes.depend(state.number, one, other.uuid));
+        find("depend-text").value = "";
+        drawChoices();
+        find("depend-text").focus();
+    };
+    fill(find("depend-choices"), found.slice(0, MOST_CHOICES).map((other) => make("li", {}, button(said(other.description, 120), () => choose(other)))));
+    const told = found.length > MOST_CHOICES ? `The first ${MOST_CHOICES} of ${found.length}: type more to find others.` : "";
+    find("depend-told").textContent = text && found.length === 0 ? "No open task has these words." : told;
+}
+
+function showEdit(isShown) {
+    find("edit-form").hidden = !isShown;
+    for (const id of ["task-text", "task-actions", "task-facts"]) find(id).hidden = isShown;
+    fields = isShown ? new Fields(state.board, task()) : null;
+    fill(find("edit-fields"), fields?.elements ?? []);
+    fields?.description.focus();
+}
+
+async function endEdit() {
+    const edits = fields.edits();
+    if (Object.keys(edits).length > 0) await keep(changes.modify(state.number, task(), edits));
+    showEdit(false);
+    find("edit")?.focus();
+}
+
+// Fills what comes from the board, and leaves the forms alone in which someone may be typing.
+function drawTask(one) {
+    const isUnanswered = waiting().some((change) => change.task === one.uuid);
+    const status = [one.status === "recurring" ? "repeating" : one.status, one.isBlocked ? "blocked" : "", one.isListed ? `urgency ${urgencyText(one)}` : ""];
+    find("task-status").textContent = [...status, isUnanswered ? "a change isn't answered yet" : ""].filter(Boolean).join(" · ");
+    const behind = state.board.behind(one);
+    const ahead = one.depends.filter((id) => state.board.byId.has(id));
+    const linked = [...behind, ...ahead.map((id) => state.board.byId.get(id)), state.board.byId.get(one.parent)];
+    const seen = JSON.stringify(linked.map((other) => other && [other.description, other.status, other.uuid]));
+    if (drawn === one && seen === look) return;
+    drawn = one;
+    look = seen;
+    find("task-text").textContent = one.description;
+    const hadFocus = find("task-actions").contains(document.activeElement);
+    fill(find("task-actions"), actions(one));
+    if (hadFocus) find("task-actions").firstChild.focus();
+    fill(find("task-facts"), facts(one));
+    fill(find("task-notes"), one.notes.map((note) => noteRow(one, note)));
+    fill(find("task-ahead"), ahead.map((id) => aheadRow(one, id)));
+    fill(find("task-behind"), behind.map((other) => taskRow(other)));
+    find("behind-part").hidden = behind.length === 0;
+    find("depend-form").hidden = !one.isOpen;
+}
+
+function close() {
+    const row = document.querySelector(`[data-uuid="${CSS.escape(state.chosen)}"] .open`);
+    go(state.number, state.view);
+    row?.focus();
+}
+
+function draw() {
+    const one = task();
+    find("panel").hidden = !one;
+    document.body.classList.toggle("with-panel", Boolean(one));
+    if (one) drawTask(one);
+    if (shown === (one?.uuid ?? "")) return;
+    shown = one?.uuid ?? "";
+    showEdit(false);
+    for (const id of ["note-text", "depend-text"]) find(id).value = "";
+    drawChoices();
+    find("panel").scrollTop = 0;
+    find("task-text").focus({ preventScroll: true });
+}
+
+export function beginPanel() {
+    find("close-panel").addEventListener("click", close);
+    find("panel").addEventListener("keydown", (event) => {
+        if (event.key === "Escape") fields ? showEdit(false) : close();
+    });
+    find("depend-text").addEventListener("input", drawChoices);
+    find("cancel-edit").addEventListener("click", () => showEdit(false));
+    whenSent("edit-form", () => endEdit().catch(tellFault));
+    whenSent("depend-form", () => find("depend-choices").querySelector("button")?.click());
+    whenSent("note-form", (form) => {
+        const text = find("note-text").value.trim();
+        if (text) hold(changes.annotate(state.number, task(), text));
+        form.reset();
+    });
+    for (const news of ["board", "route", "kept"]) listen(news, draw);
+}

@@ -1,0 +1,60 @@
+// The view of a board's templates, each with the row of its instances.
+import { changes } from "./changes.js";
+import { button, fill, find, make, said } from "./dom.js";
+import { inFull, now, seconds } from "./moments.js";
+import { tellFault } from "./notices.js";
+import { keep } from "./sending.js";
+import { go, here, listen, state } from "./state.js";
+
+const MARKS = { "-": ["pending", "open"], "+": ["completed", "completed"], X: ["deleted", "deleted"], W: ["waiting", "waiting"] };
+const MOST_CELLS = 60;
+const swept = new Set();
+
+function cell(template, number) {
+    const [kind, word] = MARKS[template.mask[number]] ?? ["deleted", "gone"];
+    const instance = state.board.instances.get(`${template.uuid} ${number}`);
+    const label = `${number + 1}: ${word}${instance?.due === undefined ? "" : `, due ${inFull(instance.due)}`}`;
+    const settings = { class: `cell ${kind}`, title: label, "aria-label": label };
+    return make("li", {}, instance ? button("", () => go(state.number, "repeating", instance.uuid), settings) : make("span", { ...settings, role: "img" }));
+}
+
+function card(template) {
+    const count = template.mask.length;
+    const first = Math.max(0, count - MOST_CELLS);
+    const until = template.told.until ? `, until ${inFull(seconds(template.told.until))}` : "";
+    const cells = Array.from({ length: count - first }, (_, at) => cell(template, first + at));
+    const title = button(said(template.description, 200), () => go(state.number, "repeating", template.uuid), { class: "link title" });
+    const about = make("p", { class: "about" }, said(template.recur, 40), ` from ${inFull(template.due)}${until}`);
+    const earlier = first > 0 ? make("p", { class: "about" }, `${first} earlier ones aren't shown.`) : "";
+    return make("li", { class: "card" }, title, about, make("ol", { class: "mask", "aria-label": "Instances" }, cells), earlier);
+}
+
+// A template always has an instance that isn't due yet; where the last one is, time has passed since the board was last changed.
+function isBehind(template) {
+    const last = state.board.instances.get(`${template.uuid} ${template.mask.length - 1}`);
+    const isOver = seconds(template.told.until) < now();
+    return !isOver && (template.mask === "" ? template.due <= now() : last?.due !== undefined && last.due <= now());
+}
+
+const sweep = () => keep(changes.sweep(state.number)).catch(tellFault);
+
+// A board that lags is swept once by each page that shows it; every accepted change sweeps it too.
+function sweepIfBehind() {
+    if (!swept.has(state.number) && ["owner", "member"].includes(here()?.role) && state.board.templates.some(isBehind)) {
+        swept.add(state.number);
+        sweep();
+    }
+}
+
+function draw() {
+    if (state.view !== "repeating" || state.board?.number !== state.number) return;
+    const templates = state.board.templates;
+    find("no-templates").hidden = templates.length > 0;
+    fill(find("templates"), templates.map(card));
+}
+
+export function beginRepeating() {
+    find("sweep").addEventListener("click", sweep);
+    listen("board", (isNew) => isNew && [sweepIfBehind, draw].forEach((part) => part()));
+    listen("route", draw);
+}

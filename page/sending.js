@@ -1,0 +1,147 @@
+// Sending again. Each change has an identifier, stands on the device before it is sent, and is sent, the same identifier and the same
+// bytes, until the server answers. One person's changes go in their order: none is sent before the one ahead of it was answered.
+//
+// Each tab sends what the person who is signed in there has on this device, also what another tab put there. Locks keep two tabs from
+// doing so at once. Where a browser has none (plain http from another machine) a lease stands in for them, which a tab that sleeps may
+// lose while it sends. That does no harm: both tabs send the first change that isn't answered, and it acts once under its identifier.
+import { NoAnswer, newIdentifier, tell } from "./asking.js";
+import { changes as making } from "./changes.js";
+import { descriptionAt } from "./cutting.js";
+import * as device from "./device.js";
+import { announce, state } from "./state.js";
+
+const PAUSES = [1, 2, 4, 8, 15, 30];
+const LEASE = 6000;
+const tabs = new BroadcastChannel("taskboard");
+const tab = newIdentifier();
+
+// What the device holds of the person who is signed in: changes that wait, were refused, or have something to tell; and how often the
+// first that waits was sent in vain.
+let [held, tries, isSending] = [[], 0, false];
+let endPause = () => {};
+
+export const waiting = () => held.filter((change) => change.state === "waiting");
+export const settled = () => held.filter((change) => change.state !== "waiting");
+export const vainTries = () => tries;
+
+async function readDevice() {
+    held = state.who ? await device.all(state.who.name) : [];
+    announce("kept");
+}
+
+tabs.onmessage = async ({ data }) => {
+    await readDevice();
+    if (data.change && data.change.member === state.who?.name) announce("answered", data);
+    send();
+};
+
+const toKeep = (made, group = "", member = state.who.name) => ({ ...made, member, state: "waiting", group, made: Date.now(), id: newIdentifier() });
+
+export function sendNow() {
+    endPause();
+    send();
+}
+
+export async function beginSending() {
+    tries = 0;
+    await readDevice();
+    sendNow();
+}
+
+// Holds changes on the device, and then sends them. Several are a group: where one is refused those behind it are taken back.
+export async function keep(...made) {
+    // A second click on what waits already says nothing new.
+    if (made[0].task && !made[0].body && waiting().findLast((one) => one.task === made[0].task)?.path === made[0].path) return;
+    const group = made.length > 1 ? newIdentifier() : "";
+    await device.put(made.map((change) => toKeep(change, group)));
+    tabs.postMessage({});
+    await readDevice();
+    sendNow();
+}
+
+// Lets go of changes that were settled and read, or of one that the person gives up.
+export async function forget(...gone) {
+    await device.remove(gone);
+    tabs.postMessage({});
+    await readDevice();
+}
+
+function pause() {
+    const seconds = PAUSES[Math.min(Math.max(tries, 1), PAUSES.length) - 1] * (0.75 + Math.random() / 2);
+    return new Promise((done) => {
+        endPause = done;
+        setTimeout(done, 1000 * seconds);
+    });
+}
+
+// Sends all that waits, with growing pauses while no answer comes. The turn isn't kept over a pause, so a tab that sleeps holds up no other.
+async function send() {
+    if (isSending) return;
+    isSending = true;
+    while (state.who && waiting().length > 0) {
+        const isDone = await inTurn(`taskboard ${state.who.name}`, () => sendInOrder(state.who)).catch(() => false);
+        if (!isDone) await pause();
+    }
+    isSending = false;
+}
+
+// Sends the first change of the device that waits, and then the next; gives whether all were answered.
+async function sendInOrder(who) {
+    try {
+        for (await readDevice(); state.who === who && waiting().length > 0; await readDevice()) {
+            const [change] = waiting();
+            await settle(change, await tell(who, change));
+            tries = 0;
+            announce("reach", true);
+        }
+        return true;
+    } catch (fault) {
+        tries += 1;
+        if (fault instanceof NoAnswer) announce("reach", false);
+        else console.error(fault);
+        return false;
+    }
+}
+
+// Takes an answer down before the next change is sent. One that says the key is wrong settles nothing: the server keeps no such answer,
+// so the change waits until its person signs in again.
+async function settle(change, { status, body }) {
+    if (status === 401) return state.who?.name === change.member && announce("unknown");
+    if (body.more) await device.put([toKeep(making.sweep(change.board), "", change.member)]);
+    if (status !== 200) await refuse(change, body);
+    else if (change.reports) await device.replace({ ...change, state: "done", body: "", answer: body });
+    else await device.remove([change]);
+    await readDevice();
+    const news = { change: { ...change, body: "" }, status, body };
+    tabs.postMessage(news);
+    if (state.who?.name === change.member) announce("answered", news);
+}
+
+async function refuse(change, body) {
+    const culprit = change.reports && body.at !== undefined ? descriptionAt(change.body, body.at) : "";
+    const behind = (await device.all(change.member)).filter((other) => change.group && other.group === change.group && other.order > change.order);
+    await device.remove(behind);
+    await device.replace({ ...change, state: "refused", body: "", answer: body, culprit, takenBack: behind.length });
+}
+
+const inTurn = (name, work) => (navigator.locks ? navigator.locks.request(name, work) : underLease(name, work));
+const readLease = (name) => JSON.parse(localStorage.getItem(name)) ?? { until: 0 };
+const takeLease = (name) => localStorage.setItem(name, JSON.stringify({ tab, until: Date.now() + LEASE }));
+
+async function underLease(name, work) {
+    for (let isMine = false; !isMine; isMine = readLease(name).tab === tab) {
+        if (readLease(name).until < Date.now()) takeLease(name);
+        // Of two tabs that take a free lease at once the later one has it.
+        await new Promise((done) => setTimeout(done, 100 + 100 * Math.random()));
+    }
+    const renewal = setInterval(takeLease, LEASE / 3, name);
+    try {
+        return await work();
+    } finally {
+        clearInterval(renewal);
+        localStorage.removeItem(name);
+    }
+}
+
+addEventListener("online", sendNow);
+document.addEventListener("visibilitychange", () => document.hidden || sendNow());

@@ -1,0 +1,442 @@
+"""The page in a real browser, as people use it: python3 page.py BROWSER PROGRAM PORT SLACK PAGE, in a folder that it may write to.
+
+SLACK is how many times longer than on a machine without other work things may take. With SHOTS pictures of each view are left in that folder."""
+import datetime
+import json
+import os
+import pathlib
+import random
+import subprocess
+import sys
+import time
+import urllib.request
+import uuid
+
+from relay import LOSES_ANSWERS, LOSES_POSTS, Relay
+from talking import Server, end_by_signal, make_file
+from webdriver import STRANGER, Browser
+
+BROWSER, PROGRAM, PORT, SLACK, PAGE = sys.argv[1], sys.argv[2], int(sys.argv[3]), float(sys.argv[4]), sys.argv[5]
+SHOTS = os.environ.get("SHOTS")
+KEYS = {"ann": "ann-key-1", "bob": "bob-key-01"}
+ENTER, DOWN, BACKSPACE = "\ue007", "\ue015", "\ue003"
+# How soon a board of 10,000 tasks is shown, in seconds, how long the page may keep the browser from drawing, in milliseconds, and what ten
+# people's looks within 15 s may take of the server's processor, in seconds.
+SHOWN_WITHIN, STALL, LOOKS = 1.5, 100, 1.5
+ALL_ANSWERED = "return document.getElementById('state').textContent === 'All is answered'"
+LISTED = "return [...document.querySelectorAll('#list .open')].map((row) => row.textContent)"
+IS_LISTED = "return [...document.querySelectorAll('#list .open')].some((row) => row.textContent === arguments[0])"
+IS_TOLD = "return document.body.innerText.includes(arguments[0])"
+# From here on the pieces of the page's work that took 50 ms and more are noted, and one of none.
+WATCH = "window.stalls = [0]; new PerformanceObserver((list) => stalls.push(...list.getEntries().map((entry) => entry.duration))).observe({ type: 'longtask' })"
+# How many times longer a piece of work may take than where nothing else runs: the slowest of equal pieces, against the quickest.
+BUSY = """const times = Array.from({ length: 40 }, () => {
+    const begun = performance.now();
+    for (let at = 0, sum = 0; at < 6000000; at++) sum += at % 7;
+    return performance.now() - begun;
+});
+return Math.max(...times) / Math.min(...times);"""
+# Once what was put on the device before stands there.
+IS_KEPT = """return new Promise((done) => {
+    indexedDB.open("taskboard").onsuccess = ({ target }) => {
+        target.result.transaction("changes").objectStore("changes").count().onsuccess = () => done(true);
+    };
+});"""
+LOOK = "window.dispatchEvent(new Event('focus')); return true"
+
+
+def expect(what, wanted, got):
+    if wanted != got:
+        sys.exit(f"{what}: expected {wanted!r}, but got {got!r}")
+
+
+def ask(path, body=None, who="ann"):
+    """An answer to a message that doesn't come from the page."""
+    fields = {"x-member": who, "x-key": KEYS[who], "x-request-id": str(uuid.uuid4())}
+    request = urllib.request.Request(f"http://127.0.0.1:{PORT}{path}", body, fields)
+    with urllib.request.urlopen(request, timeout=20) as answer:
+        return answer.read().decode()
+
+
+def tasks(board):
+    return json.loads(ask(f"/boards/{board}/export"))
+
+
+def descriptions(board):
+    return [task["description"] for task in tasks(board)]
+
+
+def add(board, **task):
+    return json.loads(ask(f"/boards/{board}/tasks", json.dumps(task).encode()))["uuid"]
+
+
+class Office:
+    """A server that may be killed, a line to it that may break, and a browser."""
+
+    def __init__(self, browser):
+        self.browser, self.relay, self.server = browser, Relay(PORT), None
+        self.address = f"http://127.0.0.1:{self.relay.port}/"
+        self.start()
+
+    def start(self):
+        self.server = Server(PROGRAM, PORT, words=("--page", PAGE, "--forever"), errors=subprocess.DEVNULL)
+
+    def restart(self):
+        self.server.end()
+        self.start()
+
+    def sign_in(self, name, key=None):
+        self.browser.open(self.address)
+        self.browser.wait("return document.getElementById('sign-in-form').offsetParent")
+        self.browser.type("#name", name)
+        self.browser.type("#key", (key or KEYS[name]) + ENTER)
+
+    def enter(self, name):
+        self.sign_in(name)
+        self.browser.wait("return document.getElementById('count').textContent")
+
+    def go(self, board, view="tasks", task=""):
+        self.browser.run("location.hash = arguments[0]", f"/{board}/{view}" + (f"/{task}" if task else ""))
+        self.browser.wait(f"return !document.getElementById('{view}-view').hidden")
+        if view == "tasks":
+            self.browser.wait("return document.getElementById('count').textContent")
+
+    def shot(self, name):
+        """Pictures of what is shown, wide and narrow; the layout fits in each, and at 320 too."""
+        for width, height in ((1280, 900), (390, 844), (320, 640)):
+            self.browser.size(width, height)
+            time.sleep(0.15)
+            wide = self.browser.run("return document.documentElement.scrollWidth")
+            if wide > width:
+                sys.exit(f"{name}: {wide} wide, in a window of {width}")
+            if SHOTS:
+                self.browser.shot(pathlib.Path(SHOTS) / f"{name}-{width}.png")
+        self.browser.size(1280, 900)
+
+
+def first_steps(office):
+    """Signing in, adding, completing and its way back, notes, dependencies, changes, repeating tasks."""
+    browser = office.browser
+    office.sign_in("ann", "another-key")
+    browser.wait(IS_TOLD, "doesn't know this name with this key")
+    office.shot("sign-in")
+    office.enter("ann")
+    for line in ("(A) Call Mom +Family @phone due:2026-01-31", "Buy milk @shop", "Paint the fence"):
+        browser.type("#add-line", line + ENTER + ENTER)
+        browser.wait(ALL_ANSWERED)
+    browser.wait("return document.querySelectorAll('#list .row').length === 3")
+    expect("order", ["Call Mom", "Buy milk", "Paint the fence"], browser.run(LISTED))
+    mom = {name: value for name, value in tasks(1)[0].items() if name in ("project", "priority", "tags", "due", "status")}
+    expect("a line", {"project": "Family", "priority": "H", "tags": ["phone"], "due": "20260131T000000Z", "status": "pending"}, mom)
+    by_keyboard(browser)
+    browser.run("[...document.querySelectorAll('#list .open')].find((row) => row.textContent === 'Paint the fence').click()")
+    browser.wait("return document.getElementById('task-text').textContent === 'Paint the fence'")
+    browser.type("#note-text", "Green, two tins" + ENTER)
+    browser.wait("return document.querySelectorAll('#task-notes li').length === 1")
+    browser.type("#depend-text", "milk")
+    browser.wait("return document.querySelectorAll('#depend-choices button').length === 1")
+    browser.type("#depend-text", ENTER)
+    browser.wait("return document.getElementById('task-status').textContent.includes('blocked')")
+    browser.click("#edit")
+    browser.run("document.querySelector('#edit-fields select').value = 'M'")
+    browser.click("#edit-form .primary")
+    browser.wait("return document.getElementById('task-facts').textContent.includes('medium')")
+    office.shot("task")
+    browser.click("#close-panel")
+    repeat(office)
+    browser.wait(ALL_ANSWERED)
+    office.shot("tasks")
+
+
+def by_keyboard(browser):
+    """Completes the second task by keys alone, and takes that back."""
+    browser.run("document.querySelector('#list .open').focus()")
+    browser.call("POST", "/actions", {"actions": [{"type": "key", "id": "keys", "actions": [{"type": kind, "value": key} for key in (DOWN, "d") for kind in ("keyDown", "keyUp")]}]})
+    browser.wait("return document.querySelectorAll('#list .row').length === 2")
+    browser.wait(ALL_ANSWERED)
+    expect("done", "completed", tasks(1)[1]["status"])
+    browser.click("#toast button")
+    browser.wait(IS_LISTED, "Buy milk")
+    expect("taken back", "pending", tasks(1)[1]["status"])
+
+
+def repeat(office):
+    """A task that repeats, and the row of its instances."""
+    browser = office.browser
+    browser.click("#add-more")
+    browser.type("#add-line", "Water the plants due:" + str(datetime.date.today() - datetime.timedelta(days=8)))
+    browser.type("#add-fields input[placeholder=weekly]", "weekly" + ENTER)
+    browser.wait(IS_LISTED, "Water the plants")
+    browser.click("#add-more")
+    office.go(1, "repeating")
+    browser.wait("return document.querySelectorAll('.mask .cell').length === 3")
+    browser.run("document.querySelector('.mask button').click()")
+    browser.wait("return document.getElementById('task-actions').textContent.startsWith('Done')")
+    browser.click("#task-actions .primary")
+    browser.wait("return document.querySelectorAll('.mask .completed').length === 1")
+    browser.click("#close-panel")
+    office.shot("repeating")
+    office.go(1)
+
+
+def people(office):
+    """Adding a person and roles; what is refused is told in words."""
+    browser = office.browser
+    office.go(1, "people")
+    browser.wait("return document.querySelectorAll('#people li').length === 1")
+    browser.type("#person-name", "bob")
+    browser.type("#person-key", KEYS["bob"] + ENTER)
+    browser.wait("return document.querySelectorAll('#people li').length === 2")
+    browser.wait(ALL_ANSWERED)
+    browser.run("const role = document.querySelector('#people select'); role.value = 'member'; role.dispatchEvent(new Event('change'))")
+    browser.wait(IS_TOLD, "left without an owner")
+    browser.wait("return document.querySelector('#people select').value === 'owner'")
+    office.shot("people")
+    browser.click("#notices button")
+    browser.wait("return document.querySelectorAll('#notices li').length === 0")
+
+
+def killed_server(office):
+    """The server is killed between a click and its answer, and starts again: the change is there once. So it is where the page is loaded anew."""
+    browser, relay = office.browser, office.relay
+    office.go(1)
+    relay.break_off(LOSES_ANSWERS)
+    browser.type("#add-line", "Acts before the kill" + ENTER)
+    relay.lost.wait(browser.patience)
+    office.server.end()
+    browser.wait(IS_TOLD, "1 change isn't answered yet")
+    browser.type("#add-line", "Is made while nobody is there" + ENTER)
+    browser.wait(IS_TOLD, "2 changes aren't answered yet")
+    for _ in range(2):
+        browser.run("document.querySelector('#list .tick').click()")
+        browser.wait(IS_TOLD, "3 changes aren't answered yet")
+    browser.click("#state")
+    office.shot("unanswered")
+    office.start()
+    relay.break_off(LOSES_POSTS)
+    browser.open("about:blank")
+    browser.open(office.address)
+    browser.wait(IS_TOLD, "3 changes aren't answered yet")
+    expect("before they are sent again", 1, descriptions(1).count("Acts before the kill"))
+    relay.heal()
+    browser.run("dispatchEvent(new Event('online'))")
+    browser.wait(ALL_ANSWERED)
+    for name in ("Acts before the kill", "Is made while nobody is there"):
+        browser.wait(IS_LISTED, name)
+        expect(f"tasks {name!r}", 1, descriptions(1).count(name))
+    expect("clicked twice", ["completed", 0], [tasks(1)[0]["status"], browser.run("return document.querySelectorAll('#notices li').length")])
+
+
+def two_tabs(office):
+    """Two people on one board, in two tabs; and two tabs of one person, whose changes go in their order."""
+    browser, relay = office.browser, office.relay
+    [anns] = browser.tabs()
+    browser.new_tab()
+    office.enter("bob")
+    browser.type("#add-line", "Of bob" + ENTER)
+    browser.wait(IS_LISTED, "Of bob")
+    office.go(1, "people")
+    browser.wait("return document.querySelectorAll('#people li').length === 2 && !document.querySelector('#people select')")
+    bobs = browser.call("GET", "/window")
+    browser.to_tab(anns)
+    # (a page that asked less than a second ago asks no more, so it's looked at again)
+    browser.wait("dispatchEvent(new Event('focus')); " + IS_LISTED, "Of bob")
+    relay.break_off(LOSES_POSTS)
+    browser.type("#add-line", "First" + ENTER)
+    browser.new_tab()
+    office.enter("ann")
+    browser.wait(IS_TOLD, "1 change isn't answered yet")
+    browser.type("#add-line", "Second" + ENTER)
+    browser.wait(IS_TOLD, "2 changes aren't answered yet")
+    other = browser.call("GET", "/window")
+    browser.to_tab(anns)
+    browser.type("#add-line", "Third" + ENTER)
+    browser.wait(IS_TOLD, "3 changes aren't answered yet")
+    relay.heal()
+    browser.run("dispatchEvent(new Event('online'))")
+    browser.wait(ALL_ANSWERED)
+    expect("of two tabs", ["First", "Second", "Third"], descriptions(1)[-3:])
+    for tab in (other, bobs):
+        browser.to_tab(tab)
+        browser.call("DELETE", "/window")
+    browser.to_tab(anns)
+
+
+def plain_http(office):
+    """From another machine without TLS a browser has no locks and makes no uuids: two tabs still send in order, each change once."""
+    browser, relay = office.browser, office.relay
+    [anns] = browser.tabs()
+    browser.new_tab()
+    ours, office.address = office.address, f"http://{STRANGER}:{relay.port}/"
+    office.enter("ann")
+    expect("locks", [False, False], browser.run("return [isSecureContext, 'locks' in navigator]"))
+    first = browser.call("GET", "/window")
+    browser.new_tab()
+    office.enter("ann")
+    names = [f"Plain {number}" for number in range(6)]
+    for number, name in enumerate(names):
+        browser.to_tab([first, browser.tabs()[-1]][number % 2])
+        browser.type("#add-line", name + ENTER)
+        browser.wait(IS_KEPT)
+    browser.wait(ALL_ANSWERED)
+    expect("of two tabs without locks", names, descriptions(1)[-6:])
+    for tab in browser.tabs():
+        if tab != anns:
+            browser.to_tab(tab)
+            browser.call("DELETE", "/window")
+    browser.to_tab(anns)
+    office.address = ours
+
+
+def hostile_texts(office):
+    """Texts that would be code, turn what stands around them or fill the window: nothing runs, and the layout stands."""
+    browser = office.browser
+    ask("/boards", json.dumps({"title": "<b>Hostile</b> \u202egnihton"}).encode())
+    code = ["<img src=x onerror=\"window.ran=1\">", "</script><script>window.ran=1</script>", "\"><svg onload=window.ran=1>", "javascript:window.ran=1", "{{constructor.constructor('window.ran=1')()}}"]
+    turned = ["\u202e\u2066right to left\u202c", "\u0001\u0007\u001b[31m\u007f\u0085\u2028", "e\u0301" * 2000, "\U0001f469\u200d\U0001f467" * 500]
+    long = ["W" * 16384, "ш" * 8192, " ".join(["word"] * 3000)]
+    for text in (*code, *turned, *long):
+        tag = "".join(text.split())[:4000] or "x"
+        uuid_of = add(2, description=text, project=text, tags=[tag], own=text)
+        ask(f"/boards/2/tasks/{uuid_of}/annotate", json.dumps({"description": text}).encode())
+    browser.open(office.address)
+    browser.wait("return document.getElementById('count').textContent")
+    office.go(2)
+    browser.wait("return document.querySelectorAll('#list .row').length === arguments[0]", len(code + turned + long))
+    heights = set(browser.run("return [...document.querySelectorAll('#list .row')].map((row) => row.offsetHeight)"))
+    expect("heights of rows", 1, len(heights))
+    office.shot("hostile")
+    for task in tasks(2):
+        office.go(2, "tasks", task["uuid"])
+        browser.wait("return document.getElementById('task-text').textContent.length > 0 && location.hash.includes(arguments[0])", task["uuid"])
+        expect("a text", task["description"], browser.run("return document.getElementById('task-text').textContent"))
+        wide = browser.run("return document.documentElement.scrollWidth")
+        expect("wider than the window", False, wide > 1280)
+    office.shot("hostile-task")
+    expect("scripts and images", [1, 2], browser.run("return [document.scripts.length, document.images.length]"))
+    expect("code ran", None, browser.run("return window.ran ?? null"))
+    browser.click("#close-panel")
+
+
+def linked_tasks(count):
+    """As many tasks of Taskwarrior, each of which depends on one that stands behind it in the list, so a cut has to put them in order."""
+    chance = random.Random(1)
+    names = [str(uuid.UUID(int=chance.getrandbits(128), version=4)) for _ in range(count)]
+    words = "call write paint buy check plan review order clean book".split()
+    for place, name in enumerate(names):
+        day = datetime.datetime(2026, 1, 1) + datetime.timedelta(hours=chance.randrange(9000))
+        task = {"uuid": name, "description": f"{chance.choice(words)} number {place}", "status": "pending", "entry": f"{day:%Y%m%dT%H%M%SZ}", "tags": [chance.choice(words)]}
+        task |= {"project": chance.choice(words)} if place % 3 else {"priority": chance.choice("HML")}
+        task |= {"due": f"{day + datetime.timedelta(days=300):%Y%m%dT%H%M%SZ}"} if place % 4 == 0 else {}
+        task |= {"depends": [names[place + 1 + chance.randrange(count - place - 1)]]} if place % 5 == 0 and place < count - 1 else {}
+        yield task
+
+
+def imports(office):
+    """A Taskwarrior export in three parts with no link lost, a todo.txt file, one that can't be read; and the export as a file."""
+    browser = office.browser
+    office.go(2)
+    browser.click("#new-board")
+    browser.type("#board-title", "Taken in" + ENTER)
+    browser.wait("return location.hash.startsWith('#/3/') && document.getElementById('nothing').offsetParent")
+    office.go(3, "files")
+    sent = list(linked_tasks(2300))
+    for name, text in (("export.json", json.dumps(sent)), ("todo.txt", "(A) Call Mom +Family\nBuy tea\n"), ("broken.json", "[{\"description\":")):
+        pathlib.Path(name).write_text(text)
+        browser.type("#import-file", os.path.abspath(name))
+        browser.wait("return document.getElementById('import-told').textContent")
+        office.shot("files")
+        if not browser.run("return document.getElementById('import-send').disabled"):
+            browser.click("#import-send")
+            browser.wait(ALL_ANSWERED)
+    browser.wait(IS_TOLD, "(3 of 3 parts): 2,300 new; 0 known")
+    browser.wait(IS_TOLD, "2 new; 0 known")
+    browser.wait(IS_TOLD, "has no tasks")
+    stored = {task["uuid"]: task for task in tasks(3)}
+    expect("tasks that were taken in", 2302, len(stored))
+    expect("links", {task["uuid"]: task["depends"] for task in sent if "depends" in task}, {name: task["depends"] for name, task in stored.items() if "depends" in task})
+    browser.tell("Browser.setDownloadBehavior", behavior="allow", downloadPath=os.getcwd())
+    browser.click("#save-export")
+    [file] = saved_files("Taken-in-*.json", browser.patience)
+    expect("the export as a file", ask("/boards/3/export"), file.read_text())
+    browser.wait("return document.querySelectorAll('#notices button').length === 2")
+
+
+def saved_files(pattern, patience):
+    end = time.monotonic() + patience
+    while time.monotonic() < end:
+        found = list(pathlib.Path().glob(pattern))
+        if found:
+            return found
+        time.sleep(0.05)
+    sys.exit(f"no file {pattern} was saved")
+
+
+def large_board(office):
+    """A board of 10,000 tasks: shown soon, in the listing's order, typed into without a stall, and cheap to look at."""
+    browser = office.browser
+    ask("/boards", b'{"title":"Large"}')
+    large = list(linked_tasks(9998))
+    for part in range(9, -1, -1):
+        ask("/boards/4/import", json.dumps(large[part * 1000 : part * 1000 + 1000]).encode())
+    browser.open(office.address + "#/4/tasks")
+    browser.call("POST", "/refresh")
+    shown = browser.wait("return document.querySelectorAll('#list .row').length > 10 && performance.now()") / 1000
+    busy = [browser.run(BUSY)]
+    browser.run(WATCH)
+    listed = [line[49:] for line in ask("/boards/4/list").splitlines()[1:11]]
+    expect("order", listed, browser.run(LISTED)[:10])
+    expect("all of them", "9,998 of 9,998 tasks", browser.run("return document.getElementById('count').textContent"))
+    for letter in "number 99":
+        browser.type("#filter-text", letter)
+    add(4, description="From elsewhere")
+    browser.run(LOOK)
+    for letter in "Typed meanwhile" + ENTER:
+        browser.type("#add-line", letter)
+    browser.wait(ALL_ANSWERED)
+    browser.type("#filter-text", BACKSPACE * 9)
+    browser.wait("return document.getElementById('count').textContent === '10,000 of 10,000 tasks'")
+    browser.run("scrollTo(0, 100000)")
+    stall = max(browser.wait("return stalls.length > 0 && stalls"))
+    busy.append(browser.run(BUSY))
+    browser.run("scrollTo(0, 0)")
+    office.shot("large")
+    used = office.server.seconds_used()
+    for _ in range(10):
+        ask("/boards/4/export")
+    used = office.server.seconds_used() - used
+    figures = f"10,000 tasks shown after {shown:.2f} s, the longest stall {stall:.0f} ms where work takes up to {max(busy):.1f} times its time, ten looks {used:.2f} s of the server"
+    slack = max(SLACK, *busy)
+    if shown > SHOWN_WITHIN * slack or stall > STALL * slack or used > LOOKS:
+        sys.exit(f"too slow: {figures}")
+    return figures
+
+
+def last_steps(office):
+    """Signing out forgets the key; no fault was told on the way but for messages that were lost or refused."""
+    browser = office.browser
+    browser.click("#sign-out")
+    browser.wait("return document.getElementById('sign-in-form').offsetParent")
+    expect("what is kept of the key", "", browser.run("return JSON.stringify([{ ...sessionStorage }, { ...localStorage }])").replace("[{},{}]", ""))
+    told = [message for message in browser.messages() if "Failed to load resource" not in message]
+    expect("faults", [], told)
+
+
+end_by_signal()
+make_file(PROGRAM)
+with Browser(BROWSER, 10 * SLACK) as browser:
+    browser.size(1280, 900)
+    office = Office(browser)
+    try:
+        for scene in (first_steps, people, killed_server, two_tabs, plain_http, hostile_texts, imports):
+            begun = time.monotonic()
+            scene(office)
+            if SHOTS:
+                print(f"{scene.__name__}: {time.monotonic() - begun:.1f} s")
+        figures = large_board(office)
+        last_steps(office)
+    finally:
+        office.server.end()
+checked = subprocess.run([PROGRAM, "check", "b.db"], check=True, stdout=subprocess.PIPE, text=True).stdout.strip()
+expect("faults of the file", True, checked.endswith("faults 0"))
+print(f"the page in a browser: all scenes; {figures}")
