@@ -109,19 +109,26 @@ fn answers_to<K: Keep>(
     Ok(steps.told.text)
 }
 
-/// What is seen of the boards, and how many of the lines have a kept reply.
-fn look_at<K: Keep + Drop>(
-    owner: &Owner,
-    keep: K,
-    lines: &[&str],
-) -> Result<(K, String), AllocError> {
-    let mut desk = Desk::new(keep);
-    let text = answers_to(owner, &mut desk, &LOOKS)?;
-    let mut keep = desk.into_keep();
+/// How many of the lines have a kept reply.
+fn kept_among<K: Keep>(owner: &Owner, keep: &mut K, lines: &[&str]) -> Result<String, AllocError> {
     let alloc = owner.alloc;
+    let text = String::new(alloc);
     let mut told = Told { alloc, text };
-    count_kept(&mut keep, lines, &mut told)?;
-    Ok((keep, told.text))
+    count_kept(keep, lines, &mut told)?;
+    Ok(told.text)
+}
+
+/// What is seen of the boards, and how many of the lines have a kept reply.
+#[derive(Drop)]
+struct Seen {
+    boards: String,
+    kept: String,
+}
+
+impl Seen {
+    fn is_same(&self, other: &Seen) -> bool {
+        self.boards.as_str() == other.boards.as_str() && self.kept.as_str() == other.kept.as_str()
+    }
 }
 
 impl<'t> Trial<'t> {
@@ -203,7 +210,7 @@ impl<'t> Trial<'t> {
         Ok(Trial {
             owner: self.owner,
             lines: self.lines,
-            stood: self.standing(seen.as_str(), answered)?,
+            stood: self.standing(&seen, answered)?,
             files,
             is_whole: is_whole && !has_failed,
         })
@@ -230,40 +237,55 @@ impl<'t> Trial<'t> {
         Ok((stage, answered, !has_failed && word.is_empty()))
     }
 
-    /// What is seen of the boards in the files, where an audit has no fault. They are stopped then.
-    fn look(&self, stage: Stage) -> io::Result<(Files<Frail>, String)> {
+    /// What is seen in the files, where an audit has no fault. They are stopped then.
+    fn look(&self, stage: Stage) -> io::Result<(Files<Frail>, Seen)> {
         let (stage, word) = stage.open(self.owner, "open");
-        let Stage::Store(keep) = stage else {
+        let Stage::Store(mut keep) = stage else {
             return Err(io::Error::other(word));
         };
-        let (mut keep, seen) = look_at(self.owner, keep, self.lines)?;
+        let kept = kept_among(self.owner, &mut keep, self.lines)?;
+        let mut desk = Desk::new(keep);
+        let boards = answers_to(self.owner, &mut desk, &LOOKS)?;
+        let files = self.audited(desk.into_keep())?;
+        Ok((files, Seen { boards, kept }))
+    }
+
+    /// The files of a store that is stopped, where an audit of it has no fault.
+    fn audited(&self, mut keep: SqlKeep<FileStore<Frail>>) -> io::Result<Files<Frail>> {
         let alloc = self.owner.alloc;
         let text = String::new(alloc);
         let mut told = Told { alloc, text };
         tell_audit(&mut keep, &mut told)?;
         if told.text.ends_with(", faults 0\n") {
-            Ok((Stage::Store(keep).stop().into_files(), seen))
+            Ok(Stage::Store(keep).stop().into_files())
         } else {
             Err(io::Error::other("the audit has faults"))
         }
     }
 
     /// What stands, where this is seen after so many answers.
-    fn standing(&self, seen: &str, answered: usize) -> io::Result<Vec<&'t str>> {
+    fn standing(&self, seen: &Seen, answered: usize) -> io::Result<Vec<&'t str>> {
         for count in [answered, answered.saturating_add(1)] {
             let Some(front) = self.lines.get(..count) else {
                 continue;
             };
-            let mut lists = self.lists()?;
-            answers_to(self.owner, &mut lists, front)?;
-            let (_, wanted) = look_at(self.owner, lists.into_keep(), self.lines)?;
-            if seen == wanted.as_str() {
+            if self.wanted(front)?.is_same(seen) {
                 let mut stood = Vec::from_slice(self.owner.alloc, self.stood.as_slice())?;
                 stood.extend_from_slice(front)?;
                 return Ok(stood);
             }
         }
         Err(io::Error::other("another state stands"))
+    }
+
+    /// What is seen of lists that were sent what stands, and then these lines.
+    fn wanted(&self, lines: &[&str]) -> io::Result<Seen> {
+        let mut lists = self.lists()?;
+        answers_to(self.owner, &mut lists, lines)?;
+        let boards = answers_to(self.owner, &mut lists, &LOOKS)?;
+        let mut keep = lists.into_keep();
+        let kept = kept_among(self.owner, &mut keep, self.lines)?;
+        Ok(Seen { boards, kept })
     }
 
     /// A desk over lists, which was sent what stands.
