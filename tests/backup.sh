@@ -2,7 +2,7 @@
 # Copies a file by contrib/backup.sh while three clients add tasks to it: what was answered before the copy began is in it, and a copy that
 # is served in the file's place takes the same calls again. Then it installs all of contrib/ into a folder and removes it again, and lets
 # whatever of shellcheck, systemd-analyze, nginx, groff and bash is there look at its scripts, units, configuration, man pages and completion.
-# It needs python3 with its sqlite3, and takes under ten seconds once the program is there.
+# It needs python3 with its sqlite3, and takes some twenty seconds once the program is there.
 set -eu
 
 . "$(dirname "$0")/prepare.sh"
