@@ -1,11 +1,12 @@
 #!/bin/sh
-# Copies a file of boards, also while it is served, checks the copy, and keeps the newest copies.
+# Copies a file of boards, also while it is served, checks the copy, and thins the older copies.
 #
-#   backup.sh FILE FOLDER [KEEP]
+#   backup.sh FILE FOLDER
 #
 # FILE is the file of boards. The copy is FOLDER/NAME-MOMENT.db, where NAME is the file's name without `.db` and MOMENT is the
-# second at which the copy began, in UTC. KEEP copies of this NAME stay there, 14 where it isn't given; older ones go once the new
-# one was checked. It prints the path of the copy, and what `taskboard check` says of it.
+# second at which the copy began, in UTC. Once it was checked, of the copies of this NAME those stay that are the newest of their
+# day, week or month, for the last 7 days, 4 weeks and 12 months that have a copy; the others go. Weeks begin on Monday. It prints
+# the path of the copy, and what `taskboard check` says of it.
 #
 # What was answered before the copy began is in it. The server isn't stopped, and nothing is written beside FILE.
 # The program is the one of $TASKBOARD, or else `taskboard` of the PATH. The status is 0 where the copy is there and was checked,
@@ -22,7 +23,7 @@ fail() {
 }
 
 usage() {
-    echo "usage: backup.sh FILE FOLDER [KEEP], where KEEP is a whole number from 1" >&2
+    echo "usage: backup.sh FILE FOLDER" >&2
     exit 2
 }
 
@@ -83,20 +84,39 @@ copy_whole() {
     done
 }
 
-# Removes the oldest copies of this name.
-keep_newest() {
-    set -- "$folder/$name"-[0-9][0-9][0-9][0-9][0-9][0-9][0-9][0-9]T[0-9][0-9][0-9][0-9][0-9][0-9]Z.db
-    while [ $# -gt "$keep" ]; do
-        rm -f "$1"
-        shift
+# Whether a copy is the newest of one of the days, weeks or months that count. The copies come from the newest to the oldest.
+is_kept() {
+    day=${1#"$folder/$name-"}
+    day=${day%%T*}
+    month=${day%??}
+    # What has no date isn't thinned.
+    week=$(date -u -d "$day" +%G%V 2>/dev/null) || return 0
+    kept=1
+    if [ "$day" != "$last_day" ] && [ "$days" -lt 7 ]; then
+        last_day=$day days=$((days + 1)) kept=0
+    fi
+    if [ "$week" != "$last_week" ] && [ "$weeks" -lt 4 ]; then
+        last_week=$week weeks=$((weeks + 1)) kept=0
+    fi
+    if [ "$month" != "$last_month" ] && [ "$months" -lt 12 ]; then
+        last_month=$month months=$((months + 1)) kept=0
+    fi
+    return "$kept"
+}
+
+# Removes the copies of this name that are no longer kept, and never the new one.
+thin() {
+    set --
+    for each in "$folder/$name"-[0-9][0-9][0-9][0-9][0-9][0-9][0-9][0-9]T[0-9][0-9][0-9][0-9][0-9][0-9]Z.db; do
+        set -- "$each" "$@"
+    done
+    days=0 weeks=0 months=0 last_day='' last_week='' last_month=''
+    for each in "$@"; do
+        is_kept "$each" || [ "$each" = "$copy" ] || rm -f "$each"
     done
 }
 
-[ $# -eq 2 ] || [ $# -eq 3 ] || usage
-keep=${3:-14}
-case $keep in
-'' | *[!0-9]* | 0*) usage ;;
-esac
+[ $# -eq 2 ] || usage
 file=$(with_folder "$1")
 folder=$(with_folder "$2")
 name=$(basename "$file" .db)
@@ -117,5 +137,5 @@ checked=$("$program" check "$part/$name.db") || fail "the copy of $file didn't p
 sync "$part/$name.db" || fail "$part/$name.db can't be brought to the disk"
 mv "$part/$name.db" "$copy" || fail "$copy can't be made"
 sync "$folder"
-keep_newest
+thin
 printf '%s %s\n' "$copy" "$checked"

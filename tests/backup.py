@@ -1,5 +1,6 @@
 """Copies a file of boards while clients add tasks to it, and restores a copy: python3 backup.py PROGRAM PORT BACKUP, in a folder that it
 may write to. BACKUP is the script that copies."""
+import datetime
 import json
 import os
 import pathlib
@@ -13,7 +14,9 @@ import time
 from talking import Server, adding, answer_to, description, expect_each_once, is_whole, make_file, status_of
 
 PROGRAM, PORT, BACKUP = sys.argv[1], int(sys.argv[2]), sys.argv[3]
-CLIENTS, COPIES, KEPT = 3, 3, 2
+CLIENTS, COPIES = 3, 3
+# How many days, weeks and months have a copy that stays.
+DAYS, WEEKS, MONTHS = 7, 4, 12
 # How many messages a client sends, which is less than a connection carries.
 MOST = 900
 FOLDER = pathlib.Path("copies")
@@ -70,19 +73,86 @@ def tasks_in(copy):
 def copy_while_serving(senders):
     """Makes a copy, which has to hold each task once that was answered before, and gives its path and what it has."""
     before = {description(number) for sender in senders for number in sender.numbers()}
-    done = ran_backup("b.db", str(KEPT))
+    before_names = names_there()
+    done = ran_backup("b.db")
     expect(f"it ended with {done.returncode}: {done.stdout}{done.stderr}", done.returncode == 0)
     copy, checked = done.stdout.rstrip("\n").split(" ", 1)
     expect(f"the copy was checked: {checked}", checked.endswith("faults 0"))
     expect("it is for its owner alone", os.stat(copy).st_mode & 0o077 == 0)
     expect("it needs no log", not os.path.exists(copy + "-wal"))
-    # It is looked at in another place, since each order leaves a log.
-    shutil.copy(copy, "looked-at.db")
-    found = tasks_in("looked-at.db")
+    # It is looked at in another place, since each order leaves a log, and the next copy of the day removes it.
+    aside = f"aside-{os.path.basename(copy)}"
+    shutil.copy(copy, aside)
+    found = tasks_in(aside)
     expect("no task is there twice", len(found) == len(set(found)))
     lost = before - set(found)
     expect(f"what was answered before is in it: lost {sorted(lost)[:5]}", not lost)
-    return copy, set(found)
+    shutil.copy(copy, aside)
+    os.remove(aside + "-wal")
+    expect_thinned(before_names | {os.path.basename(copy)})
+    return aside, set(found)
+
+
+def moment_in(name):
+    """The moment of a copy of b.db by its name, where that has one."""
+    try:
+        return datetime.datetime.strptime(name, "b-%Y%m%dT%H%M%SZ.db")
+    except ValueError:
+        return None
+
+
+def newest_of(moments, part_of, count):
+    """The newest moment of each of the last parts, as days, that have one."""
+    parts = {}
+    for moment in sorted(moments):
+        parts[part_of(moment)] = moment
+    return set(sorted(parts.values())[-count:])
+
+
+def expect_thinned(names):
+    """Of the copies that were there, those stay that are the newest of their day, week or month, and what is no copy of b.db."""
+    moments = {name: moment_in(name) for name in names}
+    there = [moment for moment in moments.values() if moment]
+    kept = newest_of(there, lambda moment: moment.date(), DAYS)
+    kept |= newest_of(there, lambda moment: moment.isocalendar()[:2], WEEKS)
+    kept |= newest_of(there, lambda moment: (moment.year, moment.month), MONTHS)
+    wanted = {name for name in names if moments[name] is None or moments[name] in kept}
+    found = names_there()
+    expect(f"these should have stayed: {sorted(wanted - found)}, and these gone: {sorted(found - wanted)}", found == wanted)
+
+
+def names_there():
+    return {path.name for path in FOLDER.iterdir()}
+
+
+def make_dated(moments):
+    for moment in moments:
+        (FOLDER / moment.strftime("b-%Y%m%dT%H%M%SZ.db")).write_text("a copy\n")
+
+
+def thins():
+    """Copies of made-up dates, of which the right ones stay: of many nights, of a few days far apart, and of a night long ago."""
+    now = datetime.datetime.now(datetime.timezone.utc).replace(tzinfo=None, microsecond=0)
+    nights = [now - datetime.timedelta(days=days, hours=hours) for days in [*range(1, 40), *range(40, 600, 6)] for hours in (0, 5)]
+    apart = [now - datetime.timedelta(days=days) for days in range(40, 2000, 97)]
+    for moments in (nights, apart, [datetime.datetime(2024, 2, 29, 3)]):
+        for path in FOLDER.glob("b-*"):
+            path.unlink()
+        make_dated(moments)
+        for name in ("b-20261399T030000Z.db", "b-2-20200101T030000Z.db", "b2-20200101T030000Z.db", "b-20200101T030000Z.db.old"):
+            (FOLDER / name).write_text("no copy of b.db\n")
+        before = names_there()
+        done = ran_backup("b.db")
+        expect(f"it ended with {done.returncode}: {done.stderr}", done.returncode == 0)
+        expect_thinned(before | {os.path.basename(done.stdout.split(" ", 1)[0])})
+
+
+def keeps_the_new():
+    """Where a clock that was wrong has left copies of later days, the new copy stays all the same."""
+    later = datetime.datetime.now(datetime.timezone.utc).replace(microsecond=0) + datetime.timedelta(days=800)
+    make_dated(later + datetime.timedelta(days=days) for days in range(40))
+    done = ran_backup("b.db")
+    expect("the new copy stays", done.returncode == 0 and os.path.exists(done.stdout.split(" ", 1)[0]))
 
 
 def sqlite_reads(copy):
@@ -109,9 +179,9 @@ def refuses():
     kept = sorted(FOLDER.iterdir())
     expect("a missing file is refused", ran_backup("missing.db").returncode == 1)
     expect("nothing was made", not os.path.exists("missing.db"))
-    expect("a count of none is refused", ran_backup("b.db", "0").returncode == 2)
+    expect("a third word is refused", ran_backup("b.db", "7").returncode == 2)
     pathlib.Path("b.txt").write_text("no database\n")
-    expect("what fails the check is refused", ran_backup("b.txt", "1").returncode == 1)
+    expect("what fails the check is refused", ran_backup("b.txt").returncode == 1)
     expect("the copies stay", sorted(FOLDER.iterdir()) == kept)
 
 
@@ -145,13 +215,14 @@ def main():
             sender.join()
             expect(sender.fault, sender.fault is None)
     tries = pathlib.Path("count").read_text().count("\n") // 2
-    expect(f"{KEPT} copies stay", sorted(map(str, FOLDER.iterdir())) == sorted(copy for copy, _ in copies)[-KEPT:])
     sqlite_reads(copies[-1][0])
     follows_links(senders)
+    thins()
+    keeps_the_new()
     refuses()
     restore(*copies[-2], senders)
     sizes = ", ".join(str(len(found)) for _, found in copies)
-    print(f"copies of {sizes} tasks, in {tries} tries, while {CLIENTS} clients added, one restored, in {time.monotonic() - begun:.0f} s")
+    print(f"copies of {sizes} tasks, in {tries} tries, while {CLIENTS} clients added, thinned, one restored, in {time.monotonic() - begun:.0f} s")
 
 
 main()

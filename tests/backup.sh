@@ -1,7 +1,7 @@
 #!/bin/sh
 # Copies a file by contrib/backup.sh while three clients add tasks to it: what was answered before the copy began is in it, and a copy that
 # is served in the file's place takes the same calls again. Then it installs all of contrib/ into a folder and removes it again, and lets
-# whatever of shellcheck, systemd-analyze, groff and bash is there look at its scripts, units, man pages and completion.
+# whatever of shellcheck, systemd-analyze, nginx, groff and bash is there look at its scripts, units, configuration, man pages and completion.
 # It needs python3 with its sqlite3, and takes under ten seconds once the program is there.
 set -eu
 
@@ -47,6 +47,12 @@ if is_there systemd-analyze && is_there man; then
     MANPATH="$prefix/share/man:" systemd-analyze verify "$units/taskboard.service" "$units/taskboard@office.service" \
         "$units/taskboard-backup.service" "$units/taskboard-backup.timer" || fail "the units aren't right"
     rm "$units/taskboard@office.service"
+fi
+if [ "$(id -u)" -eq 0 ] && is_there nginx && is_there openssl; then
+    openssl req -x509 -newkey rsa:2048 -nodes -days 2 -subj /CN=boards.example.org -keyout key.pem -out certificate.pem 2>/dev/null
+    sed "s|/etc/ssl/taskboard/|$folder/|" "$contrib/nginx.conf" >proxy.conf
+    printf 'pid %s;\nerror_log stderr;\nevents {}\nhttp { access_log off; include %s; }\n' "$folder/nginx.pid" "$folder/proxy.conf" >nginx.conf
+    nginx -t -c "$folder/nginx.conf" 2>said || fail "the configuration of nginx: $(cat said)"
 fi
 if is_there groff; then
     groff -man -Tutf8 -ww "$contrib/taskboard.1" "$contrib/taskboard-backup.1" >page 2>warnings
