@@ -6,37 +6,17 @@ set -eu
 . "$(dirname "$0")/prepare.sh"
 
 "$program" init b.db ann ann-key-1
-python3 - "$program" "$port" "${TASKS:-500}" "${KILLS:-20}" <<'CLIENT'
+PYTHONPATH=$top/tests python3 - "$program" "$port" "${TASKS:-500}" "${KILLS:-20}" <<'CLIENT'
 import http.client
 import random
-import subprocess
 import sys
 import threading
 import time
 
+from killed import Server
+
 program = sys.argv[1]
 port, tasks, kills = (int(word) for word in sys.argv[2:])
-
-
-class Server:
-    def __init__(self):
-        self.killed = 0
-        self.start()
-
-    def start(self):
-        words = [program, "serve", "b.db", "--port", str(port), "--connections", "1000000"]
-        self.process = subprocess.Popen(words)
-
-    def kill(self):
-        self.process.kill()
-        self.process.wait()
-
-    def kill_within(self, seconds):
-        """Kills it at a random moment of that time, and starts it again."""
-        time.sleep(random.uniform(0, seconds))
-        self.kill()
-        self.killed += 1
-        self.start()
 
 
 class Client:
@@ -77,14 +57,14 @@ class Client:
         sys.exit(f"task {number} got no answer")
 
 
-server, client = Server(), Client()
+server, client = Server(program, port), Client()
 try:
     took = client.add(1)
     unlucky = set(random.sample(range(2, tasks + 1), kills))
     for number in range(2, tasks + 1):
         killer = None
         if number in unlucky:
-            killer = threading.Thread(target=server.kill_within, args=(2 * took,))
+            killer = threading.Thread(target=server.kill_within, args=(0, 2 * took))
             killer.start()
         took = client.add(number)
         if killer is not None:

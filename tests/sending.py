@@ -1,7 +1,6 @@
 """What `taskboard send` does: sending.py PROGRAM PORT TASKS KILLS, in a folder with a new file b.db of ann, whose key is ann-key-1."""
 import json
 import os
-import random
 import socket
 import subprocess
 import sys
@@ -9,6 +8,7 @@ import threading
 import time
 
 from connecting import connected, free_port
+from killed import Server
 
 program, port, tasks, kills = sys.argv[1], *(int(word) for word in sys.argv[2:])
 CLIENTS = 4
@@ -22,28 +22,6 @@ def fail(text):
     global failed
     failed = True
     print(text)
-
-
-class Server:
-    def __init__(self):
-        self.killed = 0
-        self.start()
-
-    def start(self):
-        words = [program, "serve", "b.db", "--port", str(port), "--connections", "1000000"]
-        self.process = subprocess.Popen(words, stderr=subprocess.DEVNULL)
-
-    def kill(self):
-        self.process.kill()
-        self.process.wait()
-
-    def kill_again(self, times):
-        """Kills it at random moments, and starts it again."""
-        for _ in range(times):
-            time.sleep(random.uniform(0.05, 0.4))
-            self.kill()
-            self.killed += 1
-            self.start()
 
 
 def send(*words, server=HERE, key="ann-key-1", options=(), **more):
@@ -207,7 +185,8 @@ def look_at_kills(server):
     clients = [threading.Thread(target=add_tasks, args=(client, sent, killing)) for client in range(CLIENTS)]
     for client in clients:
         client.start()
-    server.kill_again(kills)
+    for _ in range(kills):
+        server.kill_within(0.05, 0.4)
     killing.clear()
     for client in clients:
         client.join()
@@ -298,7 +277,7 @@ def look_at_cuts():
     print(f"an answer cut after each of its {whole} bytes was told whole")
 
 
-server = Server()
+server = Server(program, port)
 try:
     connected(port, 10).close()
     look_at_words()
