@@ -197,14 +197,14 @@ good-relink b test f x keeps links found sound linked acyclic good =
     }
 
 -- a board without tasks
-pub good-empty : (number : ℕ) (title : List ℕ) → IsGood (record { number = number; title = title; tasks = []; gone = [] })
+pub good-empty : (number : ℕ) (title : List ℕ) → IsGood (record { number = number; title = title; tasks = []; gone = []; ahead = 1 })
 good-empty number title =
     record {
       distinct = run_empty.distinct;
       few = omega arith;
       sound = tt;
       linked = tt;
-      acyclic = acyclic-empty (record { number = number; title = title; tasks = []; gone = [] }) refl;
+      acyclic = acyclic-empty (record { number = number; title = title; tasks = []; gone = []; ahead = 1 }) refl;
       runs = λ id. run_empty;
       parents = tt;
       gone = tt;

@@ -4,11 +4,11 @@ use Rattle.std.specs.List.{AllByRecursion}
 use Rattle.std.proofs.lemmas.Bool.{cases_Bool, eqb-true}
 use Rattle.tb_board.specs.declared.board.Board.{Board}
 use Rattle.tb_board.specs.declared.change.Change.{Change}
-use Rattle.tb_board.specs.declared.change.Change.TheVariants.{PutTask, AddPerson, AddBoard, SetRole, SetGone, TakeGone}
+use Rattle.tb_board.specs.declared.change.Change.TheVariants.{PutTask, AddPerson, AddBoard, SetRole, SetGone, TakeGone, SetAhead}
 use Rattle.tb_board.specs.declared.draft.Draft.{Draft}
 use Rattle.tb_board.specs.declared.world.World.{World}
 use Rattle.tb_board.specs.World.{has_number}
-use Rattle.tb_board.specs.Changes.{change_board, changed, changed_by, changed_on, replayed, with_task_at, with_gone, without_gone, IsOn, IsDraft}
+use Rattle.tb_board.specs.Changes.{change_board, changed, changed_by, changed_on, replayed, with_task_at, with_gone, without_gone, with_ahead, IsOn, IsDraft}
 
 change_board-none : (n : ℕ) (bs : List Board) → change_board n (λ b. b) bs ≡ bs
 change_board-none n [] = refl
@@ -45,6 +45,8 @@ changed-one w n (SetGone k g ∷ cs) on =
     changed-one (record w { boards = change_board k (with_gone g) w.boards }) n cs on.1 ∙ one_more w k n (with_gone g) cs on.0 (λ b. refl)
 changed-one w n (TakeGone k id place ∷ cs) on =
     changed-one (record w { boards = change_board k (without_gone id place) w.boards }) n cs on.1 ∙ one_more w k n (without_gone id place) cs on.0 (λ b. refl)
+changed-one w n (SetAhead k ahead ∷ cs) on =
+    changed-one (record w { boards = change_board k (with_ahead ahead) w.boards }) n cs on.1 ∙ one_more w k n (with_ahead ahead) cs on.0 (λ b. refl)
 changed-one w n (AddPerson name key ∷ cs) on = absurd on.0
 changed-one w n (AddBoard k title ∷ cs) on = absurd on.0
 changed-one w n (SetRole k person role ∷ cs) on = absurd on.0
@@ -81,6 +83,7 @@ changed_on-number b (AddBoard n title) = refl
 changed_on-number b (SetRole n person role) = refl
 changed_on-number b (SetGone n g) = refl
 changed_on-number b (TakeGone n id k) = refl
+changed_on-number b (SetAhead n ahead) = refl
 
 pub replayed-number : (b : Board) (cs : List Change) → (replayed b cs).number ≡ b.number
 replayed-number b [] = refl

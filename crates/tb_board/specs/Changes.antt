@@ -4,7 +4,7 @@ use Rattle.std.specs.List.{AllByRecursion}
 use Rattle.tb_task.specs.declared.task.Task.{Task}
 use Rattle.tb_board.specs.declared.board.Board.{Board}
 use Rattle.tb_board.specs.declared.change.Change.{Change}
-use Rattle.tb_board.specs.declared.change.Change.TheVariants.{PutTask, AddPerson, AddBoard, SetRole, SetGone, TakeGone}
+use Rattle.tb_board.specs.declared.change.Change.TheVariants.{PutTask, AddPerson, AddBoard, SetRole, SetGone, TakeGone, SetAhead}
 use Rattle.tb_board.specs.declared.draft.Draft.{Draft}
 use Rattle.tb_board.specs.declared.gone.Gone.{Gone}
 use Rattle.tb_board.specs.declared.world.World.{World}
@@ -31,6 +31,10 @@ without_place id k gs = filter (λ g. not (is_gone_at id k g)) gs
 abbrev pub without_gone : ℕ → ℕ → Board → Board
 without_gone id k b = record b { gone = without_place id k b.gone }
 
+-- so many instances ahead
+abbrev pub with_ahead : ℕ → Board → Board
+with_ahead ahead b = record b { ahead = ahead }
+
 -- the first board with this number is changed by f, and nothing else
 abbrev pub change_board : ℕ → (Board → Board) → List Board → List Board
 change_board n f bs = change_first (has_number n) f bs
@@ -38,10 +42,11 @@ change_board n f bs = change_first (has_number n) f bs
 abbrev pub changed_by : World → Change → World
 changed_by w (PutTask n place t) = record w { boards = change_board n (with_task_at place t) w.boards }
 changed_by w (AddPerson name key) = record w { people = w.people ++ record { name = name; key = key } ∷ [] }
-changed_by w (AddBoard n title) = record w { boards = w.boards ++ record { number = n; title = title; tasks = []; gone = [] } ∷ [] }
+changed_by w (AddBoard n title) = record w { boards = w.boards ++ record { number = n; title = title; tasks = []; gone = []; ahead = 1 } ∷ [] }
 changed_by w (SetRole n person role) = record w { roles = set_role w.roles n person role }
 changed_by w (SetGone n g) = record w { boards = change_board n (with_gone g) w.boards }
 changed_by w (TakeGone n id k) = record w { boards = change_board n (without_gone id k) w.boards }
+changed_by w (SetAhead n ahead) = record w { boards = change_board n (with_ahead ahead) w.boards }
 
 -- the world after the changes, one after the other
 abbrev pub changed : World → List Change → World
@@ -56,6 +61,7 @@ changed_on b (AddBoard n title) = b
 changed_on b (SetRole n person role) = b
 changed_on b (SetGone n g) = with_gone g b
 changed_on b (TakeGone n id k) = without_gone id k b
+changed_on b (SetAhead n ahead) = with_ahead ahead b
 
 -- a board after the changes, all of which are its own
 abbrev pub replayed : Board → List Change → Board
@@ -70,6 +76,7 @@ IsOn n (AddBoard m title) = ⊥
 IsOn n (SetRole m person role) = ⊥
 IsOn n (SetGone m g) = m ≡ n
 IsOn n (TakeGone m id k) = m ≡ n
+IsOn n (SetAhead m ahead) = m ≡ n
 
 -- the draft's changes are those of its board, and make it of the first one
 pub record IsDraft (start : Board) (d : Draft) : Type 0 where

@@ -1,3 +1,4 @@
+pub mod Ahead
 pub mod Blocked
 pub mod Board
 pub mod Changes

@@ -6,7 +6,7 @@ use Rattle.std.specs.Str.{bytes_eq}
 use Rattle.tb_board.specs.declared.board.Board.{Board}
 use Rattle.tb_board.specs.declared.world.Person.{Person}
 use Rattle.tb_board.specs.declared.world.Role.{Role}
-use Rattle.tb_board.specs.declared.world.Role.TheVariants.{Owner, Member}
+use Rattle.tb_board.specs.declared.world.Role.TheVariants.{Owner, Member, Reader}
 use Rattle.tb_board.specs.declared.world.RoleOn.{RoleOn}
 use Rattle.tb_board.specs.declared.world.World.{World}
 
@@ -45,6 +45,13 @@ role_of w board person = option_map (λ (r : RoleOn). r.role) (find (is_role_of 
 abbrev pub is_owner : Role → Bool
 is_owner Owner = true
 is_owner Member = false
+is_owner Reader = false
+
+-- a reader only looks
+abbrev pub may_change : Role → Bool
+may_change Owner = true
+may_change Member = true
+may_change Reader = false
 
 abbrev pub owns : ℕ → RoleOn → Bool
 owns board r = (r.board == board) && is_owner r.role
@@ -57,6 +64,6 @@ owners w board = count_by (owns board) w.roles
 abbrev pub opening : List ℕ → List ℕ → World
 opening name key = record {
   people = record { name = name; key = key } ∷ [];
-  boards = record { number = 1; title = codes "board"; tasks = []; gone = [] } ∷ [];
+  boards = record { number = 1; title = codes "board"; tasks = []; gone = []; ahead = 1 } ∷ [];
   roles = record { board = 1; person = 1; role = Owner } ∷ [];
 }

@@ -1,31 +1,35 @@
 ghost use Rattle.std.specs.Prelude.{◌≡◌, ◌<◌, [], length, IfOk, slice_index_or};
 ghost use Rattle.tb_board.specs.Board.{is_on};
 
+use crate::ahead::Ahead;
 use crate::gone::Gone;
 use crate::title::Title;
 use std::alloc::{AllocError, Global};
 use tb_task::{Task, TaskId};
 use tb_values::{Duplicate, Items, Shared};
 
-/// A board: its tasks in order of entry, and the gone places of its templates. A copy of a board copies no task.
+/// A board: its tasks in order of entry, the gone places of its templates, and how many instances ahead it looks. A copy of a board
+/// copies no task.
 #[derive(Drop)]
 pub struct Board {
     pub number: u32,
     pub title: Title,
     pub tasks: Items<Shared<Task>>,
     pub gone: Items<Gone>,
+    pub ahead: Ahead,
 }
 
 impl Board {
-    /// A board without tasks.
+    /// A board without tasks, which looks one ahead.
     pub fn new(alloc: Global, number: u32, title: Title) -> Board
-        ensures { result ≡ record { number = number; title = title; tasks = []; gone = [] } }
+        ensures { result ≡ record { number = number; title = title; tasks = []; gone = []; ahead = 1 } }
     {
         Board {
             number,
             title,
             tasks: Items::new(alloc),
             gone: Items::new(alloc),
+            ahead: Ahead::one(),
         }
     }
 
@@ -62,6 +66,7 @@ impl Duplicate for Board {
             title,
             tasks,
             gone,
+            ahead: self.ahead,
         })
     }
 }

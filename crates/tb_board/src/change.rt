@@ -1,3 +1,4 @@
+use crate::ahead::Ahead;
 use crate::gone::Gone;
 use crate::key::Key;
 use crate::name::Name;
@@ -41,5 +42,10 @@ pub enum Change {
         board: u32,
         template: TaskId,
         place: u32,
+    },
+    /// A board looks so many instances ahead.
+    SetAhead {
+        board: u32,
+        ahead: Ahead,
     },
 }

@@ -1,7 +1,8 @@
 ghost use Rattle.std.specs.Prelude.{◌≡◌, ◌≤◌, [], ◌∷◌, ◌++◌, Some, None, IfOk, OnOk, insert, length, position};
-ghost use Rattle.tb_board.specs.Changes.{change_board, changed, changed_by, put, with_gone, with_task_at, without_gone};
+ghost use Rattle.tb_board.specs.Changes.{change_board, changed, changed_by, put, with_ahead, with_gone, with_task_at, without_gone};
 ghost use Rattle.tb_board.specs.Roles.{comes_before, set_role, with_new_role};
 
+use crate::ahead::Ahead;
 use crate::board::Board;
 use crate::change::Change;
 use crate::first::{place_of_board, place_of_role};
@@ -45,6 +46,7 @@ fn changed_world(alloc: Global, world: World, change: &Change) -> Result<World, 
             template,
             place,
         } => take_gone(alloc, world, *board, *template, *place),
+        Change::SetAhead { board, ahead } => set_ahead(alloc, world, *board, *ahead),
     }
 }
 
@@ -63,7 +65,7 @@ fn add_board(
     number: u32,
     title: &Title,
 ) -> Result<World, AllocError>
-    ensures { IfOk result (λ later. later ≡ record world { boards = world.boards ++ record { number = number; title = title.now; tasks = []; gone = [] } ∷ [] }) }
+    ensures { IfOk result (λ later. later ≡ record world { boards = world.boards ++ record { number = number; title = title.now; tasks = []; gone = []; ahead = 1 } ∷ [] }) }
 {
     let board = Board::new(alloc, number, title.duplicate()?);
     world.boards.push(Shared::new(alloc, board)?)?;
@@ -342,5 +344,50 @@ fn board_without(
         return Err(AllocError);
     };
     board.gone = gone_without(alloc, board.gone.as_slice(), template, place)?;
+    Ok(board)
+}
+
+fn set_ahead(alloc: Global, world: World, number: u32, ahead: Ahead) -> Result<World, AllocError>
+    ensures { IfOk result (λ later. later ≡ record world { boards = change_board number (with_ahead ahead) world.boards }) }
+{
+    let World {
+        people,
+        boards,
+        roles,
+    } = world;
+    let boards = boards_with_ahead(alloc, boards, number, ahead)?;
+    Ok(World {
+        people,
+        boards,
+        roles,
+    })
+}
+
+/// The first board with this number looks so many instances ahead.
+fn boards_with_ahead(
+    alloc: Global,
+    boards: Items<Shared<Board>>,
+    number: u32,
+    ahead: Ahead,
+) -> Result<Items<Shared<Board>>, AllocError>
+    ensures { IfOk result (λ later. later ≡ change_board number (with_ahead ahead) boards) }
+{
+    let Some(index) = place_of_board(boards.as_slice(), number) else {
+        return Ok(boards);
+    };
+    let mut boards = boards.into_vec();
+    let board = boards.remove(index);
+    let board = board_with_ahead(board, ahead)?;
+    boards.insert(index, Shared::new(alloc, board)?)?;
+    Ok(Items::from_vec(boards))
+}
+
+fn board_with_ahead(board: Shared<Board>, ahead: Ahead) -> Result<Board, AllocError>
+    ensures { IfOk result (λ b. b ≡ with_ahead ahead board) }
+{
+    let Ok(mut board) = board.into_value() else {
+        return Err(AllocError);
+    };
+    board.ahead = ahead;
     Ok(board)
 }

@@ -1,7 +1,8 @@
 ghost use Rattle.std.specs.Prelude.{◌≡◌, ◌<◌, [], ◌∷◌, ◌++◌, length, IfOk, slice_set};
-ghost use Rattle.tb_board.specs.Changes.{IsDraft, Follows, with_gone, without_gone};
+ghost use Rattle.tb_board.specs.Changes.{IsDraft, Follows, with_ahead, with_gone, without_gone};
 ghost use Rattle.tb_board.specs.declared.change.Change.TheVariants.{PutTask};
 
+use crate::ahead::Ahead;
 use crate::board::Board;
 use crate::change::Change;
 use crate::gone::{Gone, gone_without};
@@ -100,6 +101,23 @@ impl Draft {
             place,
         })?;
         board.gone = gone_without(alloc, board.gone.as_slice(), template, place)?;
+        Ok(Draft { board, changes })
+    }
+
+    /// Lets the board look so many instances ahead.
+    pub fn set_ahead(self, ahead: Ahead) -> Result<Draft, AllocError>
+        ensures board { IfOk result (λ draft. draft.board ≡ with_ahead ahead self.board) }
+        ensures follows { IfOk result (Follows self) }
+    {
+        let Draft {
+            mut board,
+            mut changes,
+        } = self;
+        changes.push(Change::SetAhead {
+            board: board.number,
+            ahead,
+        })?;
+        board.ahead = ahead;
         Ok(Draft { board, changes })
     }
 }

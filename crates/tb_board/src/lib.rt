@@ -1,9 +1,10 @@
 //! Boards of tasks and the world of people, boards and roles, as they stand at a moment.
 //!
-//! It owns boards, names, keys, titles and roles, the list of changes by which a world changes, waking, and the numbers that a board
+//! It owns boards, how far they look ahead, names, keys, titles and roles, the list of changes by which a world changes, waking, and the numbers that a board
 //! gives to new tasks. It stands on `tb_task` for tasks and identifiers and on `tb_values` for lists.
 #![tactic(auto)]
 
+mod ahead;
 mod blocked;
 mod board;
 mod change;
@@ -21,6 +22,7 @@ mod viewing;
 mod waking;
 mod world;
 
+pub use ahead::Ahead;
 pub use blocked::{is_blocked_task, is_blocking_task};
 pub use board::Board;
 pub use change::Change;

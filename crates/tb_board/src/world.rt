@@ -10,11 +10,12 @@ use crate::title::Title;
 use std::alloc::{AllocError, Global};
 use tb_values::{Duplicate, Items, Shared};
 
-/// What a person may do on a board: all, or all but giving roles.
+/// What a person may do on a board: all, all but giving roles and saying how far ahead it looks, or only look at it.
 #[derive(Clone, Copy, Debug, PartialEq, Eq)]
 pub enum Role {
     Owner,
     Member,
+    Reader,
 }
 
 /// A person, and the key by which the person is known.

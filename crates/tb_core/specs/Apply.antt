@@ -1,11 +1,11 @@
 -- What a command makes of a world.
-use Rattle.std.specs.Prelude.{◌≡◌, ℕ, not, List, [], ◌∷◌, Option, Some, None, is_some, Result, Ok, Err, length}
+use Rattle.std.specs.Prelude.{◌≡◌, ℕ, Bool, true, false, not, List, [], ◌∷◌, Option, Some, None, is_some, Result, Ok, Err, length}
 use Rattle.tb_board.specs.declared.board.Board.{Board}
 use Rattle.tb_core.specs.declared.command.Answer.{Answer}
 use Rattle.tb_core.specs.declared.command.Answer.TheVariants.{OnBoard}
 use Rattle.tb_core.specs.declared.command.BoardAnswer.{BoardAnswer}
 use Rattle.tb_core.specs.declared.command.Command.{Command}
-use Rattle.tb_core.specs.declared.command.Command.TheVariants.{Add, OnTask, Modify, ImportJson, ImportTodo, Sweep, SetRole, NewPerson, NewBoard, Depend, Undepend}
+use Rattle.tb_core.specs.declared.command.Command.TheVariants.{Add, OnTask, Modify, ImportJson, ImportTodo, Sweep, SetRole, NewPerson, NewBoard, Depend, Undepend, SetAhead}
 use Rattle.tb_core.specs.declared.command.Told.{Told}
 use Rattle.tb_core.specs.declared.command.Told.TheVariants.{Swept}
 use Rattle.tb_core.specs.declared.deciding.Decision.{Decision}
@@ -18,9 +18,10 @@ use Rattle.tb_board.specs.declared.world.Role.{Role}
 use Rattle.tb_board.specs.declared.world.World.{World}
 use Rattle.tb_core.specs.Actions.{judged_action}
 use Rattle.tb_core.specs.Add.{judged_add}
+use Rattle.tb_core.specs.Allowed.{allows}
 use Rattle.tb_core.specs.Depends.{judged_depend, judged_undepend}
 use Rattle.tb_board.specs.Board.{wake}
-use Rattle.tb_board.specs.Changes.{change_board, changed}
+use Rattle.tb_board.specs.Changes.{change_board, changed, with_ahead}
 use Rattle.tb_core.specs.ImportJson.{judged_import_json}
 use Rattle.tb_core.specs.ImportTodo.{judged_import_todo}
 use Rattle.tb_core.specs.Modify.{judged_modify}
@@ -45,6 +46,7 @@ board_of (Sweep n) = Some n
 board_of (SetRole n name role) = Some n
 board_of (NewPerson name key) = None
 board_of (NewBoard title) = None
+board_of (SetAhead n ahead) = Some n
 
 -- the other person whom a command names
 abbrev pub other_of : Command → Option (List ℕ)
@@ -59,6 +61,7 @@ other_of (Sweep n) = None
 other_of (SetRole n name role) = Some name
 other_of (NewPerson name key) = Some name
 other_of (NewBoard title) = None
+other_of (SetAhead n ahead) = None
 
 abbrev pub seen_with : Option Role → Option Board → Option SeenBoard
 seen_with None b = None
@@ -113,6 +116,7 @@ judged b (Sweep n) m = Ok (b, Swept)
 judged b (SetRole n name role) m = Ok (b, Swept)
 judged b (NewPerson name key) m = Ok (b, Swept)
 judged b (NewBoard title) m = Ok (b, Swept)
+judged b (SetAhead n ahead) m = Ok (with_ahead ahead b, Swept)
 
 -- the answer about a board that the sweep follows
 abbrev pub board_answer : Board → ℕ → Told → BoardAnswer
@@ -127,11 +131,16 @@ answered m (Err refusal) = Err refusal
 abbrev pub outcome : Board → Command → ℕ → Result (Board × BoardAnswer) Refusal
 outcome b c m = answered m (judged (wake b m) c m)
 
--- who isn't known is refused, and then who has no role on the board, or where there is none
+-- a role that doesn't suffice is refused
+abbrev pub if_allowed : Bool → Result (Board × BoardAnswer) Refusal → Result (Board × BoardAnswer) Refusal
+if_allowed true r = r
+if_allowed false r = Err NotAllowed
+
+-- who isn't known is refused, then who has no role on the board, or where there is none, and then whose role doesn't suffice
 abbrev pub decided : Option ℕ → Option SeenBoard → Command → ℕ → Result (Board × BoardAnswer) Refusal
 decided None b c m = Err UnknownCaller
 decided (Some caller) None c m = Err NoBoard
-decided (Some caller) (Some b) c m = outcome b.board c m
+decided (Some caller) (Some b) c m = if_allowed (allows b.role c) (outcome b.board c m)
 
 -- a refusal changes nothing
 abbrev pub applied : World → Result (Board × BoardAnswer) Refusal → Outcome
@@ -175,6 +184,7 @@ apply_seen w seen (Sweep n) m = on_board w seen (Sweep n) m
 apply_seen w seen (SetRole n name role) m = role_given w seen seen.caller seen.board role m
 apply_seen w seen (NewPerson name key) m = new_person w seen seen.caller name key
 apply_seen w seen (NewBoard title) m = new_board w seen seen.caller title
+apply_seen w seen (SetAhead n ahead) m = on_board w seen (SetAhead n ahead) m
 
 -- a person's command at a moment
 abbrev pub apply : World → List ℕ → Command → ℕ → Outcome

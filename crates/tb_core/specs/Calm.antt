@@ -4,9 +4,9 @@ use Rattle.tb_task.specs.declared.task.Task.{Task}
 use Rattle.tb_task.specs.Check.{is_recurring}
 use Rattle.tb_board.specs.Board.{wakes}
 use Rattle.tb_core.specs.declared.command.Command.{Command}
-use Rattle.tb_core.specs.declared.command.Command.TheVariants.{Add, OnTask, Modify, ImportJson, ImportTodo, Sweep, SetRole, NewPerson, NewBoard, Depend, Undepend}
+use Rattle.tb_core.specs.declared.command.Command.TheVariants.{Add, OnTask, Modify, ImportJson, ImportTodo, Sweep, SetRole, NewPerson, NewBoard, Depend, Undepend, SetAhead}
 use Rattle.tb_core.specs.declared.effect.Step.{Step}
-use Rattle.tb_core.specs.declared.effect.Step.TheVariants.{Set, Push, Stay}
+use Rattle.tb_core.specs.declared.effect.Step.TheVariants.{Set, Push, Stay, LookAhead}
 
 -- the task wakes at m, or recurs
 abbrev pub stirs : ℕ → Task → Bool
@@ -16,6 +16,7 @@ abbrev pub step_stirs : ℕ → Step → Bool
 step_stirs m (Set place t) = stirs m t
 step_stirs m (Push t) = stirs m t
 step_stirs m Stay = false
+step_stirs m (LookAhead ahead) = false
 
 -- the command can change many tasks
 abbrev pub is_import : Command → Bool
@@ -30,3 +31,4 @@ is_import (Sweep n) = false
 is_import (SetRole n name role) = false
 is_import (NewPerson name key) = false
 is_import (NewBoard title) = false
+is_import (SetAhead n ahead) = false

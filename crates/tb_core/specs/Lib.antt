@@ -1,5 +1,6 @@
 pub mod Actions
 pub mod Add
+pub mod Allowed
 pub mod Apply
 pub mod Calm
 pub mod Cycles

@@ -33,7 +33,7 @@ board_refusals seen = where_holds Full (nat_le 10000 seen.boards) ∷ []
 -- the next number, and the caller owns the board
 abbrev pub with_new_board : World → ℕ → ℕ → List ℕ → World
 with_new_board w number caller title = record w {
-  boards = w.boards ++ record { number = number; title = title; tasks = []; gone = [] } ∷ [];
+  boards = w.boards ++ record { number = number; title = title; tasks = []; gone = []; ahead = 1 } ∷ [];
   roles = set_role w.roles number caller (Some Owner);
 }
 

@@ -1,5 +1,5 @@
 use crate::action::Action;
-use tb_board::{Key, Name, Role, Title};
+use tb_board::{Ahead, Key, Name, Role, Title};
 use tb_import::ImportCounts;
 use tb_task::{Edit, Incoming, Task, TaskId};
 use tb_values::Items;
@@ -65,6 +65,11 @@ pub enum Command {
     /// Begins a board, which the caller owns.
     NewBoard {
         title: Title,
+    },
+    /// Lets a board look so many instances ahead.
+    SetAhead {
+        board: u32,
+        ahead: Ahead,
     },
 }
 

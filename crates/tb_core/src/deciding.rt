@@ -12,9 +12,10 @@ ghost use Rattle.tb_board.specs.declared.world.World.{World};
 
 use crate::action::act;
 use crate::add::{add, add_refusal};
+use crate::allowed::{allows, is_owner_role};
 use crate::command::{Answer, BoardAnswer, Command, Told};
 use crate::effect::{Effect, Step, is_stirred};
-use crate::giving::{is_last_owner, is_owner_role, role_decision};
+use crate::giving::{is_last_owner, role_decision};
 use crate::import_json::import_json;
 use crate::import_todo::import_todo;
 use crate::judged::{Judged, Stop};
@@ -84,7 +85,8 @@ pub fn decide(
         | Command::Undepend { .. }
         | Command::ImportJson { .. }
         | Command::ImportTodo { .. }
-        | Command::Sweep { .. } => decide_on_board(alloc, seen, command, at),
+        | Command::Sweep { .. }
+        | Command::SetAhead { .. } => decide_on_board(alloc, seen, command, at),
     }
 }
 
@@ -104,6 +106,9 @@ fn decide_on_board(
     let Some(found) = &seen.board else {
         return Ok(refused(alloc, Refusal::NoBoard));
     };
+    if !allows(found.role, command) {
+        return Ok(refused(alloc, Refusal::NotAllowed));
+    }
     match judge_board(alloc, found.board.get(), command, at) {
         Ok(accepted) => Ok(accepted.into_decision()),
         Err(Stop::Refused(refusal)) => Ok(refused(alloc, refusal)),
@@ -250,7 +255,8 @@ fn judge(alloc: Global, draft: Draft, command: &Command, at: Moment) -> Result<J
         | Command::Sweep { .. }
         | Command::SetRole { .. }
         | Command::NewPerson { .. }
-        | Command::NewBoard { .. } => judge_one(alloc, draft, command, at),
+        | Command::NewBoard { .. }
+        | Command::SetAhead { .. } => judge_one(alloc, draft, command, at),
     }
 }
 
@@ -282,6 +288,10 @@ fn effect_of(alloc: Global, board: &Board, command: &Command, at: Moment) -> Res
         | Command::NewPerson { .. }
         | Command::NewBoard { .. } => Ok(Effect {
             step: Step::Stay,
+            told: Told::Swept,
+        }),
+        Command::SetAhead { ahead, .. } => Ok(Effect {
+            step: Step::LookAhead { ahead: *ahead },
             told: Told::Swept,
         }),
         Command::ImportJson { .. } => unreachable!(),

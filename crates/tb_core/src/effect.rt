@@ -1,18 +1,18 @@
 ghost use Rattle.std.specs.Prelude.{◌≡◌, ◌∷◌, [], IfOk};
 ghost use Rattle.std.specs.List.{list_any};
 ghost use Rattle.tb_board.specs.Changes.{Follows};
-ghost use Rattle.tb_board.specs.declared.change.Change.TheVariants.{PutTask};
+ghost use Rattle.tb_board.specs.declared.change.Change.TheVariants.{PutTask, SetAhead};
 ghost use Rattle.tb_core.specs.Calm.{step_stirs, stirs};
 ghost use Rattle.tb_core.specs.Effects.{after, Fits, step_changes};
 
 use crate::command::Told;
 use crate::judged::Judged;
 use std::alloc::{AllocError, Global};
-use tb_board::{Board, Change, Draft, has_waited};
+use tb_board::{Ahead, Board, Change, Draft, has_waited};
 use tb_task::{Moment, Task, is_recurring_status};
 use tb_values::{Items, Shared};
 
-/// How a command changes the tasks of a board.
+/// How a command changes a board.
 #[derive(Drop)]
 pub enum Step {
     /// Another task stands at this place.
@@ -21,6 +21,8 @@ pub enum Step {
     Push { task: Task },
     /// All stay.
     Stay,
+    /// All stay, and the board looks so many instances ahead.
+    LookAhead { ahead: Ahead },
 }
 
 /// What an accepted command makes of a board, of which it changes one task at most.
@@ -54,6 +56,7 @@ impl Step {
             Step::Set { place, task } => draft.set(alloc, place, task),
             Step::Push { task } => draft.push(alloc, task),
             Step::Stay => Ok(draft),
+            Step::LookAhead { ahead } => draft.set_ahead(ahead),
         }
     }
 
@@ -65,6 +68,7 @@ impl Step {
             Step::Set { place, task } => one_change(alloc, board.number, place, task),
             Step::Push { task } => one_change(alloc, board.number, board.tasks.len(), task),
             Step::Stay => Ok(Items::new(alloc)),
+            Step::LookAhead { ahead } => ahead_change(alloc, board.number, ahead),
         }
     }
 
@@ -75,7 +79,7 @@ impl Step {
         match self {
             Step::Set { task, .. } => stirs(task, at),
             Step::Push { task } => stirs(task, at),
-            Step::Stay => false,
+            Step::Stay | Step::LookAhead { .. } => false,
         }
     }
 }
@@ -91,6 +95,14 @@ fn one_change(
     let task = Shared::new(alloc, task)?;
     let mut changes = Items::new(alloc);
     changes.push(Change::PutTask { board, place, task })?;
+    Ok(changes)
+}
+
+fn ahead_change(alloc: Global, board: u32, ahead: Ahead) -> Result<Items<Change>, AllocError>
+    ensures { IfOk result (λ changes. changes ≡ SetAhead board ahead ∷ []) }
+{
+    let mut changes = Items::new(alloc);
+    changes.push(Change::SetAhead { board, ahead })?;
     Ok(changes)
 }
 

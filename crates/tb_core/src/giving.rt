@@ -2,8 +2,8 @@ ghost use Rattle.std.specs.Prelude.{◌≡◌, ◌∷◌, [], ◌++◌, Some, Ok
 ghost use Rattle.tb_core.specs.Apply.{role_answer};
 ghost use Rattle.tb_core.specs.Giving.{IsRoleDecision};
 ghost use Rattle.tb_core.specs.Owners.{is_owners, leaves_none};
-ghost use Rattle.tb_board.specs.World.{is_owner};
 
+use crate::allowed::is_owner_role;
 use crate::command::{Answer, BoardAnswer, Told};
 use crate::deciding::Decision;
 use crate::look::SeenPerson;
@@ -11,13 +11,6 @@ use std::alloc::{AllocError, Global};
 use tb_board::{Board, Change, Draft, Role};
 use tb_sweep::{Swept, sweep_draft};
 use tb_task::Moment;
-
-/// Whether it is an owner's.
-pub fn is_owner_role(role: Role) -> bool
-    ensures { result ≡ is_owner role }
-{
-    matches!(role, Role::Owner)
-}
 
 fn is_owner_if_some(role: Option<Role>) -> bool
     ensures { result ≡ is_owners role }

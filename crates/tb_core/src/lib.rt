@@ -6,6 +6,7 @@
 
 mod action;
 mod add;
+mod allowed;
 mod command;
 mod deciding;
 mod edits;

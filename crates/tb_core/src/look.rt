@@ -48,7 +48,8 @@ pub fn look_for(world: &World, name: &Name, command: &Command) -> Result<Seen, A
         | Command::Undepend { board, .. }
         | Command::ImportJson { board, .. }
         | Command::ImportTodo { board, .. }
-        | Command::Sweep { board } => look_at_board(world, name, *board),
+        | Command::Sweep { board }
+        | Command::SetAhead { board, .. } => look_at_board(world, name, *board),
         Command::SetRole {
             board,
             name: other,

@@ -3,3 +3,4 @@ pub mod MonthLemmas
 pub mod DueLemmas
 pub mod StepLemmas
 pub mod Needs
+pub mod AtOnce

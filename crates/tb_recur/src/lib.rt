@@ -14,5 +14,5 @@ pub use dues::due;
 pub use instances::instance;
 pub use plan::{Plan, plan_of};
 pub use tb_task::Step;
-pub use wanting::{need_is_least, wanted};
+pub use wanting::{need_is_least, one_ahead_is_at_once, wanted};
 pub use weekdays::nth_weekdays_are_counted;

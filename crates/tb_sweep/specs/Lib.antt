@@ -1,3 +1,4 @@
+pub mod AtOnce
 pub mod Counts
 pub mod Growing
 pub mod Kept

@@ -11,17 +11,17 @@ use Rattle.tb_board.specs.Board.{wake, with_task}
 use Rattle.tb_board.specs.Numbers.{free_id}
 use Rattle.tb_board.specs.Templates.{count}
 
--- the least place that isn't wanted by a template at m
-abbrev pub planned_need : Option Plan → ℕ → ℕ
-planned_need None m = 0
-planned_need (Some p) m = need p m
+-- the least place that isn't wanted by a template at m on a board that looks so many ahead
+abbrev pub planned_need : Option Plan → ℕ → ℕ → ℕ
+planned_need None ahead m = 0
+planned_need (Some p) ahead m = need p ahead m
 
-abbrev pub need_of : Task → ℕ → ℕ
-need_of t m = planned_need (plan_of t) m
+abbrev pub need_of : Task → ℕ → ℕ → ℕ
+need_of t ahead m = planned_need (plan_of t) ahead m
 
 -- how many instances a template gets: those it needs beyond its count, but 64 at most and no more than there is room for
 abbrev pub batch : ℕ → Board → Task → ℕ
-batch m b t = min (min 64 (10000 - length b.tasks)) (need_of t m - count b t.id)
+batch m b t = min (min 64 (10000 - length b.tasks)) (need_of t b.ahead m - count b t.id)
 
 -- the instances from k on, so many, one after the other, each under the least free number
 abbrev pub with_instances : ℕ → Task → ℕ → ℕ → Board → Board
@@ -51,7 +51,7 @@ added b m = length (sweep b m).tasks - length b.tasks
 
 -- a template that recurs has fewer places than it needs
 abbrev pub lacks : Board → ℕ → Task → Bool
-lacks b m t = is_recurring t.status && nat_lt (count b t.id) (need_of t m)
+lacks b m t = is_recurring t.status && nat_lt (count b t.id) (need_of t b.ahead m)
 
 -- a template still has fewer places than it needs
 abbrev pub more : Board → ℕ → Bool

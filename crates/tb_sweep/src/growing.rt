@@ -13,7 +13,7 @@ ghost use Rattle.tb_task.specs.declared.task.Task.{Task};
 
 use crate::counts::Counts;
 use std::alloc::{AllocError, Global};
-use tb_board::{Board, Draft, next_number};
+use tb_board::{Ahead, Board, Draft, next_number};
 use tb_recur::{Plan, instance, plan_of};
 use tb_task::{Moment, Task, TaskId, is_recurring_status};
 
@@ -81,20 +81,20 @@ fn batch(board: &Board, template: &Task, first: u32, at: Moment) -> usize
 {
     let room = MOST_TASKS.saturating_sub(board.tasks.len());
     match plan_of(template) {
-        Some(plan) => wanted_from(&plan, first, room.min(MOST_AT_ONCE), at),
+        Some(plan) => wanted_from(&plan, board.ahead, first, room.min(MOST_AT_ONCE), at),
         None => 0,
     }
 }
 
 /// How many from the first place on are wanted, but so many at most.
-fn wanted_from(plan: &Plan, first: u32, most: usize, at: Moment) -> usize
+fn wanted_from(plan: &Plan, ahead: Ahead, first: u32, most: usize, at: Moment) -> usize
     requires step { IsStep plan.now.step }
     requires first { first < 2932898 }
     requires most { most ≤ 64 }
-    ensures { result ≡ min most (need plan.now at - first) }
+    ensures { result ≡ min most (need plan.now ahead at - first) }
 {
     let mut number = 0usize;
-    while number < most && plan.wants(first + number as u32, at) {
+    while number < most && plan.wants(ahead.number(), first + number as u32, at) {
         number += 1;
     }
     number

@@ -10,7 +10,7 @@ ghost use Rattle.tb_task.specs.declared.task.Task.{Task};
 use crate::counts::Counts;
 use crate::growing::{Growing, grown_all};
 use std::alloc::{AllocError, Global};
-use tb_board::{Board, Draft, taken_numbers, wake_draft};
+use tb_board::{Ahead, Board, Draft, taken_numbers, wake_draft};
 use tb_recur::plan_of;
 use tb_task::{Moment, Task, is_recurring_status};
 use tb_values::Shared;
@@ -79,12 +79,12 @@ fn some_lacks(board: &Board, counts: &Counts, at: Moment) -> bool
         .tasks
         .as_slice()
         .iter()
-        .any(|task| is_lacking(task.get(), counts, at))
+        .any(|task| is_lacking(task.get(), counts, board.ahead, at))
 }
 
 /// Whether the task is a template that recurs and its next place is wanted.
-fn is_lacking(task: &Task, counts: &Counts, at: Moment) -> bool
-    ensures { (b : Board) → AreCounts b counts.now → result ≡ lacks b at task.now }
+fn is_lacking(task: &Task, counts: &Counts, ahead: Ahead, at: Moment) -> bool
+    ensures { (b : Board) → AreCounts b counts.now → b.ahead ≡ ahead → result ≡ lacks b at task.now }
 {
     if !is_recurring_status(task.status) {
         return false;
@@ -93,7 +93,7 @@ fn is_lacking(task: &Task, counts: &Counts, at: Moment) -> bool
         return false;
     };
     match plan_of(task) {
-        Some(plan) => plan.wants(next, at),
+        Some(plan) => plan.wants(ahead.number(), next, at),
         None => false,
     }
 }
