@@ -11,6 +11,7 @@ use Rattle.tb_task.specs.declared.task.Task.{Task}
 use Rattle.tb_board.specs.declared.board.Board.{Board}
 use Rattle.tb_board.specs.Board.{lacks_depends}
 use Rattle.tb_board.specs.Board.{ids, is_on, wake, woken, with_task}
+use Rattle.tb_board.specs.Changes.{with_ahead}
 use Rattle.tb_board.specs.Good.{IsGood, IsSound, IsLinkedOn}
 use Rattle.tb_board.specs.First.{change_first}
 use Rattle.tb_board.proofs.Fresh.{on_ids, among-swapped}
@@ -194,6 +195,21 @@ good-relink b test f x keeps links found sound linked acyclic good =
       parents = parents-change b test f keeps links good.parents;
       gone = gone-change b test f keeps links good.gone;
       gone_order = order-same b later same good.gone_order;
+    }
+
+-- a board is as good however far ahead it looks
+pub good-ahead : (b : Board) (ahead : ℕ) → IsGood b → IsGood (with_ahead ahead b)
+good-ahead b ahead good =
+    record {
+      distinct = good.distinct;
+      few = good.few;
+      sound = good.sound;
+      linked = good.linked;
+      acyclic = acyclic-same b (with_ahead ahead b) refl refl good.acyclic;
+      runs = good.runs;
+      parents = good.parents;
+      gone = good.gone;
+      gone_order = good.gone_order;
     }
 
 -- a board without tasks

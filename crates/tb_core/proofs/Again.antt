@@ -11,7 +11,7 @@ use Rattle.tb_board.specs.declared.world.Role.{Role}
 use Rattle.tb_board.specs.declared.world.World.{World}
 use Rattle.tb_board.specs.Board.{has_id, wake}
 use Rattle.tb_board.specs.Changes.{change_board}
-use Rattle.tb_board.specs.World.{find_board, has_number, number_of, role_of}
+use Rattle.tb_board.specs.World.{find_board, has_number, may_change, number_of, role_of}
 use Rattle.tb_board.proofs.Goodness.{ids-wake, on-same}
 use Rattle.tb_board.proofs.Worlds.{number_found}
 use Rattle.tb_sweep.specs.Sweep.{more, sweep}
@@ -25,7 +25,7 @@ use Rattle.tb_core.specs.declared.command.Told.{Told}
 use Rattle.tb_core.specs.declared.command.Told.TheVariants.{TodoImported}
 use Rattle.tb_core.specs.declared.refusal.Refusal.{Refusal}
 use Rattle.tb_core.specs.declared.refusal.Refusal.TheVariants.{Full}
-use Rattle.tb_core.specs.Apply.{answered, applied, apply, board_answer, board_for, decided, outcome, seen_with}
+use Rattle.tb_core.specs.Apply.{answered, applied, apply, board_answer, board_for, decided, if_allowed, outcome, seen_with}
 use Rattle.tb_core.specs.ImportAgain.{known_answer, ImportTodoAgain}
 use Rattle.tb_core.specs.ImportTodo.{first_bad, imported, judged_import_todo, new_beside, new_tasks}
 use Rattle.tb_core.specs.Refusals.{least, unless_refused, where_holds}
@@ -177,9 +177,9 @@ abbrev IsKnownAgain : World → List ℕ → ℕ → List Task → ℕ → Board
 IsKnownAgain w name n ts m a later = apply later name (ImportTodo n ts) m ≡ record { world = later; answer = Ok (OnBoard (known_answer a.board ts)) }
 
 again_at : (w : World) (name : List ℕ) (n : ℕ) (ts : List Task) (m : ℕ) (a : BoardAnswer) (caller : ℕ) (role : Role) (x y : Board)
-    → number_of w name ≡ Some caller → role_of w n caller ≡ Some role → find_board w n ≡ Some x → outcome x (ImportTodo n ts) m ≡ Ok (y, a) → a.more ≡ false
+    → number_of w name ≡ Some caller → role_of w n caller ≡ Some role → find_board w n ≡ Some x → may_change role ≡ true → outcome x (ImportTodo n ts) m ≡ Ok (y, a) → a.more ≡ false
     → IsKnownAgain w name n ts m a (record w { boards = change_board y.number (λ _. y) w.boards })
-again_at w name n ts m a caller role x y known own found gives enough =
+again_at w name n ts m a caller role x y known own found allowed gives enough =
     let later : World = record w { boards = change_board y.number (λ _. y) w.boards } in
     let c = ImportTodo n ts in
     let number : y.number ≡ n = number_kept x n ts m y a gives ∙ number_found n w.boards x found in
@@ -188,16 +188,25 @@ again_at w name n ts m a caller role x y known own found gives enough =
     ap (λ k. applied later (decided k (board_for later k (Some n)) c m)) known
     ∙ ap (λ r. applied later (decided (Some caller) (seen_with r (find_board later n)) c m)) own
     ∙ ap (λ o. applied later (decided (Some caller) (seen_with (Some role) o) c m)) there
+    ∙ ap (λ q. applied later (if_allowed q (outcome y c m))) allowed
     ∙ ap (applied later) (outcome_again x n ts m y a gives enough)
     ∙ ap (λ bs. record { world = record later { boards = bs }; answer = Ok (OnBoard (known_answer a.board ts)) }) (put_twice y.number y w.boards refl)
 
 again_outcome : (w : World) (name : List ℕ) (n : ℕ) (ts : List Task) (m : ℕ) (a : BoardAnswer) (caller : ℕ) (role : Role) (x : Board) (r : Result (Board × BoardAnswer) Refusal)
-    → number_of w name ≡ Some caller → role_of w n caller ≡ Some role → find_board w n ≡ Some x → outcome x (ImportTodo n ts) m ≡ r
+    → number_of w name ≡ Some caller → role_of w n caller ≡ Some role → find_board w n ≡ Some x → may_change role ≡ true → outcome x (ImportTodo n ts) m ≡ r
     → (applied w r).answer ≡ Ok (OnBoard a) → a.more ≡ false → IsKnownAgain w name n ts m a (applied w r).world
-again_outcome w name n ts m a caller role x (Err refusal) known own found gives h enough = absurd (cc)
-again_outcome w name n ts m a caller role x (Ok r) known own found gives h enough =
+again_outcome w name n ts m a caller role x (Err refusal) known own found allowed gives h enough = absurd (cc)
+again_outcome w name n ts m a caller role x (Ok r) known own found allowed gives h enough =
     let is : r.1 ≡ a = ap (answer_on a) h in
-    again_at w name n ts m a caller role x r.0 known own found (gives ∙ ap (λ b. Ok (r.0, b)) is) enough
+    again_at w name n ts m a caller role x r.0 known own found allowed (gives ∙ ap (λ b. Ok (r.0, b)) is) enough
+
+again_allowed : (w : World) (name : List ℕ) (n : ℕ) (ts : List Task) (m : ℕ) (a : BoardAnswer) (caller : ℕ) (role : Role) (x : Board) (allowed : Bool)
+    → number_of w name ≡ Some caller → role_of w n caller ≡ Some role → find_board w n ≡ Some x → may_change role ≡ allowed
+    → (applied w (if_allowed allowed (outcome x (ImportTodo n ts) m))).answer ≡ Ok (OnBoard a) → a.more ≡ false
+    → IsKnownAgain w name n ts m a (applied w (if_allowed allowed (outcome x (ImportTodo n ts) m))).world
+again_allowed w name n ts m a caller role x true known own found allowed h enough =
+    again_outcome w name n ts m a caller role x (outcome x (ImportTodo n ts) m) known own found allowed refl h enough
+again_allowed w name n ts m a caller role x false known own found refused h enough = absurd (cc)
 
 again_seen : (w : World) (name : List ℕ) (n : ℕ) (ts : List Task) (m : ℕ) (a : BoardAnswer) (caller : ℕ) (role : Option Role) (o : Option Board)
     → number_of w name ≡ Some caller → role_of w n caller ≡ role → find_board w n ≡ o
@@ -206,7 +215,7 @@ again_seen : (w : World) (name : List ℕ) (n : ℕ) (ts : List Task) (m : ℕ) 
 again_seen w name n ts m a caller None o known own found h enough = absurd (cc)
 again_seen w name n ts m a caller (Some role) None known own found h enough = absurd (cc)
 again_seen w name n ts m a caller (Some role) (Some x) known own found h enough =
-    again_outcome w name n ts m a caller role x (outcome x (ImportTodo n ts) m) known own found refl h enough
+    again_allowed w name n ts m a caller role x (may_change role) known own found refl h enough
 
 again_by : (w : World) (name : List ℕ) (n : ℕ) (ts : List Task) (m : ℕ) (a : BoardAnswer) (caller : Option ℕ) → number_of w name ≡ caller
     → (applied w (decided caller (board_for w caller (Some n)) (ImportTodo n ts) m)).answer ≡ Ok (OnBoard a) → a.more ≡ false

@@ -15,7 +15,7 @@ use Rattle.tb_core.specs.declared.command.BoardAnswer.{BoardAnswer}
 use Rattle.tb_core.specs.declared.command.Command.{Command}
 use Rattle.tb_core.specs.declared.command.Told.{Told}
 use Rattle.tb_core.specs.declared.effect.Step.{Step}
-use Rattle.tb_core.specs.declared.effect.Step.TheVariants.{Set, Push, Stay}
+use Rattle.tb_core.specs.declared.effect.Step.TheVariants.{Set, Push, Stay, LookAhead}
 use Rattle.tb_core.specs.declared.judged.Stop.{Stop}
 use Rattle.tb_core.specs.declared.judged.Stop.TheVariants.{Memory, Refused}
 use Rattle.tb_core.specs.declared.refusal.Refusal.{Refusal}
@@ -71,6 +71,7 @@ stays_calm : (b : Board) (m : ℕ) (s : Step) → list_any (stirs m) b.tasks ≡
 stays_calm b m (Set place t) calm here = set_calm m b.tasks place t calm here
 stays_calm b m (Push t) calm here = push_calm m b.tasks t calm here
 stays_calm b m Stay calm here = calm
+stays_calm b m (LookAhead ahead) calm here = calm
 
 -- ---- the changes of a step make it
 
@@ -82,16 +83,19 @@ made_by b (Push t) fits =
     let beyond : nat_lt (length b.tasks) (length b.tasks) ≡ false = le-ltb (length b.tasks) (length b.tasks) (omega arith) in
     rw beyond refl
 made_by b Stay fits = refl
+made_by b (LookAhead ahead) fits = refl
 
 own : (b : Board) (s : Step) → IsDraft b (record { board = replayed b (step_changes b s); changes = step_changes b s })
 own b (Set place t) = record { own = (refl, tt); made = refl }
 own b (Push t) = record { own = (refl, tt); made = refl }
 own b Stay = record { own = tt; made = refl }
+own b (LookAhead ahead) = record { own = (refl, tt); made = refl }
 
 same_number : (b : Board) (s : Step) → (after b s).number ≡ b.number
 same_number b (Set place t) = refl
 same_number b (Push t) = refl
 same_number b Stay = refl
+same_number b (LookAhead ahead) = refl
 
 -- ---- what a command makes of a calm board
 

@@ -12,6 +12,7 @@ use Rattle.tb_core.specs.declared.look.SeenBoard.{SeenBoard}
 use Rattle.tb_core.specs.declared.look.SeenPerson.{SeenPerson}
 use Rattle.tb_board.specs.declared.world.Role.{Role}
 use Rattle.tb_board.specs.declared.world.World.{World}
+use Rattle.tb_core.specs.Allowed.{allows}
 use Rattle.tb_core.specs.Apply.{apply, board_for, board_of, decided, on_board, outcome, role_answer, role_given, role_refusals, with_role, seen_of, seen_with, IsDecision}
 use Rattle.tb_sweep.specs.Sweep.{sweep}
 use Rattle.tb_sweep.proofs.Adding.{number-sweep}
@@ -46,18 +47,19 @@ there : (w : World) (seen : Seen) (name : List ℕ) (c : Command) (found : SeenB
 there w seen name c found is board =
     stands_there w (seen_of w name c).caller (board_of c) found (ap (λ (s : Seen). s.board) (sym is) ∙ board)
 
-on_known : (caller : Option ℕ) (found : SeenBoard) (c : Command) (m : ℕ) → is_none caller ≡ false → decided caller (Some found) c m ≡ outcome found.board c m
-on_known None found c m h = absurd (cc)
-on_known (Some caller) found c m h = refl
+on_known : (caller : Option ℕ) (found : SeenBoard) (c : Command) (m : ℕ) → is_none caller ≡ false → allows found.role c ≡ true
+    → decided caller (Some found) c m ≡ outcome found.board c m
+on_known None found c m h allowed = absurd (cc)
+on_known (Some caller) found c m h allowed = rw allowed refl
 
 pub is_accepted : (w : World) (seen : Seen) (name : List ℕ) (c : Command) (m : ℕ) (found : SeenBoard) (a : Accepted)
-    → seen ≡ seen_of w name c → is_none seen.caller ≡ false → seen.board ≡ Some found → IsAccepted found.board c m a
+    → seen ≡ seen_of w name c → is_none seen.caller ≡ false → seen.board ≡ Some found → allows found.role c ≡ true → IsAccepted found.board c m a
     → IsDecision w (record { changes = a.changes; answer = Ok (OnBoard a.answer) }) (on_board w seen c m)
-is_accepted w seen name c m found a is known board accepts =
+is_accepted w seen name c m found a is known board allowed accepts =
     let at = there w seen name c found is board in
     let later = replayed found.board a.changes in
     let here : decided seen.caller seen.board c m ≡ Ok (later, a.answer)
-    = ap (λ (b : Option SeenBoard). decided seen.caller b c m) board ∙ on_known seen.caller found c m known ∙ accepts.gives in
+    = ap (λ (b : Option SeenBoard). decided seen.caller b c m) board ∙ on_known seen.caller found c m known allowed ∙ accepts.gives in
     rw here (record { answer = refl; world = changed-draft w at.0 found.board (record { board = later; changes = a.changes }) at.1 accepts.made })
 
 role_known : (w : World) (seen : Seen) (caller : Option ℕ) (found : SeenBoard) (role : Option Role) (m : ℕ) → is_none caller ≡ false

@@ -1,5 +1,5 @@
 -- A command leaves what a world has.
-use Rattle.std.proofs.Common.{◌≡◌, ℕ, ◌+◌, List, [], ◌∷◌, Option, Some, None, IfOk, Result, Ok, Err, find, refl, sym, ◌∙◌, subst, inl, inr}
+use Rattle.std.proofs.Common.{◌≡◌, ℕ, ◌+◌, Bool, true, false, List, [], ◌∷◌, Option, Some, None, IfOk, Result, Ok, Err, find, refl, sym, ◌∙◌, subst, inl, inr}
 use Rattle.std.proofs.lemmas.Bool.{cases_Bool}
 use Rattle.std.proofs.lemmas.List.{append-nil}
 use Rattle.tb_task.specs.declared.edit.Edit.{Edit}
@@ -25,13 +25,14 @@ use Rattle.tb_core.specs.declared.command.Answer.{Answer}
 use Rattle.tb_core.specs.declared.command.Answer.TheVariants as Answers
 use Rattle.tb_core.specs.declared.command.BoardAnswer.{BoardAnswer}
 use Rattle.tb_core.specs.declared.command.Command.{Command}
-use Rattle.tb_core.specs.declared.command.Command.TheVariants.{Add, OnTask, Modify, ImportJson, ImportTodo, Sweep, SetRole, NewPerson, NewBoard, Depend, Undepend}
+use Rattle.tb_core.specs.declared.command.Command.TheVariants.{Add, OnTask, Modify, ImportJson, ImportTodo, Sweep, SetRole, NewPerson, NewBoard, Depend, Undepend, SetAhead}
 use Rattle.tb_core.specs.declared.command.Told.{Told}
 use Rattle.tb_core.specs.declared.look.Seen.{Seen}
 use Rattle.tb_core.specs.declared.refusal.Refusal.{Refusal}
 use Rattle.tb_core.specs.Actions.{acted, action_refusals}
 use Rattle.tb_core.specs.Add.{add_refusals, entered}
-use Rattle.tb_core.specs.Apply.{answered, applied, board_for, decided, judged, outcome, role_answer, role_given, role_refusals, seen_of, seen_with, with_role}
+use Rattle.tb_core.specs.Allowed.{allows}
+use Rattle.tb_core.specs.Apply.{answered, applied, board_for, decided, if_allowed, judged, outcome, role_answer, role_given, role_refusals, seen_of, seen_with, with_role}
 use Rattle.tb_core.specs.Depends.{depend_refusals, depends_on, linked, undepend_refusals, unlinked}
 use Rattle.tb_core.specs.Edits.{modified}
 use Rattle.tb_core.specs.GoodWorld.{AlwaysExtends}
@@ -86,6 +87,7 @@ extends_judged b (Sweep n) m = board-refl b
 extends_judged b (SetRole n name role) m = board-refl b
 extends_judged b (NewPerson name key) m = board-refl b
 extends_judged b (NewBoard title) m = board-refl b
+extends_judged b (SetAhead n ahead) m = record { number = refl; title = refl; tasks = (board-refl b).tasks }
 
 extends_answered : (b : Board) (m : ℕ) (r : Result (Board × Told) Refusal) → IfOk r (λ after. ExtendsBoard b after.0) → IfOk (answered m r) (λ after. ExtendsBoard b after.0)
 extends_answered b m (Ok after) extends = board-trans b after.0 (sweep after.0 m) extends (extends-sweep after.0 m)
@@ -111,11 +113,16 @@ extends_applied : (w : World) (n : ℕ) (x : Board) (r : Result (Board × BoardA
 extends_applied w n x (Ok after) found extends = record { more = []; people = sym (append-nil w.people); boards = in_place w n x after.0 found extends }
 extends_applied w n x (Err refusal) found extends = extends-refl w
 
+extends_allowed : (w : World) (allowed : Bool) (r : Result (Board × BoardAnswer) Refusal) → Extends w (applied w r).world → Extends w (applied w (if_allowed allowed r)).world
+extends_allowed w true r extends = extends
+extends_allowed w false r extends = extends-refl w
+
 extends_seen : (w : World) (caller n : ℕ) (role : Option Role) (o : Option Board) (c : Command) (m : ℕ) → find_board w n ≡ o
     → Extends w (applied w (decided (Some caller) (seen_with role o) c m)).world
 extends_seen w caller n None o c m is = extends-refl w
 extends_seen w caller n (Some role) None c m is = extends-refl w
-extends_seen w caller n (Some role) (Some x) c m is = extends_applied w n x (outcome x c m) is (extends_outcome x c m)
+extends_seen w caller n (Some role) (Some x) c m is =
+    extends_allowed w (allows role c) (outcome x c m) (extends_applied w n x (outcome x c m) is (extends_outcome x c m))
 
 extends_decided : (w : World) (caller n : Option ℕ) (c : Command) (m : ℕ) → Extends w (applied w (decided caller (board_for w caller n) c m)).world
 extends_decided w None n c m = extends-refl w
@@ -148,7 +155,7 @@ extends_new_board : (w : World) (seen : Seen) (caller : Option ℕ) (title : Lis
 extends_new_board w seen None title = extends-refl w
 extends_new_board w seen (Some caller) title =
     let number = seen.boards + 1 in
-    let board : Board = record { number = number; title = title; tasks = []; gone = [] } in
+    let board : Board = record { number = number; title = title; tasks = []; gone = []; ahead = 1 } in
     extends_given (least (board_refusals seen)) w (with_new_board w number caller title) (Answers.NewBoard number)
     (record { more = []; people = sym (append-nil w.people); boards = front-append ExtendsBoard board-refl w.boards (board ∷ []) })
 
@@ -164,3 +171,4 @@ extends w name (Sweep n) m = extends_decided w (number_of w name) (Some n) (Swee
 extends w name (SetRole n other role) m = extends_role_by w (seen_of w name (SetRole n other role)) (number_of w name) n role m
 extends w name (NewPerson p k) m = extends_person w (seen_of w name (NewPerson p k)) (number_of w name) p k
 extends w name (NewBoard title) m = extends_new_board w (seen_of w name (NewBoard title)) (number_of w name) title
+extends w name (SetAhead n ahead) m = extends_decided w (number_of w name) (Some n) (SetAhead n ahead) m

@@ -96,7 +96,7 @@ pub good-new_board : (w : World) (caller : ℕ) (title : List ℕ) → IsGoodWor
     → IsGoodWorld (with_new_board w (length w.boards + 1) caller title)
 good-new_board w caller title good room from to =
     let n = length w.boards + 1 in
-    let board : Board = record { number = n; title = title; tasks = []; gone = [] } in
+    let board : Board = record { number = n; title = title; tasks = []; gone = []; ahead = 1 } in
     let v = with_new_board w n caller title in
     let more : length (w.boards ++ board ∷ []) ≡ n = omega (arith, length-append w.boards (board ∷ [])) in
     let next : 1 + length w.boards ≡ n = omega arith in
@@ -111,8 +111,8 @@ good-new_board w caller title good room from to =
       good = all_push IsGood w.boards board good.good (good-empty n title);
       owned = all_push (HasOwner v) w.boards board (owned-set w v n caller (Some Owner) refl stays w.boards good.owned) (new_owner w.roles n caller);
       roles = all-set (IsRoleIn v) w.roles n caller (Some Owner)
-          (λ r role is. record { from_board = is.from_board; to_board = is.to_board; from_person = is.from_person; to_person = is.to_person })
-          (λ role. record { from_board = omega arith; to_board = omega (arith, more); from_person = from; to_person = to })
+          (λ r role given is. record { from_board = is.from_board; to_board = is.to_board; from_person = is.from_person; to_person = is.to_person })
+          (λ role given. record { from_board = omega arith; to_board = omega (arith, more); from_person = from; to_person = to })
           (roles-within w v (omega arith) (omega (arith, more)) w.roles good.roles);
       ordered = sorted-set w.roles n caller (Some Owner) good.ordered;
     }
@@ -146,8 +146,8 @@ good-role w n p o good owner from to stays =
       good = good.good;
       owned = owned-set w v n p o refl stays w.boards good.owned;
       roles = all-set (IsRoleIn v) w.roles n p o
-          (λ r role is. record { from_board = is.from_board; to_board = is.to_board; from_person = is.from_person; to_person = is.to_person })
-          (λ role. record { from_board = number.0; to_board = number.1; from_person = from; to_person = to })
+          (λ r role given is. record { from_board = is.from_board; to_board = is.to_board; from_person = is.from_person; to_person = is.to_person })
+          (λ role given. record { from_board = number.0; to_board = number.1; from_person = from; to_person = to })
           (roles-within w v (omega arith) (omega arith) w.roles good.roles);
       ordered = sorted-set w.roles n p o good.ordered;
     }

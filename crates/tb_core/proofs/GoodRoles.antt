@@ -10,7 +10,7 @@ use Rattle.std.proofs.lemmas.Bool.{cases_Bool, eqb-true, leb-false}
 use Rattle.std.proofs.lemmas.Cmp.{tied_back}
 use Rattle.std.proofs.lemmas.List.Sums.{sum_by-cons}
 use Rattle.tb_board.specs.declared.world.Role.{Role}
-use Rattle.tb_board.specs.declared.world.Role.TheVariants.{Owner, Member}
+use Rattle.tb_board.specs.declared.world.Role.TheVariants.{Owner, Member, Reader}
 use Rattle.tb_board.specs.declared.world.RoleOn.{RoleOn}
 use Rattle.tb_board.specs.First.{change_first}
 use Rattle.tb_core.specs.Owners.{is_owners, leaves_none}
@@ -57,13 +57,13 @@ all-new P r (s ∷ ss) h p =
     ]
 
 -- what doesn't look at the role holds of each, where it holds of the new one
-pub all-set : (P : RoleOn → Type 0) (rs : List RoleOn) (b p : ℕ) (o : Option Role) → ((r : RoleOn) (role : Role) → P r → P (record r { role = role }))
-    → ((role : Role) → P (record { board = b; person = p; role = role })) → AllByRecursion P rs → AllByRecursion P (set_role rs b p o)
+pub all-set : (P : RoleOn → Type 0) (rs : List RoleOn) (b p : ℕ) (o : Option Role) → ((r : RoleOn) (role : Role) → o ≡ Some role → P r → P (record r { role = role }))
+    → ((role : Role) → o ≡ Some role → P (record { board = b; person = p; role = role })) → AllByRecursion P rs → AllByRecursion P (set_role rs b p o)
 all-set P rs b p None keeps new h = all-removed P (is_role_of b p) rs h
 all-set P rs b p (Some role) keeps new h =
     elim (cases_Bool (list_any (is_role_of b p) rs)) [
-      | inl there ↦ rw there (all-changed P (is_role_of b p) (λ r. record r { role = role }) rs (λ r. keeps r role) h)
-      | inr none ↦ rw none (all-new P (record { board = b; person = p; role = role }) rs h (new role))
+      | inl there ↦ rw there (all-changed P (is_role_of b p) (λ r. record r { role = role }) rs (λ r. keeps r role refl) h)
+      | inr none ↦ rw none (all-new P (record { board = b; person = p; role = role }) rs h (new role refl))
     ]
 
 sorted-removed : (test : RoleOn → Bool) (rs : List RoleOn) → IsStrictlySortedBy role_order rs → IsStrictlySortedBy role_order (remove_key test rs)
@@ -311,6 +311,7 @@ pub owner_leaves : (role : Option Role) (p n : ℕ) → leaves_none (Some (recor
 owner_leaves None p n = refl
 owner_leaves (Some Owner) p n = refl
 owner_leaves (Some Member) p n = refl
+owner_leaves (Some Reader) p n = refl
 
 changed_owner : (rs : List RoleOn) (b p : ℕ) → list_any (is_role_of b p) rs ≡ true
     → list_any (owns b) (change_first (is_role_of b p) (λ r. record r { role = Owner }) rs) ≡ true

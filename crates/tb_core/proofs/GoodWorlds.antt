@@ -19,7 +19,7 @@ all-found P test (b ∷ bs) x all h =
       | inr other ↦ let later : find test bs ≡ Some x = rw other at h in all-found P test bs x all.1 later
     ]
 
-all-changed : (P : Board → Type 0) (n : ℕ) (b : Board) (bs : List Board) → AllByRecursion P bs → P b → AllByRecursion P (change_board n (λ _. b) bs)
+pub all-changed : (P : Board → Type 0) (n : ℕ) (b : Board) (bs : List Board) → AllByRecursion P bs → P b → AllByRecursion P (change_board n (λ _. b) bs)
 all-changed P n b [] all p = tt
 all-changed P n b (c ∷ cs) all p =
     elim (cases_Bool (has_number n c)) [

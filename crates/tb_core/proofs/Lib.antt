@@ -1,4 +1,5 @@
 pub mod Again
+pub mod AheadOne
 pub mod Calm
 pub mod Cycles
 pub mod Decided

@@ -15,7 +15,7 @@ use Rattle.tb_core.specs.declared.look.Seen.{Seen}
 use Rattle.tb_core.specs.declared.look.SeenBoard.{SeenBoard}
 use Rattle.tb_board.specs.declared.world.Person.{Person}
 use Rattle.tb_core.specs.declared.command.Command.{Command}
-use Rattle.tb_core.specs.declared.command.Command.TheVariants.{Add, OnTask, Modify, ImportJson, ImportTodo, Sweep, SetRole, NewPerson, NewBoard, Depend, Undepend}
+use Rattle.tb_core.specs.declared.command.Command.TheVariants.{Add, OnTask, Modify, ImportJson, ImportTodo, Sweep, SetRole, NewPerson, NewBoard, Depend, Undepend, SetAhead}
 use Rattle.tb_core.specs.declared.command.Told.{Told}
 use Rattle.tb_core.specs.declared.command.Told.TheVariants.{Added, Changed, TodoImported, Swept}
 use Rattle.tb_core.specs.declared.refusal.Refusal.{Refusal}
@@ -33,8 +33,10 @@ use Rattle.tb_core.proofs.GoodImports.{good-new, plain_all}
 use Rattle.tb_core.proofs.GoodLinks.{good-linked, good-unlinked}
 use Rattle.tb_core.specs.Add.{add_fault, add_refusals, entered, entered_id, first_fault, is_full, is_linked, is_misread}
 use Rattle.tb_board.specs.Board.{lacks_depends}
-use Rattle.tb_core.specs.Apply.{answered, applied, board_for, decided, outcome, person_for, role_answer, role_given, role_refusals, seen_of, seen_with, with_role}
+use Rattle.tb_core.specs.Allowed.{allows}
+use Rattle.tb_core.specs.Apply.{answered, applied, board_for, decided, if_allowed, outcome, person_for, role_answer, role_given, role_refusals, seen_of, seen_with, with_role}
 use Rattle.tb_board.specs.Board.{has_id, is_on, wake, with_task}
+use Rattle.tb_board.specs.Changes.{with_ahead}
 use Rattle.tb_board.specs.First.{change_first}
 use Rattle.tb_board.specs.Statuses.{is_open}
 use Rattle.tb_board.specs.Good.{has_template_form, IsGood, IsSound}
@@ -64,7 +66,7 @@ use Rattle.tb_board.proofs.Fresh.{fresh}
 use Rattle.tb_core.proofs.GoodWorlds.{all-found, good-with_board, with_board}
 use Rattle.tb_board.specs.Instances.{has_template}
 use Rattle.tb_board.proofs.Runs.{runs-plain}
-use Rattle.tb_board.proofs.Goodness.{good-change, good-push, good-wake, Keeps}
+use Rattle.tb_board.proofs.Goodness.{good-ahead, good-change, good-push, good-wake, Keeps}
 use Rattle.tb_core.proofs.Sound.{sound_acted}
 use Rattle.tb_core.proofs.SoundEdits.{keeps_modified, recur_unnamed, sound_modified}
 use Rattle.tb_board.proofs.Worlds.{number_found}
@@ -281,6 +283,13 @@ kept_outcome w x (Sweep n) m good found is_good = kept m w x None (wake x m) Swe
 kept_outcome w x (SetRole n name role) m good found is_good = kept m w x None (wake x m) Swept good found (λ none. record { number = refl; good = good-wake x m is_good })
 kept_outcome w x (NewPerson name key) m good found is_good = kept m w x None (wake x m) Swept good found (λ none. record { number = refl; good = good-wake x m is_good })
 kept_outcome w x (NewBoard title) m good found is_good = kept m w x None (wake x m) Swept good found (λ none. record { number = refl; good = good-wake x m is_good })
+kept_outcome w x (SetAhead n ahead) m good found is_good =
+    kept m w x None (with_ahead ahead (wake x m)) Swept good found (λ none. record { number = refl; good = good-ahead (wake x m) ahead (good-wake x m is_good) })
+
+kept_allowed : (w : World) (allowed : Bool) (r : Result (Board × BoardAnswer) Refusal) → IsGoodWorld w → IsGoodWorld (applied w r).world
+    → IsGoodWorld (applied w (if_allowed allowed r)).world
+kept_allowed w true r good later = later
+kept_allowed w false r good later = good
 
 kept_seen : (w : World) (caller n : ℕ) (role : Option Role) (o : Option Board) (c : Command) (m : ℕ) → IsGoodWorld w → find_board w n ≡ o
     → IsGoodWorld (applied w (decided (Some caller) (seen_with role o) c m)).world
@@ -289,7 +298,8 @@ kept_seen w caller n (Some role) None c m good is = good
 kept_seen w caller n (Some role) (Some x) c m good is =
     let number : x.number ≡ n = number_found n w.boards x is in
     let found : find (has_number x.number) w.boards ≡ Some x = subst (λ k. find (has_number k) w.boards ≡ Some x) (sym number) is in
-    kept_outcome w x c m good found (all-found IsGood (has_number n) w.boards x good.good is)
+    kept_allowed w (allows role c) (outcome x c m) good
+    (kept_outcome w x c m good found (all-found IsGood (has_number n) w.boards x good.good is))
 
 kept_decided : (w : World) (caller n : Option ℕ) (c : Command) (m : ℕ) → IsGoodWorld w → IsGoodWorld (applied w (decided caller (board_for w caller n) c m)).world
 kept_decided w None n c m good = good
@@ -385,6 +395,7 @@ stays_good w name (SetRole n other role) m good =
     kept_role_by w (seen_of w name (SetRole n other role)) (number_of w name) n (number_of w other) role m good refl refl (number_in w other)
 stays_good w name (NewPerson p k) m good = kept_person w (seen_of w name (NewPerson p k)) (number_of w name) p k good refl refl
 stays_good w name (NewBoard title) m good = kept_board w (seen_of w name (NewBoard title)) (number_of w name) title good refl (number_in w name)
+stays_good w name (SetAhead n ahead) m good = kept_decided w (number_of w name) (Some n) (SetAhead n ahead) m good
 
 same_people : (w : World) (r : Result (Board × BoardAnswer) Refusal) → (applied w r).world.people ≡ w.people
 same_people w (Ok r) = refl
@@ -436,3 +447,4 @@ stay_known w name (SetRole n other role) m person key known =
     let seen = seen_of w name (SetRole n other role) in known_role w seen seen.caller seen.board role m person key known
 stay_known w name (NewPerson p k) m person key known = let seen = seen_of w name (NewPerson p k) in known_person w seen seen.caller p k person key known
 stay_known w name (NewBoard title) m person key known = let seen = seen_of w name (NewBoard title) in known_board w seen seen.caller title person key known
+stay_known w name (SetAhead n ahead) m person key known = rw (same_people w (decided (number_of w name) (board_for w (number_of w name) (Some n)) (SetAhead n ahead) m)) known

@@ -1,7 +1,9 @@
 pub mod Actions
 pub mod Add
+pub mod AheadOne
 pub mod Allowed
 pub mod Apply
+pub mod AtOnce
 pub mod Calm
 pub mod Cycles
 pub mod Decisions

@@ -1,5 +1,6 @@
 //! Laws over the definitions of commands.
 
+ghost use Rattle.tb_core.specs.AheadOne.{AheadOne};
 ghost use Rattle.tb_core.specs.Cycles.{AreCyclesRefused};
 ghost use Rattle.tb_core.specs.ImportAgain.{ImportTodoAgain};
 ghost use Rattle.tb_core.specs.GoodWorld.{AlwaysExtends, KeepsGood, KeepsPeople, OpensGood};
@@ -32,4 +33,9 @@ pub fn cycles_are_refused()
 /// An import that comes again right after itself changes nothing.
 pub fn import_again()
     ensures { ImportTodoAgain }
+{}
+
+/// While each board looks one ahead and nobody is a reader, commands have the answers and the boards that they had before boards could look ahead.
+pub fn ahead_one()
+    ensures { AheadOne }
 {}

@@ -43,13 +43,13 @@ grown_last m b t =
       | inr other ↦ rw other ([], sym (append-nil b.tasks))
     ]
 
-planned_few : (p : Option Plan) (m : ℕ) → planned_need p m ≤ 2932898
-planned_few None m = omega arith
-planned_few (Some p) m = need_few p m
+planned_few : (p : Option Plan) (ahead m : ℕ) → planned_need p ahead m ≤ 2932898
+planned_few None ahead m = omega arith
+planned_few (Some p) ahead m = need_few p ahead m
 
 -- a template with so many places gets none
 pub batch_none : (m : ℕ) (b : Board) (t : Task) → 2932898 ≤ count b t.id → batch m b t ≡ 0
-batch_none m b t many = omega (arith, many, planned_few (plan_of t) m)
+batch_none m b t many = omega (arith, many, planned_few (plan_of t) b.ahead m)
 
 pub grown_none : (m : ℕ) (b : Board) (t u : Task) → u ≡ t → 2932898 ≤ count b u.id → b ≡ grown m b t
 grown_none m b t u same many =
@@ -104,15 +104,15 @@ pub grown_end : (m : ℕ) (first b : Board) (i : ℕ) → length first.tasks ≤
 grown_end m first b i over so_far = sym (fold_end m b first.tasks i over) ∙ so_far.rest
 
 -- a template lacks an instance where its next place is wanted
-pub lacks_is : (b : Board) (m : ℕ) (t : Task) (p : Plan) (next : ℕ) → is_recurring t.status ≡ true → Some p ≡ plan_of t → next ≡ count b t.id → IsStep p.step
-    → wanted p next m ≡ lacks b m t
-lacks_is b m t p next recurring plan is step = rw (recurring, ← plan, wanted_need p m next step, is) refl
+pub lacks_is : (b : Board) (m : ℕ) (t : Task) (p : Plan) (next ahead : ℕ) → is_recurring t.status ≡ true → Some p ≡ plan_of t → next ≡ count b t.id → b.ahead ≡ ahead
+    → IsStep p.step → wanted p ahead next m ≡ lacks b m t
+lacks_is b m t p next ahead recurring plan is looks step = rw (recurring, ← plan, wanted_need p ahead m next step, is, looks) refl
 
 pub lacks_unplanned : (b : Board) (m : ℕ) (t : Task) → None ≡ plan_of t → false ≡ lacks b m t
 lacks_unplanned b m t plan = rw (← plan, le-ltb (count b t.id) 0 (omega arith)) (sym (and-false (is_recurring t.status)))
 
 pub lacks_none : (b : Board) (m : ℕ) (t : Task) → 2932898 ≤ count b t.id → false ≡ lacks b m t
-lacks_none b m t many = rw (le-ltb (count b t.id) (need_of t m) (omega (arith, many, planned_few (plan_of t) m))) (sym (and-false (is_recurring t.status)))
+lacks_none b m t many = rw (le-ltb (count b t.id) (need_of t b.ahead m) (omega (arith, many, planned_few (plan_of t) b.ahead m))) (sym (and-false (is_recurring t.status)))
 
 -- without a template that recurs nothing is added, and nothing lacks
 pub none_grown : (m : ℕ) (b : Board) (ts : List Task) → list_any (λ (t : Task). is_recurring t.status) ts ≡ false → grown_all m b ts ≡ b
@@ -163,3 +163,22 @@ number-all m b (t ∷ ts) = number-all m (grown m b t) ts ∙ number-grown m b t
 -- the sweep keeps the board's number
 pub number-sweep : (b : Board) (m : ℕ) → (sweep b m).number ≡ b.number
 number-sweep b m = number-all m (wake b m) (wake b m).tasks
+
+ahead-instances : (m : ℕ) (t : Task) (k n : ℕ) (b : Board) → (with_instances m t k n b).ahead ≡ b.ahead
+ahead-instances m t k zero b = refl
+ahead-instances m t k (suc n) b = ahead-instances m t (k + 1) n (with_task b (instance t k (free_id b) m))
+
+pub ahead-grown : (m : ℕ) (b : Board) (t : Task) → (grown m b t).ahead ≡ b.ahead
+ahead-grown m b t =
+    elim (cases_Bool (is_recurring t.status)) [
+      | inl recurring ↦ rw recurring (ahead-instances m t (count b t.id) (batch m b t) b)
+      | inr other ↦ rw other refl
+    ]
+
+ahead-all : (m : ℕ) (b : Board) (ts : List Task) → (grown_all m b ts).ahead ≡ b.ahead
+ahead-all m b [] = refl
+ahead-all m b (t ∷ ts) = ahead-all m (grown m b t) ts ∙ ahead-grown m b t
+
+-- the board looks as far ahead as before
+pub ahead-sweep : (b : Board) (m : ℕ) → (sweep b m).ahead ≡ b.ahead
+ahead-sweep b m = ahead-all m (wake b m) (wake b m).tasks

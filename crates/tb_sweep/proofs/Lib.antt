@@ -1,4 +1,5 @@
 pub mod Adding
+pub mod AtOnce
 pub mod Counting
 pub mod Extending
 pub mod Keeping

@@ -86,8 +86,8 @@ none_lacking : (m : ℕ) (b : Board) (t : Task) → lacks b m t ≡ false → gr
 none_lacking m b t none =
     elim (cases_Bool (is_recurring t.status)) [
       | inl recurring ↦
-          let enough : nat_lt (count b t.id) (need_of t m) ≡ false = rw recurring at none in
-          let no_more : batch m b t ≡ 0 = omega (arith, ltb-false (count b t.id) (need_of t m) enough) in
+          let enough : nat_lt (count b t.id) (need_of t b.ahead m) ≡ false = rw recurring at none in
+          let no_more : batch m b t ≡ 0 = omega (arith, ltb-false (count b t.id) (need_of t b.ahead m) enough) in
           rw (recurring, no_more) refl
       | inr other ↦ rw other refl
     ]

@@ -7,7 +7,7 @@ abbrev pub invariant-loop-number : goal.invariant-loop-number
 invariant-loop-number l =
     record {
       most : l.number ≤ l.most;
-      wanted : l.number ≤ need l.plan l.at - l.first;
+      wanted : l.number ≤ need l.plan l.ahead l.at - l.first;
     }
 
 abbrev pub decreases-loop-number : goal.decreases-loop-number

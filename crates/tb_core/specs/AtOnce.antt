@@ -1,0 +1,71 @@
+-- What a command makes of a world where no board looks ahead and nobody is a reader: the first text, which the newer one has where each
+-- board looks one ahead.
+use Rattle.std.specs.Prelude.{ℕ, List, Option, Some, None, Result, Ok, Err}
+use Rattle.tb_board.specs.declared.board.Board.{Board}
+use Rattle.tb_board.specs.declared.world.Role.{Role}
+use Rattle.tb_board.specs.declared.world.World.{World}
+use Rattle.tb_board.specs.Board.{wake}
+use Rattle.tb_sweep.specs.AtOnce.{added_at_once, more_at_once, sweep_at_once}
+use Rattle.tb_core.specs.declared.command.Answer.TheVariants.{OnBoard}
+use Rattle.tb_core.specs.declared.command.BoardAnswer.{BoardAnswer}
+use Rattle.tb_core.specs.declared.command.Command.{Command}
+use Rattle.tb_core.specs.declared.command.Command.TheVariants.{Add, OnTask, Modify, ImportJson, ImportTodo, Sweep, SetRole, NewPerson, NewBoard, Depend, Undepend, SetAhead}
+use Rattle.tb_core.specs.declared.command.Told.{Told}
+use Rattle.tb_core.specs.declared.command.Told.TheVariants.{Swept}
+use Rattle.tb_core.specs.declared.look.Seen.{Seen}
+use Rattle.tb_core.specs.declared.look.SeenBoard.{SeenBoard}
+use Rattle.tb_core.specs.declared.refusal.Refusal.{Refusal}
+use Rattle.tb_core.specs.declared.refusal.Refusal.TheVariants.{UnknownCaller, NoBoard}
+use Rattle.tb_core.specs.Apply.{applied, judged, role_refusals, seen_of, with_role}
+use Rattle.tb_core.specs.Outcomes.{Outcome, given}
+use Rattle.tb_core.specs.Owners.{person_number}
+use Rattle.tb_core.specs.People.{new_board, new_person}
+use Rattle.tb_core.specs.Refusals.{least}
+
+-- the answer about a board that the sweep follows
+abbrev pub answer_at_once : Board → ℕ → Told → BoardAnswer
+answer_at_once b m told = record { board = b.number; added = added_at_once b m; more = more_at_once (sweep_at_once b m) m; told = told }
+
+-- the sweep follows a command that is accepted
+abbrev pub answered_at_once : ℕ → Result (Board × Told) Refusal → Result (Board × BoardAnswer) Refusal
+answered_at_once m (Ok r) = Ok (sweep_at_once r.0 m, answer_at_once r.0 m r.1)
+answered_at_once m (Err refusal) = Err refusal
+
+-- a command is judged on the board that is awake, and the sweep follows
+abbrev pub outcome_at_once : Board → Command → ℕ → Result (Board × BoardAnswer) Refusal
+outcome_at_once b c m = answered_at_once m (judged (wake b m) c m)
+
+-- who isn't known is refused, and then who has no role on the board, or where there is none
+abbrev pub decided_at_once : Option ℕ → Option SeenBoard → Command → ℕ → Result (Board × BoardAnswer) Refusal
+decided_at_once None b c m = Err UnknownCaller
+decided_at_once (Some caller) None c m = Err NoBoard
+decided_at_once (Some caller) (Some b) c m = outcome_at_once b.board c m
+
+abbrev pub on_board_at_once : World → Seen → Command → ℕ → Outcome
+on_board_at_once w seen c m = applied w (decided_at_once seen.caller seen.board c m)
+
+-- the role is set, and the sweep follows
+abbrev pub role_at_once : World → Seen → Option ℕ → Option SeenBoard → Option Role → ℕ → Outcome
+role_at_once w seen None b role m = record { world = w; answer = Err UnknownCaller }
+role_at_once w seen (Some caller) None role m = record { world = w; answer = Err NoBoard }
+role_at_once w seen (Some caller) (Some b) role m =
+    given (least (role_refusals seen b role)) w (with_role w (sweep_at_once b.board m) (person_number seen.other) role) (OnBoard (answer_at_once b.board m Swept))
+
+-- a command at a moment, by what it looks at; the text has no command by which a board looks ahead
+abbrev pub seen_at_once : World → Seen → Command → ℕ → Outcome
+seen_at_once w seen (Add n i) m = on_board_at_once w seen (Add n i) m
+seen_at_once w seen (OnTask n id a) m = on_board_at_once w seen (OnTask n id a) m
+seen_at_once w seen (Modify n id edits) m = on_board_at_once w seen (Modify n id edits) m
+seen_at_once w seen (Depend n id on) m = on_board_at_once w seen (Depend n id on) m
+seen_at_once w seen (Undepend n id on) m = on_board_at_once w seen (Undepend n id on) m
+seen_at_once w seen (ImportJson n is) m = on_board_at_once w seen (ImportJson n is) m
+seen_at_once w seen (ImportTodo n ts) m = on_board_at_once w seen (ImportTodo n ts) m
+seen_at_once w seen (Sweep n) m = on_board_at_once w seen (Sweep n) m
+seen_at_once w seen (SetRole n name role) m = role_at_once w seen seen.caller seen.board role m
+seen_at_once w seen (NewPerson name key) m = new_person w seen seen.caller name key
+seen_at_once w seen (NewBoard title) m = new_board w seen seen.caller title
+seen_at_once w seen (SetAhead n ahead) m = record { world = w; answer = Err NoBoard }
+
+-- a person's command at a moment
+abbrev pub apply_at_once : World → List ℕ → Command → ℕ → Outcome
+apply_at_once w name c m = seen_at_once w (seen_of w name c) c m
