@@ -36,6 +36,11 @@ pub where_ok : {A E P Q : Type 0} (result : Result A E) → (P → Q) → OnOk r
 where_ok (Ok a) step h = step h
 where_ok (Err e) step h = tt
 
+-- what holds whether or not a call succeeds
+pub at_ok : {A E P : Type 0} (result : Result A E) → P → OnOk result P
+at_ok (Ok a) holds = holds
+at_ok (Err e) holds = tt
+
 -- what follows of the value of a call that succeeds
 pub of_value : {A E : Type 0} {P Q R : A → Type 0} (result : Result A E) → IfOk result P → IfOk result Q → ((value : A) → P value → Q value → R value) → IfOk result R
 of_value (Ok value) p q step = step value p q

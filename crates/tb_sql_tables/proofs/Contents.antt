@@ -9,8 +9,9 @@ use Rattle.tb_sql_tables.specs.declared.rows.LinkRow.{LinkRow}
 use Rattle.tb_sql_tables.specs.declared.rows.InstanceRow.{InstanceRow}
 use Rattle.tb_sql_tables.specs.declared.rows.GoneRow.{GoneRow}
 use Rattle.tb_sql_tables.specs.declared.rows.KeptRow.{KeptRow}
-use Rattle.tb_sql_tables.specs.Tables.{person_tree, board_tree, role_tree, task_tree, link_tree, instance_tree, gone_tree, kept_tree}
-use Rattle.tb_sql_tables.specs.Rows.{person_row, board_row, role_row, task_row, link_row, instance_row, gone_row, kept_row}
+use Rattle.tb_sql_tables.specs.declared.rows.HorizonRow.{HorizonRow}
+use Rattle.tb_sql_tables.specs.Tables.{person_tree, board_tree, role_tree, task_tree, link_tree, instance_tree, gone_tree, kept_tree, horizon_tree}
+use Rattle.tb_sql_tables.specs.Rows.{person_row, board_row, role_row, task_row, link_row, instance_row, gone_row, kept_row, horizon_row}
 use Rattle.tb_sql_tables.specs.Content.{Content, HasRows, HasKeyed, HaveIdentifiers, AreIdentified, AreTables, IsContent}
 use Rattle.tb_sql_tables.proofs.Statements.{Edited}
 
@@ -27,6 +28,7 @@ people_changed content people old new e is changed =
       instances = rw (e.others.1.1.1.1.1.1.0 (omega arith)) was.instances;
       gone = rw (e.others.1.1.1.1.1.1.1.0 (omega arith)) was.gone;
       kept = rw (e.others.1.1.1.1.1.1.1.1.0 (omega arith)) was.kept;
+      horizon = rw (e.others.1.1.1.1.1.1.1.1.1.0 (omega arith)) was.horizon;
       task_identifiers = was.task_identifiers;
       kept_identifiers = was.kept_identifiers;
     } in
@@ -45,6 +47,7 @@ boards_changed content boards old new e is changed =
       instances = rw (e.others.1.1.1.1.1.1.0 (omega arith)) was.instances;
       gone = rw (e.others.1.1.1.1.1.1.1.0 (omega arith)) was.gone;
       kept = rw (e.others.1.1.1.1.1.1.1.1.0 (omega arith)) was.kept;
+      horizon = rw (e.others.1.1.1.1.1.1.1.1.1.0 (omega arith)) was.horizon;
       task_identifiers = was.task_identifiers;
       kept_identifiers = was.kept_identifiers;
     } in
@@ -63,6 +66,7 @@ roles_changed content roles old new e is changed =
       instances = rw (e.others.1.1.1.1.1.1.0 (omega arith)) was.instances;
       gone = rw (e.others.1.1.1.1.1.1.1.0 (omega arith)) was.gone;
       kept = rw (e.others.1.1.1.1.1.1.1.1.0 (omega arith)) was.kept;
+      horizon = rw (e.others.1.1.1.1.1.1.1.1.1.0 (omega arith)) was.horizon;
       task_identifiers = was.task_identifiers;
       kept_identifiers = was.kept_identifiers;
     } in
@@ -81,6 +85,7 @@ tasks_changed content tasks old new e is changed identified =
       instances = rw (e.others.1.1.1.1.1.1.0 (omega arith)) was.instances;
       gone = rw (e.others.1.1.1.1.1.1.1.0 (omega arith)) was.gone;
       kept = rw (e.others.1.1.1.1.1.1.1.1.0 (omega arith)) was.kept;
+      horizon = rw (e.others.1.1.1.1.1.1.1.1.1.0 (omega arith)) was.horizon;
       task_identifiers = identified;
       kept_identifiers = was.kept_identifiers;
     } in
@@ -99,6 +104,7 @@ links_changed content links old new e is changed =
       instances = rw (e.others.1.1.1.1.1.1.0 (omega arith)) was.instances;
       gone = rw (e.others.1.1.1.1.1.1.1.0 (omega arith)) was.gone;
       kept = rw (e.others.1.1.1.1.1.1.1.1.0 (omega arith)) was.kept;
+      horizon = rw (e.others.1.1.1.1.1.1.1.1.1.0 (omega arith)) was.horizon;
       task_identifiers = was.task_identifiers;
       kept_identifiers = was.kept_identifiers;
     } in
@@ -117,6 +123,7 @@ instances_changed content instances old new e is changed =
       instances = changed;
       gone = rw (e.others.1.1.1.1.1.1.1.0 (omega arith)) was.gone;
       kept = rw (e.others.1.1.1.1.1.1.1.1.0 (omega arith)) was.kept;
+      horizon = rw (e.others.1.1.1.1.1.1.1.1.1.0 (omega arith)) was.horizon;
       task_identifiers = was.task_identifiers;
       kept_identifiers = was.kept_identifiers;
     } in
@@ -135,6 +142,7 @@ gone_changed content gone old new e is changed =
       instances = rw (e.others.1.1.1.1.1.1.0 (omega arith)) was.instances;
       gone = changed;
       kept = rw (e.others.1.1.1.1.1.1.1.1.0 (omega arith)) was.kept;
+      horizon = rw (e.others.1.1.1.1.1.1.1.1.1.0 (omega arith)) was.horizon;
       task_identifiers = was.task_identifiers;
       kept_identifiers = was.kept_identifiers;
     } in
@@ -153,7 +161,27 @@ kept_changed content kept old new e is changed identified =
       instances = rw (e.others.1.1.1.1.1.1.0 (omega arith)) was.instances;
       gone = rw (e.others.1.1.1.1.1.1.1.0 (omega arith)) was.gone;
       kept = changed;
+      horizon = rw (e.others.1.1.1.1.1.1.1.1.1.0 (omega arith)) was.horizon;
       task_identifiers = was.task_identifiers;
       kept_identifiers = identified;
+    } in
+    record { schema = e.schema; rows = record { sound = e.sound; tables = tables } }
+
+pub horizon_changed : (content : Content) (horizon : List HorizonRow) (old new : Database) → Edited horizon_tree old new → IsContent content old → HasKeyed (map horizon_row horizon) (new.trees horizon_tree) → IsContent (record content { horizon = horizon }) new
+horizon_changed content horizon old new e is changed =
+    let was = is.rows.tables in
+    let tables : AreTables (record content { horizon = horizon }) new.trees = record {
+      meta = rw (e.others.0 (omega arith)) was.meta;
+      people = rw (e.others.1.0 (omega arith)) was.people;
+      boards = rw (e.others.1.1.0 (omega arith)) was.boards;
+      roles = rw (e.others.1.1.1.0 (omega arith)) was.roles;
+      tasks = rw (e.others.1.1.1.1.0 (omega arith)) was.tasks;
+      links = rw (e.others.1.1.1.1.1.0 (omega arith)) was.links;
+      instances = rw (e.others.1.1.1.1.1.1.0 (omega arith)) was.instances;
+      gone = rw (e.others.1.1.1.1.1.1.1.0 (omega arith)) was.gone;
+      kept = rw (e.others.1.1.1.1.1.1.1.1.0 (omega arith)) was.kept;
+      horizon = changed;
+      task_identifiers = was.task_identifiers;
+      kept_identifiers = was.kept_identifiers;
     } in
     record { schema = e.schema; rows = record { sound = e.sound; tables = tables } }

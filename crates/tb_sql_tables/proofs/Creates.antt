@@ -12,6 +12,7 @@ use Rattle.sqlite_schema.specs.declared.command.Command.TheVariants.{CreateTable
 use Rattle.sqlite_schema.specs.declared.command.Source.TheVariants.{Values}
 use Rattle.sqlite_resolve.specs.Compile.{table_defined_by}
 use Rattle.sqlite_catalog.specs.Change.{created, next_tree, KeepsRows}
+use Rattle.sqlite_catalog.specs.Listing.{IsSound}
 use Rattle.sqlite_tied.specs.Compute.{everything}
 use Rattle.sqlite.specs.Effect.{Database}
 use Rattle.sqlite.specs.Does.{Tally, lacks_sequence}
@@ -19,12 +20,13 @@ use Rattle.sqlite.specs.Listing.{understood}
 use Rattle.sqlite.specs.State.{State, Writes}
 use Rattle.sqlite.specs.Given.{IsPlain}
 use Rattle.sqlite.proofs.Callers.{command_of, statement_of, runs_as}
-use Rattle.tb_sql_tables.specs.Tables.{meta_plain, meta_tree, create_meta_text, create_person_text, create_board_text, create_role_text, create_task_text, create_link_text, create_instance_text, create_gone_text, create_kept_text, meta_table, person_table, board_table, role_table, task_table, link_table, instance_table, gone_table, kept_table, no_schema, meta_schema, person_schema, board_schema, role_schema, task_schema, link_schema, instance_schema, gone_schema, store_schema}
-use Rattle.tb_sql_tables.specs.Rows.{meta_row}
-use Rattle.tb_sql_tables.specs.Content.{nothing, AreEmpty, AreTables, IsContent, HasRows, HasKeyed, Ran, Turns}
+use Rattle.tb_sql_tables.specs.Tables.{meta_plain, horizon_tree, meta_tree, create_meta_text, create_person_text, create_board_text, create_role_text, create_task_text, create_link_text, create_instance_text, create_gone_text, create_kept_text, create_horizon_text, meta_table, person_table, board_table, role_table, task_table, link_table, instance_table, gone_table, kept_table, horizon_table, no_schema, meta_schema, person_schema, board_schema, role_schema, task_schema, link_schema, instance_schema, gone_schema, old_schema, store_schema}
+use Rattle.tb_sql_tables.specs.Rows.{meta_row, version_row}
+use Rattle.tb_sql_tables.specs.Content.{nothing, Content, AreEmpty, AreTables, AreOldTables, IsContent, IsHalfway, IsOldContent, HasRows, HasKeyed, Ran, Turns}
 use Rattle.tb_sql_tables.proofs.Inserts.{went, same_value, cast_integer, cast_null}
 use Rattle.tb_sql_tables.proofs.Keyed.{keyed_put}
-use Rattle.tb_sql_tables.proofs.Statements.{Means, row_inserted}
+use Rattle.tb_sql_tables.proofs.Statements.{Means, MeansIn, row_inserted, row_inserted_in}
+use Rattle.tb_sql_tables.proofs.Trees.{old_quiet}
 
 -- the text makes this table, whose tree gets its number only then, under this schema
 record MakesTable (before : Schema) (text : List ℕ) (table : Table) : Type 0 where
@@ -106,6 +108,14 @@ makes_kept : MakesTable gone_schema create_kept_text kept_table
 unfolding understood everything
 makes_kept = record { command = refl; statement = refl; plain = (refl, refl); defined = defines_kept; counted = refl }
 
+defines_horizon : table_defined_by create_horizon_text ≡ Ok (record horizon_table { tree = 0 })
+unfolding understood everything
+defines_horizon = refl
+
+makes_horizon : MakesTable old_schema create_horizon_text horizon_table
+unfolding understood everything
+makes_horizon = record { command = refl; statement = refl; plain = (refl, refl); defined = defines_horizon; counted = refl }
+
 -- tables that are there stay empty
 still_empty : (tables : List Table) (old new : Trees) → KeepsRows tables old new → AllByRecursion (λ t. old t.tree ≡ []) tables → AllByRecursion (λ t. new t.tree ≡ []) tables
 still_empty [] old new kept empty = tt
@@ -115,10 +125,15 @@ one_more : (tables : List Table) (table : Table) (db : Trees) → AllByRecursion
 one_more [] table db empty last = (last, tt)
 one_more (t ∷ tables) table db empty last = (empty.0, one_more tables table db empty.1 last)
 
-made : (before : Schema) (text : List ℕ) (table : Table) → MakesTable before text table → (old new : State) → Ran text [] old new → AreEmpty before old.now
-    → AreEmpty (created before (record table { tree = 0 })) new.now
-made before text table it old new ran was =
-    let has = was.schema_is in
+-- there is one table more, which is empty, and the others are as they were
+record IsAdded (before : Schema) (table : Table) (old new : Database) : Type 0 where
+  schema : new.schema ≡ created before (record table { tree = 0 })
+  sound : IsSound (created before (record table { tree = 0 })) new.trees
+  empty : new.trees (next_tree before) ≡ []
+  others : KeepsRows before.tables old.trees new.trees
+
+added : (before : Schema) (text : List ℕ) (table : Table) → MakesTable before text table → (old new : State) → Ran text [] old new → old.now.schema ≡ before → IsAdded before table old.now new.now
+added before text table it old new ran has =
     let bare = record table { tree = 0 } in
     let w = subst (λ t. Writes old new None CreateTable t [] ran.0) it.statement (runs_as text [] old new before has CreateTable it.command it.plain ran.0 ran.1.0) in
     let done = went w.changed in
@@ -132,9 +147,16 @@ made before text table it old new ran was =
     let empty : new.now.trees (next_tree before) ≡ [] = ap (λ (d : Database). d.trees (next_tree before)) now ∙ subst (λ s. first.0.trees (next_tree s) ≡ []) has table.empty in
     let kept : KeepsRows before.tables old.now.trees new.now.trees =
     subst (λ (d : Database). KeepsRows before.tables old.now.trees d.trees) (sym now) (subst (λ (s : Schema). KeepsRows s.tables old.now.trees first.0.trees) has table.others) in
+    let is : new.now.schema ≡ created before bare = ap (λ (d : Database). d.schema) now ∙ schema in
+    record { schema = is; sound = subst (λ s. IsSound s new.now.trees) is w.sound; empty = empty; others = kept }
+
+made : (before : Schema) (text : List ℕ) (table : Table) → MakesTable before text table → (old new : State) → Ran text [] old new → AreEmpty before old.now
+    → AreEmpty (created before (record table { tree = 0 })) new.now
+made before text table it old new ran was =
+    let a = added before text table it old new ran was.schema_is in
     record {
-      schema_is = ap (λ (d : Database). d.schema) now ∙ schema;
-      empty = one_more before.tables _ new.now.trees (still_empty before.tables old.now.trees new.now.trees kept was.empty) empty;
+      schema_is = a.schema;
+      empty = one_more before.tables _ new.now.trees (still_empty before.tables old.now.trees new.now.trees a.others was.empty) a.empty;
     }
 
 makes : (before : Schema) (text : List ℕ) (table : Table) → MakesTable before text table → (old new : State) → Ran text [] old new
@@ -165,20 +187,60 @@ create_instance = makes link_schema create_instance_text instance_table makes_in
 pub create_gone : (old new : State) → Ran create_gone_text [] old new → Turns (AreEmpty instance_schema) (AreEmpty gone_schema) old new
 create_gone = makes instance_schema create_gone_text gone_table makes_gone
 
-pub create_kept : (old new : State) → Ran create_kept_text [] old new → Turns (AreEmpty gone_schema) (AreEmpty store_schema) old new
+pub create_kept : (old new : State) → Ran create_kept_text [] old new → Turns (AreEmpty gone_schema) (AreEmpty old_schema) old new
 create_kept = makes gone_schema create_kept_text kept_table makes_kept
+
+pub create_horizon : (old new : State) → Ran create_horizon_text [] old new → Turns (AreEmpty old_schema) (AreEmpty store_schema) old new
+create_horizon = makes old_schema create_horizon_text horizon_table makes_horizon
+
+-- beside tables that have rows
+pub add_horizon : (old new : State) → Ran create_horizon_text [] old new → (content : Content) → Turns (IsOldContent content) (IsHalfway content) old new
+add_horizon old new ran content = record {
+  shown = ran.1.1;
+  made = λ is.
+      let a = added old_schema create_horizon_text horizon_table makes_horizon old new ran is.schema in
+      let was = is.rows.tables in
+      let o = a.others in
+      let tables : AreOldTables content new.now.trees = record {
+        meta = rw o.0 was.meta;
+        people = rw o.1.0 was.people;
+        boards = rw o.1.1.0 was.boards;
+        roles = rw o.1.1.1.0 was.roles;
+        tasks = rw o.1.1.1.1.0 was.tasks;
+        links = rw o.1.1.1.1.1.0 was.links;
+        instances = rw o.1.1.1.1.1.1.0 was.instances;
+        gone = rw o.1.1.1.1.1.1.1.0 was.gone;
+        kept = rw o.1.1.1.1.1.1.1.1.0 was.kept;
+        task_identifiers = was.task_identifiers;
+        kept_identifiers = was.kept_identifiers;
+      } in
+      record { schema = a.schema; sound = a.sound; tables = tables; empty = a.empty };
+}
 
 -- ---- the row of the first table
 
 abbrev pub insert_meta_text : List ℕ
-insert_meta_text = codes "INSERT INTO meta (one, kind, version) VALUES (1, 'taskboard', 1)"
+insert_meta_text = codes "INSERT INTO meta (one, kind, version) VALUES (1, 'taskboard', 2)"
 
-abbrev terms : List Term
-terms = lit (Int (pos 1)) ∷ lit Null ∷ lit (Text (codes "taskboard")) ∷ lit (Int (pos 1)) ∷ []
+abbrev pub insert_old_meta_text : List ℕ
+insert_old_meta_text = codes "INSERT INTO meta (one, kind, version) VALUES (1, 'taskboard', 1)"
 
-inserts : Means insert_meta_text (Insert 0 (Values terms 4))
+abbrev terms : ℕ → List Term
+terms version = lit (Int (pos 1)) ∷ lit Null ∷ lit (Text (codes "taskboard")) ∷ lit (Int (pos version)) ∷ []
+
+inserts : Means insert_meta_text (Insert 0 (Values (terms 2) 4))
 unfolding understood everything
 inserts = record { is = refl; bare = (refl, refl) }
+
+inserts_old : MeansIn old_schema insert_old_meta_text (Insert 0 (Values (terms 1) 4))
+unfolding understood everything
+inserts_old = record { is = refl; bare = (refl, refl) }
+
+abbrev cells : ℕ → Row
+cells version = Null ∷ Text (codes "taskboard") ∷ Int (pos version) ∷ []
+
+abbrev source : ℕ → Row
+source version = Int (pos 1) ∷ cells version
 
 no_rows : HasRows [] []
 no_rows = record { shaped = (tt, tt); same = IsPermutation-refl [] }
@@ -190,13 +252,35 @@ pub insert_meta : (old new : State) → Ran insert_meta_text [] old new → Turn
 insert_meta old new ran = record {
   shown = ran.1.1;
   made = λ was.
-      let source : Row = Int (pos 1) ∷ Null ∷ Text (codes "taskboard") ∷ Int (pos 1) ∷ [] in
-      let effect = row_inserted 0 meta_plain refl refl insert_meta_text old new was.schema_is [] ran.0 terms 4 source inserts refl ran.1 in
-      let cells : Row = Null ∷ Text (codes "taskboard") ∷ Int (pos 1) ∷ [] in
+      let effect = row_inserted 0 meta_plain refl refl insert_meta_text old new was.schema_is [] ran.0 (terms 2) 4 (source 2) inserts refl ran.1 in
       let e = effect.1 in
       let o = e.others in
       let tables : AreTables nothing new.now.trees = record {
-        meta = keyed_put store_schema old.now.trees new.now.trees meta_table source (pos 1) cells [] (rw (cast_integer (pos 1), cast_null) refl) effect.0 (rw was.empty.0 no_keyed);
+        meta = keyed_put store_schema old.now.trees new.now.trees meta_table (source 2) (pos 1) (cells 2) [] (rw (cast_integer (pos 1), cast_integer (pos 2), cast_null) refl) effect.0 (rw was.empty.0 no_keyed);
+        people = rw (o.1.0 (omega arith) ∙ was.empty.1.0) no_keyed;
+        boards = rw (o.1.1.0 (omega arith) ∙ was.empty.1.1.0) no_keyed;
+        roles = rw (o.1.1.1.0 (omega arith) ∙ was.empty.1.1.1.0) no_rows;
+        tasks = rw (o.1.1.1.1.0 (omega arith) ∙ was.empty.1.1.1.1.0) no_rows;
+        links = rw (o.1.1.1.1.1.0 (omega arith) ∙ was.empty.1.1.1.1.1.0) no_rows;
+        instances = rw (o.1.1.1.1.1.1.0 (omega arith) ∙ was.empty.1.1.1.1.1.1.0) no_rows;
+        gone = rw (o.1.1.1.1.1.1.1.0 (omega arith) ∙ was.empty.1.1.1.1.1.1.1.0) no_rows;
+        kept = rw (o.1.1.1.1.1.1.1.1.0 (omega arith) ∙ was.empty.1.1.1.1.1.1.1.1.0) no_rows;
+        horizon = rw (o.1.1.1.1.1.1.1.1.1.0 (omega arith) ∙ was.empty.1.1.1.1.1.1.1.1.1.0) no_keyed;
+        task_identifiers = tt;
+        kept_identifiers = tt;
+      } in
+      record { schema = e.schema; rows = record { sound = e.sound; tables = tables } };
+}
+
+pub insert_old_meta : (old new : State) → Ran insert_old_meta_text [] old new → Turns (AreEmpty old_schema) (IsOldContent nothing) old new
+insert_old_meta old new ran = record {
+  shown = ran.1.1;
+  made = λ was.
+      let effect = row_inserted_in old_schema old_quiet 0 meta_plain refl insert_old_meta_text old new was.schema_is [] ran.0 (terms 1) 4 (source 1) inserts_old refl ran.1 in
+      let e = effect.1 in
+      let o = e.others in
+      let tables : AreOldTables nothing new.now.trees = record {
+        meta = keyed_put old_schema old.now.trees new.now.trees meta_table (source 1) (pos 1) (cells 1) [] (rw (cast_integer (pos 1), cast_null) refl) effect.0 (rw was.empty.0 no_keyed);
         people = rw (o.1.0 (omega arith) ∙ was.empty.1.0) no_keyed;
         boards = rw (o.1.1.0 (omega arith) ∙ was.empty.1.1.0) no_keyed;
         roles = rw (o.1.1.1.0 (omega arith) ∙ was.empty.1.1.1.0) no_rows;

@@ -17,6 +17,7 @@ use Rattle.sqlite_sql.specs.Program.{given_at}
 use Rattle.sqlite_sql.specs.Query.{Query, Output, output_cmp}
 use Rattle.sqlite_sql.specs.Term.{Term, col, eval_all}
 use Rattle.sqlite_sql.proofs.QueryLemmas.{output_cmp_total}
+use Rattle.sqlite_schema.specs.declared.schema.Schema.{Schema}
 use Rattle.sqlite_schema.specs.declared.command.Command.TheVariants.{Update, Delete}
 use Rattle.sqlite_rules.specs.Cast.{cast_row}
 use Rattle.sqlite.specs.State.{State, Shown}
@@ -27,7 +28,7 @@ use Rattle.tb_sql_tables.proofs.Deletes.{rows_left}
 use Rattle.tb_sql_tables.proofs.Updates.{cells_changed}
 use Rattle.tb_sql_tables.proofs.Keyed.{keyed_changed}
 use Rattle.tb_sql_tables.proofs.Queries.{query_of, program_of, passes, output_at, answered, cells_ordered}
-use Rattle.tb_sql_tables.proofs.Statements.{Means, Edited, Asks, row_deleted, row_updated, row_answers}
+use Rattle.tb_sql_tables.proofs.Statements.{Means, Edited, Asks, AsksIn, row_deleted, row_updated, row_answers}
 
 pub each : {X : Type 0} {P : X → Type 0} → ((x : X) → P x) → (xs : List X) → AllByRecursion P xs
 each h [] = tt
@@ -106,25 +107,32 @@ pub record IsShownOf {X : Type 0} (query : Query) (out : X → Output) (xs : Lis
   pub sorted : IsSorted (output_cmp query) ordered
   pub shown : rows ≡ map (λ o. o.1) ordered
 
+-- of a table of which contracts see the rowids as well, under any schema
+module _ {X : Type 0} (under : Schema) (row_of : X → Row) (t : X → Bool) (xs : List X) (tree : ℕ) (low : given_at [] tree ≡ None) (text : List ℕ) (test project : List Term) (order : List (Term × Key))
+    (asks : AsksIn under text tree test project order) (old new : State) (params : Row) (rows : List Row) (has : old.now.schema ≡ under) (shown : Shown text params old new rows) where
+  pub keyed_shown_in : AllByRecursion (λ x. passes test params (row_of x) ≡ t x) xs → HasKeyed (map row_of xs) (old.now.trees tree)
+      → IsShownOf (query_of tree test project order) (λ x. output_at tree low test project order params (row_of x)) (filter t xs) rows
+  keyed_shown_in same stored =
+      let out = output_at tree low test project order params in
+      let a = answered tree low test project order old.now params rows (row_answers under text tree test project order asks old new params rows has shown) in
+      let here = IsPermutation-map out _ _ (IsPermutation-filter (passes test params) _ _ stored.same) in
+      let mine : map out (filter (passes test params) (map row_of xs)) ≡ map (λ x. out (row_of x)) (filter t xs) = ap (map out) (rows_that row_of (passes test params) t xs same) ∙ map-map out row_of _ in
+      record { ordered = a.0; same = subst (λ l. IsPermutation l a.0) mine (IsPermutation-trans _ _ _ here a.1); sorted = a.2; shown = a.3 }
+
 module _ {X : Type 0} (row_of : X → Row) (t : X → Bool) (xs : List X) (tree : ℕ) (low : given_at [] tree ≡ None) (text : List ℕ) (test project : List Term) (order : List (Term × Key)) (asks : Asks text tree test project order)
     (old new : State) (params : Row) (rows : List Row) (has : old.now.schema ≡ store_schema) (shown : Shown text params old new rows) where
   -- of a table of which contracts see the columns
   pub cells_shown : (q : Row → Bool) (out : Row → Output) → ((r : Row) → passes test params r ≡ q (drop 1 r)) → ((r : Row) → output_at tree low test project order params r ≡ out (drop 1 r))
       → AllByRecursion (λ x. q (row_of x) ≡ t x) xs → HasRows (map row_of xs) (old.now.trees tree) → IsShownOf (query_of tree test project order) (λ x. out (row_of x)) (filter t xs) rows
   cells_shown q out tested shows same stored =
-      let a = cells_ordered tree low test project order old.now params rows (map row_of xs) q out tested shows stored (row_answers text tree test project order asks old new params rows has shown) in
+      let a = cells_ordered tree low test project order old.now params rows (map row_of xs) q out tested shows stored (row_answers store_schema text tree test project order asks old new params rows has shown) in
       let mine : map out (filter q (map row_of xs)) ≡ map (λ x. out (row_of x)) (filter t xs) = ap (map out) (rows_that row_of q t xs same) ∙ map-map out row_of _ in
       record { ordered = a.0; same = subst (λ l. IsPermutation l a.0) mine a.1; sorted = a.2; shown = a.3 }
 
   -- of a table of which contracts see the rowids as well
   pub keyed_shown : AllByRecursion (λ x. passes test params (row_of x) ≡ t x) xs → HasKeyed (map row_of xs) (old.now.trees tree)
       → IsShownOf (query_of tree test project order) (λ x. output_at tree low test project order params (row_of x)) (filter t xs) rows
-  keyed_shown same stored =
-      let out = output_at tree low test project order params in
-      let a = answered tree low test project order old.now params rows (row_answers text tree test project order asks old new params rows has shown) in
-      let here = IsPermutation-map out _ _ (IsPermutation-filter (passes test params) _ _ stored.same) in
-      let mine : map out (filter (passes test params) (map row_of xs)) ≡ map (λ x. out (row_of x)) (filter t xs) = ap (map out) (rows_that row_of (passes test params) t xs same) ∙ map-map out row_of _ in
-      record { ordered = a.0; same = subst (λ l. IsPermutation l a.0) mine (IsPermutation-trans _ _ _ here a.1); sorted = a.2; shown = a.3 }
+  keyed_shown same stored = keyed_shown_in store_schema row_of t xs tree low text test project order asks old new params rows has shown same stored
 
 read_back : {X : Type 0} (read : Row → X) (out : X → Output) (xs : List X) → AllByRecursion (λ x. read (out x).1 ≡ x) xs → map (λ x. read (out x).1) xs ≡ xs
 read_back read out [] reads = refl

@@ -17,3 +17,4 @@ pub mod Standing
 pub mod Reordered
 pub mod Creates
 pub mod Failing
+pub mod Looking

@@ -17,8 +17,9 @@ use Rattle.tb_sql_tables.specs.declared.rows.LinkRow.{LinkRow}
 use Rattle.tb_sql_tables.specs.declared.rows.InstanceRow.{InstanceRow}
 use Rattle.tb_sql_tables.specs.declared.rows.GoneRow.{GoneRow}
 use Rattle.tb_sql_tables.specs.declared.rows.KeptRow.{KeptRow}
-use Rattle.tb_sql_tables.specs.Tables.{meta_tree, person_tree, board_tree, role_tree, task_tree, link_tree, instance_tree, gone_tree, kept_tree, no_schema, store_schema}
-use Rattle.tb_sql_tables.specs.Rows.{meta_row, person_row, board_row, role_row, task_row, link_row, instance_row, gone_row, kept_row}
+use Rattle.tb_sql_tables.specs.declared.rows.HorizonRow.{HorizonRow}
+use Rattle.tb_sql_tables.specs.Tables.{meta_tree, person_tree, board_tree, role_tree, task_tree, link_tree, instance_tree, gone_tree, kept_tree, horizon_tree, no_schema, old_schema, store_schema}
+use Rattle.tb_sql_tables.specs.Rows.{meta_row, old_meta_row, person_row, board_row, role_row, task_row, link_row, instance_row, gone_row, kept_row, horizon_row}
 
 -- ---- the content
 
@@ -32,9 +33,10 @@ pub record Content : Type 0 where
   pub instances : List InstanceRow
   pub gone : List GoneRow
   pub kept : List KeptRow
+  pub horizon : List HorizonRow
 
 abbrev pub nothing : Content
-nothing = record { people = []; boards = []; roles = []; tasks = []; links = []; instances = []; gone = []; kept = [] }
+nothing = record { people = []; boards = []; roles = []; tasks = []; links = []; instances = []; gone = []; kept = []; horizon = [] }
 
 -- each identifier is a number of 128 bits
 abbrev pub HaveIdentifiers : List TaskRow → Type 0
@@ -66,6 +68,7 @@ pub record AreTables (content : Content) (db : Trees) : Type 0 where
   pub instances : HasRows (map instance_row content.instances) (db instance_tree)
   pub gone : HasRows (map gone_row content.gone) (db gone_tree)
   pub kept : HasRows (map kept_row content.kept) (db kept_tree)
+  pub horizon : HasKeyed (map horizon_row content.horizon) (db horizon_tree)
   pub task_identifiers : HaveIdentifiers content.tasks
   pub kept_identifiers : AreIdentified content.kept
 
@@ -78,6 +81,37 @@ pub record AreRows (content : Content) (db : Trees) : Type 0 where
 pub record IsContent (content : Content) (db : Database) : Type 0 where
   pub schema : db.schema ≡ store_schema
   pub rows : AreRows content db.trees
+
+-- ---- when the tables of the first version hold it
+
+-- the rows of each table of the first version; it has none for what a board has ahead
+pub record AreOldTables (content : Content) (db : Trees) : Type 0 where
+  pub meta : HasKeyed (old_meta_row ∷ []) (db meta_tree)
+  pub people : HasKeyed (map person_row content.people) (db person_tree)
+  pub boards : HasKeyed (map board_row content.boards) (db board_tree)
+  pub roles : HasRows (map role_row content.roles) (db role_tree)
+  pub tasks : HasRows (map task_row content.tasks) (db task_tree)
+  pub links : HasRows (map link_row content.links) (db link_tree)
+  pub instances : HasRows (map instance_row content.instances) (db instance_tree)
+  pub gone : HasRows (map gone_row content.gone) (db gone_tree)
+  pub kept : HasRows (map kept_row content.kept) (db kept_tree)
+  pub task_identifiers : HaveIdentifiers content.tasks
+  pub kept_identifiers : AreIdentified content.kept
+
+pub record AreOldRows (content : Content) (db : Trees) : Type 0 where
+  pub sound : IsSound old_schema db
+  pub tables : AreOldTables content db
+
+pub record IsOldContent (content : Content) (db : Database) : Type 0 where
+  pub schema : db.schema ≡ old_schema
+  pub rows : AreOldRows content db.trees
+
+-- the tables are those of a store, but hold what those of the first version held, and nothing beside
+pub record IsHalfway (content : Content) (db : Database) : Type 0 where
+  pub schema : db.schema ≡ store_schema
+  pub sound : IsSound store_schema db.trees
+  pub tables : AreOldTables content db.trees
+  pub empty : db.trees horizon_tree ≡ []
 
 -- ---- what a statement does inside a transaction
 
@@ -120,6 +154,14 @@ Stands content = StandsBy (IsContent content) (AreRows content)
 abbrev pub StandsAsEither : Content → Content → State → Type 0
 StandsAsEither before after = StandsBy (λ db. IsContent before db ⊎ IsContent after db) (λ db. AreRows before db ⊎ AreRows after db)
 
+-- the content stands in the tables of the first version
+abbrev pub StandsOld : Content → State → Type 0
+StandsOld content = StandsBy (IsOldContent content) (AreOldRows content)
+
+-- the content of the first version stands, or another one in the tables of a store
+abbrev pub StandsOldOr : Content → Content → State → Type 0
+StandsOldOr before after = StandsBy (λ db. IsOldContent before db ⊎ IsContent after db) (λ db. AreOldRows before db ⊎ AreRows after db)
+
 abbrev pub HasNoTables : Database → Type 0
 HasNoTables db = db.schema ≡ no_schema
 
@@ -130,3 +172,7 @@ StandsEmpty = StandsBy HasNoTables (IsSound no_schema)
 -- there is no table, or the content stands
 abbrev pub StandsEmptyOr : Content → State → Type 0
 StandsEmptyOr content = StandsBy (λ db. HasNoTables db ⊎ IsContent content db) (λ db. IsSound no_schema db ⊎ AreRows content db)
+
+-- there is no table, or the content stands in those of the first version
+abbrev pub StandsEmptyOrOld : Content → State → Type 0
+StandsEmptyOrOld content = StandsBy (λ db. HasNoTables db ⊎ IsOldContent content db) (λ db. IsSound no_schema db ⊎ AreOldRows content db)

@@ -13,6 +13,7 @@ use Rattle.tb_sql_tables.specs.declared.rows.LinkRow.{LinkRow}
 use Rattle.tb_sql_tables.specs.declared.rows.InstanceRow.{InstanceRow}
 use Rattle.tb_sql_tables.specs.declared.rows.GoneRow.{GoneRow}
 use Rattle.tb_sql_tables.specs.declared.rows.KeptRow.{KeptRow}
+use Rattle.tb_sql_tables.specs.declared.rows.HorizonRow.{HorizonRow}
 
 -- ---- a value of the type that the column has
 
@@ -76,6 +77,9 @@ kept_of cells = record {
   status = number_of (column cells 4);
   body = words_of (column cells 5);
 }
+
+abbrev pub horizon_of : Row → HorizonRow
+horizon_of cells = record { board = number_of (column cells 0); ahead = number_of (column cells 1) }
 
 -- ---- what is read without a refusal
 

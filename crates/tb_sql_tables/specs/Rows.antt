@@ -1,5 +1,5 @@
 -- The rows of the tables as SQLite keeps them.
-use Rattle.std.specs.Prelude.{[], ◌∷◌, codes, pos}
+use Rattle.std.specs.Prelude.{[], ◌∷◌, codes, ℕ, pos}
 use Rattle.std.specs.Int.{to_be_bytes, w128}
 use Rattle.sqlite_value.specs.declared.value.Value.TheVariants.{Null, Int, Text as Words, Blob as Bytes}
 use Rattle.sqlite_value.specs.Order.{Row}
@@ -12,17 +12,27 @@ use Rattle.tb_sql_tables.specs.declared.rows.LinkRow.{LinkRow}
 use Rattle.tb_sql_tables.specs.declared.rows.InstanceRow.{InstanceRow}
 use Rattle.tb_sql_tables.specs.declared.rows.GoneRow.{GoneRow}
 use Rattle.tb_sql_tables.specs.declared.rows.KeptRow.{KeptRow}
+use Rattle.tb_sql_tables.specs.declared.rows.HorizonRow.{HorizonRow}
 
 -- ---- tables whose INTEGER PRIMARY KEY is the rowid: the rowid, and then the columns, of which that one reads NULL
 
+abbrev pub version_row : ℕ → Row
+version_row version = Int (pos 1) ∷ Null ∷ Words (codes "taskboard") ∷ Int (pos version) ∷ []
+
 abbrev pub meta_row : Row
-meta_row = Int (pos 1) ∷ Null ∷ Words (codes "taskboard") ∷ Int (pos 1) ∷ []
+meta_row = version_row 2
+
+abbrev pub old_meta_row : Row
+old_meta_row = version_row 1
 
 abbrev pub person_row : PersonRow → Row
 person_row person = Int (pos person.id) ∷ Null ∷ Words person.name ∷ Words person.secret ∷ []
 
 abbrev pub board_row : BoardRow → Row
 board_row board = Int (pos board.id) ∷ Null ∷ Words board.title ∷ Int (pos board.low) ∷ []
+
+abbrev pub horizon_row : HorizonRow → Row
+horizon_row horizon = Int (pos horizon.board) ∷ Null ∷ Int (pos horizon.ahead) ∷ []
 
 -- ---- the other tables: the columns alone
 

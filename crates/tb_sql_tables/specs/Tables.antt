@@ -1,12 +1,12 @@
--- The nine tables of a store: their definitions, and the schema that they make up.
+-- The ten tables of a store: their definitions, and the schema that they make up. The first version has all but the last.
 use Rattle.std.specs.Prelude.{true, false, [], ◌∷◌, Option, Some, None, codes, List, ℕ, pos}
 use Rattle.sqlite_value.specs.declared.keys.Collation.TheVariants.{Binary}
 use Rattle.sqlite_value.specs.declared.value.Value.TheVariants.{Null, Int}
 use Rattle.sqlite_value.specs.declared.keys.Order.{Order}
 use Rattle.sqlite_value.specs.Keys.{plain}
 use Rattle.sqlite_sql.specs.Term.{Term, lit, col, op2}
-use Rattle.sqlite_sql.specs.declared.ops.BinaryOp.TheVariants.{Compare}
-use Rattle.sqlite_sql.specs.declared.ops.CompareOp.TheVariants.{Eq}
+use Rattle.sqlite_sql.specs.declared.ops.BinaryOp.TheVariants.{And, Compare}
+use Rattle.sqlite_sql.specs.declared.ops.CompareOp.TheVariants.{Eq, Ge, Le}
 use Rattle.sqlite_schema.specs.declared.schema.Column.{Column}
 use Rattle.sqlite_schema.specs.declared.schema.Reference.{Reference}
 use Rattle.sqlite_schema.specs.declared.schema.Action.TheVariants.{NoAction}
@@ -44,6 +44,9 @@ create_gone_text = codes "CREATE TABLE gone(board INTEGER NOT NULL, template INT
 
 abbrev pub create_kept_text : List ℕ
 create_kept_text = codes "CREATE TABLE kept(person INTEGER NOT NULL REFERENCES person(id), id BLOB NOT NULL, content BLOB NOT NULL, number INTEGER NOT NULL, status INTEGER NOT NULL, body TEXT NOT NULL, PRIMARY KEY(person, id)) STRICT"
+
+abbrev pub create_horizon_text : List ℕ
+create_horizon_text = codes "CREATE TABLE horizon(board INTEGER PRIMARY KEY REFERENCES board(id), ahead INTEGER NOT NULL CHECK(ahead >= 1 AND ahead <= 12)) STRICT"
 
 -- ---- the tables that they define
 
@@ -255,7 +258,26 @@ kept_plain = record {
 abbrev pub kept_table : Table
 kept_table = table_of kept_plain
 
--- ---- the schema after each of the texts; the last is that of a store
+abbrev pub horizon_tree : ℕ
+horizon_tree = 18
+
+abbrev pub horizon_plain : Plain
+horizon_plain = record {
+  name = codes "horizon";
+  tree = horizon_tree;
+  columns = record (column_of (codes "board") Integer) { not_null = false } ∷ column_of (codes "ahead") Integer ∷ [];
+  key = Some 0;
+  primary = 0 ∷ [];
+  uniques = [];
+  orders = [];
+  checks = op2 And (op2 (Compare Ge Binary) (col 1 2) (lit (Int (pos 1)))) (op2 (Compare Le Binary) (col 1 2) (lit (Int (pos 12)))) ∷ [];
+  references = refers 0 (codes "board") (codes "id") ∷ [];
+}
+
+abbrev pub horizon_table : Table
+horizon_table = table_of horizon_plain
+
+-- ---- the schema after each of the texts; the last is that of a store, and the last but one that of a store of the first version
 
 abbrev pub no_schema : Schema
 no_schema = record { tables = []; indexes = []; views = [] }
@@ -316,9 +338,16 @@ gone_schema = record {
   views = [];
 }
 
+abbrev pub old_schema : Schema
+old_schema = record {
+  tables = meta_table ∷ person_table ∷ board_table ∷ role_table ∷ task_table ∷ link_table ∷ instance_table ∷ gone_table ∷ kept_table ∷ [];
+  indexes = automatic person_table 0 (2 ∷ []) 2 ∷ automatic role_table 0 (1 ∷ 2 ∷ []) 5 ∷ automatic task_table 0 (1 ∷ 2 ∷ []) 7 ∷ automatic task_table 1 (1 ∷ 3 ∷ []) 8 ∷ automatic link_table 0 (1 ∷ 2 ∷ 3 ∷ []) 10 ∷ automatic instance_table 0 (1 ∷ 2 ∷ 3 ∷ []) 12 ∷ automatic instance_table 1 (1 ∷ 4 ∷ []) 13 ∷ automatic gone_table 0 (1 ∷ 2 ∷ 3 ∷ []) 15 ∷ automatic kept_table 0 (1 ∷ 2 ∷ []) 17 ∷ [];
+  views = [];
+}
+
 abbrev pub store_schema : Schema
 store_schema = record {
-  tables = meta_table ∷ person_table ∷ board_table ∷ role_table ∷ task_table ∷ link_table ∷ instance_table ∷ gone_table ∷ kept_table ∷ [];
+  tables = meta_table ∷ person_table ∷ board_table ∷ role_table ∷ task_table ∷ link_table ∷ instance_table ∷ gone_table ∷ kept_table ∷ horizon_table ∷ [];
   indexes = automatic person_table 0 (2 ∷ []) 2 ∷ automatic role_table 0 (1 ∷ 2 ∷ []) 5 ∷ automatic task_table 0 (1 ∷ 2 ∷ []) 7 ∷ automatic task_table 1 (1 ∷ 3 ∷ []) 8 ∷ automatic link_table 0 (1 ∷ 2 ∷ 3 ∷ []) 10 ∷ automatic instance_table 0 (1 ∷ 2 ∷ 3 ∷ []) 12 ∷ automatic instance_table 1 (1 ∷ 4 ∷ []) 13 ∷ automatic gone_table 0 (1 ∷ 2 ∷ 3 ∷ []) 15 ∷ automatic kept_table 0 (1 ∷ 2 ∷ []) 17 ∷ [];
   views = [];
 }

@@ -3,10 +3,11 @@
 ghost use Rattle.std.specs.Prelude.{◌≡◌, ◌≢◌, ◌<◌, All, IfErr, IfOk, length, map, option_map, slice_get};
 ghost use Rattle.sqlite_value.specs.Order.{column};
 ghost use Rattle.sqlite.specs.declared.error.ErrorCode.TheVariants.{OutOfMemory};
-ghost use Rattle.tb_sql_tables.specs.Reading.{IsNumber, IsMetaRow, IsText, number_of, words_of, bytes_of, identifier_of, mask_of, meta_of, person_of, board_of, role_of, task_of, link_of, instance_of, gone_of, kept_of};
+ghost use Rattle.tb_sql_tables.specs.Reading.{IsNumber, IsMetaRow, IsText, number_of, words_of, bytes_of, identifier_of, mask_of, meta_of, person_of, board_of, role_of, task_of, link_of, instance_of, gone_of, kept_of, horizon_of};
 
 use crate::rows::{
-    BoardRow, GoneRow, InstanceRow, KeptRow, LinkRow, MetaRow, PersonRow, RoleRow, TaskRow,
+    BoardRow, GoneRow, HorizonRow, InstanceRow, KeptRow, LinkRow, MetaRow, PersonRow, RoleRow,
+    TaskRow,
 };
 use sqlite::types::Type;
 use sqlite::{Error, Row};
@@ -186,6 +187,17 @@ impl Stored for KeptRow {
             number: number_at(row, 3)?,
             status: number_at(row, 4)?,
             body: text_at(row, 5)?,
+        })
+    }
+}
+
+impl Stored for HorizonRow {
+    ghost read_as = { horizon_of };
+
+    fn read(row: &Row) -> Result<HorizonRow, Error> {
+        Ok(HorizonRow {
+            board: number_at(row, 0)?,
+            ahead: number_at(row, 1)?,
         })
     }
 }

@@ -26,7 +26,7 @@ pub struct BoardRow {
     pub low: u32,
 }
 
-/// What a person is on a board: 1 is owner, 2 is member.
+/// What a person is on a board: 1 is owner, 2 is member, 3 is reader.
 #[derive(Clone, Copy, Debug, PartialEq, Eq)]
 pub struct RoleRow {
     pub board: u32,
@@ -79,4 +79,11 @@ pub struct KeptRow {
     pub number: u32,
     pub status: u32,
     pub body: Text,
+}
+
+/// How many instances of each template a board has ahead of their time, of a number from 1 to 12.
+#[derive(Clone, Copy, Debug, PartialEq, Eq)]
+pub struct HorizonRow {
+    pub board: u32,
+    pub ahead: u32,
 }
