@@ -1,5 +1,5 @@
 -- What the statements on boards do.
-use Rattle.std.proofs.Common.{◌≡◌, ◌∙◌, ◌⊎◌, ℕ, pos, List, [], ◌∷◌, map, codes, length, not, true, option_map, slice_get, refl, subst, arith}
+use Rattle.std.proofs.Common.{IsTrue, ◌≡◌, ◌∙◌, ◌⊎◌, ℕ, pos, List, [], ◌∷◌, map, codes, length, not, true, option_map, slice_get, refl, subst, arith}
 use Rattle.std.specs.Prelude.{filter, ◌==◌}
 use Rattle.std.specs.List.{list_any}
 use Rattle.std.specs.declared.cmp.Ordering.TheVariants.{Less}
@@ -32,6 +32,7 @@ use Rattle.tb_sql_tables.proofs.Failing.{Suits, fails_so}
 use Rattle.tb_sql_tables.proofs.Inserts.{cast_integer, cast_null}
 use Rattle.tb_sql_tables.proofs.Inside.{shown_open}
 use Rattle.tb_sql_tables.proofs.Keyed.{keyed_put}
+use Rattle.tb_sql_tables.proofs.Looking.{looks_on}
 use Rattle.tb_sql_tables.proofs.KeyTests.{equal, equal_numbers}
 use Rattle.tb_sql_tables.proofs.Queries.{query_of, program_of, output_at}
 use Rattle.tb_sql_tables.proofs.SqlTests.{and_true}
@@ -114,6 +115,9 @@ out row = output_at board_tree refl [] shown_terms in_order [] (board_row row)
 
 lower : (a b : BoardRow) → IsBoardBefore a b → output_cmp (query_of board_tree [] shown_terms in_order) (out a) (out b) ≡ Less
 lower a b before = rw value_cmp-Int (grind (arith, ints, nat_tests))
+
+pub looking_at_boards : (old new : State) (rows : List Row) → IsTrue old.in_transaction → Shown select_text [] old new rows → Changes (λ content. content) old new
+looking_at_boards old new rows inside shown = looks_on select_text board_tree [] shown_terms in_order asks old new [] rows inside shown
 
 pub select_boards : (old new : State) (rows : List Row) → Shown select_text [] old new rows → Finds (λ content. AreFound IsBoardBefore content.boards (map board_of rows)) old
 select_boards old new rows shown = record {

@@ -6,7 +6,10 @@ pub mod TaskRows
 pub mod LinkRows
 pub mod InstanceRows
 pub mod GoneRows
+pub mod HorizonRows
 pub mod KeptRows
 pub mod MetaRows
 pub mod Opened
+pub mod Migrated
+pub mod OldRows
 pub mod Lent

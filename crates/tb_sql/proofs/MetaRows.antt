@@ -1,13 +1,15 @@
--- What the query of the first table finds.
-use Rattle.std.proofs.Common.{◌≡◌, ◌≢◌, ◌<◌, ◌⊎◌, ◌∙◌, All, Result, Ok, Err, IfErr, List, [], ◌∷◌, map, codes, true, refl, sym, ap, subst, arith, IsPermutation}
+-- What the statements on the first table do.
+use Rattle.std.proofs.Common.{◌≡◌, ◌≢◌, ◌<◌, ◌⊎◌, ◌∙◌, inl, inr, All, Result, Ok, Err, IfErr, List, [], ◌∷◌, ℕ, pos, map, codes, true, refl, sym, ap, subst, arith, IsPermutation}
 use Rattle.std.proofs.lemmas.List.Elements.{All-from_recursion}
 use Rattle.std.proofs.lemmas.List.Sorted.{IsPermutation-refl}
 use Rattle.std.proofs.lemmas.Str.{IsUtf8-from_ascii}
 use Rattle.std.proofs.lemmas.Str.Ascii.{IsAscii-from_all}
 use Rattle.std.specs.Str.{IsAscii}
 use Rattle.sqlite_value.specs.Order.{Row}
+use Rattle.sqlite_value.specs.declared.value.Value.TheVariants.{Null, Int}
 use Rattle.sqlite_sql.specs.Query.{Output}
-use Rattle.sqlite_sql.specs.Term.{Term, col}
+use Rattle.sqlite_sql.specs.Term.{Term, lit, col}
+use Rattle.sqlite_schema.specs.declared.command.Command.TheVariants.{Update}
 use Rattle.sqlite_tied.specs.Compute.{everything}
 use Rattle.sqlite.specs.Listing.{understood}
 use Rattle.sqlite.specs.declared.error.Error.{Error}
@@ -16,16 +18,19 @@ use Rattle.sqlite.specs.declared.error.ErrorCode.TheVariants.{OutOfMemory}
 use Rattle.sqlite.specs.State.{FailsToQuery, IsTooLate, State, Shown}
 use Rattle.sqlite.proofs.Callers.{one_permutation}
 use Rattle.tb_sql_tables.specs.declared.rows.MetaRow.{MetaRow}
-use Rattle.tb_sql_tables.specs.Tables.{meta_tree}
+use Rattle.tb_sql_tables.specs.Tables.{meta_plain, meta_tree, old_schema}
+use Rattle.tb_sql_tables.specs.Rows.{version_row}
 use Rattle.tb_sql_tables.specs.Reading.{meta_of, IsMetaRow}
-use Rattle.tb_sql_tables.specs.Content.{Content, Finds, IsContent}
+use Rattle.tb_sql_tables.specs.Content.{Content, AreTables, Finds, HasKeyed, IsContent, IsHalfway, Ran, Turns}
 use Rattle.tb_sql_tables.specs.Failing.{IsExcused}
-use Rattle.tb_sql_tables.proofs.Effects.{each, all_left, keyed_shown, found_in_order, found_same}
+use Rattle.tb_sql_tables.proofs.Effects.{each, all_left, keyed_shown, keyed_shown_in, keyed_updated, found_in_order, found_same}
 use Rattle.tb_sql_tables.proofs.Failing.{Suits, fails_so}
+use Rattle.tb_sql_tables.proofs.Inserts.{cast_integer, cast_null}
 use Rattle.tb_sql_tables.proofs.Inside.{shown_open}
-use Rattle.tb_sql_tables.proofs.Queries.{query_of, output_at}
-use Rattle.tb_sql_tables.proofs.Statements.{Asks}
+use Rattle.tb_sql_tables.proofs.Queries.{query_of, program_of, output_at}
+use Rattle.tb_sql_tables.proofs.Statements.{Asks, AsksIn, Means}
 use Rattle.tb_sql.specs.Opening.{our_meta, row_of_meta, meta_text, AreMetas, AreShown}
+use Rattle.tb_sql.specs.Migrating.{without_horizon}
 
 abbrev shown_terms : List Term
 shown_terms = col 1 2 ∷ col 1 3 ∷ []
@@ -33,6 +38,10 @@ shown_terms = col 1 2 ∷ col 1 3 ∷ []
 asks : Asks meta_text meta_tree [] shown_terms []
 unfolding understood everything
 asks = record { names = codes "kind" ∷ codes "version" ∷ []; means = record { is = refl; bare = (refl, refl) }; unlisted = refl }
+
+old_asks : AsksIn old_schema meta_text meta_tree [] shown_terms []
+unfolding understood everything
+old_asks = record { names = codes "kind" ∷ codes "version" ∷ []; means = record { is = refl; bare = (refl, refl) }; unlisted = refl }
 
 abbrev out : MetaRow → Output
 out meta = output_at meta_tree refl [] shown_terms [] [] (row_of_meta meta)
@@ -48,8 +57,11 @@ select_meta old new rows shown = record {
 
 -- the rows of the table, whatever they say
 pub all_metas : (old new : State) (rows : List Row) → Shown meta_text [] old new rows → AreMetas old.now (map meta_of rows)
-all_metas old new rows shown schema metas stored =
+all_metas old new rows shown (inl schema) metas stored =
     let answer = keyed_shown row_of_meta (λ row. true) metas meta_tree refl meta_text [] shown_terms [] asks old new [] rows schema shown (each (λ row. refl) _) stored in
+    subst (λ all. IsPermutation all (map meta_of rows)) (all_left metas) (found_same meta_of (query_of meta_tree [] shown_terms []) out _ rows (each (λ row. refl) _) answer)
+all_metas old new rows shown (inr schema) metas stored =
+    let answer = keyed_shown_in old_schema row_of_meta (λ row. true) metas meta_tree refl meta_text [] shown_terms [] old_asks old new [] rows schema shown (each (λ row. refl) _) stored in
     subst (λ all. IsPermutation all (map meta_of rows)) (all_left metas) (found_same meta_of (query_of meta_tree [] shown_terms []) out _ rows (each (λ row. refl) _) answer)
 
 pub shown_metas : (old new : State) (rows : List Row) → Shown meta_text [] old new rows → AreShown old new (map meta_of rows)
@@ -76,9 +88,51 @@ our_row_is_read old new rows shown content is =
         (omega arith, (omega arith, (omega arith, (omega arith, (omega arith, (omega arith, (omega arith, (omega arith, (omega arith, tt))))))))))
 
     ours : IsMetaRow (out our_meta).1
-    ours = record { both = refl; kind = (codes "taskboard", refl, IsUtf8-from_ascii (codes "taskboard") letters); version = (1, refl, omega arith) }
+    ours = record { both = refl; kind = (codes "taskboard", refl, IsUtf8-from_ascii (codes "taskboard") letters); version = (2, refl, omega arith) }
 
 pub row_excused : {X : Type 0} (old new : State) (rows : List Row) (result : Result X Error) → ((content : Content) → IsContent content old.now → All IsMetaRow rows)
     → IfErr result (λ e. e ≢ SqliteFailure OutOfMemory → ¬ All IsMetaRow rows) → IfErr result (IsExcused old new)
 row_excused old new rows (Ok x) reads refused = tt
 row_excused old new rows (Err e) reads refused = λ other ready content is. absurd (refused other (reads content is))
+
+-- ---- the version is told
+
+abbrev pub update_text : List ℕ
+update_text = codes "UPDATE meta SET version = 2"
+
+-- the rowid of the row that goes, and then the row that stands in its place
+abbrev replaced : List Term
+replaced = col 1 0 ∷ col 1 0 ∷ lit Null ∷ col 1 2 ∷ lit (Int (pos 2)) ∷ []
+
+updates : Means update_text (Update 0 (program_of (query_of meta_tree [] replaced [])))
+unfolding understood everything
+updates = record { is = refl; bare = (refl, refl) }
+
+no_rows : HasKeyed [] []
+no_rows = record { shaped = (tt, tt); same = IsPermutation-refl [] }
+
+pub update_version : (old new : State) → Ran update_text [] old new → (content : Content) → Turns (IsHalfway content) (IsContent (without_horizon content)) old new
+update_version old new ran content = record {
+  shown = ran.1.1;
+  made = λ is.
+      let effect = keyed_updated version_row (λ _. true) (1 ∷ []) 0 meta_plain refl refl update_text [] old new is.schema [] ran (refl, tt) is.tables.meta replaced (λ _. 2) updates (λ r. refl)
+      (λ version. rw (cast_null, cast_integer (pos 1), cast_integer (pos 2)) refl) in
+      let was = is.tables in
+      let e = effect.1 in
+      let o = e.others in
+      let tables : AreTables (without_horizon content) new.now.trees = record {
+        meta = effect.0;
+        people = rw (o.1.0 (omega arith)) was.people;
+        boards = rw (o.1.1.0 (omega arith)) was.boards;
+        roles = rw (o.1.1.1.0 (omega arith)) was.roles;
+        tasks = rw (o.1.1.1.1.0 (omega arith)) was.tasks;
+        links = rw (o.1.1.1.1.1.0 (omega arith)) was.links;
+        instances = rw (o.1.1.1.1.1.1.0 (omega arith)) was.instances;
+        gone = rw (o.1.1.1.1.1.1.1.0 (omega arith)) was.gone;
+        kept = rw (o.1.1.1.1.1.1.1.1.0 (omega arith)) was.kept;
+        horizon = rw (o.1.1.1.1.1.1.1.1.1.0 (omega arith) ∙ is.empty) no_rows;
+        task_identifiers = was.task_identifiers;
+        kept_identifiers = was.kept_identifiers;
+      } in
+      record { schema = e.schema; rows = record { sound = e.sound; tables = tables } };
+}

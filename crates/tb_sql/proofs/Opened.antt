@@ -1,5 +1,5 @@
 -- What a connection that has just been opened shows.
-use Rattle.std.proofs.Common.{◌≡◌, ◌∙◌, ◌&&◌, ◌==◌, Bool, List, [], ◌∷◌, codes, bytes_eq, cond, length, Result, IsPermutation, IsTrue, true, false, Ok, Err, arith, inl, inr, refl, sym, ap, subst}
+use Rattle.std.proofs.Common.{◌≡◌, ◌∙◌, ◌⊎◌, ◌&&◌, ◌==◌, Bool, List, [], ◌∷◌, codes, bytes_eq, cond, length, Result, IsPermutation, IsTrue, true, false, Ok, Err, arith, inl, inr, refl, sym, ap, subst}
 use Rattle.std.proofs.lemmas.List.Sorted.{length_permutation, All-permutation}
 use Rattle.std.proofs.lemmas.List.Elements.{All-from_recursion, recursion_from_All}
 use Rattle.sqlite_trees.specs.Tree.{Trees}
@@ -7,20 +7,26 @@ use Rattle.sqlite_schema.specs.declared.schema.Table.{Table}
 use Rattle.sqlite_schema.specs.declared.schema.Schema.{Schema}
 use Rattle.sqlite_catalog.specs.Listing.{IsSound}
 use Rattle.sqlite.specs.Effect.{Database}
+use Rattle.sqlite.proofs.Callers.{one_permutation}
 use Rattle.sqlite.specs.State.{State, HasCleanDisk, Opens, IsLive, KeepsCommit, IsRolledBack, Survives}
-use Rattle.tb_sql_tables.specs.Tables.{no_schema, store_schema}
-use Rattle.tb_sql_tables.specs.Content.{Content, AreRows, IsContent, Stands, StandsBy, StandsEmpty}
+use Rattle.tb_sql_tables.specs.Tables.{no_schema, old_schema, store_schema}
+use Rattle.tb_sql_tables.specs.Content.{Content, AreOldRows, AreRows, IsContent, IsOldContent, Stands, StandsBy, StandsEmpty, StandsOld}
 use Rattle.tb_sql_tables.proofs.Once.{schema_once}
 use Rattle.tb_sql_tables.specs.declared.rows.MetaRow.{MetaRow}
 use Rattle.tb_sql.specs.declared.opening.OpenFault.{OpenFault}
 use Rattle.tb_sql.specs.declared.opening.OpenFault.TheVariants.{Memory, NotOurs, Store, WrongVersion}
+use Rattle.tb_sql.specs.declared.opening.Version.{Version}
+use Rattle.tb_sql.specs.declared.opening.Version.TheVariants.{First, Second}
 use Rattle.tb_sql.specs.declared.store.StoreFault.{StoreFault}
 use Rattle.tb_sql.specs.declared.store.StoreFault.TheVariants.{Memory as StoreMemory, Store as StoreFailed}
-use Rattle.tb_sql.specs.Opening.{are_tables, has_meta, if_ours, is_ours, judged, our_meta, taken, IsAsBefore, is_meta, is_person, is_board, is_role, is_task, is_link, is_instance, is_gone, is_kept}
+use Rattle.tb_sql.specs.Opening.{are_tables, by_version, has_meta, if_there, is_old, is_ours, judged, old_meta, our_meta, taken, AreMetas, IsAsBefore, IsOfStore, is_meta, is_person, is_board, is_role, is_task, is_link, is_instance, is_gone, is_kept, is_horizon}
 
 -- rows of a content make the schema that of a store
 pub opened_content : (s : State) (content : Content) → Opens s → IsLive s → AreRows content s.now.trees → IsContent content s.now
 opened_content s content opened live rows = record { schema = sym (schema_once store_schema s.now.schema s.now.trees refl rows.sound (live opened.is_open).0); rows = rows }
+
+pub opened_old : (s : State) (content : Content) → Opens s → IsLive s → AreOldRows content s.now.trees → IsOldContent content s.now
+opened_old s content opened live rows = record { schema = sym (schema_once old_schema s.now.schema s.now.trees refl rows.sound (live opened.is_open).0); rows = rows }
 
 module _ (s : State) (settled : (db : Trees) → IsTrue s.is_open → s.may_leave db → db ≡ s.committed.trees) where
   at_rest : (Seen : Database → Type 0) (Left : Trees → Type 0) → Opens s → Seen s.now → Left s.now.trees → StandsBy Seen Left s
@@ -33,6 +39,9 @@ module _ (s : State) (settled : (db : Trees) → IsTrue s.is_open → s.may_leav
 
   pub opened_stands : (content : Content) → Opens s → IsLive s → AreRows content s.now.trees → Stands content s
   opened_stands content opened live rows = at_rest (IsContent content) (AreRows content) opened (opened_content s content opened live rows) rows
+
+  pub opened_stands_old : (content : Content) → Opens s → IsLive s → AreOldRows content s.now.trees → StandsOld content s
+  opened_stands_old content opened live rows = at_rest (IsOldContent content) (AreOldRows content) opened (opened_old s content opened live rows) rows
 
   pub opened_empty : Opens s → IsLive s → s.now.schema ≡ no_schema → StandsEmpty s
   opened_empty opened live none = at_rest (λ db. db.schema ≡ no_schema) (IsSound no_schema) opened none (subst (λ schema. IsSound schema s.now.trees) none (live opened.is_open).0)
@@ -48,32 +57,59 @@ other_length (p ∷ tests) (t ∷ tables) other = last (p t) (other_length tests
     last true e = e
     last false e = refl
 
-our_tables : is_ours store_schema ≡ true
-unfolding Rattle.sqlite_schema.specs.Names.same_name is_meta is_person is_board is_role is_task is_link is_instance is_gone is_kept
-our_tables = refl
+-- ---- rows of a content, in the tables of either version
 
 our_first : has_meta store_schema.tables ≡ true
 unfolding Rattle.sqlite_schema.specs.Names.same_name is_meta
 our_first = refl
 
-pub store_has_meta : (schema : Schema) → schema ≡ store_schema → has_meta schema.tables ≡ false → ⊥
-store_has_meta schema is other =
-    let ours : has_meta schema.tables ≡ true = subst (λ x. has_meta x.tables ≡ true) (sym is) our_first in
+old_first : has_meta old_schema.tables ≡ true
+unfolding Rattle.sqlite_schema.specs.Names.same_name is_meta
+old_first = refl
+
+ours_taken : taken store_schema (our_meta ∷ []) ≡ Ok Second
+unfolding Rattle.sqlite_schema.specs.Names.same_name is_meta is_person is_board is_role is_task is_link is_instance is_gone is_kept is_horizon
+ours_taken = refl
+
+old_taken : taken old_schema (old_meta ∷ []) ≡ Ok First
+unfolding Rattle.sqlite_schema.specs.Names.same_name is_meta is_person is_board is_role is_task is_link is_instance is_gone is_kept
+old_taken = refl
+
+pub store_has_meta : (schema : Schema) → IsOfStore schema → has_meta schema.tables ≡ false → ⊥
+store_has_meta schema (inl is) other =
+    let first : has_meta schema.tables ≡ true = subst (λ x. has_meta x.tables ≡ true) (sym is) our_first in
+    cc
+store_has_meta schema (inr is) other =
+    let first : has_meta schema.tables ≡ true = subst (λ x. has_meta x.tables ≡ true) (sym is) old_first in
     cc
 
-pub store_is_ours : (schema : Schema) → schema ≡ store_schema → is_ours schema ≡ false → ⊥
-store_is_ours schema is other =
-    let ours : is_ours schema ≡ true = subst (λ x. is_ours x ≡ true) (sym is) our_tables in
+-- the rows of a content, in the tables of a store or of one of the first version
+abbrev pub AreEither : Content → Trees → Type 0
+AreEither content db = AreRows content db ⊎ AreOldRows content db
+
+pub either_of_store : (s : State) (content : Content) → Opens s → IsLive s → AreEither content s.now.trees → IsOfStore s.now.schema
+either_of_store s content opened live (inl rows) = inl (opened_content s content opened live rows).schema
+either_of_store s content opened live (inr rows) = inr (opened_old s content opened live rows).schema
+
+pub first_refused : (s : State) (content : Content) → Opens s → IsLive s → has_meta s.now.schema.tables ≡ false → AreEither content s.now.trees → ⊥
+first_refused s content opened live other rows = store_has_meta s.now.schema (either_of_store s content opened live rows) other
+
+-- they are taken as a store of one of the versions
+either_taken : (s : State) (content : Content) (metas : List MetaRow) → Opens s → IsLive s → AreMetas s.now metas → AreEither content s.now.trees → (version : Version) × (taken s.now.schema metas ≡ Ok version)
+either_taken s content metas opened live told (inl rows) =
+    let schema = (opened_content s content opened live rows).schema in
+    let one : metas ≡ our_meta ∷ [] = one_permutation our_meta metas (told (inl schema) (our_meta ∷ []) rows.tables.meta) in
+    (Second, ap (λ x. taken x metas) schema ∙ ap (taken store_schema) one ∙ ours_taken)
+either_taken s content metas opened live told (inr rows) =
+    let schema = (opened_old s content opened live rows).schema in
+    let one : metas ≡ old_meta ∷ [] = one_permutation old_meta metas (told (inr schema) (old_meta ∷ []) rows.tables.meta) in
+    (First, ap (λ x. taken x metas) schema ∙ ap (taken old_schema) one ∙ old_taken)
+
+pub never_refused : (s : State) (content : Content) (metas : List MetaRow) (fault : OpenFault) → Opens s → IsLive s → AreMetas s.now metas → AreEither content s.now.trees → Err fault ≡ taken s.now.schema metas → ⊥
+never_refused s content metas fault opened live told rows is =
+    let version = either_taken s content metas opened live told rows in
+    let none : Err fault ≡ Ok version.0 = is ∙ version.1 in
     cc
-
--- a database with other tables has the rows of no content
-pub others_refused : (s : State) (content : Content) → Opens s → IsLive s → is_ours s.now.schema ≡ false → AreRows content s.now.trees → ⊥
-others_refused s content opened live other rows =
-    store_is_ours s.now.schema (opened_content s content opened live rows).schema other
-
-pub first_refused : (s : State) (content : Content) → Opens s → IsLive s → has_meta s.now.schema.tables ≡ false → AreRows content s.now.trees → ⊥
-first_refused s content opened live other rows =
-    store_has_meta s.now.schema (opened_content s content opened live rows).schema other
 
 -- ---- a look at the database
 
@@ -126,24 +162,23 @@ judged_same (r ∷ s ∷ rows) [] same = absurd (omega (arith, length_permutatio
 judged_same (r ∷ s ∷ rows) (m ∷ []) same = absurd (omega (arith, length_permutation (r ∷ s ∷ rows) (m ∷ []) same))
 judged_same (r ∷ s ∷ rows) (m ∷ n ∷ metas) same = refl
 
--- the row of a store is not refused
-pub ours_not_refused : (fault : OpenFault) → Err fault ≡ judged (our_meta ∷ []) → ⊥
-ours_not_refused fault is = absurd (let none : Err fault ≡ Ok tt = is in cc)
+pub taken_same : (schema : Schema) (rows metas : List MetaRow) → IsPermutation rows metas → taken schema metas ≡ taken schema rows
+taken_same schema rows metas same = ap (if_there schema) (judged_same rows metas same)
 
 -- ---- the answer, by the tables and the rows
 
 pub refused_taken : (schema : Schema) (metas : List MetaRow) (fault : OpenFault) → Err fault ≡ judged metas → Err fault ≡ taken schema metas
-refused_taken schema metas fault is = subst (λ said. Err fault ≡ if_ours (is_ours schema) said) is (either (is_ours schema))
-  where
-    either : (b : Bool) → Err fault ≡ if_ours b (Err fault)
-    either true = refl
-    either false = refl
+refused_taken schema metas fault is = ap (if_there schema) is
 
-pub ours_taken : (schema : Schema) (metas : List MetaRow) → is_ours schema ≡ true → Ok tt ≡ judged metas → Ok tt ≡ taken schema metas
-ours_taken schema metas ours is = subst (λ b. Ok tt ≡ if_ours b (judged metas)) (sym ours) is
+pub there_taken : (schema : Schema) (metas : List MetaRow) (version : Version) → by_version version (is_old schema) (is_ours schema) ≡ true → Ok version ≡ judged metas → Ok version ≡ taken schema metas
+there_taken schema metas version there is =
+    let one : Ok version ≡ if_there schema (Ok version) = subst (λ b. Ok version ≡ cond b (Ok version) (Err NotOurs)) (sym there) refl in
+    one ∙ ap (if_there schema) is
 
-pub others_taken : (schema : Schema) (metas : List MetaRow) → is_ours schema ≡ false → Ok tt ≡ judged metas → Err NotOurs ≡ taken schema metas
-others_taken schema metas other is = subst (λ said. Err NotOurs ≡ if_ours (is_ours schema) said) is (subst (λ b. Err NotOurs ≡ if_ours b (Ok tt)) (sym other) refl)
+pub others_taken : (schema : Schema) (metas : List MetaRow) (version : Version) → by_version version (is_old schema) (is_ours schema) ≡ false → Ok version ≡ judged metas → Err NotOurs ≡ taken schema metas
+others_taken schema metas version other is =
+    let none : Err NotOurs ≡ if_there schema (Ok version) = subst (λ b. Err NotOurs ≡ cond b (Ok version) (Err NotOurs)) (sym other) refl in
+    none ∙ ap (if_there schema) is
 
 -- ---- why the store is told to have failed
 
@@ -154,10 +189,11 @@ told_so StoreFailed told memory is = refl
 -- the rows of the first table don't say it
 pub never_judged : (metas : List MetaRow) → judged metas ≡ Err Store → ⊥
 never_judged [] is = absurd (cc)
-never_judged (meta ∷ []) is = go (bytes_eq meta.kind (codes "taskboard")) (meta.version == 1) is
+never_judged (meta ∷ []) is = go (bytes_eq meta.kind (codes "taskboard")) (meta.version == 2) (meta.version == 1) is
   where
-    go : (kind version : Bool) → ◌≡◌ {A = Result (Unit {0}) OpenFault} (cond kind (cond version (Ok tt) (Err WrongVersion)) (Err NotOurs)) (Err Store) → ⊥
-    go true true is = absurd (cc)
-    go true false is = absurd (cc)
-    go false version is = absurd (cc)
+    go : (kind second first : Bool) → ◌≡◌ {A = Result Version OpenFault} (cond kind (cond second (Ok Second) (cond first (Ok First) (Err WrongVersion))) (Err NotOurs)) (Err Store) → ⊥
+    go true true first is = absurd (cc)
+    go true false true is = absurd (cc)
+    go true false false is = absurd (cc)
+    go false second first is = absurd (cc)
 never_judged (a ∷ b ∷ metas) is = absurd (cc)

@@ -8,6 +8,7 @@ use Rattle.tb_sql_tables.specs.declared.rows.LinkRow.{LinkRow}
 use Rattle.tb_sql_tables.specs.declared.rows.InstanceRow.{InstanceRow}
 use Rattle.tb_sql_tables.specs.declared.rows.GoneRow.{GoneRow}
 use Rattle.tb_sql_tables.specs.declared.rows.KeptRow.{KeptRow}
+use Rattle.tb_sql_tables.specs.declared.rows.HorizonRow.{HorizonRow}
 use Rattle.tb_sql_tables.specs.Content.{Content}
 
 -- ---- a row that goes in
@@ -36,6 +37,9 @@ with_gone gone content = record content { gone = gone ∷ content.gone }
 abbrev pub with_kept : KeptRow → Content → Content
 with_kept kept content = record content { kept = kept ∷ content.kept }
 
+abbrev pub with_horizon : HorizonRow → Content → Content
+with_horizon horizon content = record content { horizon = horizon ∷ content.horizon }
+
 -- ---- the rows of a key
 
 abbrev pub is_board : ℕ → BoardRow → Bool
@@ -62,6 +66,9 @@ is_gone board template imask gone = (gone.board == board) && ((gone.template == 
 abbrev pub is_kept : ℕ → ℕ → KeptRow → Bool
 is_kept person id kept = (kept.person == person) && (kept.id == id)
 
+abbrev pub is_horizon : ℕ → HorizonRow → Bool
+is_horizon board horizon = horizon.board == board
+
 -- ---- rows that go
 
 abbrev pub without_role : ℕ → ℕ → Content → Content
@@ -78,6 +85,11 @@ without_gone board template imask content = record content { gone = filter (λ g
 -- the board of this number has this least free number
 abbrev pub with_low : ℕ → ℕ → Content → Content
 with_low id low content = record content { boards = map (λ (board : BoardRow). if is_board id board then (let changed : BoardRow = record board { low = low } in changed) else board) content.boards }
+
+-- the board of this number has so many instances ahead
+abbrev pub with_ahead : ℕ → ℕ → Content → Content
+with_ahead board ahead content =
+    record content { horizon = map (λ (horizon : HorizonRow). if is_horizon board horizon then (let changed : HorizonRow = record horizon { ahead = ahead } in changed) else horizon) content.horizon }
 
 -- the task at the place has this text and this mask
 abbrev pub with_text : ℕ → ℕ → List ℕ → Option (List ℕ) → Content → Content

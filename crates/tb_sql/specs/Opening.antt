@@ -14,10 +14,12 @@ use Rattle.sqlite.specs.Effect.{Database}
 use Rattle.sqlite.specs.Held.{Held, state}
 use Rattle.sqlite.specs.State.{State, HasCleanDisk, Shown}
 use Rattle.tb_sql_tables.specs.declared.rows.MetaRow.{MetaRow}
-use Rattle.tb_sql_tables.specs.Tables.{meta_tree, store_schema}
+use Rattle.tb_sql_tables.specs.Tables.{meta_tree, old_schema, store_schema}
 use Rattle.tb_sql_tables.specs.Content.{HasKeyed}
 use Rattle.tb_sql_tables.specs.Reading.{meta_of}
 use Rattle.tb_sql.specs.declared.opening.OpenFault.{OpenFault}
+use Rattle.tb_sql.specs.declared.opening.Version.{Version}
+use Rattle.tb_sql.specs.declared.opening.Version.TheVariants.{First, Second}
 use Rattle.tb_sql.specs.declared.opening.OpenFault.TheVariants.{NotOurs, WrongVersion, Store, Memory}
 
 -- ---- the tables, by their names and the names and types of their columns
@@ -68,6 +70,9 @@ is_gone table = same_name table.name (codes "gone") && are_columns ((codes "boar
 unfoldable pub is_kept : Table → Bool
 is_kept table = same_name table.name (codes "kept") && are_columns ((codes "person", is_integer) ∷ (codes "id", is_blob) ∷ (codes "content", is_blob) ∷ (codes "number", is_integer) ∷ (codes "status", is_integer) ∷ (codes "body", is_text) ∷ []) table.columns
 
+unfoldable pub is_horizon : Table → Bool
+is_horizon table = same_name table.name (codes "horizon") && are_columns ((codes "board", is_integer) ∷ (codes "ahead", is_integer) ∷ []) table.columns
+
 -- the first of the tables tells what the file is
 abbrev pub has_meta : List Table → Bool
 has_meta [] = false
@@ -82,43 +87,72 @@ are_tables (p ∷ ps) (t ∷ ts) = p t && are_tables ps ts
 
 -- the tables are those of a store, in the order in which they are made
 abbrev pub are_ours : List Table → Bool
-are_ours = are_tables (is_meta ∷ is_person ∷ is_board ∷ is_role ∷ is_task ∷ is_link ∷ is_instance ∷ is_gone ∷ is_kept ∷ [])
+are_ours = are_tables (is_meta ∷ is_person ∷ is_board ∷ is_role ∷ is_task ∷ is_link ∷ is_instance ∷ is_gone ∷ is_kept ∷ is_horizon ∷ [])
 
--- the tables are those of a store, and beside them are the nine indexes of their keys alone
+-- the same for a store of the first version
+abbrev pub are_old : List Table → Bool
+are_old = are_tables (is_meta ∷ is_person ∷ is_board ∷ is_role ∷ is_task ∷ is_link ∷ is_instance ∷ is_gone ∷ is_kept ∷ [])
+
+-- beside the tables are the nine indexes of their keys alone
+abbrev pub has_key_indexes : Schema → Bool
+has_key_indexes schema = (length schema.indexes == 9) && (length schema.views == 0)
+
+-- the tables are those of a store, and nothing else is there
 abbrev pub is_ours : Schema → Bool
-is_ours schema = are_ours schema.tables && ((length schema.indexes == 9) && (length schema.views == 0))
+is_ours schema = are_ours schema.tables && has_key_indexes schema
+
+-- the same for a store of the first version
+abbrev pub is_old : Schema → Bool
+is_old schema = are_old schema.tables && has_key_indexes schema
+
+abbrev pub by_version : Version → Bool → Bool → Bool
+by_version First first second = first
+by_version Second first second = second
+
+-- the tables are those of this version
+abbrev pub has_tables : Version → Schema → Bool
+has_tables version schema = by_version version (is_old schema) (is_ours schema)
 
 -- ---- what the file is
 
 abbrev pub our_meta : MetaRow
-our_meta = record { kind = codes "taskboard"; version = 1 }
+our_meta = record { kind = codes "taskboard"; version = 2 }
+
+abbrev pub old_meta : MetaRow
+old_meta = record { kind = codes "taskboard"; version = 1 }
 
 -- a row of the first table, with its rowid
 abbrev pub row_of_meta : MetaRow → Row
 row_of_meta meta = Int (pos 1) ∷ Null ∷ Words meta.kind ∷ Int (pos meta.version) ∷ []
 
+-- the tables are those of a store, of this version or the first
+abbrev pub IsOfStore : Schema → Type 0
+IsOfStore schema = (schema ≡ store_schema) ⊎ (schema ≡ old_schema)
+
 -- where the tables are those of a store, these are the rows of the first
 abbrev pub AreMetas : Database → List MetaRow → Type 0
-AreMetas db metas = db.schema ≡ store_schema → (rows : List MetaRow) → HasKeyed (map row_of_meta rows) (db.trees meta_tree) → IsPermutation rows metas
+AreMetas db metas = IsOfStore db.schema → (rows : List MetaRow) → HasKeyed (map row_of_meta rows) (db.trees meta_tree) → IsPermutation rows metas
+
+abbrev pub version_of : ℕ → Result Version OpenFault
+version_of number = if number == 2 then Ok Second else (if number == 1 then Ok First else Err WrongVersion)
 
 -- what the rows of the first table say: one row names a store and its version
-abbrev pub judged : List MetaRow → Result (Unit {0}) OpenFault
+abbrev pub judged : List MetaRow → Result Version OpenFault
 judged [] = Err NotOurs
-judged (meta ∷ []) = if bytes_eq meta.kind (codes "taskboard") then (if meta.version == 1 then Ok tt else Err WrongVersion) else Err NotOurs
+judged (meta ∷ []) = if bytes_eq meta.kind (codes "taskboard") then version_of meta.version else Err NotOurs
 judged (a ∷ b ∷ metas) = Err NotOurs
 
--- a store is taken only where its tables are there, and nothing else
-abbrev pub if_ours : Bool → Result (Unit {0}) OpenFault → Result (Unit {0}) OpenFault
-if_ours true said = said
-if_ours false (Ok done) = Err NotOurs
-if_ours false (Err fault) = Err fault
+-- a store is taken only where the tables of its version are there, and nothing else
+abbrev pub if_there : Schema → Result Version OpenFault → Result Version OpenFault
+if_there schema (Ok version) = if has_tables version schema then Ok version else Err NotOurs
+if_there schema (Err fault) = Err fault
 
 -- what the tables and those rows say
-abbrev pub taken : Schema → List MetaRow → Result (Unit {0}) OpenFault
-taken schema metas = if_ours (is_ours schema) (judged metas)
+abbrev pub taken : Schema → List MetaRow → Result Version OpenFault
+taken schema metas = if_there schema (judged metas)
 
 -- the answer is this one, unless the database fails or memory is wanting
-abbrev pub Answers : Result (Unit {0}) OpenFault → Result (Unit {0}) OpenFault → Type 0
+abbrev pub Answers : Result Version OpenFault → Result Version OpenFault → Type 0
 Answers wanted answer = (answer ≡ wanted) ⊎ ((answer ≡ Err Store) ⊎ (answer ≡ Err Memory))
 
 -- ---- what a look finds in any database that has the first table
@@ -138,7 +172,7 @@ module _ {S : Type 0} (g : Ghosts S) where
   AreShownFrom conn metas = (later : Held S) × AreShown (state g (record conn { in_transaction = true })) (state g later) metas
 
   -- the answer is what the tables and the rows say, unless the database fails or memory is wanting
-  abbrev pub IsAnswered : Held S → Result (Unit {0}) OpenFault → Type 0
+  abbrev pub IsAnswered : Held S → Result Version OpenFault → Type 0
   IsAnswered conn answer = ((metas : List MetaRow) × AreShownFrom conn metas × (answer ≡ taken conn.schema metas)) ⊎ ((answer ≡ Err Store) ⊎ (answer ≡ Err Memory))
 
 -- ---- what a look leaves

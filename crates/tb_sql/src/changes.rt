@@ -8,13 +8,16 @@ ghost use Rattle.tb_sql.specs.Writing.{changed_by, changed_by_all};
 
 use crate::boards::{insert_board, update_low};
 use crate::gone::{delete_gone, insert_gone};
+use crate::horizons::{insert_horizon, update_horizon};
 use crate::instances::insert_instance;
 use crate::links::{delete_links, insert_link};
 use crate::people::insert_person;
 use crate::roles::{delete_role, insert_role};
 use crate::tasks::{insert_task, update_mask, update_text};
 use sqlite::{Alter, Error, Transaction};
-use tb_sql_tables::rows::{BoardRow, GoneRow, InstanceRow, LinkRow, PersonRow, RoleRow, TaskRow};
+use tb_sql_tables::rows::{
+    BoardRow, GoneRow, HorizonRow, InstanceRow, LinkRow, PersonRow, RoleRow, TaskRow,
+};
 use tb_values::Text;
 
 /// One change of the rows.
@@ -55,6 +58,11 @@ pub enum RowChange {
         template: u32,
         imask: u32,
     },
+    AddHorizon(HorizonRow),
+    SetHorizon {
+        board: u32,
+        ahead: u32,
+    },
 }
 
 /// Makes one change.
@@ -89,6 +97,8 @@ pub fn apply_change<S: Alter>(tx: &mut Transaction<'_, S>, change: &RowChange) -
             template,
             imask,
         } => delete_gone(tx, *board, *template, *imask),
+        RowChange::AddHorizon(horizon) => insert_horizon(tx, horizon),
+        RowChange::SetHorizon { board, ahead } => update_horizon(tx, *board, *ahead),
     }
 }
 

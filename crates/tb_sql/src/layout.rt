@@ -176,6 +176,18 @@ fn is_kept(table: &Table) -> bool
         && ends_kept(rest)
 }
 
+#[tactic(auto, unfolding(crate::specs::Opening::is_horizon))]
+fn is_horizon(table: &Table) -> bool
+    ensures { result ≡ opening.is_horizon table.now }
+{
+    let [board_column, ahead_column] = table.columns.as_slice() else {
+        return false;
+    };
+    is_named(table.name.as_slice(), "horizon")
+        && is_integer(board_column, "board")
+        && is_integer(ahead_column, "ahead")
+}
+
 /// Whether the first table tells what the file is.
 pub(crate) fn has_meta(schema: &Schema) -> bool
     ensures { result ≡ opening.has_meta schema.now.tables }
@@ -188,6 +200,36 @@ pub(crate) fn has_meta(schema: &Schema) -> bool
 
 #[tactic(auto, using(crate::proofs::Opened::other_length))]
 fn are_last(tables: &[Table]) -> bool
+    ensures { result ≡ opening.are_tables (opening.is_instance ∷ opening.is_gone ∷ opening.is_kept ∷ opening.is_horizon ∷ []) tables.now }
+{
+    let [instance, gone, kept, horizon] = tables else {
+        return false;
+    };
+    is_instance(instance) && is_gone(gone) && is_kept(kept) && is_horizon(horizon)
+}
+
+#[tactic(auto, using(crate::proofs::Opened::other_length))]
+fn are_later(tables: &[Table]) -> bool
+    ensures { result ≡ opening.are_tables (opening.is_role ∷ opening.is_task ∷ opening.is_link ∷ opening.is_instance ∷ opening.is_gone ∷ opening.is_kept ∷ opening.is_horizon ∷ []) tables.now }
+{
+    let [role, task, link, last @ ..] = tables else {
+        return false;
+    };
+    is_role(role) && is_task(task) && is_link(link) && are_last(last)
+}
+
+#[tactic(auto, using(crate::proofs::Opened::other_length))]
+fn are_ours(tables: &[Table]) -> bool
+    ensures { result ≡ opening.are_ours tables.now }
+{
+    let [meta, person, board, later @ ..] = tables else {
+        return false;
+    };
+    is_meta(meta) && is_person(person) && is_board(board) && are_later(later)
+}
+
+#[tactic(auto, using(crate::proofs::Opened::other_length))]
+fn are_old_last(tables: &[Table]) -> bool
     ensures { result ≡ opening.are_tables (opening.is_instance ∷ opening.is_gone ∷ opening.is_kept ∷ []) tables.now }
 {
     let [instance, gone, kept] = tables else {
@@ -197,30 +239,42 @@ fn are_last(tables: &[Table]) -> bool
 }
 
 #[tactic(auto, using(crate::proofs::Opened::other_length))]
-fn are_later(tables: &[Table]) -> bool
+fn are_old_later(tables: &[Table]) -> bool
     ensures { result ≡ opening.are_tables (opening.is_role ∷ opening.is_task ∷ opening.is_link ∷ opening.is_instance ∷ opening.is_gone ∷ opening.is_kept ∷ []) tables.now }
 {
     let [role, task, link, last @ ..] = tables else {
         return false;
     };
-    is_role(role) && is_task(task) && is_link(link) && are_last(last)
+    is_role(role) && is_task(task) && is_link(link) && are_old_last(last)
 }
 
 #[tactic(auto, using(crate::proofs::Opened::other_length))]
-fn are_first(tables: &[Table]) -> bool
-    ensures { result ≡ opening.are_ours tables.now }
+fn are_old(tables: &[Table]) -> bool
+    ensures { result ≡ opening.are_old tables.now }
 {
     let [meta, person, board, later @ ..] = tables else {
         return false;
     };
-    is_meta(meta) && is_person(person) && is_board(board) && are_later(later)
+    is_meta(meta) && is_person(person) && is_board(board) && are_old_later(later)
+}
+
+/// Whether there are the indexes of the keys, and no further index and no view.
+fn has_key_indexes(schema: &Schema) -> bool
+    ensures { result ≡ opening.has_key_indexes schema.now }
+{
+    schema.indexes.len() == KEY_INDEXES && schema.views.is_empty()
 }
 
 /// Whether the tables are those of a store, in the order in which they are made, and nothing else is there.
 pub(crate) fn is_ours(schema: &Schema) -> bool
     ensures { result ≡ opening.is_ours schema.now }
 {
-    are_first(schema.tables.as_slice())
-        && schema.indexes.len() == KEY_INDEXES
-        && schema.views.is_empty()
+    are_ours(schema.tables.as_slice()) && has_key_indexes(schema)
+}
+
+/// The same for a store of the first version.
+pub(crate) fn is_old(schema: &Schema) -> bool
+    ensures { result ≡ opening.is_old schema.now }
+{
+    are_old(schema.tables.as_slice()) && has_key_indexes(schema)
 }

@@ -6,13 +6,16 @@
 mod bind;
 pub mod boards;
 pub mod changes;
+pub mod first_version;
 pub mod gone;
+pub mod horizons;
 pub mod instances;
 pub mod kept;
 mod layout;
 pub mod lend;
 pub mod links;
 pub mod meta;
+pub mod migrating;
 pub mod opening;
 pub mod people;
 pub mod roles;

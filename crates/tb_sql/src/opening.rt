@@ -1,15 +1,15 @@
 //! Takes a connection that was opened over a database as a store.
 
-ghost use Rattle.std.specs.Prelude.{◌≡◌, ◌⊎◌, List, [], ◌∷◌, map, true, false, IsTrue, IfOk, OnOk, Err};
+ghost use Rattle.std.specs.Prelude.{◌≡◌, ◌⊎◌, List, [], ◌∷◌, map, true, false, IsTrue, IfOk, OnOk, Bool, Ok, Err};
 ghost use Rattle.sqlite.specs.Held.{state};
 ghost use Rattle.sqlite.specs.State.{HasCleanDisk, Opens};
-ghost use Rattle.tb_sql_tables.specs.Tables.{meta_tree, no_schema, store_schema};
+ghost use Rattle.tb_sql_tables.specs.Tables.{meta_tree, no_schema};
 ghost use Rattle.tb_sql_tables.specs.declared.rows.MetaRow.{MetaRow as Meta};
-ghost use Rattle.tb_sql_tables.specs.Content.{Content, AreRows, HasKeyed, IsContent, Stands, StandsEmpty};
+ghost use Rattle.tb_sql_tables.specs.Content.{Content, AreOldRows, AreRows, HasKeyed, IsContent, Stands, StandsEmpty, StandsOld};
 ghost use Rattle.tb_sql_tables.specs.Failing.{FailsByFault, KeepsFaults};
-ghost use Rattle.tb_sql.specs.Opening.{has_meta, is_ours, judged, our_meta, row_of_meta, Answers, AreMetas, AreShownFrom, IsAnswered, IsAsBefore};
+ghost use Rattle.tb_sql.specs.Opening.{by_version, has_meta, has_tables, judged, our_meta, row_of_meta, taken, version_of, Answers, AreMetas, AreShownFrom, IsAnswered, IsAsBefore, IsOfStore};
 
-use crate::layout::{has_meta, is_ours};
+use crate::layout::{has_meta, is_old, is_ours};
 use crate::meta::select_meta;
 use crate::store::StoreFault;
 use sqlite::{Alter, Connection};
@@ -18,7 +18,18 @@ use tb_values::Items;
 
 const KIND: &str = "taskboard";
 
-const VERSION: u32 = 1;
+const FIRST: u32 = 1;
+
+const SECOND: u32 = 2;
+
+/// Which tables a store has.
+#[derive(Clone, Copy, Debug, PartialEq, Eq)]
+pub enum Version {
+    /// Those without what the boards have ahead.
+    First,
+    /// Those that are made today.
+    Second,
+}
 
 /// Why a database isn't taken as a store. It is as it was.
 #[derive(Clone, Copy, Debug, PartialEq, Eq)]
@@ -76,7 +87,7 @@ fn read_meta<S: Alter>(conn: &mut Connection<S>) -> Result<Items<MetaRow>, Store
 }
 
 /// Judges what the file is.
-fn judge(metas: &[MetaRow]) -> Result<(), OpenFault>
+fn judge(metas: &[MetaRow]) -> Result<Version, OpenFault>
     ensures { result ≡ judged metas.now }
 {
     let [meta] = metas else {
@@ -85,30 +96,48 @@ fn judge(metas: &[MetaRow]) -> Result<(), OpenFault>
     if meta.kind.as_str() != KIND {
         return Err(OpenFault::NotOurs);
     }
-    if meta.version != VERSION {
-        return Err(OpenFault::WrongVersion);
-    }
-    Ok(())
+    version_of(meta.version)
 }
 
-/// Takes the database as a store, as it is, or refuses it.
-pub fn accept<S: Alter>(conn: &mut Connection<S>) -> Result<(), OpenFault>
+fn version_of(number: u32) -> Result<Version, OpenFault>
+    ensures { result ≡ version_of number }
+{
+    match number {
+        SECOND => Ok(Version::Second),
+        FIRST => Ok(Version::First),
+        _ => Err(OpenFault::WrongVersion),
+    }
+}
+
+fn by_version(version: Version, first: bool, second: bool) -> bool
+    ensures { result ≡ by_version version first second }
+{
+    match version {
+        Version::First => first,
+        Version::Second => second,
+    }
+}
+
+/// Takes the database as a store of a version, as it is, or refuses it.
+pub fn accept<S: Alter>(conn: &mut Connection<S>) -> Result<Version, OpenFault>
     requires { conn.old.in_transaction ≡ false }
     ensures idle { conn.new.in_transaction ≡ false }
     ensures shows { OnOk result (Opens (state S.Store conn.old) → (content : Content) → AreRows content (state S.Store conn.old).now.trees → Stands content (state S.Store conn.new)) }
+    ensures old { OnOk result (Opens (state S.Store conn.old) → (content : Content) → AreOldRows content (state S.Store conn.old).now.trees → StandsOld content (state S.Store conn.new)) }
     ensures refuses { (result ≡ Err OpenFault.NotOurs) ⊎ (result ≡ Err OpenFault.WrongVersion)
-        → HasCleanDisk (state S.Store conn.new) → Opens (state S.Store conn.old) → (content : Content) → AreRows content (state S.Store conn.old).now.trees → ⊥ }
-    ensures tables { OnOk result (is_ours (state S.Store conn.old).now.schema ≡ true) }
+        → HasCleanDisk (state S.Store conn.new) → Opens (state S.Store conn.old) → (content : Content) → AreRows content (state S.Store conn.old).now.trees ⊎ AreOldRows content (state S.Store conn.old).now.trees → ⊥ }
+    ensures tables { IfOk result (λ version. has_tables version (state S.Store conn.old).now.schema ≡ true) }
     ensures foreign { has_meta (state S.Store conn.old).now.schema.tables ≡ false → result ≡ Err OpenFault.NotOurs }
     ensures answered { HasCleanDisk (state S.Store conn.new) → has_meta (state S.Store conn.old).now.schema.tables ≡ true → IsAnswered S.Store conn.old result }
-    ensures told { HasCleanDisk (state S.Store conn.new) → (state S.Store conn.old).now.schema ≡ store_schema
-        → (metas : List Meta) → HasKeyed (map row_of_meta metas) ((state S.Store conn.old).now.trees meta_tree) → Answers (judged metas) result }
+    ensures told { HasCleanDisk (state S.Store conn.new) → IsOfStore (state S.Store conn.old).now.schema
+        → (metas : List Meta) → HasKeyed (map row_of_meta metas) ((state S.Store conn.old).now.trees meta_tree) → Answers (taken (state S.Store conn.old).now.schema metas) result }
     ensures excused { result ≡ Err OpenFault.Store → Opens (state S.Store conn.old)
         → FailsByFault (state S.Store conn.old) (state S.Store conn.new) (λ content. AreRows content (state S.Store conn.old).now.trees) }
     ensures faults { KeepsFaults (state S.Store conn.old) (state S.Store conn.new) }
     ensures same { IsAsBefore (state S.Store conn.old) (state S.Store conn.new) }
 {
-    let ours = is_ours(conn.schema());
+    let first = is_old(conn.schema());
+    let second = is_ours(conn.schema());
     if !has_meta(conn.schema()) {
         return Err(OpenFault::NotOurs);
     }
@@ -116,11 +145,12 @@ pub fn accept<S: Alter>(conn: &mut Connection<S>) -> Result<(), OpenFault>
         Ok(metas) => metas,
         Err(fault) => return Err(OpenFault::of(fault)),
     };
-    if let Err(fault) = judge(metas.as_slice()) {
-        return Err(fault);
-    }
-    if ours {
-        Ok(())
+    let version = match judge(metas.as_slice()) {
+        Ok(version) => version,
+        Err(fault) => return Err(fault),
+    };
+    if by_version(version, first, second) {
+        Ok(version)
     } else {
         Err(OpenFault::NotOurs) // Something else is there, or a table is missing.
     }
