@@ -1,8 +1,8 @@
 //! A board beside its rows.
 
-ghost use Rattle.std.specs.Prelude.{◌≡◌, ◌≤◌, ◌↔◌, IsTrue, IfOk, length};
+ghost use Rattle.std.specs.Prelude.{◌≡◌, ◌≤◌, ◌↔◌, IsTrue, IfOk, Some, length};
 ghost use Rattle.tb_audit.specs.Stored.{AreAsStored};
-ghost use Rattle.tb_rows.specs.Rows.{board_row};
+ghost use Rattle.tb_rows.specs.Rows.{board_row, horizon_row};
 
 use crate::instances::have_instances;
 use crate::links::have_links;
@@ -10,22 +10,26 @@ use crate::masks::have_masks;
 use std::alloc::{AllocError, Global};
 use tb_board::{Board, least_number};
 use tb_rows::TaskPlaces;
-use tb_sql_tables::rows::{BoardRow, InstanceRow, LinkRow, TaskRow};
+use tb_sql_tables::rows::{BoardRow, HorizonRow, InstanceRow, LinkRow, TaskRow};
 
-/// Whether a board has this row, its tasks in order of place these masks, and the board these links and instances. What else the rows
-/// of the tasks hold isn't looked at.
+/// Whether a board has this row, and this for how far ahead it looks, its tasks in order of place these masks, and the board these
+/// links and instances. What else the rows of the tasks hold isn't looked at.
 pub fn is_as_stored(
     alloc: Global,
     board: &Board,
     row: &BoardRow,
+    horizon: Option<HorizonRow>,
     tasks: &[TaskRow],
     links: &[LinkRow],
     instances: &[InstanceRow],
 ) -> Result<bool, AllocError>
     requires { length board.now.tasks ≤ 10000 }
-    ensures { IfOk result (λ same. IsTrue same ↔ AreAsStored board.now row.now tasks.now links.now instances.now) }
+    ensures { IfOk result (λ same. IsTrue same ↔ AreAsStored board.now row.now horizon tasks.now links.now instances.now) }
 {
     if !has_row(alloc, board, row)? {
+        return Ok(false);
+    }
+    if !has_horizon(board, horizon) {
         return Ok(false);
     }
     if !have_masks(alloc, board, tasks)? {
@@ -44,4 +48,13 @@ fn has_row(alloc: Global, board: &Board, row: &BoardRow) -> Result<bool, AllocEr
 {
     let low = least_number(alloc, board)?;
     Ok(row.id == board.number && row.low == low && row.title.as_str() == board.title.as_str())
+}
+
+fn has_horizon(board: &Board, horizon: Option<HorizonRow>) -> bool
+    ensures { IsTrue result ↔ (horizon ≡ Some (horizon_row board.now)) }
+{
+    match horizon {
+        Some(row) => { row.board == board.number && row.ahead == u32::from(board.ahead.number()) }
+        None => false,
+    }
 }

@@ -1,9 +1,10 @@
 -- What an audit tells of a state.
-use Rattle.std.proofs.Common.{◌≡◌, ◌+◌, ◌==◌, ℕ, List, [], ◌∷◌, Option, Some, None, Result, Ok, Err, filter, map, flat_map, refl, ap, subst, IsPermutation}
+use Rattle.std.proofs.Common.{◌≡◌, ◌+◌, ◌==◌, ℕ, List, [], ◌∷◌, Option, Some, None, Result, Ok, Err, filter, map, flat_map, inr, refl, ap, subst, IsPermutation}
 use Rattle.std.specs.Prelude.{IfOk}
 use Rattle.std.specs.List.{AllByRecursion}
-use Rattle.std.proofs.lemmas.List.Sorted.{IsPermutation-map}
+use Rattle.std.proofs.lemmas.List.Sorted.{IsPermutation-map, IsPermutation-sym}
 use Rattle.sqlite_keyed.proofs.ListLemmas.{all-append, IsPermutation-filter}
+use Rattle.sqlite.proofs.Callers.{one_permutation}
 use Rattle.sqlite.specs.State.{HasCleanDisk, State as Database}
 use Rattle.tb_task.specs.TaskId.{IsRead}
 use Rattle.tb_board.specs.declared.board.Board.{Board}
@@ -12,9 +13,9 @@ use Rattle.tb_core.specs.GoodWorld.{IsGoodWorld}
 use Rattle.tb_calls.specs.Calls.{State}
 use Rattle.tb_reopen.specs.Forms.{HasForm}
 use Rattle.tb_reopen.proofs.Joined.{numbered_from, own_rows}
-use Rattle.tb_reopen.proofs.ReadBoards.{own_tasks}
-use Rattle.tb_rows.specs.Rows.{rows_from, world_rows, board_row, board_tasks, board_links, board_instances, link_row, link_rows, instance_rows, instance_rows_of, HaveSameRows}
-use Rattle.tb_sql.specs.Changes.{is_board, IsBoardBefore}
+use Rattle.tb_reopen.proofs.ReadBoards.{own_horizon, own_tasks}
+use Rattle.tb_rows.specs.Rows.{rows_from, world_rows, board_row, horizon_row, board_tasks, board_links, board_instances, link_row, link_rows, instance_rows, instance_rows_of, HaveSameRows}
+use Rattle.tb_sql.specs.Changes.{is_board, is_horizon, IsBoardBefore}
 use Rattle.tb_sql.specs.Opening.{IsAsBefore}
 use Rattle.tb_sql.proofs.Opened.{stands_again}
 use Rattle.tb_sql_tables.specs.declared.rows.BoardRow.{BoardRow}
@@ -24,7 +25,7 @@ use Rattle.tb_sql_tables.specs.declared.rows.InstanceRow.{InstanceRow}
 use Rattle.tb_sql_tables.specs.Content.{AreRows, Content, IsContent, Stands}
 use Rattle.tb_sql_tables.specs.Found.{AreFound}
 use Rattle.tb_keeper.specs.declared.auditing.Audit.{Audit}
-use Rattle.tb_keeper.specs.Auditing.{is_instance_on, is_link_on, sound, without_low, without_mask, HasBoardsOf, HasItsRows, StandFor, Tells}
+use Rattle.tb_keeper.specs.Auditing.{is_instance_on, is_link_on, sound, without_low, without_mask, HasBoardsOf, HasHorizonOrNone, HasItsRows, StandFor, Tells}
 use Rattle.tb_stored.specs.Reopening.{OfContent}
 use Rattle.tb_stored.specs.Stored.{AreRowsOf, IsStored}
 use Rattle.tb_keeper.proofs.Counting.{no_faults}
@@ -62,18 +63,20 @@ row_each (b ∷ bs) = ap (λ l. board_row b ∷ l) (row_each bs)
 
 module _ (c : Content) (w : World) (same : HaveSameRows c (world_rows w)) where
   each_has : (bs : List Board) → AllByRecursion (λ (b : Board). filter (is_board b.number) (world_rows w).boards ≡ board_row b ∷ []) bs
+      → AllByRecursion (λ (b : Board). filter (is_horizon b.number) (world_rows w).horizon ≡ horizon_row b ∷ []) bs
       → AllByRecursion (λ (b : Board). filter (λ (r : TaskRow). r.board == b.number) (world_rows w).tasks ≡ board_tasks b) bs
       → AllByRecursion (λ (b : Board). filter (is_link_on b.number) (world_rows w).links ≡ board_links b) bs
       → AllByRecursion (λ (b : Board). filter (is_instance_on b.number) (world_rows w).instances ≡ board_instances b) bs → AllByRecursion (HasItsRows c) bs
-  each_has [] rows tasks links instances = tt
-  each_has (b ∷ bs) rows tasks links instances = (
+  each_has [] rows horizons tasks links instances = tt
+  each_has (b ∷ bs) rows horizons tasks links instances = (
     record {
       row_is = subst (IsPermutation _) rows.0 (IsPermutation-filter (is_board b.number) _ _ same.boards);
+      horizon_is = subst (IsPermutation _) horizons.0 (IsPermutation-filter (is_horizon b.number) _ _ same.horizon);
       tasks_are = subst (IsPermutation _) tasks.0 (IsPermutation-filter (λ (r : TaskRow). r.board == b.number) _ _ same.tasks);
       links_are = subst (IsPermutation _) links.0 (IsPermutation-filter (is_link_on b.number) _ _ same.links);
       instances_are = subst (IsPermutation _) instances.0 (IsPermutation-filter (is_instance_on b.number) _ _ same.instances);
     },
-    each_has bs rows.1 tasks.1 links.1 instances.1,
+    each_has bs rows.1 horizons.1 tasks.1 links.1 instances.1,
   )
 
   all_have : IsGoodWorld w → AllByRecursion (HasItsRows c) w.boards
@@ -81,23 +84,35 @@ module _ (c : Content) (w : World) (same : HaveSameRows c (world_rows w)) where
       let numbered = numbered_from 1 w.boards good.numbered in
       let rows = subst (λ l. AllByRecursion (λ (b : Board). filter (is_board b.number) l ≡ board_row b ∷ []) w.boards) (row_each w.boards)
       (own_rows (λ (row : BoardRow). row.id) (λ b. board_row b ∷ []) (λ b. (refl, tt)) 1 w.boards numbered) in
-      each_has w.boards rows (own_rows (λ (row : TaskRow). row.board) board_tasks own_tasks 1 w.boards numbered) (own_rows (λ (row : LinkRow). row.board) board_links own_links 1 w.boards numbered)
+      each_has w.boards rows (own_horizon 1 w.boards numbered) (own_rows (λ (row : TaskRow). row.board) board_tasks own_tasks 1 w.boards numbered) (own_rows (λ (row : LinkRow). row.board) board_links own_links 1 w.boards numbered)
       (own_rows (λ (row : InstanceRow). row.board) board_instances own_instances 1 w.boards numbered)
 
-  has_boards : HasBoardsOf w c
-  has_boards = record { boards = IsPermutation-map without_low _ _ same.boards; tasks = IsPermutation-map without_mask _ _ same.tasks; gone = same.gone }
+  each_looks : (bs : List Board) → AllByRecursion (λ (b : Board). filter (is_horizon b.number) (world_rows w).horizon ≡ horizon_row b ∷ []) bs → AllByRecursion (HasHorizonOrNone c) bs
+  each_looks [] own = tt
+  each_looks (b ∷ bs) own = (
+    inr (one_permutation (horizon_row b) _ (subst (λ l. IsPermutation l (filter (is_horizon b.number) c.horizon)) own.0 (IsPermutation-filter (is_horizon b.number) _ _ (IsPermutation-sym _ _ same.horizon)))),
+    each_looks bs own.1,
+  )
+
+  has_boards : IsGoodWorld w → HasBoardsOf w c
+  has_boards good = record {
+    boards = IsPermutation-map without_low _ _ same.boards;
+    tasks = IsPermutation-map without_mask _ _ same.tasks;
+    gone = same.gone;
+    horizon = each_looks w.boards (own_horizon 1 w.boards (numbered_from 1 w.boards good.numbered));
+  }
 
 world_tables : (s : State) (c : Content) → AreRowsOf s c → HaveSameRows c (world_rows s.world)
 world_tables s c of_s =
     let t = of_s.same.tables in
-    record { people = t.people; boards = t.boards; roles = t.roles; tasks = t.tasks; links = t.links; instances = t.instances; gone = t.gone }
+    record { people = t.people; boards = t.boards; roles = t.roles; tasks = t.tasks; links = t.links; instances = t.instances; gone = t.gone; horizon = t.horizon }
 
 -- on the rows of a state there are no faults
 pub audit_sound : (old new : Database) (audit : Audit) → OfContent old new (λ c. (w : World) → IsGoodWorld w → HasForm w → HasBoardsOf w c → Tells c w.boards audit)
     → HasCleanDisk new → (s : State) → IsStored s old → audit ≡ sound s.world
 audit_sound old new audit counted clean s stored =
     let same = world_tables s stored.content stored.rows in
-    let tells = counted clean stored.content stored.stands s.world stored.rows.good stored.rows.form (has_boards stored.content s.world same) in
+    let tells = counted clean stored.content stored.stands s.world stored.rows.good stored.rows.form (has_boards stored.content s.world same stored.rows.good) in
     let none = no_faults stored.content s.world.boards audit.faults (all_have stored.content s.world same stored.rows.good) tells.faults_are in
     λ i.
     let is : Audit = record { boards = tells.boards_are i; tasks = tells.tasks_are i; faults = none i } in

@@ -8,9 +8,9 @@ use Rattle.tb_task.specs.Ranges.{IsNamedExtra}
 use Rattle.tb_task.specs.Storable.{IsStorable, IsStorableExtra}
 use Rattle.tb_board.specs.declared.board.Board.{Board}
 use Rattle.tb_board.specs.declared.change.Change.{Change}
-use Rattle.tb_board.specs.declared.change.Change.TheVariants.{PutTask, AddPerson, AddBoard, SetRole, SetGone, TakeGone}
+use Rattle.tb_board.specs.declared.change.Change.TheVariants.{PutTask, AddPerson, AddBoard, SetRole, SetGone, TakeGone, SetAhead}
 use Rattle.tb_board.specs.declared.world.World.{World}
-use Rattle.tb_board.specs.Changes.{changed, changed_by, change_board, put, with_gone, with_task_at, without_gone}
+use Rattle.tb_board.specs.Changes.{changed, changed_by, change_board, put, with_ahead, with_gone, with_task_at, without_gone}
 use Rattle.tb_board.specs.Names.{is_key, is_name, is_title, read_key, read_name, read_title}
 use Rattle.tb_reopen.specs.Forms.{HasBoardForm, HasForm, HasMark, HasPersonForm, HasTaskForm}
 use Rattle.tb_keeper.specs.Forms.{HasChangeForm}
@@ -75,7 +75,7 @@ one_changed n f keeps (b ∷ bs) all = elim (Rattle.tb_board.specs.World.has_num
 change_kept : (w : World) (c : Change) → HasForm w → HasChangeForm c → HasForm (changed_by w c)
 change_kept w (PutTask n place t) form has = record {
   people = form.people;
-  boards = one_changed n (with_task_at place t) (λ b own. record { title = own.title; tasks = all_put b.tasks place t own.tasks has; gone = own.gone }) w.boards form.boards;
+  boards = one_changed n (with_task_at place t) (λ b own. record { title = own.title; tasks = all_put b.tasks place t own.tasks has; gone = own.gone; ahead = own.ahead }) w.boards form.boards;
 }
 change_kept w (AddPerson name key) form has = record {
   people = all_pushed HasPersonForm w.people _ form.people (record { name = has.0; key = has.1 });
@@ -83,16 +83,20 @@ change_kept w (AddPerson name key) form has = record {
 }
 change_kept w (AddBoard n title) form has = record {
   people = form.people;
-  boards = all_pushed HasBoardForm w.boards _ form.boards (record { title = has; tasks = tt; gone = tt });
+  boards = all_pushed HasBoardForm w.boards _ form.boards (record { title = has; tasks = tt; gone = tt; ahead = refl });
 }
 change_kept w (SetRole n person role) form has = record { people = form.people; boards = form.boards }
 change_kept w (SetGone n g) form has = record {
   people = form.people;
-  boards = one_changed n (with_gone g) (λ b own. record { title = own.title; tasks = own.tasks; gone = all_pushed HasMark b.gone g own.gone has }) w.boards form.boards;
+  boards = one_changed n (with_gone g) (λ b own. record { title = own.title; tasks = own.tasks; gone = all_pushed HasMark b.gone g own.gone has; ahead = own.ahead }) w.boards form.boards;
 }
 change_kept w (TakeGone n id k) form has = record {
   people = form.people;
-  boards = one_changed n (without_gone id k) (λ b own. record { title = own.title; tasks = own.tasks; gone = all_left HasMark _ b.gone own.gone }) w.boards form.boards;
+  boards = one_changed n (without_gone id k) (λ b own. record { title = own.title; tasks = own.tasks; gone = all_left HasMark _ b.gone own.gone; ahead = own.ahead }) w.boards form.boards;
+}
+change_kept w (SetAhead n ahead) form has = record {
+  people = form.people;
+  boards = one_changed n (with_ahead ahead) (λ b own. record { title = own.title; tasks = own.tasks; gone = own.gone; ahead = has }) w.boards form.boards;
 }
 
 pub changes_kept : (w : World) (cs : List Change) → HasForm w → AllByRecursion HasChangeForm cs → HasForm (changed w cs)

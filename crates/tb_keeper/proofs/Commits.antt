@@ -62,11 +62,11 @@ part_leads s people part changes rows call good may is are leads =
 
 -- the rows before, with a reply more
 with_one : (s : State) (kept : KeptRow) (content : Content) → HaveSameRows content (state_rows s) → HaveSameRows (with_kept kept content) (world_rows s.world)
-with_one s kept content same = record { people = same.people; boards = same.boards; roles = same.roles; tasks = same.tasks; links = same.links; instances = same.instances; gone = same.gone }
+with_one s kept content same = record { people = same.people; boards = same.boards; roles = same.roles; tasks = same.tasks; links = same.links; instances = same.instances; gone = same.gone; horizon = same.horizon }
 
 -- the rows after
 of_state : (s : State) (changes : List Change) (call : Call) (reply : Reply) (content : Content) → HaveSameRows content (world_rows (changed s.world changes)) → HaveSameRows content (state_rows (with_reply s changes call reply))
-of_state s changes call reply content same = record { people = same.people; boards = same.boards; roles = same.roles; tasks = same.tasks; links = same.links; instances = same.instances; gone = same.gone }
+of_state s changes call reply content same = record { people = same.people; boards = same.boards; roles = same.roles; tasks = same.tasks; links = same.links; instances = same.instances; gone = same.gone; horizon = same.horizon }
 
 module _ (s : State) (changes : List Change) (call : Call) (reply : Reply) (rows : List RowChange) (kept : KeptRow) (content : Content)
     (may : MayCommit s changes call) (form : HasForm (changed s.world changes))

@@ -6,9 +6,9 @@ use Rattle.std.proofs.lemmas.List.Sums.{sum_by-append, sum_by-cons}
 use Rattle.std.proofs.lemmas.List.{take_all, take_more}
 use Rattle.tb_board.specs.declared.board.Board.{Board}
 use Rattle.tb_board.specs.declared.change.Change.{Change}
-use Rattle.tb_board.specs.declared.change.Change.TheVariants.{PutTask, AddPerson, AddBoard, SetRole, SetGone, TakeGone}
+use Rattle.tb_board.specs.declared.change.Change.TheVariants.{PutTask, AddPerson, AddBoard, SetRole, SetGone, TakeGone, SetAhead}
 use Rattle.tb_board.specs.declared.world.World.{World}
-use Rattle.tb_board.specs.Changes.{changed, changed_by, with_gone, with_task_at, without_gone}
+use Rattle.tb_board.specs.Changes.{changed, changed_by, with_ahead, with_gone, with_task_at, without_gone}
 use Rattle.tb_board.specs.First.{change_first}
 use Rattle.tb_cache.specs.Cached.{AreOf}
 use Rattle.tb_core.specs.GoodWorld.{IsGoodWorld}
@@ -59,6 +59,7 @@ people_by w (AddBoard n title) = omega arith
 people_by w (SetRole n person role) = omega arith
 people_by w (SetGone n g) = omega arith
 people_by w (TakeGone n id k) = omega arith
+people_by w (SetAhead n ahead) = omega arith
 
 boards_by : (w : World) (c : Change) → length (changed_by w c).boards ≡ length w.boards + one_if (is_new_board c)
 unfolding is_new_board
@@ -68,6 +69,7 @@ boards_by w (AddBoard n title) = length-append w.boards _
 boards_by w (SetRole n person role) = omega arith
 boards_by w (SetGone n g) = let same = length-change (λ (b : Board). b.number == n) (with_gone g) w.boards in omega (arith, same)
 boards_by w (TakeGone n id k) = let same = length-change (λ (b : Board). b.number == n) (without_gone id k) w.boards in omega (arith, same)
+boards_by w (SetAhead n ahead) = let same = length-change (λ (b : Board). b.number == n) (with_ahead ahead) w.boards in omega (arith, same)
 
 people_after : (w : World) (cs : List Change) → length (changed w cs).people ≡ length w.people + count_by is_new_person cs
 people_after w [] = omega arith

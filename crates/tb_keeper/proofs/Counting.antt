@@ -1,17 +1,20 @@
 -- Boards that are counted one after the other.
-use Rattle.std.proofs.Common.{◌≡◌, ◌∙◌, ◌+◌, ◌<◌, ◌≤◌, ℕ, Bool, true, false, cond, List, [], ◌∷◌, ◌++◌, Ok, map, drop, filter, length, get_or, true≢false, refl, sym, ap, ap₂, subst, arith, inl, inr, IsPermutation}
+use Rattle.std.proofs.Common.{◌≡◌, ◌∙◌, ◌+◌, ◌<◌, ◌≤◌, ℕ, Bool, true, false, cond, List, [], ◌∷◌, ◌++◌, ◌⊎◌, Option, None, Some, Ok, map, drop, filter, length, get_or, true≢false, refl, sym, ap, ap₂, subst, subst₂, arith, inl, inr, IsPermutation}
 use Rattle.std.specs.Prelude.{◌↔◌, IsTrue}
 use Rattle.std.specs.List.{AllByRecursion}
 use Rattle.std.proofs.lemmas.List.{append-nil, append_assoc, drop_all, drop_more}
 use Rattle.std.proofs.lemmas.List.Elements.{All-from_recursion, recursion_from_All}
 use Rattle.std.proofs.lemmas.List.Sorted.{All-permutation, IsPermutation-sym, IsPermutation-trans}
+use Rattle.sqlite.proofs.Callers.{one_permutation}
 use Rattle.sqlite.specs.State.{HasCleanDisk, State as Database}
+use Rattle.sqlite_trees.proofs.ListLemmas.{IsPermutation-same}
 use Rattle.tb_audit.specs.Stored.{masks_of, AreAsStored}
 use Rattle.tb_board.specs.declared.board.Board.{Board}
 use Rattle.tb_reopen.specs.Reading.{board_of, is_gone_on, is_task_on}
+use Rattle.tb_reopen.proofs.OneOf.{none_found, one_found}
 use Rattle.tb_reopen.proofs.Rising.{tasks_rise}
-use Rattle.tb_rows.specs.Rows.{board_row, board_tasks}
-use Rattle.tb_sql.specs.Changes.{is_board, IsGoneBefore, IsInstanceBefore, IsLinkBefore, IsTaskBefore}
+use Rattle.tb_rows.specs.Rows.{board_row, board_tasks, horizon_row}
+use Rattle.tb_sql.specs.Changes.{is_board, is_horizon, IsGoneBefore, IsInstanceBefore, IsLinkBefore, IsTaskBefore}
 use Rattle.tb_sql.specs.Opening.{IsAsBefore}
 use Rattle.tb_sql.proofs.Opened.{stands_again}
 use Rattle.tb_sql_tables.specs.declared.rows.BoardRow.{BoardRow}
@@ -19,11 +22,13 @@ use Rattle.tb_sql_tables.specs.declared.rows.TaskRow.{TaskRow}
 use Rattle.tb_sql_tables.specs.declared.rows.LinkRow.{LinkRow}
 use Rattle.tb_sql_tables.specs.declared.rows.InstanceRow.{InstanceRow}
 use Rattle.tb_sql_tables.specs.declared.rows.GoneRow.{GoneRow}
+use Rattle.tb_sql_tables.specs.declared.rows.HorizonRow.{HorizonRow}
 use Rattle.tb_sql_tables.specs.Content.{AreRows, Content, IsContent}
-use Rattle.tb_sql_tables.specs.Found.{AreFound}
+use Rattle.tb_sql_tables.specs.Found.{AreFound, IsOneOf}
+use Rattle.tb_sql_tables.proofs.Effects.{all_left}
 use Rattle.tb_keeper.specs.declared.auditing.Audit.{Audit}
 use Rattle.tb_keeper.specs.declared.auditing.Checked.{Checked}
-use Rattle.tb_keeper.specs.Auditing.{is_instance_on, is_link_on, task_count, without_mask, AreFaults, HasItsRows, IsCheckOf, StandFor, StandsFor, Tells}
+use Rattle.tb_keeper.specs.Auditing.{is_instance_on, is_link_on, task_count, without_mask, AreFaults, HasHorizonOrNone, HasItsRows, IsCheckOf, StandFor, StandsFor, Tells}
 use Rattle.tb_stored.specs.Reopening.{OfContent}
 
 -- ---- what is found tells whether the content has the rows of a board
@@ -45,42 +50,70 @@ alike (x ∷ xs) (y ∷ ys) same masks =
         let row : TaskRow = record { board = r.board; place = r.place; uuid = r.uuid; body = r.body; mask = mask i } in
         row
 
+-- what is found of how far ahead a board looks is its row, or none
+horizon_found : (c : Content) (b : Board) (horizon : Option HorizonRow) → HasHorizonOrNone c b → IsOneOf (filter (is_horizon b.number) c.horizon) horizon → (horizon ≡ None) ⊎ (horizon ≡ Some (horizon_row b))
+horizon_found c b horizon (inl none) is = inl (none_found (λ (r : HorizonRow). true) (filter (is_horizon b.number) c.horizon) [] (alike_rows none) horizon refl (subst (λ l. IsOneOf l horizon) (sym (all_left _)) is))
+  where
+    alike_rows : filter (is_horizon b.number) c.horizon ≡ [] → IsPermutation (filter (is_horizon b.number) c.horizon) []
+    alike_rows e = IsPermutation-same _ _ e
+horizon_found c b horizon (inr one) is = inr (one_found (λ (r : HorizonRow). true) (filter (is_horizon b.number) c.horizon) (horizon_row b ∷ []) (IsPermutation-same _ _ one) horizon (horizon_row b) refl (subst (λ l. IsOneOf l horizon) (sym (all_left _)) is))
+
 only : (row other : BoardRow) → IsPermutation (row ∷ []) (other ∷ []) → row ≡ other
 only row other same = sym (recursion_from_All (λ (r : BoardRow). r ≡ row) (other ∷ []) (All-permutation (λ r. r ≡ row) (row ∷ []) (other ∷ []) same (All-from_recursion (λ r. r ≡ row) (row ∷ []) (refl, tt)))).0
 
-module _ (c : Content) (row : BoardRow) (b : Board) (stands : StandsFor c row b) (tasks : List TaskRow) (links : List LinkRow) (instances : List InstanceRow)
-    (of_tasks : AreFound IsTaskBefore (filter (is_task_on b.number) c.tasks) tasks) (of_links : AreFound IsLinkBefore (filter (is_link_on b.number) c.links) links)
+module _ (c : Content) (row : BoardRow) (b : Board) (stands : StandsFor c row b) (horizon : Option HorizonRow) (tasks : List TaskRow) (links : List LinkRow) (instances : List InstanceRow)
+    (of_horizon : IsOneOf (filter (is_horizon b.number) c.horizon) horizon) (of_tasks : AreFound IsTaskBefore (filter (is_task_on b.number) c.tasks) tasks) (of_links : AreFound IsLinkBefore (filter (is_link_on b.number) c.links) links)
     (of_instances : AreFound IsInstanceBefore (filter (is_instance_on b.number) c.instances) instances) where
-  has_rows : AreAsStored b row tasks links instances → HasItsRows c b
+  horizon_there : horizon ≡ Some (horizon_row b) → IsPermutation (filter (is_horizon b.number) c.horizon) (horizon_row b ∷ [])
+  horizon_there is = elim stands.horizon [
+    | inl none ↦ absurd (none_there (subst₂ IsOneOf none is of_horizon))
+    | inr one ↦ IsPermutation-same _ _ one
+  ]
+    where
+      none_there : IsOneOf [] (Some (horizon_row b)) → ⊥
+      none_there h = omega (arith, h.1)
+
+  there_horizon : IsPermutation (filter (is_horizon b.number) c.horizon) (horizon_row b ∷ []) → horizon ≡ Some (horizon_row b)
+  there_horizon same = elim (horizon_found c b horizon stands.horizon of_horizon) [
+    | inl none ↦ absurd (no_row (sym (one_permutation (horizon_row b) _ (IsPermutation-sym _ _ same)) ∙ subst (IsOneOf (filter (is_horizon b.number) c.horizon)) none of_horizon))
+    | inr one ↦ one
+  ]
+    where
+      no_row : horizon_row b ∷ [] ≡ [] → ⊥
+      no_row e = absurd (cc)
+
+  has_rows : AreAsStored b row horizon tasks links instances → HasItsRows c b
   has_rows are = record {
     row_is = subst (λ r. IsPermutation (filter (is_board b.number) c.boards) (r ∷ [])) are.row_is stands.own;
+    horizon_is = horizon_there are.horizon_is;
     tasks_are = subst (IsPermutation (filter (is_task_on b.number) c.tasks)) (alike tasks (board_tasks b) (stands.tasks tasks of_tasks) are.masks) of_tasks.same;
     links_are = IsPermutation-trans _ _ _ of_links.same are.links_are;
     instances_are = IsPermutation-trans _ _ _ of_instances.same are.instances_are;
   }
 
-  as_stored : HasItsRows c b → AreAsStored b row tasks links instances
+  as_stored : HasItsRows c b → AreAsStored b row horizon tasks links instances
   as_stored has = record {
     row_is = only row (board_row b) (IsPermutation-trans _ _ _ (IsPermutation-sym _ _ stands.own) has.row_is);
+    horizon_is = there_horizon has.horizon_is;
     masks = ap masks_of (of_tasks.in_order (board_tasks b) (IsPermutation-sym _ _ has.tasks_are) (tasks_rise b));
     links_are = IsPermutation-trans _ _ _ (IsPermutation-sym _ _ of_links.same) has.links_are;
     instances_are = IsPermutation-trans _ _ _ (IsPermutation-sym _ _ of_instances.same) has.instances_are;
   }
 
-  tells_rows : (checked : Checked) → checked.tasks ≡ length b.tasks → IsTrue checked.as_stored ↔ AreAsStored b row tasks links instances → IsCheckOf c b checked
+  tells_rows : (checked : Checked) → checked.tasks ≡ length b.tasks → IsTrue checked.as_stored ↔ AreAsStored b row horizon tasks links instances → IsCheckOf c b checked
   tells_rows checked size tells = record { size = size; tells = (λ is. has_rows (tells.0 is), λ has. tells.1 (as_stored has)) }
 
 -- what is read of a board between looks that change nothing
-pub checks : (start second third fourth after : Database) (row : BoardRow) (tasks : List TaskRow) (gone : List GoneRow) (links : List LinkRow) (instances : List InstanceRow) (checked : Checked)
+pub checks : (start second third fourth after : Database) (row : BoardRow) (horizon : Option HorizonRow) (tasks : List TaskRow) (gone : List GoneRow) (links : List LinkRow) (instances : List InstanceRow) (checked : Checked)
     → IsAsBefore start second → IsAsBefore second third → IsAsBefore third fourth → IsAsBefore fourth after
     → OfContent start second (λ c. AreFound IsTaskBefore (filter (is_task_on row.id) c.tasks) tasks)
     → OfContent second third (λ c. AreFound IsGoneBefore (filter (is_gone_on row.id) c.gone) gone)
     → OfContent third fourth (λ c. AreFound IsLinkBefore (filter (is_link_on row.id) c.links) links)
     → OfContent fourth after (λ c. AreFound IsInstanceBefore (filter (is_instance_on row.id) c.instances) instances)
-    → ((b : Board) → board_of row tasks gone ≡ Ok b → checked.tasks ≡ length b.tasks)
-    → ((b : Board) → board_of row tasks gone ≡ Ok b → IsTrue checked.as_stored ↔ AreAsStored b row tasks links instances)
-    → OfContent start after (λ c. (b : Board) → StandsFor c row b → IsCheckOf c b checked)
-checks start second third fourth after row tasks gone links instances checked one two three four of_tasks of_gone of_links of_instances size tells clean c stands b for_b =
+    → ((b : Board) → board_of row (Some (horizon_row b)) tasks gone ≡ Ok b → checked.tasks ≡ length b.tasks)
+    → ((b : Board) → board_of row (Some (horizon_row b)) tasks gone ≡ Ok b → (horizon ≡ None) ⊎ (horizon ≡ Some (horizon_row b)) → IsTrue checked.as_stored ↔ AreAsStored b row horizon tasks links instances)
+    → OfContent start after (λ c. (b : Board) → StandsFor c row b → IsOneOf (filter (is_horizon b.number) c.horizon) horizon → IsCheckOf c b checked)
+checks start second third fourth after row horizon tasks gone links instances checked one two three four of_tasks of_gone of_links of_instances size tells clean c stands b for_b of_horizon =
     let clean_fourth : HasCleanDisk fourth = four.clean clean in
     let clean_third : HasCleanDisk third = three.clean clean_fourth in
     let clean_second : HasCleanDisk second = two.clean clean_third in
@@ -92,7 +125,7 @@ checks start second third fourth after row tasks gone links instances checked on
     let ls = subst (λ n. AreFound IsLinkBefore (filter (is_link_on n) c.links) links) for_b.number (of_links clean_fourth c at_third) in
     let is = subst (λ n. AreFound IsInstanceBefore (filter (is_instance_on n) c.instances) instances) for_b.number (of_instances clean c at_fourth) in
     let read = for_b.read tasks gone ts gs in
-    tells_rows c row b for_b tasks links instances ts ls is checked (size b read) (tells b read)
+    tells_rows c row b for_b horizon tasks links instances of_horizon ts ls is checked (size b read) (tells b read (horizon_found c b horizon for_b.horizon of_horizon))
 
 -- ---- counts
 

@@ -1,5 +1,5 @@
 -- The rows of the opening state.
-use Rattle.std.proofs.Common.{◌≡◌, ◌∙◌, ℕ, true, List, [], ◌∷◌, map, length, codes, refl, sym, subst, IsPermutation, arith}
+use Rattle.std.proofs.Common.{◌≡◌, ◌∙◌, ℕ, true, List, [], ◌∷◌, map, length, codes, refl, sym, ap, subst, IsPermutation, arith}
 use Rattle.std.proofs.lemmas.List.Sorted.{IsPermutation-refl}
 use Rattle.std.specs.List.{AllByRecursion}
 use Rattle.std.specs.FinMap.{empty, entries, len-empty, len-entries}
@@ -11,10 +11,9 @@ use Rattle.tb_calls.specs.Calls.{CallName, name_cmp}
 use Rattle.tb_calls.specs.Opening.{opening}
 use Rattle.tb_reopen.specs.Laws.{AreApart}
 use Rattle.tb_rows.specs.Rows.{world_rows, HaveSameRows, IsSameContent}
-use Rattle.tb_sql.specs.declared.changes.RowChange.{RowChange}
-use Rattle.tb_sql.specs.Writing.{opening as content_of}
+use Rattle.tb_sql.specs.Migrating.{without_horizon}
 use Rattle.tb_sql_tables.specs.Content.{Content}
-use Rattle.tb_stored.specs.Stored.{kept_row, state_rows, AreRowsOf, IsKnown}
+use Rattle.tb_stored.specs.Stored.{kept_row, state_rows, AreOldRowsOf, AreRowsOf, IsKnown}
 
 none : (es : List (CallName × KeptReply)) → length es ≡ 0 → es ≡ []
 none [] e = refl
@@ -27,11 +26,11 @@ board_title : is_title (codes "board") ≡ true
 unfolding is_title
 board_title = refl
 
-pub first_rows : AreApart → (name key : List ℕ) (rows : List RowChange) → is_name name ≡ true → is_key key ≡ true → content_of rows ≡ world_rows (opening_world name key) → AreRowsOf (opening name key) (content_of rows)
-first_rows apart name key rows named keyed same = record {
+pub first_rows : AreApart → (name key : List ℕ) (content : Content) → is_name name ≡ true → is_key key ≡ true → content ≡ world_rows (opening_world name key) → AreRowsOf (opening name key) content
+first_rows apart name key content named keyed same = record {
   apart = apart;
   good = opens name key;
-  form = record { people = (record { name = named; key = keyed }, tt); boards = (record { title = board_title; tasks = tt; gone = tt }, tt) };
+  form = record { people = (record { name = named; key = keyed }, tt); boards = (record { title = board_title; tasks = tt; gone = tt; ahead = refl }, tt) };
   people = subst (AllByRecursion (IsKnown (opening_world name key))) (sym no_entries) tt;
   same = subst (λ (c : Content). IsSameContent c (state_rows (opening name key))) (sym same) rows_of_first;
 }
@@ -45,7 +44,16 @@ first_rows apart name key rows named keyed same = record {
       links = IsPermutation-refl _;
       instances = IsPermutation-refl _;
       gone = IsPermutation-refl _;
+      horizon = IsPermutation-refl _;
     }
 
     rows_of_first : IsSameContent (world_rows (opening_world name key)) (state_rows (opening name key))
     rows_of_first = record { tables = tables; kept = subst (λ l. IsPermutation [] (map (kept_row (opening_world name key)) l)) (sym no_entries) (IsPermutation-refl []) }
+
+-- the same of the rows without how far ahead the board looks
+pub first_old_rows : AreApart → (name key : List ℕ) (content : Content) → is_name name ≡ true → is_key key ≡ true → content ≡ without_horizon (world_rows (opening_world name key)) → AreOldRowsOf (opening name key) content
+first_old_rows apart name key content named keyed same = record {
+  one_ahead = (refl, tt);
+  horizon = (world_rows (opening_world name key)).horizon;
+  rows = first_rows apart name key _ named keyed (ap (λ (c : Content). let whole : Content = record c { horizon = (world_rows (opening_world name key)).horizon } in whole) same);
+}

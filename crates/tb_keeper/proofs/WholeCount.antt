@@ -1,20 +1,21 @@
 -- Boards that are counted one after the other, whatever their rows are.
-use Rattle.std.proofs.Common.{◌≡◌, ◌∙◌, ◌+◌, ◌<◌, ◌≤◌, ℕ, Bool, true, false, cond, List, [], ◌∷◌, ◌++◌, filter, length, length-append, get_or, take, refl, sym, ap, subst, arith}
+use Rattle.std.proofs.Common.{◌≡◌, ◌∙◌, ◌+◌, ◌<◌, ◌≤◌, ℕ, Bool, true, false, cond, List, [], ◌∷◌, ◌++◌, Option, filter, length, length-append, get_or, take, refl, sym, ap, subst, arith}
 use Rattle.std.specs.Prelude.{not, sum_by}
 use Rattle.std.proofs.lemmas.List.{take_all, take_more}
 use Rattle.std.proofs.lemmas.List.Elements.{filter-append}
 use Rattle.std.proofs.lemmas.List.Sums.{sum_by-append}
 use Rattle.sqlite.specs.State.{HasCleanDisk, State as Database}
 use Rattle.tb_reopen.specs.Reading.{is_gone_on, is_task_on}
-use Rattle.tb_sql.specs.Changes.{IsBoardBefore, IsGoneBefore, IsInstanceBefore, IsLinkBefore, IsTaskBefore}
+use Rattle.tb_sql.specs.Changes.{is_horizon, IsBoardBefore, IsGoneBefore, IsInstanceBefore, IsLinkBefore, IsTaskBefore}
 use Rattle.tb_sql.specs.Opening.{IsAsBefore}
 use Rattle.tb_sql_tables.specs.declared.rows.BoardRow.{BoardRow}
 use Rattle.tb_sql_tables.specs.declared.rows.TaskRow.{TaskRow}
 use Rattle.tb_sql_tables.specs.declared.rows.LinkRow.{LinkRow}
 use Rattle.tb_sql_tables.specs.declared.rows.InstanceRow.{InstanceRow}
 use Rattle.tb_sql_tables.specs.declared.rows.GoneRow.{GoneRow}
+use Rattle.tb_sql_tables.specs.declared.rows.HorizonRow.{HorizonRow}
 use Rattle.tb_sql_tables.specs.Content.{Content}
-use Rattle.tb_sql_tables.specs.Found.{AreFound}
+use Rattle.tb_sql_tables.specs.Found.{AreFound, IsOneOf}
 use Rattle.tb_keeper.specs.declared.auditing.Audit.{Audit}
 use Rattle.tb_keeper.specs.declared.auditing.Checked.{Checked}
 use Rattle.tb_keeper.specs.Auditing.{differs, is_instance_on, is_link_on, AreChecksOf, CountsRows, IsCheckBy, IsCheckOfRow, IsCountOf, IsOwned, IsRowCheck}
@@ -23,14 +24,14 @@ use Rattle.tb_keeper.proofs.Counting.{IsOneMore}
 use Rattle.tb_stored.proofs.Standing.{stood}
 
 -- what is found of a board between looks that change nothing
-pub check_whole : (start second third fourth after : Database) (row : BoardRow) (tasks : List TaskRow) (gone : List GoneRow) (links : List LinkRow) (instances : List InstanceRow) (checked : Checked)
+pub check_whole : (start second third fourth after : Database) (row : BoardRow) (horizon : Option HorizonRow) (tasks : List TaskRow) (gone : List GoneRow) (links : List LinkRow) (instances : List InstanceRow) (checked : Checked)
     → IsAsBefore start second → IsAsBefore second third → IsAsBefore third fourth → IsAsBefore fourth after
     → OfContent start second (λ c. AreFound IsTaskBefore (filter (is_task_on row.id) c.tasks) tasks)
     → OfContent second third (λ c. AreFound IsGoneBefore (filter (is_gone_on row.id) c.gone) gone)
     → OfContent third fourth (λ c. AreFound IsLinkBefore (filter (is_link_on row.id) c.links) links)
     → OfContent fourth after (λ c. AreFound IsInstanceBefore (filter (is_instance_on row.id) c.instances) instances)
-    → IsCheckBy row tasks gone links instances checked → OfContent start after (λ c. IsCheckOfRow c row checked)
-check_whole start second third fourth after row tasks gone links instances checked one two three four of_tasks of_gone of_links of_instances check clean c stands =
+    → IsCheckBy row horizon tasks gone links instances checked → OfContent start after (λ c. IsOneOf (filter (is_horizon row.id) c.horizon) horizon → IsCheckOfRow c row checked)
+check_whole start second third fourth after row horizon tasks gone links instances checked one two three four of_tasks of_gone of_links of_instances check clean c stands of_horizon =
     let clean_fourth : HasCleanDisk fourth = four.clean clean in
     let clean_third : HasCleanDisk third = three.clean clean_fourth in
     let clean_second : HasCleanDisk second = two.clean clean_third in
@@ -38,10 +39,12 @@ check_whole start second third fourth after row tasks gone links instances check
     let at_third = stood c second third at_second two in
     let at_fourth = stood c third fourth at_third three in
     record {
+      horizon = horizon;
       tasks = tasks;
       gone = gone;
       links = links;
       instances = instances;
+      horizon_found = of_horizon;
       tasks_found = of_tasks clean_second c stands;
       gone_found = of_gone clean_third c at_second;
       links_found = of_links clean_fourth c at_third;
@@ -53,6 +56,10 @@ check_whole start second third fourth after row tasks gone links instances check
 pub row_whole : (start mid after : Database) (row : BoardRow) (checked : Checked) → IsAsBefore start mid → IsAsBefore mid after
     → OfContent start mid (λ c. IsOwned c row.id) → OfContent mid after (λ c. IsCheckOfRow c row checked) → OfContent start after (λ c. IsRowCheck c row checked)
 row_whole start mid after row checked one two owned check clean c stands = record { owned = owned (two.clean clean) c stands; board = check clean c (stood c start mid stands one) }
+
+-- once it is found how far ahead a board looks, the rest is found
+pub with_horizon : (P : Content → Type 0) (Q : Content → Type 0) (start mid after : Database) → IsAsBefore start mid → IsAsBefore mid after → OfContent start mid P → OfContent mid after (λ c. P c → Q c) → OfContent start after Q
+with_horizon P Q start mid after one two first rest clean c stands = rest clean c (stood c start mid stands one) (first (two.clean clean) c stands)
 
 -- what is found behind a look that changes nothing
 pub behind : (P : Content → Type 0) (old mid new : Database) → IsAsBefore old mid → OfContent mid new P → OfContent old new P

@@ -1,6 +1,6 @@
 -- What an audit counts.
-use Rattle.std.specs.Prelude.{◌≡◌, ◌⊎◌, ◌+◌, ◌==◌, ◌↔◌, ℕ, Bool, IsTrue, true, List, [], ◌∷◌, None, Ok, filter, length, map, not, sum_by, IsPermutation}
-use Rattle.std.specs.List.{list_any}
+use Rattle.std.specs.Prelude.{◌≡◌, ◌⊎◌, ◌+◌, ◌==◌, ◌↔◌, ℕ, Bool, IsTrue, true, List, [], ◌∷◌, Option, None, Some, Ok, filter, length, map, not, sum_by, IsPermutation}
+use Rattle.std.specs.List.{list_any, AllByRecursion}
 use Rattle.tb_board.specs.declared.board.Board.{Board}
 use Rattle.tb_board.specs.declared.world.World.{World}
 use Rattle.tb_board.specs.Good.{IsGood}
@@ -10,11 +10,12 @@ use Rattle.tb_sql_tables.specs.declared.rows.TaskRow.{TaskRow}
 use Rattle.tb_sql_tables.specs.declared.rows.LinkRow.{LinkRow}
 use Rattle.tb_sql_tables.specs.declared.rows.InstanceRow.{InstanceRow}
 use Rattle.tb_sql_tables.specs.declared.rows.GoneRow.{GoneRow}
+use Rattle.tb_sql_tables.specs.declared.rows.HorizonRow.{HorizonRow}
 use Rattle.tb_sql_tables.specs.Content.{Content}
-use Rattle.tb_sql_tables.specs.Found.{AreFound}
-use Rattle.tb_sql.specs.Changes.{is_board, IsBoardBefore, IsGoneBefore, IsInstanceBefore, IsLinkBefore, IsRoleBefore, IsTaskBefore}
+use Rattle.tb_sql_tables.specs.Found.{AreFound, IsOneOf}
+use Rattle.tb_sql.specs.Changes.{is_board, is_horizon, IsBoardBefore, IsGoneBefore, IsInstanceBefore, IsLinkBefore, IsRoleBefore, IsTaskBefore}
 use Rattle.tb_audit.specs.Stored.{AreAsStored}
-use Rattle.tb_rows.specs.Rows.{board_instances, board_links, board_row, board_tasks, world_rows}
+use Rattle.tb_rows.specs.Rows.{board_instances, board_links, board_row, board_tasks, horizon_row, world_rows}
 use Rattle.tb_reopen.specs.Reading.{board_of, is_gone_on, is_task_on}
 use Rattle.tb_keeper.specs.declared.auditing.Audit.{Audit}
 use Rattle.tb_keeper.specs.declared.auditing.Checked.{Checked}
@@ -27,9 +28,10 @@ is_link_on n row = row.board == n
 abbrev pub is_instance_on : ℕ → InstanceRow → Bool
 is_instance_on n row = row.board == n
 
--- on the board's number the content has its row, tasks, links and instances, in any order
+-- on the board's number the content has its row, that of how far ahead it looks, and its tasks, links and instances, in any order
 pub record HasItsRows (c : Content) (b : Board) : Type 0 where
   pub row_is : IsPermutation (filter (is_board b.number) c.boards) (board_row b ∷ [])
+  pub horizon_is : IsPermutation (filter (is_horizon b.number) c.horizon) (horizon_row b ∷ [])
   pub tasks_are : IsPermutation (filter (is_task_on b.number) c.tasks) (board_tasks b)
   pub links_are : IsPermutation (filter (is_link_on b.number) c.links) (board_links b)
   pub instances_are : IsPermutation (filter (is_instance_on b.number) c.instances) (board_instances b)
@@ -63,21 +65,33 @@ without_low row = record row { low = 0 }
 abbrev pub without_mask : TaskRow → TaskRow
 without_mask row = record row { mask = None }
 
--- The boards, the tasks and the gone places are those of the world, but for lows and masks. Links and instances may be any.
+-- there is the row of how far ahead the board looks, or none
+abbrev pub HasHorizonOrNone : Content → Board → Type 0
+HasHorizonOrNone c b = (filter (is_horizon b.number) c.horizon ≡ []) ⊎ (filter (is_horizon b.number) c.horizon ≡ horizon_row b ∷ [])
+
+-- The boards, the tasks and the gone places are those of the world, but for lows and masks, and of how far ahead a board looks there
+-- may be no row. Links and instances may be any.
 pub record HasBoardsOf (w : World) (c : Content) : Type 0 where
   pub boards : IsPermutation (map without_low c.boards) (map without_low (world_rows w).boards)
   pub tasks : IsPermutation (map without_mask c.tasks) (map without_mask (world_rows w).tasks)
   pub gone : IsPermutation c.gone (world_rows w).gone
+  pub horizon : AllByRecursion (HasHorizonOrNone c) w.boards
 
 -- ---- the rows of boards as they are found
 
--- what is found on the number of a row is read as the board, whatever the lows and masks
+-- a board whose row of how far ahead it looks is missing is read as one that looks one ahead
+abbrev pub known_horizon : ℕ → Option HorizonRow → HorizonRow
+known_horizon n None = record { board = n; ahead = 1 }
+known_horizon n (Some row) = row
+
+-- what is found on the number of a row is read as the board, whatever the lows and masks, and where it looks ahead so far
 pub record StandsFor (c : Content) (row : BoardRow) (b : Board) : Type 0 where
   pub number : row.id ≡ b.number
   pub own : IsPermutation (filter (is_board b.number) c.boards) (row ∷ [])
+  pub horizon : HasHorizonOrNone c b
   pub tasks : (tasks : List TaskRow) → AreFound IsTaskBefore (filter (is_task_on b.number) c.tasks) tasks → map without_mask tasks ≡ map without_mask (board_tasks b)
   pub read : (tasks : List TaskRow) (gone : List GoneRow) → AreFound IsTaskBefore (filter (is_task_on b.number) c.tasks) tasks → AreFound IsGoneBefore (filter (is_gone_on b.number) c.gone) gone
-      → board_of row tasks gone ≡ Ok b
+      → board_of row (Some (horizon_row b)) tasks gone ≡ Ok b
 
 -- each row for the board at its place
 abbrev pub StandFor : Content → List BoardRow → List Board → Type 0
@@ -94,24 +108,26 @@ pub record IsCheckOf (c : Content) (b : Board) (checked : Checked) : Type 0 wher
 -- ---- boards as they are found, whatever the rows are
 
 -- these rows are read as a good board, whose tasks are so many, and which has its rows or not
-pub record IsCheckBy (row : BoardRow) (tasks : List TaskRow) (gone : List GoneRow) (links : List LinkRow) (instances : List InstanceRow) (checked : Checked) : Type 0 where
+pub record IsCheckBy (row : BoardRow) (horizon : Option HorizonRow) (tasks : List TaskRow) (gone : List GoneRow) (links : List LinkRow) (instances : List InstanceRow) (checked : Checked) : Type 0 where
   pub board : Board
-  pub read : board_of row tasks gone ≡ Ok board
+  pub read : board_of row (Some (known_horizon row.id horizon)) tasks gone ≡ Ok board
   pub good : IsGood board
   pub size : checked.tasks ≡ length board.tasks
-  pub tells : IsTrue checked.as_stored ↔ AreAsStored board row tasks links instances
+  pub tells : IsTrue checked.as_stored ↔ AreAsStored board row horizon tasks links instances
 
 -- so it is with what is found on the number of a row, each kind in the order of its keys
 pub record IsCheckOfRow (c : Content) (row : BoardRow) (checked : Checked) : Type 0 where
+  pub horizon : Option HorizonRow
   pub tasks : List TaskRow
   pub gone : List GoneRow
   pub links : List LinkRow
   pub instances : List InstanceRow
+  pub horizon_found : IsOneOf (filter (is_horizon row.id) c.horizon) horizon
   pub tasks_found : AreFound IsTaskBefore (filter (is_task_on row.id) c.tasks) tasks
   pub gone_found : AreFound IsGoneBefore (filter (is_gone_on row.id) c.gone) gone
   pub links_found : AreFound IsLinkBefore (filter (is_link_on row.id) c.links) links
   pub instances_found : AreFound IsInstanceBefore (filter (is_instance_on row.id) c.instances) instances
-  pub check : IsCheckBy row tasks gone links instances checked
+  pub check : IsCheckBy row horizon tasks gone links instances checked
 
 abbrev pub is_role_on : ℕ → RoleRow → Bool
 is_role_on n row = row.board == n

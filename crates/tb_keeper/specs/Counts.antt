@@ -1,7 +1,7 @@
 -- How many people and boards come in.
 use Rattle.std.specs.Prelude.{ℕ, Bool, true, false}
 use Rattle.tb_board.specs.declared.change.Change.{Change}
-use Rattle.tb_board.specs.declared.change.Change.TheVariants.{PutTask, AddPerson, AddBoard, SetRole, SetGone, TakeGone}
+use Rattle.tb_board.specs.declared.change.Change.TheVariants.{PutTask, AddPerson, AddBoard, SetRole, SetGone, TakeGone, SetAhead}
 
 -- one more where it holds
 abbrev pub one_if : Bool → ℕ
@@ -15,6 +15,7 @@ is_new_person (AddBoard n title) = false
 is_new_person (SetRole n person role) = false
 is_new_person (SetGone n g) = false
 is_new_person (TakeGone n id k) = false
+is_new_person (SetAhead n ahead) = false
 
 unfoldable pub is_new_board : Change → Bool
 is_new_board (PutTask n place t) = false
@@ -23,3 +24,4 @@ is_new_board (AddBoard n title) = true
 is_new_board (SetRole n person role) = false
 is_new_board (SetGone n g) = false
 is_new_board (TakeGone n id k) = false
+is_new_board (SetAhead n ahead) = false

@@ -1,8 +1,9 @@
 -- What the types of the values in a change keep of them.
 use Rattle.std.specs.Prelude.{◌≡◌, true}
+use Rattle.tb_board.specs.Ahead.{is_ahead}
 use Rattle.tb_board.specs.Names.{is_key, is_name, is_title}
 use Rattle.tb_board.specs.declared.change.Change.{Change}
-use Rattle.tb_board.specs.declared.change.Change.TheVariants.{PutTask, AddPerson, AddBoard, SetRole, SetGone, TakeGone}
+use Rattle.tb_board.specs.declared.change.Change.TheVariants.{PutTask, AddPerson, AddBoard, SetRole, SetGone, TakeGone, SetAhead}
 use Rattle.tb_reopen.specs.Forms.{HasMark, HasTaskForm}
 
 abbrev pub HasChangeForm : Change → Type 0
@@ -12,3 +13,4 @@ HasChangeForm (AddBoard n title) = is_title title ≡ true
 HasChangeForm (SetRole n person role) = Unit {0}
 HasChangeForm (SetGone n g) = HasMark g
 HasChangeForm (TakeGone n id k) = Unit {0}
+HasChangeForm (SetAhead n ahead) = is_ahead ahead ≡ true

@@ -4,3 +4,4 @@ pub mod Forms
 pub mod Holds
 pub mod Laws
 pub mod Looking
+pub mod Versions

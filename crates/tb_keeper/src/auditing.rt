@@ -1,6 +1,6 @@
 //! The audit of a store.
 
-ghost use Rattle.std.specs.Prelude.{◌≡◌, ◌≤◌, ◌+◌, List, ◌↔◌, ◌==◌, Ok, IsTrue, true, false, filter, if◌then◌else◌, IfOk, IsErrOf, length};
+ghost use Rattle.std.specs.Prelude.{◌≡◌, ◌≤◌, ◌+◌, ◌⊎◌, List, ◌↔◌, ◌==◌, None, Some, Ok, IsTrue, true, false, filter, if◌then◌else◌, IfOk, IsErrOf, length};
 ghost use Rattle.sqlite.specs.Held.{state};
 ghost use Rattle.sqlite.specs.State.{HasCleanDisk};
 ghost use Rattle.tb_audit.specs.Stored.{AreAsStored};
@@ -11,11 +11,12 @@ ghost use Rattle.tb_calls.specs.Calls.{State};
 ghost use Rattle.tb_calls.specs.Keeping.{IsStill, is_store};
 ghost use Rattle.tb_reopen.specs.Forms.{HasForm};
 ghost use Rattle.tb_reopen.specs.Reading.{board_of};
-ghost use Rattle.tb_sql.specs.Changes.{IsInstanceBefore, IsLinkBefore};
+ghost use Rattle.tb_rows.specs.Rows.{horizon_row};
+ghost use Rattle.tb_sql.specs.Changes.{is_horizon, IsInstanceBefore, IsLinkBefore};
 ghost use Rattle.tb_sql.specs.Opening.{IsAsBefore};
 ghost use Rattle.tb_sql_tables.specs.Content.{Content, Stands};
-ghost use Rattle.tb_sql_tables.specs.Found.{AreFound};
-ghost use Rattle.tb_keeper.specs.Auditing.{is_instance_on, is_link_on, sound, CountsRows, HasBoardsOf, IsCheckBy, IsCheckOf, IsCheckOfRow, IsCountOf, IsRowCheck, StandFor, StandsFor, Tells};
+ghost use Rattle.tb_sql_tables.specs.Found.{AreFound, IsOneOf};
+ghost use Rattle.tb_keeper.specs.Auditing.{is_instance_on, is_link_on, known_horizon, sound, CountsRows, HasBoardsOf, IsCheckBy, IsCheckOf, IsCheckOfRow, IsCountOf, IsRowCheck, StandFor, StandsFor, Tells};
 ghost use Rattle.tb_keeper.specs.Holds.{Holds};
 ghost use Rattle.tb_stored.specs.Reopening.{OfContent};
 ghost use Rattle.tb_stored.specs.Stored.{IsStored, MayLeave};
@@ -30,7 +31,8 @@ use tb_reopen::read_board;
 use tb_sql::instances::select_instances;
 use tb_sql::links::select_links;
 use tb_sql::store::StoreFault;
-use tb_sql_tables::rows::{BoardRow, GoneRow, InstanceRow, LinkRow, TaskRow};
+use tb_sql_tables::rows::{BoardRow, GoneRow, HorizonRow, InstanceRow, LinkRow, TaskRow};
+use tb_stored::by_key::horizon_row_at;
 use tb_stored::faults::fault_of;
 use tb_stored::reading::{board_rows, gone_rows, task_rows};
 use tb_task::ids_are_read;
@@ -40,7 +42,7 @@ use tb_values::Items;
 const MOST: usize = 10000;
 
 /// How many boards and tasks are stored, and how many of the boards have a least free number, a mask, a link or an instance that isn't
-/// theirs.
+/// theirs, or lack the row of how far ahead they look.
 #[derive(Clone, Copy, Debug, PartialEq, Eq)]
 pub struct Audit {
     pub boards: u64,
@@ -238,6 +240,26 @@ fn check_board<S: Alter>(
     ensures few { IfOk result (λ checked. checked.tasks ≤ 10000) }
     ensures same { IsAsBefore (state S.Store conn.old) (state S.Store conn.new) }
 {
+    let horizon = horizon_row_at(conn, row.id)?;
+    check_tables(alloc, conn, row, horizon)
+}
+
+/// The same, once it is found how far ahead the board looks.
+fn check_tables<S: Alter>(
+    alloc: Global,
+    conn: &mut Connection<S>,
+    row: &BoardRow,
+    horizon: Option<HorizonRow>,
+) -> Result<Checked, StoreFault>
+    requires { conn.old.in_transaction ≡ false }
+    ensures idle { conn.new.in_transaction ≡ false }
+    ensures checked { IfOk result (λ checked. OfContent (state S.Store conn.old) (state S.Store conn.new)
+        (λ c. (b : Board) → StandsFor c row.now b → IsOneOf (filter (is_horizon b.number) c.horizon) horizon → IsCheckOf c b checked)) }
+    ensures whole { IfOk result (λ checked. OfContent (state S.Store conn.old) (state S.Store conn.new)
+        (λ c. IsOneOf (filter (is_horizon row.now.id) c.horizon) horizon → IsCheckOfRow c row.now checked)) }
+    ensures few { IfOk result (λ checked. checked.tasks ≤ 10000) }
+    ensures same { IsAsBefore (state S.Store conn.old) (state S.Store conn.new) }
+{
     let tasks = task_rows(conn, row.id)?;
     let gone = gone_rows(conn, row.id)?;
     let links = link_rows(conn, row.id)?;
@@ -245,6 +267,7 @@ fn check_board<S: Alter>(
     compare(
         alloc,
         row,
+        horizon,
         tasks.as_slice(),
         gone.as_slice(),
         links.as_slice(),
@@ -252,30 +275,43 @@ fn check_board<S: Alter>(
     )
 }
 
-/// Reads a board from its rows, and compares it with what else is stored of it.
+/// Reads a board from its rows, and compares it with what else is stored of it. Where it isn't known how far ahead the board looks,
+/// it is read as one that looks one ahead.
 fn compare(
     alloc: Global,
     row: &BoardRow,
+    horizon: Option<HorizonRow>,
     tasks: &[TaskRow],
     gone: &[GoneRow],
     links: &[LinkRow],
     instances: &[InstanceRow],
 ) -> Result<Checked, StoreFault>
-    ensures size { IfOk result (λ checked. (b : Board) → board_of row.now tasks.now gone.now ≡ Ok b → checked.tasks ≡ length b.tasks) }
-    ensures tells { IfOk result (λ checked. (b : Board) → board_of row.now tasks.now gone.now ≡ Ok b → IsTrue checked.as_stored ↔ AreAsStored b row.now tasks.now links.now instances.now) }
-    ensures whole { IfOk result (λ checked. IsCheckBy row.now tasks.now gone.now links.now instances.now checked) }
+    ensures size { IfOk result (λ checked. (b : Board) → board_of row.now (Some (horizon_row b)) tasks.now gone.now ≡ Ok b → checked.tasks ≡ length b.tasks) }
+    ensures tells { IfOk result (λ checked. (b : Board) → board_of row.now (Some (horizon_row b)) tasks.now gone.now ≡ Ok b → (horizon ≡ None) ⊎ (horizon ≡ Some (horizon_row b))
+        → IsTrue checked.as_stored ↔ AreAsStored b row.now horizon tasks.now links.now instances.now) }
+    ensures whole { IfOk result (λ checked. IsCheckBy row.now horizon tasks.now gone.now links.now instances.now checked) }
     ensures few { IfOk result (λ checked. checked.tasks ≤ 10000) }
 {
-    let board = match read_board(alloc, row, tasks, gone) {
+    let known = known_horizon(row.id, horizon);
+    let board = match read_board(alloc, row, Some(known), tasks, gone) {
         Ok(board) => board,
         Err(fault) => return Err(fault_of(fault)),
     };
     hold_board(alloc, &board)?;
-    match is_as_stored(alloc, &board, row, tasks, links, instances) {
+    match is_as_stored(alloc, &board, row, horizon, tasks, links, instances) {
         Ok(as_stored) => Ok(Checked {
             tasks: board.tasks.len() as u64,
             as_stored,
         }),
         Err(_) => Err(StoreFault::Memory),
+    }
+}
+
+fn known_horizon(board: u32, horizon: Option<HorizonRow>) -> HorizonRow
+    ensures { result ≡ known_horizon board horizon }
+{
+    match horizon {
+        Some(row) => row,
+        None => HorizonRow { board, ahead: 1 },
     }
 }

@@ -63,6 +63,7 @@ impl<S: Alter> SqlKeep<S> {
                 boards: 1,
                 cache: first.cache,
                 failed: false,
+                migrated: false,
             }),
             Err(StoreFault::Memory) => Err((conn, CreateFault::Memory)),
             Err(StoreFault::Store) => Err((conn, CreateFault::Store)),

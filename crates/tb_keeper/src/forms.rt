@@ -2,13 +2,14 @@
 
 ghost use Rattle.std.specs.Prelude.{◌≡◌, true, IfOk};
 ghost use Rattle.std.specs.List.{AllByRecursion};
+ghost use Rattle.tb_board.specs.Ahead.{is_ahead};
 ghost use Rattle.tb_board.specs.Names.{is_key, is_name, is_title};
 ghost use Rattle.tb_task.specs.Mask.{is_mark};
 ghost use Rattle.tb_keeper.specs.Forms.{HasChangeForm};
 ghost use Rattle.tb_reopen.specs.Forms.{HasTaskForm};
 
 use std::alloc::{AllocError, Global};
-use tb_board::{Change, Key, Name, Title};
+use tb_board::{Ahead, Change, Key, Name, Title};
 use tb_task::{Mark, Task, check};
 
 /// Whether names, keys, titles, tasks and marks have their forms. Those of a good world do.
@@ -38,6 +39,10 @@ fn has_form(alloc: Global, change: &Change) -> Result<bool, AllocError>
             Ok(true)
         }
         Change::TakeGone { .. } => Ok(true),
+        Change::SetAhead { ahead, .. } => {
+            is_from_one(*ahead);
+            Ok(true)
+        }
     }
 }
 
@@ -81,4 +86,10 @@ fn is_known(mark: Mark)
     ensures { is_mark mark ≡ true }
 {
     let _byte = mark.byte();
+}
+
+fn is_from_one(ahead: Ahead)
+    ensures { is_ahead ahead ≡ true }
+{
+    let _number = ahead.number();
 }

@@ -9,6 +9,7 @@ mod at_hand;
 mod auditing;
 mod committing;
 mod creating;
+pub mod first_version;
 mod forms;
 mod looking;
 mod members;

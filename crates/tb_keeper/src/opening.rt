@@ -1,13 +1,14 @@
-ghost use Rattle.std.specs.Prelude.{◌≡◌, ◌⊎◌, Err, IfErr, IfOk, MatchResult, Ok, false, true};
+ghost use Rattle.std.specs.Prelude.{◌≡◌, ◌≢◌, ◌⊎◌, Err, IfErr, IfOk, MatchResult, Ok, false, true};
 ghost use Rattle.sqlite.specs.Held.{state};
 ghost use Rattle.sqlite.specs.State.{HasCleanDisk, Opens};
 ghost use Rattle.tb_calls.specs.Calls.{State};
-ghost use Rattle.tb_sql.specs.Opening.{has_meta, is_ours, IsAnswered, IsAsBefore};
-ghost use Rattle.tb_sql_tables.specs.Content.{AreRows, Content, Stands};
+ghost use Rattle.tb_sql.specs.Opening.{has_meta, has_tables, is_old, IsAnswered, IsAsBefore};
+ghost use Rattle.tb_sql_tables.specs.Content.{AreOldRows, AreRows, Content, Stands};
 ghost use Rattle.tb_sql_tables.specs.Failing.{FailsByFault, KeepsFaults};
 ghost use Rattle.tb_stored.specs.Reopening.{OfState};
-ghost use Rattle.tb_stored.specs.Stored.{AreTreesOf};
+ghost use Rattle.tb_stored.specs.Stored.{AreOldTreesOf, AreTreesOf, IsStoredInEither, IsStoredOld};
 ghost use Rattle.tb_keeper.specs.Holds.{Holds, IsAtHand};
+ghost use Rattle.tb_keeper.specs.Versions.{OfOldState, version_taken};
 
 use crate::sql_keep::SqlKeep;
 use sqlite::{Alter, Connection};
@@ -15,27 +16,34 @@ use std::alloc::Global;
 use tb_cache::BoardCache;
 use tb_lookup::boards::count_boards;
 use tb_lookup::people::count_people;
-use tb_sql::opening::{OpenFault, accept};
+use tb_sql::migrating::migrate;
+use tb_sql::opening::{OpenFault, Version, accept};
 use tb_sql::store::StoreFault;
 
 impl<S: Alter> SqlKeep<S> {
-    /// Takes a database as the store that it is. Of its rows it looks at some of the numbers of people and boards alone.
+    /// Takes a database as the store that it is. Of its rows it looks at some of the numbers of people and boards alone. A store of the
+    /// first version it makes one of the second, at once and last of all.
     pub fn open(
         alloc: Global,
         mut conn: Connection<S>,
     ) -> Result<SqlKeep<S>, (Connection<S>, OpenFault)>
         requires { conn.in_transaction ≡ false }
         ensures fresh { IfOk result (λ keep. keep.failed ≡ false) }
-        ensures ours { IfOk result (λ keep. is_ours (state S.Store conn).now.schema ≡ true) }
-        ensures version { has_meta (state S.Store conn).now.schema.tables ≡ true → IfOk result (λ keep. HasCleanDisk (state S.Store keep.conn) → IsAnswered S.Store conn (Ok tt)) }
-        ensures holds { IfOk result (λ keep. OfState (state S.Store conn) (state S.Store keep.conn)
+        ensures tables { IfOk result (λ keep. has_tables (version_taken keep.migrated) (state S.Store conn).now.schema ≡ true) }
+        ensures version { has_meta (state S.Store conn).now.schema.tables ≡ true
+            → IfOk result (λ keep. HasCleanDisk (state S.Store keep.conn) → IsAnswered S.Store conn (Ok (version_taken keep.migrated))) }
+        ensures holds { IfOk result (λ keep. keep.migrated ≡ false → OfState (state S.Store conn) (state S.Store keep.conn)
             (λ s. Holds keep.failed keep.people keep.boards keep.cache.entries (state S.Store keep.conn) s)) }
         ensures opened { IfOk result (λ keep. HasCleanDisk (state S.Store keep.conn) → Opens (state S.Store conn) → (s : State) → AreTreesOf s (state S.Store conn).now.trees
             → Holds keep.failed keep.people keep.boards keep.cache.entries (state S.Store keep.conn) s) }
-        ensures same { IfOk result (λ keep. IsAsBefore (state S.Store conn) (state S.Store keep.conn)) }
-        ensures refused { IfErr result (λ e. IsAsBefore (state S.Store conn) (state S.Store e.0)) }
+        ensures migrated { IfOk result (λ keep. HasCleanDisk (state S.Store keep.conn) → Opens (state S.Store conn) → (s : State) → AreOldTreesOf s (state S.Store conn).now.trees
+            → Holds keep.failed keep.people keep.boards keep.cache.entries (state S.Store keep.conn) s) }
+        ensures same { IfOk result (λ keep. keep.migrated ≡ false → IsAsBefore (state S.Store conn) (state S.Store keep.conn)) }
+        ensures refused { IfErr result (λ e. (e.1 ≢ OpenFault.Store) ⊎ (is_old (state S.Store conn).now.schema ≡ false) → IsAsBefore (state S.Store conn) (state S.Store e.0)) }
+        ensures stopped { IfErr result (λ e. Opens (state S.Store conn) → (s : State) → AreOldTreesOf s (state S.Store conn).now.trees → IsStoredInEither s (state S.Store e.0)) }
         ensures foreign { IfErr result (λ e. (e.1 ≡ OpenFault.NotOurs) ⊎ (e.1 ≡ OpenFault.WrongVersion)
-            → HasCleanDisk (state S.Store e.0) → Opens (state S.Store conn) → (content : Content) → AreRows content (state S.Store conn).now.trees → ⊥) }
+            → HasCleanDisk (state S.Store e.0) → Opens (state S.Store conn)
+            → (content : Content) → AreRows content (state S.Store conn).now.trees ⊎ AreOldRows content (state S.Store conn).now.trees → ⊥) }
         ensures unmarked { has_meta (state S.Store conn).now.schema.tables ≡ false → MatchResult result (λ keep. ⊥) (λ e. e.1 ≡ OpenFault.NotOurs) }
         ensures shown { IfErr result (λ e. (e.1 ≡ OpenFault.NotOurs) ⊎ (e.1 ≡ OpenFault.WrongVersion)
             → HasCleanDisk (state S.Store e.0) → has_meta (state S.Store conn).now.schema.tables ≡ true → IsAnswered S.Store conn (Err e.1)) }
@@ -44,20 +52,43 @@ impl<S: Alter> SqlKeep<S> {
         ensures ready { IfOk result (λ keep. keep.conn.in_transaction ≡ false) }
         ensures idle { IfErr result (λ e. e.0.in_transaction ≡ false) }
     {
-        if let Err(fault) = accept(&mut conn) {
-            return Err((conn, fault));
+        let version = match accept(&mut conn) {
+            Ok(version) => version,
+            Err(fault) => return Err((conn, fault)),
+        };
+        match version {
+            Version::First => match migrated(alloc, &mut conn) {
+                Ok(hand) => Ok(SqlKeep {
+                    conn,
+                    people: hand.people,
+                    boards: hand.boards,
+                    cache: hand.cache,
+                    failed: false,
+                    migrated: true,
+                }),
+                Err(StoreFault::Memory) => Err((conn, OpenFault::Memory)),
+                Err(StoreFault::Store) => Err((conn, OpenFault::Store)),
+            },
+            Version::Second => match at_hand(alloc, &mut conn) {
+                Ok(hand) => Ok(SqlKeep {
+                    conn,
+                    people: hand.people,
+                    boards: hand.boards,
+                    cache: hand.cache,
+                    failed: false,
+                    migrated: false,
+                }),
+                Err(StoreFault::Memory) => Err((conn, OpenFault::Memory)),
+                Err(StoreFault::Store) => Err((conn, OpenFault::Store)),
+            },
         }
-        match at_hand(alloc, &mut conn) {
-            Ok(hand) => Ok(SqlKeep {
-                conn,
-                people: hand.people,
-                boards: hand.boards,
-                cache: hand.cache,
-                failed: false,
-            }),
-            Err(StoreFault::Memory) => Err((conn, OpenFault::Memory)),
-            Err(StoreFault::Store) => Err((conn, OpenFault::Store)),
-        }
+    }
+
+    /// Whether it was a store of the first version before it was opened.
+    pub fn has_migrated(&self) -> bool
+        ensures { result ≡ self.now.migrated }
+    {
+        self.migrated
     }
 }
 
@@ -86,6 +117,27 @@ fn at_hand<S: Alter>(alloc: Global, conn: &mut Connection<S>) -> Result<AtHand, 
     Ok(AtHand {
         people,
         boards,
+        cache,
+    })
+}
+
+/// Makes a store of the first version one of the second. All that is needed of memory is taken before that is done.
+fn migrated<S: Alter>(alloc: Global, conn: &mut Connection<S>) -> Result<AtHand, StoreFault>
+    requires { conn.old.in_transaction ≡ false }
+    ensures idle { conn.new.in_transaction ≡ false }
+    ensures clean { HasCleanDisk (state S.Store conn.new) → HasCleanDisk (state S.Store conn.old) }
+    ensures held { IfOk result (λ hand. OfOldState (state S.Store conn.old) (state S.Store conn.new)
+        (λ s. Holds false hand.people hand.boards hand.cache.entries (state S.Store conn.new) s)) }
+    ensures store { result ≡ Err StoreFault.Store → (s : State) → IsStoredOld s (state S.Store conn.old) → IsStoredInEither s (state S.Store conn.new) }
+    ensures memory { result ≡ Err StoreFault.Memory → IsAsBefore (state S.Store conn.old) (state S.Store conn.new) }
+{
+    let Ok(cache) = BoardCache::new(alloc) else {
+        return Err(StoreFault::Memory);
+    };
+    let counts = migrate(alloc, conn)?;
+    Ok(AtHand {
+        people: counts.people,
+        boards: counts.boards,
         cache,
     })
 }

@@ -25,6 +25,8 @@ const OWNER: u32 = 1;
 
 const MEMBER: u32 = 2;
 
+const READER: u32 = 3;
+
 /// How many people are stored. They are numbered from 1 and can be read, and each kept reply is one of theirs.
 pub(crate) fn hold_people<S: Alter>(
     alloc: Global,
@@ -92,7 +94,7 @@ fn are_roles_of(rows: &[RoleRow], people: usize) -> bool {
 }
 
 fn is_role_of(row: &RoleRow, people: usize) -> bool {
-    matches!(row.kind, OWNER | MEMBER) && is_number_of(row.person, people)
+    matches!(row.kind, OWNER | MEMBER | READER) && is_number_of(row.person, people)
 }
 
 /// Whether boards are numbered from 1.

@@ -33,6 +33,7 @@ pub struct SqlKeep<S: Alter> {
     pub(crate) boards: usize,
     pub(crate) cache: BoardCache,
     pub(crate) failed: bool,
+    pub(crate) migrated: bool,
 }
 
 impl<S: Alter> SqlKeep<S> {

@@ -22,7 +22,7 @@ use Rattle.tb_stored.specs.Entries.{sorted_apart, AreApart}
 use Rattle.tb_stored.specs.Numbers.{name_at_number, name_of_number}
 use Rattle.tb_stored.specs.Stored.{kept_row, name_at, reply_in, AreRowsOf, IsKnown}
 use Rattle.tb_lookup.specs.Replies.{IsReplyFound}
-use Rattle.tb_lookup.proofs.OneOf.{none_found, one_found}
+use Rattle.tb_reopen.proofs.OneOf.{none_found, one_found}
 
 abbrev Entry : Type 0
 Entry = CallName × KeptReply

@@ -3,7 +3,6 @@ pub mod Gathered
 pub mod KeptOnes
 pub mod NamedPeople
 pub mod NumberedPeople
-pub mod OneOf
 pub mod OwnBoards
 pub mod PeopleOn
 pub mod StoredBoards

@@ -15,7 +15,7 @@ use Rattle.tb_rows.specs.Rows.{person_row, rows_from}
 use Rattle.tb_sql.specs.Changes.{is_named}
 use Rattle.tb_sql_tables.specs.Found.{IsOneOf}
 use Rattle.tb_sql_tables.specs.declared.rows.PersonRow.{PersonRow}
-use Rattle.tb_lookup.proofs.OneOf.{none_found, one_found}
+use Rattle.tb_reopen.proofs.OneOf.{none_found, one_found}
 
 -- the rows of people who are numbered from there
 abbrev pub rows : ℕ → List Person → List PersonRow

@@ -17,7 +17,7 @@ use Rattle.tb_sql_tables.specs.Found.{IsOneOf}
 use Rattle.tb_stored.specs.Reopening.{OfContent, OfState}
 use Rattle.tb_lookup.proofs.NamedPeople.{rows}
 use Rattle.tb_lookup.proofs.NumberedPeople.{none_before}
-use Rattle.tb_lookup.proofs.OneOf.{none_found, one_found}
+use Rattle.tb_reopen.proofs.OneOf.{none_found, one_found}
 
 -- ---- the row of a number
 

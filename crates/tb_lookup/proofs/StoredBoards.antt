@@ -23,7 +23,7 @@ use Rattle.tb_stored.proofs.Reopened.{world_is_read}
 use Rattle.tb_stored.proofs.Standing.{stood}
 use Rattle.tb_lookup.specs.Counting.{IsWithin}
 use Rattle.tb_lookup.proofs.Counting.{AreNumbered, within_any}
-use Rattle.tb_lookup.proofs.OneOf.{none_found, one_found}
+use Rattle.tb_reopen.proofs.OneOf.{none_found, one_found}
 
 -- ---- the row of a number
 

@@ -19,7 +19,7 @@ use tb_reopen::laws::rows_are_found_again;
 use tb_reopen::read_board;
 use tb_sql::store::StoreFault;
 use tb_sql_tables::rows::BoardRow;
-use tb_stored::by_key::{board_row_at, has_board_at};
+use tb_stored::by_key::{board_row_at, has_board_at, horizon_row_at};
 use tb_stored::faults::fault_of;
 use tb_stored::reading::{gone_rows, task_rows};
 use tb_values::Shared;
@@ -50,7 +50,7 @@ pub fn stored_board<S: Alter>(
     Ok(Some(board))
 }
 
-/// The board of a row, with the tasks and the gone places that are stored for it.
+/// The board of a row, with how far ahead it looks, the tasks and the gone places that are stored for it.
 fn read_good<S: Alter>(
     alloc: Global,
     conn: &mut Connection<S>,
@@ -63,9 +63,10 @@ fn read_good<S: Alter>(
     ensures good { IfOk result IsGood }
     ensures same { IsAsBefore (state S.Store conn.old) (state S.Store conn.new) }
 {
+    let horizon = horizon_row_at(conn, row.id)?;
     let tasks = task_rows(conn, row.id)?;
     let gone = gone_rows(conn, row.id)?;
-    match read_board(alloc, row, tasks.as_slice(), gone.as_slice()) {
+    match read_board(alloc, row, horizon, tasks.as_slice(), gone.as_slice()) {
         Ok(board) => hold_to_good(alloc, board),
         Err(fault) => Err(fault_of(fault)),
     }

@@ -1,5 +1,5 @@
 -- Two worlds that are read in one content are one.
-use Rattle.std.proofs.Common.{◌≡◌, ℕ, ◌==◌, List, [], ◌∷◌, ◌++◌, Result, Ok, filter, map, refl, sym, ap, ap₂, ◌∙◌, subst, arith, inl, inr}
+use Rattle.std.proofs.Common.{◌≡◌, ℕ, ◌==◌, List, [], ◌∷◌, ◌++◌, Result, Ok, Option, Some, filter, map, refl, sym, ap, ap₂, ◌∙◌, subst, arith, inl, inr}
 use Rattle.std.specs.List.{AllByRecursion, flat_map}
 use Rattle.std.proofs.lemmas.List.Sorted.{IsPermutation-refl}
 use Rattle.sqlite_trees.specs.Tree.{IsAscending}
@@ -8,13 +8,14 @@ use Rattle.tb_board.specs.declared.board.Board.{Board}
 use Rattle.tb_board.specs.declared.world.World.{World}
 use Rattle.tb_core.specs.GoodWorld.{IsGoodWorld}
 use Rattle.tb_sql_tables.specs.Content.{Content}
-use Rattle.tb_sql_tables.specs.Found.{AreFound}
+use Rattle.tb_sql_tables.specs.Found.{AreFound, IsOneOf}
 use Rattle.tb_sql_tables.specs.declared.rows.BoardRow.{BoardRow}
 use Rattle.tb_sql_tables.specs.declared.rows.RoleRow.{RoleRow}
 use Rattle.tb_sql_tables.specs.declared.rows.TaskRow.{TaskRow}
 use Rattle.tb_sql_tables.specs.declared.rows.GoneRow.{GoneRow}
-use Rattle.tb_sql.specs.Changes.{IsPersonBefore, IsBoardBefore, IsRoleBefore, IsTaskBefore, IsGoneBefore}
-use Rattle.tb_rows.specs.Rows.{world_rows, board_row, role_row, board_tasks, board_gone, HaveSameRows}
+use Rattle.tb_sql_tables.specs.declared.rows.HorizonRow.{HorizonRow}
+use Rattle.tb_sql.specs.Changes.{is_horizon, IsPersonBefore, IsBoardBefore, IsRoleBefore, IsTaskBefore, IsGoneBefore}
+use Rattle.tb_rows.specs.Rows.{world_rows, board_row, horizon_row, role_row, board_tasks, board_gone, HaveSameRows}
 use Rattle.tb_reopen.specs.Forms.{HasForm}
 use Rattle.tb_reopen.specs.Laws.{roles_on, IsBoardRead}
 use Rattle.tb_reopen.specs.Reading.{board_of}
@@ -47,6 +48,8 @@ gone_one_way a b (inr p) (inr q) = omega (arith, p.1, q.1)
 
 -- what is found on a number
 record HasFound (c : Content) (n : ℕ) : Type 0 where
+  horizon : Option HorizonRow
+  horizon_found : IsOneOf (filter (is_horizon n) c.horizon) horizon
   tasks : List TaskRow
   tasks_found : AreFound IsTaskBefore (filter (λ (row : TaskRow). row.board == n) c.tasks) tasks
   gone : List GoneRow
@@ -54,8 +57,10 @@ record HasFound (c : Content) (n : ℕ) : Type 0 where
   roles : List RoleRow
   roles_found : AreFound IsRoleBefore (filter (λ (row : RoleRow). row.board == n) c.roles) roles
 
-board_found : (w : World) (b : Board) → IsOrdered w → GoneRise b → FindsOwn (world_rows w).tasks (world_rows w).gone b → HasFound (world_rows w) b.number
+board_found : (w : World) (b : Board) → IsOrdered w → GoneRise b → FindsOwn (world_rows w).horizon (world_rows w).tasks (world_rows w).gone b → HasFound (world_rows w) b.number
 board_found w b ordered rise own = record {
+  horizon = Some (horizon_row b);
+  horizon_found = subst (λ l. IsOneOf l (Some (horizon_row b))) (sym own.horizon_is) (0, omega arith, refl);
   tasks = board_tasks b;
   tasks_found = subst (λ l. AreFound IsTaskBefore l (board_tasks b)) (sym own.tasks_are) (found_itself IsTaskBefore (λ x y p q. omega arith) (board_tasks b) (tasks_rise b));
   gone = board_gone b;
@@ -66,7 +71,7 @@ board_found w b ordered rise own = record {
       (found_itself IsRoleBefore (λ x y p q. omega arith) (map role_row (roles_on w b)) (roles_rise b.number w.roles ordered.roles));
 }
 
-boards_found : (w : World) → IsOrdered w → (bs : List Board) → AllByRecursion GoneRise bs → AllByRecursion (FindsOwn (world_rows w).tasks (world_rows w).gone) bs
+boards_found : (w : World) → IsOrdered w → (bs : List Board) → AllByRecursion GoneRise bs → AllByRecursion (FindsOwn (world_rows w).horizon (world_rows w).tasks (world_rows w).gone) bs
     → AllByRecursion (λ (b : Board). HasFound (world_rows w) b.number) bs
 boards_found w ordered [] rise own = tt
 boards_found w ordered (b ∷ bs) rise own = (board_found w b ordered rise.0 own.0, boards_found w ordered bs rise.1 own.1)
@@ -86,10 +91,12 @@ module _ (v w : World) (c : Content) where
     where
       go : HasFound c b.number → HasFound c d.number → d.number ≡ b.number → (b ≡ d) × (roles_on v b ≡ roles_on w d)
       go at found number =
+          let h = subst (λ n. IsOneOf (filter (is_horizon n) c.horizon) found.horizon) number found.horizon_found in
           let t = subst (λ n. AreFound IsTaskBefore (filter (λ (r : TaskRow). r.board == n) c.tasks) found.tasks) number found.tasks_found in
           let g = subst (λ n. AreFound IsGoneBefore (filter (λ (r : GoneRow). r.board == n) c.gone) found.gone) number found.gone_found in
           let r = subst (λ n. AreFound IsRoleBefore (filter (λ (row : RoleRow). row.board == n) c.roles) found.roles) number found.roles_found in (
-            same_Ok b d (sym (rb.board found.tasks found.gone t g) ∙ ap (λ x. board_of x found.tasks found.gone) row ∙ rd.board found.tasks found.gone found.tasks_found found.gone_found),
+            same_Ok b d (sym (rb.board found.horizon found.tasks found.gone h t g) ∙ ap (λ x. board_of x found.horizon found.tasks found.gone) row
+                ∙ rd.board found.horizon found.tasks found.gone found.horizon_found found.tasks_found found.gone_found),
             same_Ok _ _ (sym (rb.roles [] found.roles r) ∙ rd.roles [] found.roles found.roles_found),
           )
 
@@ -114,6 +121,7 @@ itself w = record {
   links = IsPermutation-refl _;
   instances = IsPermutation-refl _;
   gone = IsPermutation-refl _;
+  horizon = IsPermutation-refl _;
 }
 
 pub rows_apart : IsRead → (v w : World) → IsGoodWorld v → IsGoodWorld w → IsOrdered v → IsOrdered w → HasForm v → HasForm w → HaveSameRows (world_rows v) (world_rows w) → v ≡ w

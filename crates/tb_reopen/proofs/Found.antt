@@ -1,6 +1,7 @@
 -- A world is read in each content that has its rows.
-use Rattle.std.proofs.Common.{◌≡◌, ◌+◌, ◌==◌, ◌<◌, ◌≤◌, Bool, List, [], ◌∷◌, Ok, filter, length, refl, ap, ap₂, ◌∙◌, subst, arith, IsPermutation}
+use Rattle.std.proofs.Common.{◌≡◌, ◌+◌, ◌==◌, ◌<◌, ◌≤◌, Bool, List, [], ◌∷◌, Ok, Option, Some, filter, length, refl, ap, ap₂, ◌∙◌, sym, subst, arith, IsPermutation}
 use Rattle.std.specs.List.{AllByRecursion}
+use Rattle.std.proofs.lemmas.List.Sorted.{IsPermutation-sym}
 use Rattle.sqlite_trees.specs.Tree.{IsAscending}
 use Rattle.sqlite_keyed.proofs.ListLemmas.{all_weaker, IsPermutation-filter}
 use Rattle.tb_task.specs.TaskId.{IsRead}
@@ -9,16 +10,18 @@ use Rattle.tb_board.specs.declared.board.Board.{Board}
 use Rattle.tb_board.specs.declared.world.World.{World}
 use Rattle.tb_core.specs.GoodWorld.{IsGoodWorld, IsRoleIn}
 use Rattle.tb_sql_tables.specs.Content.{Content}
-use Rattle.tb_sql_tables.specs.Found.{AreFound}
+use Rattle.tb_sql_tables.specs.Found.{AreFound, IsOneOf}
 use Rattle.tb_sql_tables.specs.declared.rows.RoleRow.{RoleRow}
 use Rattle.tb_sql_tables.specs.declared.rows.TaskRow.{TaskRow}
 use Rattle.tb_sql_tables.specs.declared.rows.GoneRow.{GoneRow}
-use Rattle.tb_sql.specs.Changes.{IsTaskBefore, IsGoneBefore}
-use Rattle.tb_rows.specs.Rows.{world_rows, board_row, board_tasks, board_gone, HaveSameRows}
+use Rattle.tb_sql_tables.specs.declared.rows.HorizonRow.{HorizonRow}
+use Rattle.tb_sql.specs.Changes.{is_horizon, IsTaskBefore, IsGoneBefore}
+use Rattle.tb_rows.specs.Rows.{world_rows, board_row, horizon_row, board_tasks, board_gone, HaveSameRows}
 use Rattle.tb_reopen.specs.Forms.{HasForm, HasBoardForm}
 use Rattle.tb_reopen.specs.Laws.{IsBoardRead, IsWorldRead}
 use Rattle.tb_reopen.specs.Reading.{people_in, board_of, roles_in}
 use Rattle.tb_reopen.proofs.Joined.{numbered_from}
+use Rattle.tb_reopen.proofs.OneOf.{one_found}
 use Rattle.tb_reopen.proofs.Orders.{GoneRise, IsOrdered}
 use Rattle.tb_reopen.proofs.ReadBoards.{FindsOwn, board_read, finds_own}
 use Rattle.tb_reopen.proofs.ReadPeople.{people_read, roles_read}
@@ -31,16 +34,18 @@ own_found : {R : Type 0} (IsBefore : R → R → Type 0) (p : R → Bool) (all t
 own_found IsBefore p all table own found same own_is up are = are.in_order own (subst (λ l. IsPermutation l (filter p table)) own_is (IsPermutation-filter p all table same)) up
 
 module _ (law : IsRead) (w : World) (c : Content) (same : HaveSameRows (world_rows w) c) where
-  found_board : (b : Board) → FindsOwn (world_rows w).tasks (world_rows w).gone b → IsGood b → HasBoardForm b → GoneRise b → (tasks : List TaskRow) (gone : List GoneRow)
+  found_board : (b : Board) → FindsOwn (world_rows w).horizon (world_rows w).tasks (world_rows w).gone b → IsGood b → HasBoardForm b → GoneRise b
+      → (horizon : Option HorizonRow) (tasks : List TaskRow) (gone : List GoneRow) → IsOneOf (filter (is_horizon b.number) c.horizon) horizon
       → AreFound IsTaskBefore (filter (λ (row : TaskRow). row.board == b.number) c.tasks) tasks → AreFound IsGoneBefore (filter (λ (row : GoneRow). row.board == b.number) c.gone) gone
-      → board_of (board_row b) tasks gone ≡ Ok b
-  found_board b own good form rise tasks gone t g =
-      ap₂ (board_of (board_row b))
+      → board_of (board_row b) horizon tasks gone ≡ Ok b
+  found_board b own good form rise horizon tasks gone h t g =
+      ap (λ o. board_of (board_row b) o tasks gone) (one_found (is_horizon b.number) c.horizon (world_rows w).horizon (IsPermutation-sym _ _ same.horizon) horizon _ own.horizon_is h)
+      ∙ ap₂ (board_of (board_row b) (Some (horizon_row b)))
       (own_found _ (λ (row : TaskRow). row.board == b.number) _ c.tasks (board_tasks b) tasks same.tasks own.tasks_are (tasks_rise b) t)
       (own_found _ (λ (row : GoneRow). row.board == b.number) _ c.gone (board_gone b) gone same.gone own.gone_are rise g)
       ∙ board_read law b good form
 
-  boards_found : IsOrdered w → (bs : List Board) → AllByRecursion (FindsOwn (world_rows w).tasks (world_rows w).gone) bs → AllByRecursion IsGood bs → AllByRecursion HasBoardForm bs → AllByRecursion GoneRise bs
+  boards_found : IsOrdered w → (bs : List Board) → AllByRecursion (FindsOwn (world_rows w).horizon (world_rows w).tasks (world_rows w).gone) bs → AllByRecursion IsGood bs → AllByRecursion HasBoardForm bs → AllByRecursion GoneRise bs
       → AllByRecursion (IsBoardRead w c) bs
   boards_found ordered [] own good forms rise = tt
   boards_found ordered (b ∷ bs) own good forms rise =

@@ -2,6 +2,7 @@ pub mod Apart
 pub mod Found
 pub mod Joined
 pub mod Lists
+pub mod OneOf
 pub mod Orders
 pub mod ReadBoards
 pub mod ReadGone

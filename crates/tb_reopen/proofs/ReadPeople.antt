@@ -5,7 +5,7 @@ use Rattle.std.proofs.lemmas.Bool.{eq-eqb}
 use Rattle.std.proofs.lemmas.List.{append-nil}
 use Rattle.tb_board.specs.declared.world.Person.{Person}
 use Rattle.tb_board.specs.declared.world.Role.{Role}
-use Rattle.tb_board.specs.declared.world.Role.TheVariants.{Owner, Member}
+use Rattle.tb_board.specs.declared.world.Role.TheVariants.{Owner, Member, Reader}
 use Rattle.tb_board.specs.declared.world.RoleOn.{RoleOn}
 use Rattle.tb_rows.specs.Rows.{rows_from, person_row, role_kind, role_row}
 use Rattle.tb_reopen.specs.Forms.{HasPersonForm}
@@ -24,6 +24,7 @@ people_read found (p ∷ ps) n at all =
 kind_read : (role : Role) → role_of_kind (role_kind role) ≡ Ok role
 kind_read Owner = refl
 kind_read Member = refl
+kind_read Reader = refl
 
 role_read : (r : RoleOn) → role_of (role_row r) ≡ Ok r
 role_read r = rw (kind_read r.role) refl

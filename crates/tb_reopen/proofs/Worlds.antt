@@ -13,4 +13,4 @@ use Rattle.tb_reopen.proofs.ReadPeople.{people_read, roles_read}
 pub reads_back : IsRead → (w : World) → IsGoodWorld w → HasForm w → world_in (world_rows w) ≡ Ok w
 reads_back law w good form =
     let own = finds_own 1 w.boards (numbered_from 1 w.boards good.numbered) in
-    rw (people_read [] w.people 1 refl form.people, boards_read law _ _ [] w.boards own good.good form.boards, roles_read [] w.roles) refl
+    rw (people_read [] w.people 1 refl form.people, boards_read law _ _ _ [] w.boards own good.good form.boards, roles_read [] w.roles) refl

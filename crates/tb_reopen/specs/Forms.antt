@@ -7,6 +7,7 @@ use Rattle.tb_task.specs.Mask.{is_mark}
 use Rattle.tb_task.specs.Ranges.{HasLinks, HasTexts, IsNamedExtra}
 use Rattle.tb_task.specs.Storable.{HasMoments}
 use Rattle.tb_task.specs.declared.task.Task.{Task}
+use Rattle.tb_board.specs.Ahead.{is_ahead}
 use Rattle.tb_board.specs.Names.{is_name, is_key, is_title}
 use Rattle.tb_board.specs.declared.board.Board.{Board}
 use Rattle.tb_board.specs.declared.gone.Gone.{Gone}
@@ -27,6 +28,7 @@ pub record HasBoardForm (b : Board) : Type 0 where
   pub title : is_title b.title ≡ true
   pub tasks : AllByRecursion HasTaskForm b.tasks
   pub gone : AllByRecursion HasMark b.gone
+  pub ahead : is_ahead b.ahead ≡ true
 
 pub record HasPersonForm (p : Person) : Type 0 where
   pub name : is_name p.name ≡ true

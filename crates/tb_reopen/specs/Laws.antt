@@ -1,18 +1,19 @@
 -- What rows tell of a world.
-use Rattle.std.specs.Prelude.{◌≡◌, ◌==◌, List, [], ◌++◌, Ok, filter, map}
+use Rattle.std.specs.Prelude.{◌≡◌, ◌==◌, List, [], ◌++◌, Ok, Option, filter, map}
 use Rattle.std.specs.List.{AllByRecursion, flat_map}
 use Rattle.tb_board.specs.declared.board.Board.{Board}
 use Rattle.tb_board.specs.declared.world.RoleOn.{RoleOn}
 use Rattle.tb_board.specs.declared.world.World.{World}
 use Rattle.tb_core.specs.GoodWorld.{IsGoodWorld}
 use Rattle.tb_sql_tables.specs.Content.{Content}
-use Rattle.tb_sql_tables.specs.Found.{AreFound}
+use Rattle.tb_sql_tables.specs.Found.{AreFound, IsOneOf}
 use Rattle.tb_sql_tables.specs.declared.rows.PersonRow.{PersonRow}
 use Rattle.tb_sql_tables.specs.declared.rows.BoardRow.{BoardRow}
 use Rattle.tb_sql_tables.specs.declared.rows.RoleRow.{RoleRow}
 use Rattle.tb_sql_tables.specs.declared.rows.TaskRow.{TaskRow}
 use Rattle.tb_sql_tables.specs.declared.rows.GoneRow.{GoneRow}
-use Rattle.tb_sql.specs.Changes.{IsPersonBefore, IsBoardBefore, IsRoleBefore, IsTaskBefore, IsGoneBefore}
+use Rattle.tb_sql_tables.specs.declared.rows.HorizonRow.{HorizonRow}
+use Rattle.tb_sql.specs.Changes.{is_horizon, IsPersonBefore, IsBoardBefore, IsRoleBefore, IsTaskBefore, IsGoneBefore}
 use Rattle.tb_rows.specs.Rows.{world_rows, board_row, HaveSameRows}
 use Rattle.tb_reopen.specs.Forms.{HasForm}
 use Rattle.tb_reopen.specs.Reading.{people_in, board_of, roles_in, world_in}
@@ -27,8 +28,9 @@ roles_on w b = filter (λ (r : RoleOn). r.board == b.number) w.roles
 
 -- what is found on the number of a board is read as that board, and as its roles
 pub record IsBoardRead (w : World) (c : Content) (b : Board) : Type 0 where
-  pub board : (tasks : List TaskRow) (gone : List GoneRow) → AreFound IsTaskBefore (filter (λ (row : TaskRow). row.board == b.number) c.tasks) tasks
-      → AreFound IsGoneBefore (filter (λ (row : GoneRow). row.board == b.number) c.gone) gone → board_of (board_row b) tasks gone ≡ Ok b
+  pub board : (horizon : Option HorizonRow) (tasks : List TaskRow) (gone : List GoneRow) → IsOneOf (filter (is_horizon b.number) c.horizon) horizon
+      → AreFound IsTaskBefore (filter (λ (row : TaskRow). row.board == b.number) c.tasks) tasks
+      → AreFound IsGoneBefore (filter (λ (row : GoneRow). row.board == b.number) c.gone) gone → board_of (board_row b) horizon tasks gone ≡ Ok b
   pub roles : (before : List RoleOn) (rows : List RoleRow) → AreFound IsRoleBefore (filter (λ (row : RoleRow). row.board == b.number) c.roles) rows
       → roles_in before rows ≡ Ok (before ++ roles_on w b)
 

@@ -1,17 +1,18 @@
 -- The world that rows stand for. Rows that no world has stand for none.
-use Rattle.std.specs.Prelude.{ℕ, ◌+◌, ◌-◌, ◌==◌, Bool, List, [], ◌∷◌, ◌++◌, Result, Ok, Err, if◌then◌else◌, length, filter, slice_get}
+use Rattle.std.specs.Prelude.{ℕ, ◌+◌, ◌-◌, ◌==◌, Bool, List, [], ◌∷◌, ◌++◌, Result, Ok, Err, if◌then◌else◌, Option, Some, None, length, filter, slice_get}
 use Rattle.tb_values.specs.Outcome.{◌>>=◌}
 use Rattle.tb_task.specs.Mask.{mark_in}
 use Rattle.tb_task.specs.declared.task.Task.{Task}
 use Rattle.tb_json.specs.Stored.{stored_of}
 use Rattle.tb_json.specs.declared.fault.JsonFault.{JsonFault}
+use Rattle.tb_board.specs.Ahead.{read_ahead}
 use Rattle.tb_board.specs.Board.{ids}
 use Rattle.tb_board.specs.Names.{read_name, read_key, read_title}
 use Rattle.tb_board.specs.declared.board.Board.{Board}
 use Rattle.tb_board.specs.declared.gone.Gone.{Gone}
 use Rattle.tb_board.specs.declared.world.Person.{Person}
 use Rattle.tb_board.specs.declared.world.Role.{Role}
-use Rattle.tb_board.specs.declared.world.Role.TheVariants.{Owner, Member}
+use Rattle.tb_board.specs.declared.world.Role.TheVariants.{Owner, Member, Reader}
 use Rattle.tb_board.specs.declared.world.RoleOn.{RoleOn}
 use Rattle.tb_board.specs.declared.world.World.{World}
 use Rattle.tb_sql_tables.specs.Content.{Content}
@@ -20,6 +21,8 @@ use Rattle.tb_sql_tables.specs.declared.rows.BoardRow.{BoardRow}
 use Rattle.tb_sql_tables.specs.declared.rows.RoleRow.{RoleRow}
 use Rattle.tb_sql_tables.specs.declared.rows.TaskRow.{TaskRow}
 use Rattle.tb_sql_tables.specs.declared.rows.GoneRow.{GoneRow}
+use Rattle.tb_sql_tables.specs.declared.rows.HorizonRow.{HorizonRow}
+use Rattle.tb_sql.specs.Changes.{is_horizon}
 use Rattle.tb_reopen.specs.Outcome.{readable}
 use Rattle.tb_reopen.specs.declared.fault.ReopenFault.{ReopenFault}
 use Rattle.tb_reopen.specs.declared.fault.ReopenFault.TheVariants.{NotRows}
@@ -86,12 +89,18 @@ gone_in tasks found (row ∷ rows) = gone_of tasks row >>= λ g. gone_in tasks (
 
 -- ---- boards, each of its own rows
 
-abbrev pub board_of : BoardRow → List TaskRow → List GoneRow → Result Board ReopenFault
-board_of row task_rows gone_rows = do
+-- how far ahead a board looks, by its one row
+abbrev pub ahead_of : Option HorizonRow → Result ℕ ReopenFault
+ahead_of None = Err NotRows
+ahead_of (Some row) = readable (read_ahead row.ahead)
+
+abbrev pub board_of : BoardRow → Option HorizonRow → List TaskRow → List GoneRow → Result Board ReopenFault
+board_of row horizon task_rows gone_rows = do
   title ← readable (read_title row.title)
+  ahead ← ahead_of horizon
   tasks ← tasks_in [] task_rows
   gone ← gone_in tasks [] gone_rows
-  Ok (record { number = row.id; title = title; tasks = tasks; gone = gone })
+  Ok (record { number = row.id; title = title; tasks = tasks; gone = gone; ahead = ahead })
 
 abbrev pub is_task_on : ℕ → TaskRow → Bool
 is_task_on n row = row.board == n
@@ -99,17 +108,21 @@ is_task_on n row = row.board == n
 abbrev pub is_gone_on : ℕ → GoneRow → Bool
 is_gone_on n row = row.board == n
 
+-- the first of those on a board
+abbrev pub horizon_on : ℕ → List HorizonRow → Option HorizonRow
+horizon_on n rows = slice_get (filter (is_horizon n) rows) 0
+
 -- the boards of rows, after those found
-abbrev pub boards_in : List TaskRow → List GoneRow → List Board → List BoardRow → Result (List Board) ReopenFault
-boards_in tasks gone found [] = Ok found
-boards_in tasks gone found (row ∷ rows) =
-    board_of row (filter (is_task_on row.id) tasks) (filter (is_gone_on row.id) gone) >>= λ b. boards_in tasks gone (found ++ b ∷ []) rows
+abbrev pub boards_in : List HorizonRow → List TaskRow → List GoneRow → List Board → List BoardRow → Result (List Board) ReopenFault
+boards_in horizons tasks gone found [] = Ok found
+boards_in horizons tasks gone found (row ∷ rows) =
+    board_of row (horizon_on row.id horizons) (filter (is_task_on row.id) tasks) (filter (is_gone_on row.id) gone) >>= λ b. boards_in horizons tasks gone (found ++ b ∷ []) rows
 
 -- ---- roles
 
--- 1 is owner, 2 is member
+-- 1 is owner, 2 is member, 3 is reader
 abbrev pub role_of_kind : ℕ → Result Role ReopenFault
-role_of_kind kind = if kind == 1 then Ok Owner else if kind == 2 then Ok Member else Err NotRows
+role_of_kind kind = if kind == 1 then Ok Owner else if kind == 2 then Ok Member else if kind == 3 then Ok Reader else Err NotRows
 
 abbrev pub role_of : RoleRow → Result RoleOn ReopenFault
 role_of row = role_of_kind row.kind >>= λ role. Ok (record { board = row.board; person = row.person; role = role })
@@ -124,6 +137,6 @@ roles_in found (row ∷ rows) = role_of row >>= λ r. roles_in (found ++ r ∷ [
 abbrev pub world_in : Content → Result World ReopenFault
 world_in content = do
   people ← people_in [] content.people
-  boards ← boards_in content.tasks content.gone [] content.boards
+  boards ← boards_in content.horizon content.tasks content.gone [] content.boards
   roles ← roles_in [] content.roles
   Ok (record { people = people; boards = boards; roles = roles })

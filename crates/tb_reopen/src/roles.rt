@@ -12,12 +12,15 @@ const OWNER: u32 = 1;
 
 const MEMBER: u32 = 2;
 
+const READER: u32 = 3;
+
 fn read_kind(kind: u32) -> Result<Role, ReopenFault>
     ensures { Reads result (role_of_kind kind) }
 {
     match kind {
         OWNER => Ok(Role::Owner),
         MEMBER => Ok(Role::Member),
+        READER => Ok(Role::Reader),
         _ => Err(ReopenFault::NotRows),
     }
 }

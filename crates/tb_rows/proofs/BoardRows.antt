@@ -8,7 +8,7 @@ use Rattle.tb_task.specs.declared.task.Task.{Task}
 use Rattle.tb_task.specs.TaskId.{made}
 use Rattle.tb_board.specs.declared.board.Board.{Board}
 use Rattle.tb_board.specs.declared.change.Change.{Change}
-use Rattle.tb_board.specs.declared.change.Change.TheVariants.{PutTask, AddPerson as NewPerson, AddBoard as NewBoard, SetRole, SetGone, TakeGone}
+use Rattle.tb_board.specs.declared.change.Change.TheVariants.{PutTask, AddPerson as NewPerson, AddBoard as NewBoard, SetRole, SetGone, TakeGone, SetAhead}
 use Rattle.tb_board.specs.declared.gone.Gone.{Gone}
 use Rattle.tb_board.specs.Board.{ids}
 use Rattle.tb_board.specs.Links.{place_in}
@@ -20,12 +20,13 @@ use Rattle.tb_sql_tables.specs.declared.rows.TaskRow.{TaskRow}
 use Rattle.tb_sql_tables.specs.declared.rows.LinkRow.{LinkRow}
 use Rattle.tb_sql_tables.specs.declared.rows.InstanceRow.{InstanceRow}
 use Rattle.tb_sql_tables.specs.declared.rows.GoneRow.{GoneRow}
+use Rattle.tb_sql_tables.specs.declared.rows.HorizonRow.{HorizonRow}
 use Rattle.tb_sql.specs.declared.changes.RowChange.{RowChange}
-use Rattle.tb_sql.specs.declared.changes.RowChange.TheVariants.{AddBoard, SetLow, AddTask, SetText, SetMask, AddLink, RemoveLinks, AddInstance, AddGone, RemoveGone}
+use Rattle.tb_sql.specs.declared.changes.RowChange.TheVariants.{AddBoard, SetLow, AddTask, SetText, SetMask, AddLink, RemoveLinks, AddInstance, AddGone, RemoveGone, AddHorizon, SetHorizon}
 use Rattle.tb_sql.specs.Changes.{is_board}
 use Rattle.tb_board.specs.Extends.{ExtendsBoard, ExtendsTask, IsFrontOf}
-use Rattle.tb_rows.specs.Rows.{board_row, board_gone, board_instances, board_links, board_tasks, gone_row, instance_rows, instance_rows_of, link_row, link_rows, rows_from, task_row}
-use Rattle.tb_rows.specs.Steps.{gone_added, gone_changes, gone_removed, is_among, is_of_board, kept_board, later_board, low_changes, new_mask, new_task, put_task, task_changes, put_place, changed_templates}
+use Rattle.tb_rows.specs.Rows.{board_row, board_gone, horizon_row, board_instances, board_links, board_tasks, gone_row, instance_rows, instance_rows_of, link_row, link_rows, rows_from, task_row}
+use Rattle.tb_rows.specs.Steps.{ahead_changes, gone_added, gone_changes, gone_removed, is_among, is_of_board, kept_board, later_board, low_changes, new_mask, new_task, put_task, sets_ahead, task_changes, put_place, changed_templates}
 use Rattle.tb_rows.proofs.WholeWorlds.{board_changes, new_board}
 use Rattle.tb_rows.proofs.Evolving.{change_on, replay}
 use Rattle.tb_rows.proofs.GoneRows.{IsGoneElsewhere}
@@ -50,6 +51,11 @@ pub record LeavesTasks {R : Type 0} (by : RowChange → List R → List R) : Typ
 pub record LeavesGone {R : Type 0} (by : RowChange → List R → List R) : Type 0 where
   pub added : (r : GoneRow) (rows : List R) → by (AddGone r) rows ≡ rows
   pub removed : (n t k : ℕ) (rows : List R) → by (RemoveGone n t k) rows ≡ rows
+
+-- changes of how far ahead boards look leave the table
+pub record LeavesHorizon {R : Type 0} (by : RowChange → List R → List R) : Type 0 where
+  pub added : (r : HorizonRow) (rows : List R) → by (AddHorizon r) rows ≡ rows
+  pub set : (n ahead : ℕ) (rows : List R) → by (SetHorizon n ahead) rows ≡ rows
 
 pub inert-new_task : {R : Type 0} (by : RowChange → List R → List R) → LeavesTasks by → (b : Board) (p : ℕ) (t : Task) → IsInert by (new_task b p t)
 inert-new_task by leaves b p t =
@@ -84,6 +90,7 @@ inert-gone_changes by leaves b (PutTask m place t) = inert_none by
 inert-gone_changes by leaves b (NewPerson name key) = inert_none by
 inert-gone_changes by leaves b (NewBoard m title) = inert_none by
 inert-gone_changes by leaves b (SetRole m person role) = inert_none by
+inert-gone_changes by leaves b (SetAhead m ahead) = inert_none by
 inert-gone_changes by leaves b (SetGone m g) =
     inert-if by (b.number == m) (gone_added b g (place_in (ids b.tasks) g.template)) [] (inert-gone_added by leaves b g (place_in (ids b.tasks) g.template)) (inert_none by)
 inert-gone_changes by leaves b (TakeGone m id k) =
@@ -92,31 +99,35 @@ inert-gone_changes by leaves b (TakeGone m id k) =
 pub inert-gone : {R : Type 0} (by : RowChange → List R → List R) → LeavesGone by → (b : Board) (cs : List Change) → IsInert by (flat_map (gone_changes b) cs)
 inert-gone by leaves b cs = inert-flat_map by (gone_changes b) (inert-gone_changes by leaves b) cs
 
-inert-low : {R : Type 0} (by : RowChange → List R → List R) → ((n low : ℕ) (rows : List R) → by (SetLow n low) rows ≡ rows) → (old : ℕ) (b : Board) → IsInert by (low_changes old b)
+pub inert-low : {R : Type 0} (by : RowChange → List R → List R) → ((n low : ℕ) (rows : List R) → by (SetLow n low) rows ≡ rows) → (old : ℕ) (b : Board) → IsInert by (low_changes old b)
 inert-low by leaves old b = inert-if by (nat_lt old (length b.tasks)) (SetLow b.number (free b) ∷ []) [] (inert_next by _ [] (leaves b.number (free b)) (inert_none by)) (inert_none by)
 
-pub inert-later : {R : Type 0} (by : RowChange → List R → List R) → ((n low : ℕ) (rows : List R) → by (SetLow n low) rows ≡ rows) → LeavesTasks by → LeavesGone by
+inert-ahead : {R : Type 0} (by : RowChange → List R → List R) → LeavesHorizon by → (b : Board) (cs : List Change) → IsInert by (ahead_changes b cs)
+inert-ahead by leaves b cs = inert-if by (list_any (sets_ahead b.number) cs) (SetHorizon b.number b.ahead ∷ []) [] (inert_next by _ [] (leaves.set b.number b.ahead) (inert_none by)) (inert_none by)
+
+pub inert-later : {R : Type 0} (by : RowChange → List R → List R) → ((n low : ℕ) (rows : List R) → by (SetLow n low) rows ≡ rows) → LeavesHorizon by → LeavesTasks by → LeavesGone by
     → (old : ℕ) (b : Board) (cs : List Change) → IsInert by (later_board old b cs)
-inert-later by low tasks gone old b cs =
+inert-later by low ahead tasks gone old b cs =
     let put = flat_map (put_place b.number) cs in
     let templates = changed_templates b old put cs in
     inert-append by (low_changes old b) _ (inert-low by low old b)
-    (inert-append by (rows_from (task_changes b old put templates) 0 b.tasks) (flat_map (gone_changes b) cs) (inert-tasks by tasks b old put templates) (inert-gone by gone b cs))
+    (inert-append by (ahead_changes b cs) _ (inert-ahead by ahead b cs)
+    (inert-append by (rows_from (task_changes b old put templates) 0 b.tasks) (flat_map (gone_changes b) cs) (inert-tasks by tasks b old put templates) (inert-gone by gone b cs)))
 
 -- a table of people or roles is left by all changes of boards
 pub inert-boards : {R : Type 0} (by : RowChange → List R → List R) → ((n low : ℕ) (rows : List R) → by (SetLow n low) rows ≡ rows) → ((r : BoardRow) (rows : List R) → by (AddBoard r) rows ≡ rows)
-    → LeavesTasks by → LeavesGone by → (cs : List Change) (ws bs : List Board) → IsInert by (board_changes cs ws bs)
-inert-boards by low board tasks gone cs [] [] = inert_none by
-inert-boards by low board tasks gone cs (a ∷ ws) [] = inert_none by
-inert-boards by low board tasks gone cs [] (b ∷ bs) =
+    → LeavesHorizon by → LeavesTasks by → LeavesGone by → (cs : List Change) (ws bs : List Board) → IsInert by (board_changes cs ws bs)
+inert-boards by low board ahead tasks gone cs [] [] = inert_none by
+inert-boards by low board ahead tasks gone cs (a ∷ ws) [] = inert_none by
+inert-boards by low board ahead tasks gone cs [] (b ∷ bs) =
     inert-append by (new_board b) (board_changes cs [] bs)
-    (inert_next by (AddBoard (board_row b)) _ (board (board_row b))
-    (inert-append by (rows_from (λ i t. new_task b (i + 1) t) 0 b.tasks) (map AddGone (board_gone b)) (inert-new_tasks by tasks b) (inert-map by AddGone gone.added (board_gone b))))
-    (inert-boards by low board tasks gone cs [] bs)
-inert-boards by low board tasks gone cs (a ∷ ws) (b ∷ bs) =
+    (inert_next by (AddBoard (board_row b)) _ (board (board_row b)) (inert_next by (AddHorizon (horizon_row b)) _ (ahead.added (horizon_row b))
+    (inert-append by (rows_from (λ i t. new_task b (i + 1) t) 0 b.tasks) (map AddGone (board_gone b)) (inert-new_tasks by tasks b) (inert-map by AddGone gone.added (board_gone b)))))
+    (inert-boards by low board ahead tasks gone cs [] bs)
+inert-boards by low board ahead tasks gone cs (a ∷ ws) (b ∷ bs) =
     inert-append by (kept_board (length a.tasks) b cs) (board_changes cs ws bs)
-    (inert-if by (list_any (is_of_board b.number) cs) (later_board (length a.tasks) b cs) [] (inert-later by low tasks gone (length a.tasks) b cs) (inert_none by))
-    (inert-boards by low board tasks gone cs ws bs)
+    (inert-if by (list_any (is_of_board b.number) cs) (later_board (length a.tasks) b cs) [] (inert-later by low ahead tasks gone (length a.tasks) b cs) (inert_none by))
+    (inert-boards by low board ahead tasks gone cs ws bs)
 
 -- ---- the table of boards
 
@@ -161,6 +172,9 @@ boards_leave_tasks : LeavesTasks board_by
 boards_leave_tasks =
     record { task = λ r rows. refl; text = λ n p body mask rows. refl; mask = λ n p mask rows. refl; link = λ r rows. refl; links = λ n p rows. refl; instance = λ r rows. refl }
 
+boards_leave_horizon : LeavesHorizon board_by
+boards_leave_horizon = record { added = λ r rows. refl; set = λ n ahead rows. refl }
+
 boards_leave_gone : LeavesGone board_by
 boards_leave_gone = record { added = λ r rows. refl; removed = λ n t k rows. refl }
 
@@ -169,14 +183,16 @@ board_later a b cs ext =
     let old = length a.tasks in
     let put = flat_map (put_place b.number) cs in
     let templates = changed_templates b old put cs in
-    turns_then_inert board_by _ (low_changes old b) (rows_from (task_changes b old put templates) 0 b.tasks ++ flat_map (gone_changes b) cs) (board_row a ∷ []) (board_row b ∷ []) (low_turns a b ext)
-    (inert-append board_by (rows_from (task_changes b old put templates) 0 b.tasks) (flat_map (gone_changes b) cs) (inert-tasks board_by boards_leave_tasks b old put templates) (inert-gone board_by boards_leave_gone b cs))
+    turns_then_inert board_by _ (low_changes old b) (ahead_changes b cs ++ (rows_from (task_changes b old put templates) 0 b.tasks ++ flat_map (gone_changes b) cs)) (board_row a ∷ []) (board_row b ∷ []) (low_turns a b ext)
+    (inert-append board_by (ahead_changes b cs) _ (inert-ahead board_by boards_leave_horizon b cs)
+    (inert-append board_by (rows_from (task_changes b old put templates) 0 b.tasks) (flat_map (gone_changes b) cs) (inert-tasks board_by boards_leave_tasks b old put templates) (inert-gone board_by boards_leave_gone b cs)))
 
 pub board_new : (b : Board) → Turns board_by (IsBoardElsewhere b.number) (new_board b) [] (board_row b ∷ [])
 board_new b =
-    turns_then_inert board_by _ (AddBoard (board_row b) ∷ []) (rows_from (λ i t. new_task b (i + 1) t) 0 b.tasks ++ map AddGone (board_gone b)) [] (board_row b ∷ [])
+    turns_then_inert board_by _ (AddBoard (board_row b) ∷ []) (AddHorizon (horizon_row b) ∷ (rows_from (λ i t. new_task b (i + 1) t) 0 b.tasks ++ map AddGone (board_gone b))) [] (board_row b ∷ [])
     (turns_added board_by _ AddBoard (λ r rows. refl) (board_row b ∷ []))
-    (inert-append board_by (rows_from (λ i t. new_task b (i + 1) t) 0 b.tasks) (map AddGone (board_gone b)) (inert-new_tasks board_by boards_leave_tasks b) (inert-map board_by AddGone (λ r rows. refl) (board_gone b)))
+    (inert_next board_by (AddHorizon (horizon_row b)) _ (λ rows. refl)
+    (inert-append board_by (rows_from (λ i t. new_task b (i + 1) t) 0 b.tasks) (map AddGone (board_gone b)) (inert-new_tasks board_by boards_leave_tasks b) (inert-map board_by AddGone (λ r rows. refl) (board_gone b))))
 
 -- ---- the tables of tasks, links and instances
 
@@ -206,19 +222,21 @@ instance_at a n number p t = go t.parent t.imask
     go (Some id) None = tt
     go (Some id) (Some k) = ((number, refl), tt)
 
-later_table : {R : Type 0} (by : RowChange → List R → List R) (IsApart : R → Type 0) → ((n low : ℕ) (rows : List R) → by (SetLow n low) rows ≡ rows) → LeavesGone by
+later_table : {R : Type 0} (by : RowChange → List R → List R) (IsApart : R → Type 0) → ((n low : ℕ) (rows : List R) → by (SetLow n low) rows ≡ rows) → LeavesHorizon by → LeavesGone by
     → (old : ℕ) (b : Board) (cs : List Change) (before after : List R)
     → Turns by IsApart (rows_from (task_changes b old (flat_map (put_place b.number) cs) (changed_templates b old (flat_map (put_place b.number) cs) cs)) 0 b.tasks) before after
     → Turns by IsApart (later_board old b cs) before after
-later_table by IsApart low gone old b cs before after turn =
+later_table by IsApart low ahead gone old b cs before after turn =
     inert_then_turns by IsApart (low_changes old b) _ before after (inert-low by low old b)
+    (inert_then_turns by IsApart (ahead_changes b cs) _ before after (inert-ahead by ahead b cs)
     (turns_then_inert by IsApart (rows_from (task_changes b old (flat_map (put_place b.number) cs) (changed_templates b old (flat_map (put_place b.number) cs) cs)) 0 b.tasks) (flat_map (gone_changes b) cs)
-    before after turn (inert-gone by gone b cs))
+    before after turn (inert-gone by gone b cs)))
 
-new_table : {R : Type 0} (by : RowChange → List R → List R) (IsApart : R → Type 0) → ((r : BoardRow) (rows : List R) → by (AddBoard r) rows ≡ rows) → ((r : GoneRow) (rows : List R) → by (AddGone r) rows ≡ rows)
+new_table : {R : Type 0} (by : RowChange → List R → List R) (IsApart : R → Type 0) → ((r : BoardRow) (rows : List R) → by (AddBoard r) rows ≡ rows) → ((r : HorizonRow) (rows : List R) → by (AddHorizon r) rows ≡ rows) → ((r : GoneRow) (rows : List R) → by (AddGone r) rows ≡ rows)
     → (b : Board) (after : List R) → Turns by IsApart (rows_from (λ i t. new_task b (i + 1) t) 0 b.tasks) [] after → Turns by IsApart (new_board b) [] after
-new_table by IsApart board gone b after turn =
-    inert_then_turns by IsApart (AddBoard (board_row b) ∷ []) _ [] after (inert_next by (AddBoard (board_row b)) [] (board (board_row b)) (inert_none by))
+new_table by IsApart board ahead gone b after turn =
+    inert_then_turns by IsApart (AddBoard (board_row b) ∷ AddHorizon (horizon_row b) ∷ []) _ [] after
+    (inert_next by (AddBoard (board_row b)) _ (board (board_row b)) (inert_next by (AddHorizon (horizon_row b)) [] (ahead (horizon_row b)) (inert_none by)))
     (turns_then_inert by IsApart (rows_from (λ i t. new_task b (i + 1) t) 0 b.tasks) (map AddGone (board_gone b)) [] after turn (inert-map by AddGone gone (board_gone b)))
 
 all_new : {B : Type 0} (Q : ℕ → B → Type 0) → ((i : ℕ) (b : B) → Q i b) → (P : ℕ → B → B → Type 0) (i : ℕ) (bs : List B) → Matches P Q i [] bs
@@ -232,7 +250,7 @@ tasks_later a b cs number kept =
     let old = length a.tasks in
     let put = flat_map (put_place b.number) cs in
     let templates = changed_templates b old put cs in
-    later_table task_by _ (λ n low rows. refl) (record { added = λ r rows. refl; removed = λ n t k rows. refl }) old b cs (board_tasks a) (board_tasks b)
+    later_table task_by _ (λ n low rows. refl) (record { added = λ r rows. refl; set = λ n ahead rows. refl }) (record { added = λ r rows. refl; removed = λ n t k rows. refl }) old b cs (board_tasks a) (board_tasks b)
     (turns_narrow task_by (IsBefore (λ (r : TaskRow). r.board) (λ (r : TaskRow). r.place) b.number (0 + 1)) _ _ _ _ (λ r off on at. off on)
     (turns_places task_by tasks_unordered (λ (r : TaskRow). r.board) (λ (r : TaskRow). r.place) b.number 0 (task_changes b old put templates) (λ p s. task_row a p s ∷ []) (λ p t. task_row b p t ∷ [])
     (task_at a b.number (sym number)) (task_at b b.number refl) a.tasks b.tasks
@@ -241,7 +259,7 @@ tasks_later a b cs number kept =
 
 pub tasks_new : (b : Board) → Turns task_by (IsElsewhere (λ (r : TaskRow). r.board) b.number) (new_board b) [] (board_tasks b)
 tasks_new b =
-    new_table task_by _ (λ r rows. refl) (λ r rows. refl) b (board_tasks b)
+    new_table task_by _ (λ r rows. refl) (λ r rows. refl) (λ r rows. refl) b (board_tasks b)
     (turns_narrow task_by (IsBefore (λ (r : TaskRow). r.board) (λ (r : TaskRow). r.place) b.number (0 + 1)) _ _ _ _ (λ r off on at. off on)
     (turns_places task_by tasks_unordered (λ (r : TaskRow). r.board) (λ (r : TaskRow). r.place) b.number 0 (λ i t. new_task b (i + 1) t) (λ p s. task_row b p s ∷ []) (λ p t. task_row b p t ∷ [])
     (task_at b b.number refl) (task_at b b.number refl) [] b.tasks
@@ -254,7 +272,7 @@ links_later a b cs number kept =
     let old = length a.tasks in
     let put = flat_map (put_place b.number) cs in
     let templates = changed_templates b old put cs in
-    later_table link_by _ (λ n low rows. refl) (record { added = λ r rows. refl; removed = λ n t k rows. refl }) old b cs (board_links a) (board_links b)
+    later_table link_by _ (λ n low rows. refl) (record { added = λ r rows. refl; set = λ n ahead rows. refl }) (record { added = λ r rows. refl; removed = λ n t k rows. refl }) old b cs (board_links a) (board_links b)
     (turns_narrow link_by (IsBefore (λ (r : LinkRow). r.board) (λ (r : LinkRow). r.place) b.number (0 + 1)) _ _ _ _ (λ r off on at. off on)
     (turns_places link_by links_unordered (λ (r : LinkRow). r.board) (λ (r : LinkRow). r.place) b.number 0 (task_changes b old put templates) (link_rows a) (link_rows b)
     (link_at a b.number (sym number)) (link_at b b.number refl) a.tasks b.tasks
@@ -263,7 +281,7 @@ links_later a b cs number kept =
 
 pub links_new : (b : Board) → Turns link_by (IsElsewhere (λ (r : LinkRow). r.board) b.number) (new_board b) [] (board_links b)
 links_new b =
-    new_table link_by _ (λ r rows. refl) (λ r rows. refl) b (board_links b)
+    new_table link_by _ (λ r rows. refl) (λ r rows. refl) (λ r rows. refl) b (board_links b)
     (turns_narrow link_by (IsBefore (λ (r : LinkRow). r.board) (λ (r : LinkRow). r.place) b.number (0 + 1)) _ _ _ _ (λ r off on at. off on)
     (turns_places link_by links_unordered (λ (r : LinkRow). r.board) (λ (r : LinkRow). r.place) b.number 0 (λ i t. new_task b (i + 1) t) (link_rows b) (link_rows b)
     (link_at b b.number refl) (link_at b b.number refl) [] b.tasks
@@ -276,7 +294,7 @@ instances_later a b cs number kept =
     let old = length a.tasks in
     let put = flat_map (put_place b.number) cs in
     let templates = changed_templates b old put cs in
-    later_table instance_by _ (λ n low rows. refl) (record { added = λ r rows. refl; removed = λ n t k rows. refl }) old b cs (board_instances a) (board_instances b)
+    later_table instance_by _ (λ n low rows. refl) (record { added = λ r rows. refl; set = λ n ahead rows. refl }) (record { added = λ r rows. refl; removed = λ n t k rows. refl }) old b cs (board_instances a) (board_instances b)
     (turns_narrow instance_by (IsBefore (λ (r : InstanceRow). r.board) (λ (r : InstanceRow). r.place) b.number (0 + 1)) _ _ _ _ (λ r off on at. off on)
     (turns_places instance_by instances_unordered (λ (r : InstanceRow). r.board) (λ (r : InstanceRow). r.place) b.number 0 (task_changes b old put templates) (instance_rows a) (instance_rows b)
     (instance_at a b.number (sym number)) (instance_at b b.number refl) a.tasks b.tasks
@@ -285,7 +303,7 @@ instances_later a b cs number kept =
 
 pub instances_new : (b : Board) → Turns instance_by (IsElsewhere (λ (r : InstanceRow). r.board) b.number) (new_board b) [] (board_instances b)
 instances_new b =
-    new_table instance_by _ (λ r rows. refl) (λ r rows. refl) b (board_instances b)
+    new_table instance_by _ (λ r rows. refl) (λ r rows. refl) (λ r rows. refl) b (board_instances b)
     (turns_narrow instance_by (IsBefore (λ (r : InstanceRow). r.board) (λ (r : InstanceRow). r.place) b.number (0 + 1)) _ _ _ _ (λ r off on at. off on)
     (turns_places instance_by instances_unordered (λ (r : InstanceRow). r.board) (λ (r : InstanceRow). r.place) b.number 0 (λ i t. new_task b (i + 1) t) (instance_rows b) (instance_rows b)
     (instance_at b b.number refl) (instance_at b b.number refl) [] b.tasks
@@ -303,11 +321,13 @@ gone_later old b cs before turn =
     let put = flat_map (put_place b.number) cs in
     let templates = changed_templates b old put cs in
     inert_then_turns gone_by _ (low_changes old b) _ before (board_gone b) (inert-low gone_by (λ n low rows. refl) old b)
-    (inert_then_turns gone_by _ (rows_from (task_changes b old put templates) 0 b.tasks) (flat_map (gone_changes b) cs) before (board_gone b) (inert-tasks gone_by gone_leaves_tasks b old put templates) turn)
+    (inert_then_turns gone_by _ (ahead_changes b cs) _ before (board_gone b) (inert-ahead gone_by (record { added = λ r rows. refl; set = λ n ahead rows. refl }) b cs)
+    (inert_then_turns gone_by _ (rows_from (task_changes b old put templates) 0 b.tasks) (flat_map (gone_changes b) cs) before (board_gone b) (inert-tasks gone_by gone_leaves_tasks b old put templates) turn))
 
 pub gone_new : (b : Board) → Turns gone_by (IsGoneElsewhere b.number) (new_board b) [] (board_gone b)
 gone_new b =
-    inert_then_turns gone_by _ (AddBoard (board_row b) ∷ []) _ [] (board_gone b) (inert_next gone_by (AddBoard (board_row b)) [] (λ rows. refl) (inert_none gone_by))
+    inert_then_turns gone_by _ (AddBoard (board_row b) ∷ AddHorizon (horizon_row b) ∷ []) _ [] (board_gone b)
+    (inert_next gone_by (AddBoard (board_row b)) _ (λ rows. refl) (inert_next gone_by (AddHorizon (horizon_row b)) [] (λ rows. refl) (inert_none gone_by)))
     (inert_then_turns gone_by _ (rows_from (λ i t. new_task b (i + 1) t) 0 b.tasks) (map AddGone (board_gone b)) [] (board_gone b) (inert-new_tasks gone_by gone_leaves_tasks b)
     (turns_added gone_by _ AddGone (λ r rows. refl) (board_gone b)))
 
@@ -326,6 +346,7 @@ untouched n (c ∷ cs) a none =
     one n (SetRole m person role) a none = refl
     one n (SetGone m g) a none = rw none refl
     one n (TakeGone m id k) a none = rw none refl
+    one n (SetAhead m ahead) a none = rw none refl
 
 -- a table is turned by the changes of a board where it is by those of a board that changes are of
 pub kept_turns : {R : Type 0} (by : RowChange → List R → List R) (IsApart : R → Type 0) (f : Board → List R) (a b : Board) (cs : List Change) → b ≡ replay b.number cs a

@@ -6,9 +6,9 @@ use Rattle.std.proofs.lemmas.List.{map-id, length-map}
 use Rattle.sqlite_trees.proofs.ListLemmas.{all_weaker}
 use Rattle.tb_board.specs.declared.board.Board.{Board}
 use Rattle.tb_board.specs.declared.change.Change.{Change}
-use Rattle.tb_board.specs.declared.change.Change.TheVariants.{PutTask, AddPerson as NewPerson, AddBoard as NewBoard, SetRole, SetGone, TakeGone}
+use Rattle.tb_board.specs.declared.change.Change.TheVariants.{PutTask, AddPerson as NewPerson, AddBoard as NewBoard, SetRole, SetGone, TakeGone, SetAhead}
 use Rattle.tb_board.specs.declared.world.World.{World}
-use Rattle.tb_board.specs.Changes.{change_board, changed, changed_by, with_gone, with_task_at, without_gone}
+use Rattle.tb_board.specs.Changes.{change_board, changed, changed_by, with_ahead, with_gone, with_task_at, without_gone}
 use Rattle.tb_board.specs.World.{has_number}
 use Rattle.tb_board.specs.Extends.{IsFrontOf}
 use Rattle.tb_rows.proofs.Turning.{unchanged}
@@ -21,6 +21,7 @@ change_on n (NewBoard m title) b = b
 change_on n (SetRole m person role) b = b
 change_on n (SetGone m g) b = if n == m then with_gone g b else b
 change_on n (TakeGone m id k) b = if n == m then without_gone id k b else b
+change_on n (SetAhead m ahead) b = if n == m then with_ahead ahead b else b
 
 -- what the changes make of it
 abbrev pub replay : ℕ → List Change → Board → Board
@@ -41,6 +42,7 @@ number_stays n (NewBoard m title) b = refl
 number_stays n (SetRole m person role) b = refl
 number_stays n (SetGone m g) b = either_number (n == m) (with_gone g b) b refl
 number_stays n (TakeGone m id k) b = either_number (n == m) (without_gone id k b) b refl
+number_stays n (SetAhead m ahead) b = either_number (n == m) (with_ahead ahead b) b refl
 
 numbers_from : (k : ℕ) (bs : List Board) → numbers bs ≡ range_with_len k (length bs) → AllByRecursion (λ b. k ≤ b.number) bs
 numbers_from k [] numbered = tt
@@ -71,13 +73,15 @@ one_step w (PutTask m place t) k front more is numbered =
     let there = changed_front m (with_task_at place t) k front more numbered in (there.0, ap (change_board m (with_task_at place t)) is ∙ there.1)
 one_step w (NewPerson name key) k front more is numbered = (more, is ∙ ap (λ l. l ++ more) (sym (map-id front)))
 one_step w (NewBoard m title) k front more is numbered =
-    let last = record { number = m; title = title; tasks = []; gone = [] } ∷ [] in
+    let last = record { number = m; title = title; tasks = []; gone = []; ahead = 1 } ∷ [] in
     (more ++ last, ap (λ l. l ++ last) is ∙ append_assoc front more last ∙ ap (λ l. l ++ (more ++ last)) (sym (map-id front)))
 one_step w (SetRole m person role) k front more is numbered = (more, is ∙ ap (λ l. l ++ more) (sym (map-id front)))
 one_step w (SetGone m g) k front more is numbered =
     let there = changed_front m (with_gone g) k front more numbered in (there.0, ap (change_board m (with_gone g)) is ∙ there.1)
 one_step w (TakeGone m id k') k front more is numbered =
     let there = changed_front m (without_gone id k') k front more numbered in (there.0, ap (change_board m (without_gone id k')) is ∙ there.1)
+one_step w (SetAhead m ahead) k front more is numbered =
+    let there = changed_front m (with_ahead ahead) k front more numbered in (there.0, ap (change_board m (with_ahead ahead)) is ∙ there.1)
 
 numbers-stay : (c : Change) (bs : List Board) → numbers (map (λ (b : Board). change_on b.number c b) bs) ≡ numbers bs
 numbers-stay c [] = refl

@@ -9,7 +9,7 @@ use Rattle.std.proofs.lemmas.List.Sorted.{IsPermutation-sym, IsPermutation-middl
 use Rattle.sqlite_trees.proofs.ListLemmas.{all_weaker, filter_all, IsPermutation-same}
 use Rattle.tb_board.specs.declared.board.Board.{Board}
 use Rattle.tb_board.specs.declared.change.Change.{Change}
-use Rattle.tb_board.specs.declared.change.Change.TheVariants.{PutTask, AddPerson as NewPerson, AddBoard as NewBoard, SetRole, SetGone, TakeGone}
+use Rattle.tb_board.specs.declared.change.Change.TheVariants.{PutTask, AddPerson as NewPerson, AddBoard as NewBoard, SetRole, SetGone, TakeGone, SetAhead}
 use Rattle.tb_board.specs.declared.gone.Gone.{Gone}
 use Rattle.tb_task.specs.declared.task.Task.{Task}
 use Rattle.tb_board.specs.Board.{has_id, ids}
@@ -143,6 +143,11 @@ one_change b x (SetGone m g) =
 one_change b x (TakeGone m id k) =
     elim (cases_Bool (b.number == m)) [
       | inl here ↦ rw here (gone_taken b x.gone id k (place_in (ids b.tasks) id) refl)
+      | inr other ↦ rw other (turns_none gone_by _ [] (shown_rows b x.gone) (inert_none gone_by))
+    ]
+one_change b x (SetAhead m ahead) =
+    elim (cases_Bool (b.number == m)) [
+      | inl here ↦ rw here (turns_none gone_by _ [] (shown_rows b x.gone) (inert_none gone_by))
       | inr other ↦ rw other (turns_none gone_by _ [] (shown_rows b x.gone) (inert_none gone_by))
     ]
 

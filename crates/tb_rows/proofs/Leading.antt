@@ -16,18 +16,20 @@ use Rattle.tb_sql_tables.specs.declared.rows.TaskRow.{TaskRow}
 use Rattle.tb_sql_tables.specs.declared.rows.LinkRow.{LinkRow}
 use Rattle.tb_sql_tables.specs.declared.rows.InstanceRow.{InstanceRow}
 use Rattle.tb_sql_tables.specs.declared.rows.GoneRow.{GoneRow}
+use Rattle.tb_sql_tables.specs.declared.rows.HorizonRow.{HorizonRow}
 use Rattle.tb_sql.specs.declared.changes.RowChange.{RowChange}
-use Rattle.tb_rows.specs.Rows.{board_row, board_gone, board_instances, board_links, board_tasks, gone_row, instance_rows, link_rows, rows_from, task_row}
+use Rattle.tb_rows.specs.Rows.{board_row, horizon_row, board_gone, board_instances, board_links, board_tasks, gone_row, instance_rows, link_rows, rows_from, task_row}
 use Rattle.tb_rows.specs.Steps.{kept_board, Leads}
 use Rattle.tb_rows.proofs.WholeWorlds.{board_changes, new_board, person_changes, role_changes, world_changes}
 use Rattle.tb_rows.proofs.BoardRows.{board_later, board_new, gone_later, gone_new, inert-boards, instance_at, instances_later, instances_new, kept_turns, LeavesTasks, link_at, links_later, links_new, tasks_later, tasks_new, weaker}
 use Rattle.tb_rows.proofs.Evolving.{evolved, replay}
 use Rattle.tb_rows.proofs.GoneRows.{gone_turns}
+use Rattle.tb_rows.proofs.HorizonRows.{horizon_later, horizon_new}
 use Rattle.tb_rows.proofs.Kept.{are_kept, IsLater}
 use Rattle.tb_rows.proofs.PeopleAndRoles.{inert-people, inert-roles, people_turn, roles_turn}
 use Rattle.tb_rows.proofs.Places.{IsElsewhere, Matches, turns_boards}
 use Rattle.tb_rows.proofs.Staying.{all_at, front_at, front_length, matches_from}
-use Rattle.tb_rows.proofs.Tables.{board_by, boards_by, boards_unordered, gone_all_by, gone_by, gone_unordered, instance_by, instances_by, instances_unordered, kept_same, link_by, links_by, links_unordered, people_by, person_by, role_by, roles_by, task_by, tasks_by, tasks_unordered}
+use Rattle.tb_rows.proofs.Tables.{board_by, boards_by, boards_unordered, gone_all_by, gone_by, gone_unordered, horizon_by, horizons_by, horizons_unordered, instance_by, instances_by, instances_unordered, kept_same, link_by, links_by, links_unordered, people_by, person_by, role_by, roles_by, task_by, tasks_by, tasks_unordered}
 use Rattle.tb_rows.proofs.Turning.{all_by, all_by-append, inert-append, inert_then_turns, IsInert, IsUnordered, Turns, turns_all, turns_then_inert}
 
 -- what each row of a board's items has in common
@@ -111,6 +113,14 @@ module _ (w v : World) (cs : List Change) (good_before : IsGoodWorld w) (good_af
       (inert-people board_by (λ r rows. refl) (length w.people) v.people) (inert-roles board_by (λ n p rows. refl) (λ r rows. refl) cs v.roles)
       rows (subst (IsPermutation rows) (one_each board_row w.boards) same))
 
+  horizons_table : (rows : List HorizonRow) → IsPermutation rows (map horizon_row w.boards) → IsPermutation (all_by horizon_by (world_changes w v cs) rows) (map horizon_row v.boards)
+  horizons_table rows same =
+      subst (IsPermutation (all_by horizon_by (world_changes w v cs) rows)) (sym (one_each horizon_row v.boards))
+      (table horizon_by horizons_unordered (λ (r : HorizonRow). r.board) (λ b. horizon_row b ∷ []) (λ b. (refl, tt))
+      (λ a b h. kept_turns horizon_by _ (λ b. horizon_row b ∷ []) a b cs h.made (horizon_later a b cs h.extends.number h.made)) horizon_new
+      (inert-people horizon_by (λ r rows. refl) (length w.people) v.people) (inert-roles horizon_by (λ n p rows. refl) (λ r rows. refl) cs v.roles)
+      rows (subst (IsPermutation rows) (one_each horizon_row w.boards) same))
+
   fits : (x : World) → IsGoodWorld x → AllByRecursion (λ (r : RoleOn). r.person < 2 ^ 32) x.roles
   fits x good = all_weaker _ _ (λ (r : RoleOn) (is : IsRoleIn x r). omega (arith, is.to_person, good.people)) x.roles good.roles
 
@@ -125,7 +135,7 @@ module _ (w v : World) (cs : List Change) (good_before : IsGoodWorld w) (good_af
             people_by (world_changes w v cs) c,
             all_by-append person_by people (boards ++ roles) c.people,
             (inert-append person_by boards roles
-                (inert-boards person_by (λ n low rows. refl) (λ r rows. refl) person_leaves_tasks (record { added = λ r rows. refl; removed = λ n t k rows. refl }) cs w.boards v.boards)
+                (inert-boards person_by (λ n low rows. refl) (λ r rows. refl) (record { added = λ r rows. refl; set = λ n ahead rows. refl }) person_leaves_tasks (record { added = λ r rows. refl; removed = λ n t k rows. refl }) cs w.boards v.boards)
                 (inert-roles person_by (λ n p rows. refl) (λ r rows. refl) cs v.roles)).same (all_by person_by people c.people),
             extends.people,
           )
@@ -136,13 +146,14 @@ module _ (w v : World) (cs : List Change) (good_before : IsGoodWorld w) (good_af
             all_by-append role_by people (boards ++ roles) c.roles,
             (inert-people role_by (λ r rows. refl) (length w.people) v.people).same c.roles,
             all_by-append role_by boards roles c.roles,
-            (inert-boards role_by (λ n low rows. refl) (λ r rows. refl) role_leaves_tasks (record { added = λ r rows. refl; removed = λ n t k rows. refl }) cs w.boards v.boards).same c.roles,
+            (inert-boards role_by (λ n low rows. refl) (λ r rows. refl) (record { added = λ r rows. refl; set = λ n ahead rows. refl }) role_leaves_tasks (record { added = λ r rows. refl; removed = λ n t k rows. refl }) cs w.boards v.boards).same c.roles,
           )
               (roles_turn w v cs c.roles (ap (λ (x : World). x.roles) made) (fits w good_before) (fits v good_after) same.roles);
           tasks = rw (tasks_by (world_changes w v cs) c) (tasks_table c.tasks same.tasks);
           links = rw (links_by (world_changes w v cs) c) (links_table c.links same.links);
           instances = rw (instances_by (world_changes w v cs) c) (instances_table c.instances same.instances);
           gone = rw (gone_all_by (world_changes w v cs) c) (gone_table c.gone same.gone);
+          horizon = rw (horizons_by (world_changes w v cs) c) (horizons_table c.horizon same.horizon);
         };
         kept = kept_same (world_changes w v cs);
       }

@@ -1,4 +1,5 @@
 pub mod BoardRows
+pub mod HorizonRows
 pub mod Evolving
 pub mod GoneRows
 pub mod Kept

@@ -5,10 +5,10 @@ use Rattle.std.proofs.lemmas.Bool.{cases_Bool, eq-eqb, eqb-true, and_parts}
 use Rattle.tb_task.specs.declared.task.Task.{Task}
 use Rattle.tb_board.specs.declared.board.Board.{Board}
 use Rattle.tb_board.specs.declared.change.Change.{Change}
-use Rattle.tb_board.specs.declared.change.Change.TheVariants.{PutTask, AddPerson as NewPerson, AddBoard as NewBoard, SetRole, SetGone, TakeGone}
+use Rattle.tb_board.specs.declared.change.Change.TheVariants.{PutTask, AddPerson as NewPerson, AddBoard as NewBoard, SetRole, SetGone, TakeGone, SetAhead}
 use Rattle.tb_board.specs.declared.gone.Gone.{Gone}
 use Rattle.tb_board.specs.Board.{ids}
-use Rattle.tb_board.specs.Changes.{with_task_at, without_place}
+use Rattle.tb_board.specs.Changes.{with_ahead, with_task_at, without_place}
 use Rattle.tb_board.specs.Links.{place_in as place_among}
 use Rattle.tb_board.specs.Templates.{count, gone_places, instance_places, is_gone_at, is_id, is_instance_at, mark_at, mark_here, mask, place_in}
 use Rattle.tb_rows.specs.Rows.{rows_from}
@@ -56,6 +56,7 @@ LeavesGone n id (NewBoard m title) = Unit {0}
 LeavesGone n id (SetRole m person role) = Unit {0}
 LeavesGone n id (SetGone m g) = (n == m) ≡ true → (g.template == id) ≡ false
 LeavesGone n id (TakeGone m x k) = (n == m) ≡ true → (x == id) ≡ false
+LeavesGone n id (SetAhead m ahead) = Unit {0}
 
 gone_places-push : (id : ℕ) (gs : List Gone) (g : Gone) → (g.template == id) ≡ false → gone_places id (gs ++ g ∷ []) ≡ gone_places id gs
 gone_places-push id [] g other = rw other refl
@@ -116,6 +117,11 @@ one_gone n id (SetGone m g) a leaves =
 one_gone n id (TakeGone m x k) a leaves =
     elim (cases_Bool (n == m)) [
       | inl here ↦ rw here (record { places = gone_places-taken id x k a.gone (leaves here); at = λ j. find_gone-taken id x k j a.gone (leaves here) })
+      | inr other ↦ rw other (gone_same id a a refl)
+    ]
+one_gone n id (SetAhead m ahead) a leaves =
+    elim (cases_Bool (n == m)) [
+      | inl here ↦ rw here (gone_same id a (with_ahead ahead a) refl)
       | inr other ↦ rw other (gone_same id a a refl)
     ]
 
@@ -194,6 +200,7 @@ gone_out b id i (c ∷ cs) at out =
     one b id i (SetRole m person role) at out = tt
     one b id i (SetGone m g) at out = λ here. other_template b id i g.template at (rw here at out)
     one b id i (TakeGone m x k) at out = λ here. other_template b id i x at (rw here at out)
+    one b id i (SetAhead m ahead) at out = tt
 
 -- the mask of a template that is not among those changed
 pub mask_stays : (a b : Board) (old : ℕ) (put : List ℕ) (cs : List Change) (id i : ℕ) → b ≡ replay b.number cs a → place_among (ids b.tasks) id ≡ Some i

@@ -5,7 +5,7 @@ use Rattle.std.proofs.lemmas.Bool.{cases_Bool, eqb-true, le-leb, le-ltb, ne_eqb}
 use Rattle.std.proofs.lemmas.List.{append-nil}
 use Rattle.tb_board.specs.declared.board.Board.{Board}
 use Rattle.tb_board.specs.declared.change.Change.{Change}
-use Rattle.tb_board.specs.declared.change.Change.TheVariants.{PutTask, AddPerson as NewPerson, AddBoard as NewBoard, SetRole, SetGone, TakeGone}
+use Rattle.tb_board.specs.declared.change.Change.TheVariants.{PutTask, AddPerson as NewPerson, AddBoard as NewBoard, SetRole, SetGone, TakeGone, SetAhead}
 use Rattle.tb_board.specs.declared.world.Person.{Person}
 use Rattle.tb_board.specs.declared.world.Role.{Role}
 use Rattle.tb_board.specs.declared.world.Role.TheVariants.{Owner}
@@ -16,10 +16,10 @@ use Rattle.tb_board.specs.World.{find_board, has_number}
 use Rattle.tb_board.proofs.Worlds.{changed-append, changed-one}
 use Rattle.tb_core.specs.GoodWorld.{numbers, IsGoodWorld}
 use Rattle.tb_core.specs.Shapes.{AreOfOne}
-use Rattle.tb_sql.specs.declared.changes.RowChange.TheVariants.{AddPerson, AddBoard}
+use Rattle.tb_sql.specs.declared.changes.RowChange.TheVariants.{AddPerson, AddBoard, AddHorizon}
 use Rattle.tb_rows.specs.declared.part.BoardPart.{BoardPart}
 use Rattle.tb_rows.specs.Part.{board_in, board_of, empty_board, is_small_part, part_board, part_of, part_of_board, role_set, rows_of_part, single_changes, touched_board, IsPartOf}
-use Rattle.tb_rows.specs.Rows.{board_row, person_row, rows_from}
+use Rattle.tb_rows.specs.Rows.{board_row, horizon_row, person_row, rows_from}
 use Rattle.tb_rows.specs.Small.{has_few_tasks}
 use Rattle.tb_rows.specs.Steps.{is_of_board, kept_board, Leads}
 use Rattle.tb_rows.proofs.WholeWorlds.{board_changes, is_role_change, new_board, person_changes, role_changes, world_changes}
@@ -40,6 +40,7 @@ not_of : (m n : ℕ) (c : Change) → IsOn n c → (m == n) ≡ false → is_of_
 not_of m n (PutTask k place t) on apart = rw on apart
 not_of m n (SetGone k g) on apart = rw on apart
 not_of m n (TakeGone k id place) on apart = rw on apart
+not_of m n (SetAhead k ahead) on apart = rw on apart
 not_of m n (NewPerson name key) on apart = absurd on
 not_of m n (NewBoard k title) on apart = absurd on
 not_of m n (SetRole k person role) on apart = absurd on
@@ -56,6 +57,7 @@ is_board_of : (n : ℕ) (c : Change) → IsOn n c → board_of c ≡ Some n
 is_board_of n (PutTask k place t) on = ap Some on
 is_board_of n (SetGone k g) on = ap Some on
 is_board_of n (TakeGone k id place) on = ap Some on
+is_board_of n (SetAhead k ahead) on = ap Some on
 is_board_of n (NewPerson name key) on = absurd on
 is_board_of n (NewBoard k title) on = absurd on
 is_board_of n (SetRole k person role) on = absurd on
@@ -64,6 +66,7 @@ no_role : (n : ℕ) (c : Change) → IsOn n c → is_role_change c ≡ false
 no_role n (PutTask k place t) on = refl
 no_role n (SetGone k g) on = refl
 no_role n (TakeGone k id place) on = refl
+no_role n (SetAhead k ahead) on = refl
 no_role n (NewPerson name key) on = absurd on
 no_role n (NewBoard k title) on = absurd on
 no_role n (SetRole k person role) on = absurd on
@@ -80,6 +83,7 @@ not_single : (people n : ℕ) (c : Change) → IsOn n c → single_changes peopl
 not_single people n (PutTask k place t) on = refl
 not_single people n (SetGone k g) on = refl
 not_single people n (TakeGone k id place) on = refl
+not_single people n (SetAhead k ahead) on = refl
 not_single people n (NewPerson name key) on = absurd on
 not_single people n (NewBoard k title) on = absurd on
 not_single people n (SetRole k person role) on = absurd on
@@ -275,7 +279,7 @@ begins_board w n title q good later =
     let roles : role_changes cs v.roles ≡ role_set n q (Some Owner) =
     last_role (NewBoard n title ∷ []) n q (Some Owner) v.roles (refl, tt) later.ordered (role_in_set n q (Some Owner) w.roles good.ordered) in
     record {
-      rows = all_three _ _ _ (AddBoard (board_row (empty_board n title)) ∷ []) _ (same_people w v refl) (begun_board cs w.boards (empty_board n title) (λ m. refl)) (roles ∙ sym (append-nil (role_set n q (Some Owner))));
+      rows = all_three _ _ _ (AddBoard (board_row (empty_board n title)) ∷ AddHorizon (horizon_row (empty_board n title)) ∷ []) _ (same_people w v refl) (begun_board cs w.boards (empty_board n title) (λ m. refl)) (roles ∙ sym (append-nil (role_set n q (Some Owner))));
       small = refl;
     }
 

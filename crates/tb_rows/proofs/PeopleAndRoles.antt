@@ -7,7 +7,7 @@ use Rattle.std.proofs.lemmas.List.{append_assoc, map-append}
 use Rattle.std.proofs.lemmas.List.Sorted.{IsPermutation-refl, IsPermutation-sym, IsPermutation-trans, IsPermutation-append_left, IsPermutation-append_comm, IsPermutation-filter_both, IsPermutation-map, IsPermutation-middle}
 use Rattle.sqlite_trees.proofs.ListLemmas.{all-filter, all_weaker, filter-map, filter_all, filter_same}
 use Rattle.tb_board.specs.declared.change.Change.{Change}
-use Rattle.tb_board.specs.declared.change.Change.TheVariants.{PutTask, AddPerson as NewPerson, AddBoard as NewBoard, SetRole, SetGone, TakeGone}
+use Rattle.tb_board.specs.declared.change.Change.TheVariants.{PutTask, AddPerson as NewPerson, AddBoard as NewBoard, SetRole, SetGone, TakeGone, SetAhead}
 use Rattle.tb_board.specs.declared.world.Person.{Person}
 use Rattle.tb_board.specs.declared.world.Role.{Role}
 use Rattle.tb_board.specs.declared.world.RoleOn.{RoleOn}
@@ -125,6 +125,7 @@ roles_left all (c ∷ cs) w among = roles_left all cs (changed_by w c) among.1 �
     one all w (SetRole m q role) among = set_left all m q role w.roles (among m q (rw (eq-eqb m m refl, eq-eqb q q refl) refl))
     one all w (SetGone m g) among = refl
     one all w (TakeGone m id k) among = refl
+    one all w (SetAhead m ahead) among = refl
 
 all_among : (done cs : List Change) → AllByRecursion (λ c. (board person : ℕ) → sets_role board person c ≡ true → list_any (sets_role board person) (done ++ cs) ≡ true) cs
 all_among done [] = tt
@@ -182,6 +183,7 @@ removed_first (NewPerson name key) cs rows later fit = removes_none (NewPerson n
 removed_first (NewBoard m title) cs rows later fit = removes_none (NewBoard m title) cs rows later fit (all_weaker _ _ (λ r h. refl) rows fit)
 removed_first (SetGone m g) cs rows later fit = removes_none (SetGone m g) cs rows later fit (all_weaker _ _ (λ r h. refl) rows fit)
 removed_first (TakeGone m id k) cs rows later fit = removes_none (TakeGone m id k) cs rows later fit (all_weaker _ _ (λ r h. refl) rows fit)
+removed_first (SetAhead m ahead) cs rows later fit = removes_none (SetAhead m ahead) cs rows later fit (all_weaker _ _ (λ r h. refl) rows fit)
 removed_first (SetRole m q role) cs rows later fit =
     elim (cases_Bool (nat_lt q (2 ^ 32))) [
       | inl fits ↦ rw fits
@@ -223,6 +225,7 @@ no_role_change (c ∷ cs) w none =
     one w (SetRole m q role) none = let no : true ≡ false = none in absurd (cc)
     one w (SetGone m g) none = refl
     one w (TakeGone m id k) none = refl
+    one w (SetAhead m ahead) none = refl
 
 pub roles_turn : (w v : World) (cs : List Change) (rows : List RoleRow) → v.roles ≡ (changed w cs).roles
     → AllByRecursion (λ (r : RoleOn). r.person < 2 ^ 32) w.roles → AllByRecursion (λ (r : RoleOn). r.person < 2 ^ 32) v.roles
@@ -254,6 +257,7 @@ inert-roles by removes adds cs rs =
     removed (SetRole m q role) = inert-if by (nat_lt q (2 ^ 32)) (RemoveRole m q ∷ []) [] (inert_next by _ [] (removes m q) (inert_none by)) (inert_none by)
     removed (SetGone m g) = inert_none by
     removed (TakeGone m id k) = inert_none by
+    removed (SetAhead m ahead) = inert_none by
 
     added : (r : RoleOn) → IsInert by (role_added cs r)
     added r = inert-if by (is_set cs r) _ [] (inert-if by (nat_lt r.person (2 ^ 32)) (AddRole (role_row r) ∷ []) [] (inert_next by _ [] (adds (role_row r)) (inert_none by)) (inert_none by)) (inert_none by)

@@ -9,7 +9,7 @@ use Rattle.std.proofs.lemmas.Bool.{cases_Bool, eq-eqb, eqb-true, and_parts}
 use Rattle.std.proofs.lemmas.List.{append-nil}
 use Rattle.std.proofs.Math.Bool.{or-false}
 use Rattle.tb_board.specs.declared.change.Change.{Change}
-use Rattle.tb_board.specs.declared.change.Change.TheVariants.{PutTask, AddPerson as NewPerson, AddBoard as NewBoard, SetRole, SetGone, TakeGone}
+use Rattle.tb_board.specs.declared.change.Change.TheVariants.{PutTask, AddPerson as NewPerson, AddBoard as NewBoard, SetRole, SetGone, TakeGone, SetAhead}
 use Rattle.tb_board.specs.declared.world.Role.{Role}
 use Rattle.tb_board.specs.declared.world.RoleOn.{RoleOn}
 use Rattle.tb_board.specs.First.{change_first}
@@ -139,6 +139,7 @@ sets_none board person (NewBoard m title) none = refl
 sets_none board person (SetRole m q role) none = absurd (true≢false none)
 sets_none board person (SetGone m g) none = refl
 sets_none board person (TakeGone m id k) none = refl
+sets_none board person (SetAhead m ahead) none = refl
 
 removes_none : (c : Change) → is_role_change c ≡ false → role_removed c ≡ []
 removes_none (PutTask m place t) none = refl
@@ -147,6 +148,7 @@ removes_none (NewBoard m title) none = refl
 removes_none (SetRole m q role) none = absurd (true≢false none)
 removes_none (SetGone m g) none = refl
 removes_none (TakeGone m id k) none = refl
+removes_none (SetAhead m ahead) none = refl
 
 last_sets : (own : List Change) (n q : ℕ) (role : Option Role) (r : RoleOn) → SetNoRole own → is_set (own ++ SetRole n q role ∷ []) r ≡ is_role_of n q r
 last_sets [] n q role r none = or-false (is_role_of n q r)

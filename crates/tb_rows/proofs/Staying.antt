@@ -9,9 +9,9 @@ use Rattle.sqlite_trees.proofs.ListLemmas.{all-get_or}
 use Rattle.tb_task.specs.declared.task.Task.{Task}
 use Rattle.tb_board.specs.declared.board.Board.{Board}
 use Rattle.tb_board.specs.declared.change.Change.{Change}
-use Rattle.tb_board.specs.declared.change.Change.TheVariants.{PutTask, AddPerson as NewPerson, AddBoard as NewBoard, SetRole, SetGone, TakeGone}
+use Rattle.tb_board.specs.declared.change.Change.TheVariants.{PutTask, AddPerson as NewPerson, AddBoard as NewBoard, SetRole, SetGone, TakeGone, SetAhead}
 use Rattle.tb_board.specs.Board.{has_id, ids, lacks_depends}
-use Rattle.tb_board.specs.Changes.{put, with_gone, without_gone}
+use Rattle.tb_board.specs.Changes.{put, with_ahead, with_gone, without_gone}
 use Rattle.tb_board.specs.Instances.{has_template, is_template_with}
 use Rattle.tb_board.specs.Links.{place_in}
 use Rattle.tb_board.proofs.Fresh.{on_ids}
@@ -85,6 +85,7 @@ longer n (NewBoard m title) a = omega arith
 longer n (SetRole m person role) a = omega arith
 longer n (SetGone m g) a = elim (n == m) as (λ q. length a.tasks ≤ length (cond q (with_gone g a) a).tasks) [ true ↦ omega arith | false ↦ omega arith ]
 longer n (TakeGone m id k) a = elim (n == m) as (λ q. length a.tasks ≤ length (cond q (without_gone id k a) a).tasks) [ true ↦ omega arith | false ↦ omega arith ]
+longer n (SetAhead m ahead) a = elim (n == m) as (λ q. length a.tasks ≤ length (cond q (with_ahead ahead a) a).tasks) [ true ↦ omega arith | false ↦ omega arith ]
 
 one_stays : (n : ℕ) (c : Change) (a : Board) (i : ℕ) (d : Task) → i < length a.tasks → is_among (put_place n c) i ≡ false → get_or (change_on n c a).tasks i d ≡ get_or a.tasks i d
 one_stays n (PutTask m place t) a i d within out =
@@ -97,6 +98,7 @@ one_stays n (NewBoard m title) a i d within out = refl
 one_stays n (SetRole m person role) a i d within out = refl
 one_stays n (SetGone m g) a i d within out = elim (n == m) as (λ q. get_or (cond q (with_gone g a) a).tasks i d ≡ get_or a.tasks i d) [ true ↦ refl | false ↦ refl ]
 one_stays n (TakeGone m id k) a i d within out = elim (n == m) as (λ q. get_or (cond q (without_gone id k a) a).tasks i d ≡ get_or a.tasks i d) [ true ↦ refl | false ↦ refl ]
+one_stays n (SetAhead m ahead) a i d within out = elim (n == m) as (λ q. get_or (cond q (with_ahead ahead a) a).tasks i d ≡ get_or a.tasks i d) [ true ↦ refl | false ↦ refl ]
 
 pub among-append : (xs ys : List ℕ) (i : ℕ) → is_among (xs ++ ys) i ≡ false → (is_among xs i ≡ false) × (is_among ys i ≡ false)
 among-append xs ys i out = or_false (is_among xs i) (is_among ys i) (sym (list_any-append (λ p. p == i) xs ys) ∙ out)

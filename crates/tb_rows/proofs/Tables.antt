@@ -10,8 +10,9 @@ use Rattle.tb_sql_tables.specs.declared.rows.TaskRow.{TaskRow}
 use Rattle.tb_sql_tables.specs.declared.rows.LinkRow.{LinkRow}
 use Rattle.tb_sql_tables.specs.declared.rows.InstanceRow.{InstanceRow}
 use Rattle.tb_sql_tables.specs.declared.rows.GoneRow.{GoneRow}
+use Rattle.tb_sql_tables.specs.declared.rows.HorizonRow.{HorizonRow}
 use Rattle.tb_sql.specs.declared.changes.RowChange.{RowChange}
-use Rattle.tb_sql.specs.declared.changes.RowChange.TheVariants.{AddPerson, AddBoard, SetLow, AddRole, RemoveRole, AddTask, SetText, SetMask, AddLink, RemoveLinks, AddInstance, AddGone, RemoveGone}
+use Rattle.tb_sql.specs.declared.changes.RowChange.TheVariants.{AddPerson, AddBoard, SetLow, AddRole, RemoveRole, AddTask, SetText, SetMask, AddLink, RemoveLinks, AddInstance, AddGone, RemoveGone, AddHorizon, SetHorizon}
 use Rattle.tb_sql.specs.Writing.{changed_by, changed_by_all}
 use Rattle.tb_rows.proofs.Turning.{all_by, IsUnordered, Turns}
 
@@ -35,6 +36,9 @@ instance_by x rows = (changed_by x (record nothing { instances = rows })).instan
 
 abbrev pub gone_by : RowChange → List GoneRow → List GoneRow
 gone_by x rows = (changed_by x (record nothing { gone = rows })).gone
+
+abbrev pub horizon_by : RowChange → List HorizonRow → List HorizonRow
+horizon_by x rows = (changed_by x (record nothing { horizon = rows })).horizon
 
 -- ---- each table by itself
 
@@ -65,6 +69,10 @@ one_instance _ c = refl
 one_gone : (x : RowChange) (c : Content) → (changed_by x c).gone ≡ gone_by x c.gone
 one_gone (AddGone r) c = refl
 one_gone _ c = refl
+
+one_horizon : (x : RowChange) (c : Content) → (changed_by x c).horizon ≡ horizon_by x c.horizon
+one_horizon (AddHorizon r) c = refl
+one_horizon _ c = refl
 
 one_kept : (x : RowChange) (c : Content) → (changed_by x c).kept ≡ c.kept
 one_kept (AddPerson r) c = refl
@@ -97,6 +105,10 @@ instances_by (x ∷ xs) c = instances_by xs (changed_by x c) ∙ ap (all_by inst
 pub gone_all_by : (xs : List RowChange) (c : Content) → (changed_by_all xs c).gone ≡ all_by gone_by xs c.gone
 gone_all_by [] c = refl
 gone_all_by (x ∷ xs) c = gone_all_by xs (changed_by x c) ∙ ap (all_by gone_by xs) (one_gone x c)
+
+pub horizons_by : (xs : List RowChange) (c : Content) → (changed_by_all xs c).horizon ≡ all_by horizon_by xs c.horizon
+horizons_by [] c = refl
+horizons_by (x ∷ xs) c = horizons_by xs (changed_by x c) ∙ ap (all_by horizon_by xs) (one_horizon x c)
 
 pub kept_same : (xs : List RowChange) (c : Content) → (changed_by_all xs c).kept ≡ c.kept
 kept_same [] c = refl
@@ -157,6 +169,14 @@ gone_unordered = record { moved = go }
     go : (x : RowChange) (rows other : List GoneRow) → IsPermutation rows other → IsPermutation (gone_by x rows) (gone_by x other)
     go (AddGone r) rows other same = IsPermutation-cons r rows other same
     go (RemoveGone board template imask) rows other same = IsPermutation-filter _ rows other same
+    go _ rows other same = same
+
+pub horizons_unordered : IsUnordered horizon_by
+horizons_unordered = record { moved = go }
+  where
+    go : (x : RowChange) (rows other : List HorizonRow) → IsPermutation rows other → IsPermutation (horizon_by x rows) (horizon_by x other)
+    go (AddHorizon r) rows other same = IsPermutation-cons r rows other same
+    go (SetHorizon board ahead) rows other same = IsPermutation-map _ rows other same
     go _ rows other same = same
 
 -- ---- rows that go in

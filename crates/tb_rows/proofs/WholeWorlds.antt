@@ -3,17 +3,17 @@ use Rattle.std.specs.Prelude.{ℕ, ◌+◌, ◌^◌, ◌==◌, Bool, true, false
 use Rattle.std.specs.List.{flat_map, list_any}
 use Rattle.tb_board.specs.declared.board.Board.{Board}
 use Rattle.tb_board.specs.declared.change.Change.{Change}
-use Rattle.tb_board.specs.declared.change.Change.TheVariants.{PutTask, AddPerson as NewPerson, AddBoard as NewBoard, SetRole, SetGone, TakeGone}
+use Rattle.tb_board.specs.declared.change.Change.TheVariants.{PutTask, AddPerson as NewPerson, AddBoard as NewBoard, SetRole, SetGone, TakeGone, SetAhead}
 use Rattle.tb_board.specs.declared.world.Person.{Person}
 use Rattle.tb_board.specs.declared.world.RoleOn.{RoleOn}
 use Rattle.tb_board.specs.declared.world.World.{World}
 use Rattle.tb_sql.specs.declared.changes.RowChange.{RowChange}
-use Rattle.tb_sql.specs.declared.changes.RowChange.TheVariants.{AddPerson, AddBoard, AddRole, RemoveRole, AddGone}
-use Rattle.tb_rows.specs.Rows.{board_row, board_gone, person_row, role_row, rows_from}
+use Rattle.tb_sql.specs.declared.changes.RowChange.TheVariants.{AddPerson, AddBoard, AddRole, RemoveRole, AddGone, AddHorizon}
+use Rattle.tb_rows.specs.Rows.{board_row, board_gone, horizon_row, person_row, role_row, rows_from}
 use Rattle.tb_rows.specs.Steps.{kept_board, new_task}
 
 abbrev pub new_board : Board → List RowChange
-new_board b = AddBoard (board_row b) ∷ (rows_from (λ place t. new_task b (place + 1) t) 0 b.tasks ++ map AddGone (board_gone b))
+new_board b = AddBoard (board_row b) ∷ AddHorizon (horizon_row b) ∷ (rows_from (λ place t. new_task b (place + 1) t) 0 b.tasks ++ map AddGone (board_gone b))
 
 -- of the boards that were and of those that are now
 abbrev pub board_changes : List Change → List Board → List Board → List RowChange
@@ -31,6 +31,7 @@ is_role_change (NewBoard m title) = false
 is_role_change (SetRole board person role) = true
 is_role_change (SetGone m g) = false
 is_role_change (TakeGone m id k) = false
+is_role_change (SetAhead m ahead) = false
 
 -- a change sets the role of the person on the board
 abbrev pub sets_role : ℕ → ℕ → Change → Bool
@@ -40,6 +41,7 @@ sets_role board person (NewBoard m title) = false
 sets_role board person (SetRole m q role) = (board == m) && (person == q)
 sets_role board person (SetGone m g) = false
 sets_role board person (TakeGone m id k) = false
+sets_role board person (SetAhead m ahead) = false
 
 -- the changes set the role of this person on this board
 abbrev pub is_set : List Change → RoleOn → Bool
@@ -53,6 +55,7 @@ role_removed (NewBoard m title) = []
 role_removed (SetRole m q role) = if nat_lt q (2 ^ 32) then RemoveRole m q ∷ [] else []
 role_removed (SetGone m g) = []
 role_removed (TakeGone m id k) = []
+role_removed (SetAhead m ahead) = []
 
 abbrev pub role_added : List Change → RoleOn → List RowChange
 role_added cs r = if is_set cs r then (if nat_lt r.person (2 ^ 32) then AddRole (role_row r) ∷ [] else []) else []

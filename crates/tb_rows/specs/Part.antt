@@ -3,7 +3,7 @@ use Rattle.std.specs.Prelude.{◌≡◌, ℕ, ◌+◌, ◌^◌, Bool, true, List
 use Rattle.std.specs.List.{flat_map}
 use Rattle.tb_board.specs.declared.board.Board.{Board}
 use Rattle.tb_board.specs.declared.change.Change.{Change}
-use Rattle.tb_board.specs.declared.change.Change.TheVariants.{PutTask, AddPerson as NewPerson, AddBoard as NewBoard, SetRole, SetGone, TakeGone}
+use Rattle.tb_board.specs.declared.change.Change.TheVariants.{PutTask, AddPerson as NewPerson, AddBoard as NewBoard, SetRole, SetGone, TakeGone, SetAhead}
 use Rattle.tb_board.specs.declared.world.Role.{Role}
 use Rattle.tb_board.specs.declared.world.World.{World}
 use Rattle.tb_board.specs.Changes.{changed, replayed}
@@ -12,15 +12,15 @@ use Rattle.tb_board.specs.World.{find_board}
 use Rattle.tb_core.specs.GoodWorld.{IsGoodWorld}
 use Rattle.tb_core.specs.Shapes.{AreOfOne}
 use Rattle.tb_sql.specs.declared.changes.RowChange.{RowChange}
-use Rattle.tb_sql.specs.declared.changes.RowChange.TheVariants.{AddPerson, AddBoard, AddRole, RemoveRole}
+use Rattle.tb_sql.specs.declared.changes.RowChange.TheVariants.{AddPerson, AddBoard, AddRole, RemoveRole, AddHorizon}
 use Rattle.tb_rows.specs.declared.part.BoardPart.{BoardPart}
-use Rattle.tb_rows.specs.Rows.{board_row, person_row, role_row}
+use Rattle.tb_rows.specs.Rows.{board_row, horizon_row, person_row, role_row}
 use Rattle.tb_rows.specs.Small.{has_few_tasks}
 use Rattle.tb_rows.specs.Steps.{kept_board}
 
 -- ---- the part
 
--- the board whose tasks or gone places a change changes
+-- the board whose tasks, gone places or view ahead a change changes
 abbrev pub board_of : Change → Option ℕ
 board_of (PutTask m place t) = Some m
 board_of (NewPerson name key) = None
@@ -28,6 +28,7 @@ board_of (NewBoard m title) = None
 board_of (SetRole m person role) = None
 board_of (SetGone m g) = Some m
 board_of (TakeGone m id k) = Some m
+board_of (SetAhead m ahead) = Some m
 
 -- the board that the first of the changes changes
 abbrev pub touched_board : List Change → Option ℕ
@@ -75,16 +76,17 @@ abbrev pub role_set : ℕ → ℕ → Option Role → List RowChange
 role_set m q role = if nat_lt q (2 ^ 32) then RemoveRole m q ∷ role_given m q role else []
 
 abbrev pub empty_board : ℕ → List ℕ → Board
-empty_board n title = record { number = n; title = title; tasks = []; gone = [] }
+empty_board n title = record { number = n; title = title; tasks = []; gone = []; ahead = 1 }
 
 -- those that follow from a change by itself, where there were so many people
 abbrev pub single_changes : ℕ → Change → List RowChange
 single_changes people (PutTask m place t) = []
 single_changes people (NewPerson name key) = AddPerson (person_row (people + 1) (record { name = name; key = key })) ∷ []
-single_changes people (NewBoard m title) = AddBoard (board_row (empty_board m title)) ∷ []
+single_changes people (NewBoard m title) = AddBoard (board_row (empty_board m title)) ∷ AddHorizon (horizon_row (empty_board m title)) ∷ []
 single_changes people (SetRole m q role) = role_set m q role
 single_changes people (SetGone m g) = []
 single_changes people (TakeGone m id k) = []
+single_changes people (SetAhead m ahead) = []
 
 abbrev pub rows_of_part : ℕ → Option BoardPart → List Change → List RowChange
 rows_of_part people part cs = part_board part cs ++ flat_map (single_changes people) cs

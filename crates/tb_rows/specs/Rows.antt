@@ -7,7 +7,7 @@ use Rattle.tb_board.specs.declared.board.Board.{Board}
 use Rattle.tb_board.specs.declared.gone.Gone.{Gone}
 use Rattle.tb_board.specs.declared.world.Person.{Person}
 use Rattle.tb_board.specs.declared.world.Role.{Role}
-use Rattle.tb_board.specs.declared.world.Role.TheVariants.{Owner, Member}
+use Rattle.tb_board.specs.declared.world.Role.TheVariants.{Owner, Member, Reader}
 use Rattle.tb_board.specs.declared.world.RoleOn.{RoleOn}
 use Rattle.tb_board.specs.declared.world.World.{World}
 use Rattle.tb_board.specs.Board.{ids}
@@ -22,6 +22,7 @@ use Rattle.tb_sql_tables.specs.declared.rows.TaskRow.{TaskRow}
 use Rattle.tb_sql_tables.specs.declared.rows.LinkRow.{LinkRow}
 use Rattle.tb_sql_tables.specs.declared.rows.InstanceRow.{InstanceRow}
 use Rattle.tb_sql_tables.specs.declared.rows.GoneRow.{GoneRow}
+use Rattle.tb_sql_tables.specs.declared.rows.HorizonRow.{HorizonRow}
 use Rattle.tb_sql_tables.specs.Content.{Content}
 
 -- ---- numbers that stand for people and tasks
@@ -50,6 +51,7 @@ board_row b = record { id = b.number; title = b.title; low = free b }
 abbrev pub role_kind : Role → ℕ
 role_kind Owner = 1
 role_kind Member = 2
+role_kind Reader = 3
 
 abbrev pub role_row : RoleOn → RoleRow
 role_row r = record { board = r.board; person = r.person; kind = role_kind r.role }
@@ -69,6 +71,9 @@ instance_row b place parent imask = record { board = b.number; template = place_
 
 abbrev pub gone_row : Board → Gone → GoneRow
 gone_row b g = record { board = b.number; template = place_of b.tasks g.template; imask = g.place; mark = g.mark ∷ [] }
+
+abbrev pub horizon_row : Board → HorizonRow
+horizon_row b = record { board = b.number; ahead = b.ahead }
 
 -- ---- the rows of a task at a place
 
@@ -111,6 +116,7 @@ world_rows w = record {
   instances = flat_map board_instances w.boards;
   gone = flat_map board_gone w.boards;
   kept = [];
+  horizon = map horizon_row w.boards;
 }
 
 -- each table but the kept replies has the same rows, in any order
@@ -122,6 +128,7 @@ pub record HaveSameRows (c d : Content) : Type 0 where
   pub links : IsPermutation c.links d.links
   pub instances : IsPermutation c.instances d.instances
   pub gone : IsPermutation c.gone d.gone
+  pub horizon : IsPermutation c.horizon d.horizon
 
 -- each table has the same rows, in any order
 pub record IsSameContent (c d : Content) : Type 0 where

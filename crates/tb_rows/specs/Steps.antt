@@ -5,7 +5,7 @@ use Rattle.tb_task.specs.declared.task.Task.{Task}
 use Rattle.tb_json.specs.Stored.{stored_text}
 use Rattle.tb_board.specs.declared.board.Board.{Board}
 use Rattle.tb_board.specs.declared.change.Change.{Change}
-use Rattle.tb_board.specs.declared.change.Change.TheVariants.{PutTask, AddPerson as NewPerson, AddBoard as NewBoard, SetRole, SetGone, TakeGone}
+use Rattle.tb_board.specs.declared.change.Change.TheVariants.{PutTask, AddPerson as NewPerson, AddBoard as NewBoard, SetRole, SetGone, TakeGone, SetAhead}
 use Rattle.tb_board.specs.declared.gone.Gone.{Gone}
 use Rattle.tb_board.specs.declared.world.World.{World}
 use Rattle.tb_board.specs.Board.{ids}
@@ -13,7 +13,7 @@ use Rattle.tb_board.specs.Links.{place_in, with_place}
 use Rattle.tb_board.specs.Numbers.{free}
 use Rattle.tb_sql_tables.specs.Content.{Content}
 use Rattle.tb_sql.specs.declared.changes.RowChange.{RowChange}
-use Rattle.tb_sql.specs.declared.changes.RowChange.TheVariants.{SetLow, AddTask, SetText, SetMask, AddLink, RemoveLinks, AddInstance, AddGone, RemoveGone}
+use Rattle.tb_sql.specs.declared.changes.RowChange.TheVariants.{SetLow, AddTask, SetText, SetMask, AddLink, RemoveLinks, AddInstance, AddGone, RemoveGone, SetHorizon}
 use Rattle.tb_sql.specs.Writing.{changed_by_all}
 use Rattle.tb_rows.specs.Rows.{rows_from, mask_cell, task_row, link_rows, instance_rows, gone_row, world_rows, HaveSameRows}
 
@@ -27,6 +27,7 @@ put_place n (NewBoard m title) = []
 put_place n (SetRole m person role) = []
 put_place n (SetGone m g) = []
 put_place n (TakeGone m id k) = []
+put_place n (SetAhead m ahead) = []
 
 abbrev pub is_among : List ℕ → ℕ → Bool
 is_among places place = list_any (λ p. p == place) places
@@ -39,6 +40,7 @@ is_of_board n (NewBoard m title) = false
 is_of_board n (SetRole m person role) = false
 is_of_board n (SetGone m g) = n == m
 is_of_board n (TakeGone m id k) = n == m
+is_of_board n (SetAhead m ahead) = n == m
 
 abbrev pub template_place : Board → Option ℕ → List ℕ
 template_place b None = []
@@ -52,6 +54,7 @@ gone_template b (NewBoard m title) = []
 gone_template b (SetRole m person role) = []
 gone_template b (SetGone m g) = if b.number == m then template_place b (Some g.template) else []
 gone_template b (TakeGone m id k) = if b.number == m then template_place b (Some id) else []
+gone_template b (SetAhead m ahead) = []
 
 -- the task is new, or one of the changes puts it
 abbrev pub is_changed : ℕ → List ℕ → ℕ → Bool
@@ -98,6 +101,20 @@ gone_changes b (NewBoard m title) = []
 gone_changes b (SetRole m person role) = []
 gone_changes b (SetGone m g) = if b.number == m then gone_added b g (place_in (ids b.tasks) g.template) else []
 gone_changes b (TakeGone m id k) = if b.number == m then gone_removed b k (place_in (ids b.tasks) id) else []
+gone_changes b (SetAhead m ahead) = []
+
+-- whether a change sets how far ahead board n looks
+abbrev pub sets_ahead : ℕ → Change → Bool
+sets_ahead n (PutTask m place t) = false
+sets_ahead n (NewPerson name key) = false
+sets_ahead n (NewBoard m title) = false
+sets_ahead n (SetRole m person role) = false
+sets_ahead n (SetGone m g) = false
+sets_ahead n (TakeGone m id k) = false
+sets_ahead n (SetAhead m ahead) = n == m
+
+abbrev pub ahead_changes : Board → List Change → List RowChange
+ahead_changes b cs = if list_any (sets_ahead b.number) cs then SetHorizon b.number b.ahead ∷ [] else []
 
 abbrev pub low_changes : ℕ → Board → List RowChange
 low_changes old b = if nat_lt old (length b.tasks) then SetLow b.number (free b) ∷ [] else []
@@ -106,7 +123,7 @@ low_changes old b = if nat_lt old (length b.tasks) then SetLow b.number (free b)
 abbrev pub later_board : ℕ → Board → List Change → List RowChange
 later_board old b cs =
     let put = flat_map (put_place b.number) cs in
-    low_changes old b ++ (rows_from (task_changes b old put (changed_templates b old put cs)) 0 b.tasks ++ flat_map (gone_changes b) cs)
+    low_changes old b ++ (ahead_changes b cs ++ (rows_from (task_changes b old put (changed_templates b old put cs)) 0 b.tasks ++ flat_map (gone_changes b) cs))
 
 abbrev pub kept_board : ℕ → Board → List Change → List RowChange
 kept_board old b cs = if list_any (is_of_board b.number) cs then later_board old b cs else []

@@ -1,10 +1,10 @@
 //! The changes of rows of boards.
 
-ghost use Rattle.std.specs.Prelude.{◌≡◌, ◌≤◌, ◌++◌, IfOk, OnOk, length};
-ghost use Rattle.std.specs.List.{flat_map};
+ghost use Rattle.std.specs.Prelude.{◌≡◌, ◌≤◌, ◌++◌, ℕ, List, IfOk, OnOk, length};
+ghost use Rattle.std.specs.List.{flat_map, list_any};
 ghost use Rattle.tb_rows.specs.Part.{empty_board};
-ghost use Rattle.tb_rows.specs.Rows.{board_row};
-ghost use Rattle.tb_rows.specs.Steps.{changed_templates, kept_board, later_board, low_changes, put_place};
+ghost use Rattle.tb_rows.specs.Rows.{board_row, horizon_row};
+ghost use Rattle.tb_rows.specs.Steps.{ahead_changes, changed_templates, kept_board, later_board, low_changes, put_place, sets_ahead};
 ghost use Rattle.tb_rows.specs.Sought.{AreFor};
 
 use crate::concerned::{PlaceList, changed_templates, is_concerned, put_places};
@@ -12,9 +12,9 @@ use crate::gone::push_gone_changes;
 use crate::task_places::TaskPlaces;
 use crate::tasks::{Concerned, push_tasks};
 use std::alloc::{AllocError, Global};
-use tb_board::{Board, Change, Title, least_number};
+use tb_board::{Ahead, Board, Change, Title, least_number};
 use tb_sql::changes::RowChange;
-use tb_sql_tables::rows::BoardRow;
+use tb_sql_tables::rows::{BoardRow, HorizonRow};
 use tb_values::{Items, Text};
 
 /// The changes of rows of a board that had so many tasks.
@@ -47,6 +47,7 @@ fn push_later_board(
     let places = TaskPlaces::for_changes(alloc, board, changes)?;
     let concerned = concerned_tasks(alloc, board, &places, old, changes)?;
     push_low(alloc, rows, old, board)?;
+    push_ahead(rows, board, changes)?;
     push_tasks(alloc, rows, board, &places, &concerned)?;
     push_gone_changes(alloc, rows, board, &places, changes)
 }
@@ -92,6 +93,49 @@ fn push_low(
         })?;
     }
     Ok(())
+}
+
+/// How far ahead a board looks, if the changes set that.
+fn push_ahead(
+    rows: &mut Items<RowChange>,
+    board: &Board,
+    changes: &[Change],
+) -> Result<(), AllocError>
+    ensures { OnOk result (rows.new ≡ rows.old ++ ahead_changes board.now changes.now) }
+{
+    if set_ahead(changes, board.number) {
+        rows.push(RowChange::SetHorizon {
+            board: board.number,
+            ahead: u32::from(board.ahead.number()),
+        })?;
+    }
+    Ok(())
+}
+
+/// Whether one of the changes sets how far ahead a board looks.
+fn set_ahead(changes: &[Change], board: u32) -> bool
+    ensures { result ≡ list_any (sets_ahead board) changes.now }
+{
+    changes.iter().any(|change| sets_ahead(change, board))
+}
+
+fn sets_ahead(change: &Change, board: u32) -> bool
+    ensures { result ≡ sets_ahead board change.now }
+{
+    match change {
+        Change::SetAhead { board: number, .. } => board == *number,
+        _ => false,
+    }
+}
+
+/// How far ahead a new board looks.
+pub(crate) fn first_horizon(number: u32) -> HorizonRow
+    ensures { (title : List ℕ) → result ≡ horizon_row (empty_board number title) }
+{
+    HorizonRow {
+        board: number,
+        ahead: u32::from(Ahead::one().number()),
+    }
 }
 
 /// The row of a board without tasks.

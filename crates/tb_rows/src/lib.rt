@@ -15,6 +15,6 @@ mod task_places;
 mod tasks;
 
 pub use linking::{instance_row, link_row, place_number};
-pub use opening::opening_rows;
+pub use opening::{FirstRows, opening_rows};
 pub use part::{BoardPart, part_changes, touched_board};
 pub use task_places::TaskPlaces;

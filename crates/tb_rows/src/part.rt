@@ -7,7 +7,7 @@ ghost use Rattle.tb_board.specs.declared.world.World.{World};
 ghost use Rattle.tb_rows.specs.Part.{IsPartOf, is_small_part, part_board, rows_of_part, single_changes, touched_board};
 ghost use Rattle.tb_rows.specs.Steps.{Leads};
 
-use crate::boards::{empty_board_row, push_kept_board};
+use crate::boards::{empty_board_row, first_horizon, push_kept_board};
 use crate::people::person_row;
 use crate::roles::push_role;
 use std::alloc::{AllocError, Global};
@@ -25,7 +25,7 @@ pub struct BoardPart {
     pub later: Board,
 }
 
-/// The board whose tasks or gone places the first of a decision's changes changes: the one that a store has
+/// The board whose tasks, gone places or view ahead the first of a decision's changes changes: the one that a store has
 /// to look up for `part_changes`.
 pub fn touched_board(changes: &[Change]) -> Option<u32>
     ensures { result ≡ touched_board changes.now }
@@ -34,6 +34,7 @@ pub fn touched_board(changes: &[Change]) -> Option<u32>
         Change::PutTask { board, .. } => Some(*board),
         Change::SetGone { board, .. } => Some(*board),
         Change::TakeGone { board, .. } => Some(*board),
+        Change::SetAhead { board, .. } => Some(*board),
         _ => None,
     }
 }
@@ -132,6 +133,7 @@ fn push_single(
         Change::AddBoard { number, title } => {
             let board = empty_board_row(alloc, *number, title)?;
             rows.push(RowChange::AddBoard(board))?;
+            rows.push(RowChange::AddHorizon(first_horizon(*number)))?;
             Ok(())
         }
         Change::SetRole {

@@ -8,13 +8,14 @@ use tb_sql::changes::RowChange;
 use tb_sql_tables::rows::RoleRow;
 use tb_values::Items;
 
-/// 1 for an owner, 2 for a member.
+/// 1 for an owner, 2 for a member, 3 for a reader.
 pub(crate) fn role_kind(role: Role) -> u32
     ensures { result ≡ role_kind role }
 {
     match role {
         Role::Owner => 1,
         Role::Member => 2,
+        Role::Reader => 3,
     }
 }
 

@@ -1,3 +1,4 @@
+pub mod Migrating
 pub mod Reopened
 pub mod Standing
 pub mod WorldRead

@@ -19,4 +19,5 @@ world_is_read found s content of_s = found s.world content of_s.good of_s.form (
       links = IsPermutation-sym _ _ same.links;
       instances = IsPermutation-sym _ _ same.instances;
       gone = IsPermutation-sym _ _ same.gone;
+      horizon = IsPermutation-sym _ _ same.horizon;
     }

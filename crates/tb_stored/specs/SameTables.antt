@@ -12,9 +12,10 @@ use Rattle.tb_sql_tables.specs.declared.rows.PersonRow.{PersonRow}
 use Rattle.tb_sql_tables.specs.declared.rows.BoardRow.{BoardRow}
 use Rattle.tb_sql_tables.specs.declared.rows.TaskRow.{TaskRow}
 use Rattle.tb_sql_tables.specs.declared.rows.KeptRow.{KeptRow}
+use Rattle.tb_sql_tables.specs.declared.rows.HorizonRow.{HorizonRow}
 use Rattle.tb_sql_tables.specs.Content.{AreRows, Content, HasKeyed, HasRows}
 use Rattle.tb_sql_tables.specs.Reading.{number_of, words_of, mask_of, role_of, task_of, link_of, instance_of, gone_of, kept_of}
-use Rattle.tb_sql_tables.specs.Rows.{person_row, board_row, role_row, task_row, link_row, instance_row, gone_row, kept_row}
+use Rattle.tb_sql_tables.specs.Rows.{person_row, board_row, role_row, task_row, link_row, instance_row, gone_row, kept_row, horizon_row}
 use Rattle.tb_sql_tables.proofs.Effects.{each, each_of}
 
 abbrev person_from : Row → PersonRow
@@ -22,6 +23,9 @@ person_from cells = record { id = number_of (column cells 0); name = words_of (c
 
 abbrev board_from : Row → BoardRow
 board_from cells = record { id = number_of (column cells 0); title = words_of (column cells 2); low = number_of (column cells 3) }
+
+abbrev horizon_from : Row → HorizonRow
+horizon_from cells = record { board = number_of (column cells 0); ahead = number_of (column cells 2) }
 
 mask_back : (mask : Option (List ℕ)) → mask_of (or_null Words mask) ≡ mask
 mask_back None = refl
@@ -68,5 +72,6 @@ same_contents a b db is_a is_b =
       links = same_cells link_row link_of _ _ _ (each (λ row. refl) _) (each (λ row. refl) _) of_a.links of_b.links;
       instances = same_cells instance_row instance_of _ _ _ (each (λ row. refl) _) (each (λ row. refl) _) of_a.instances of_b.instances;
       gone = same_cells gone_row gone_of _ _ _ (each (λ row. refl) _) (each (λ row. refl) _) of_a.gone of_b.gone;
+      horizon = same_keyed horizon_row horizon_from _ _ _ (each (λ row. refl) _) (each (λ row. refl) _) of_a.horizon of_b.horizon;
     } in
     record { tables = tables; kept = same_cells kept_row kept_of _ _ _ (each_of kept_back _ of_a.kept_identifiers) (each_of kept_back _ of_b.kept_identifiers) of_a.kept of_b.kept }

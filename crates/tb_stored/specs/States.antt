@@ -21,6 +21,7 @@ meet a b c d ac bd ab = record {
   links = via ac.links bd.links ab.links;
   instances = via ac.instances bd.instances ab.instances;
   gone = via ac.gone bd.gone ab.gone;
+  horizon = via ac.horizon bd.horizon ab.horizon;
 }
   where
     via : {X : Type 0} {p q r s : List X} → IsPermutation p r → IsPermutation q s → IsPermutation p q → IsPermutation r s
@@ -28,7 +29,7 @@ meet a b c d ac bd ab = record {
 
 -- the tables of a state but the kept replies are those of its world
 plain : (c : Content) (s : State) → HaveSameRows c (state_rows s) → HaveSameRows c (world_rows s.world)
-plain c s same = record { people = same.people; boards = same.boards; roles = same.roles; tasks = same.tasks; links = same.links; instances = same.instances; gone = same.gone }
+plain c s same = record { people = same.people; boards = same.boards; roles = same.roles; tasks = same.tasks; links = same.links; instances = same.instances; gone = same.gone; horizon = same.horizon }
 
 -- trees are the rows of one state
 pub same_states : (s t : State) (a b : Content) (db : Trees) → AreRowsOf s a → AreRowsOf t b → AreRows a db → AreRows b db → s ≡ t

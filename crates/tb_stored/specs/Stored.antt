@@ -5,6 +5,7 @@ use Rattle.std.specs.Option.{unwrap_or}
 use Rattle.std.specs.FinMap.{entries}
 use Rattle.sqlite_trees.specs.Tree.{Trees}
 use Rattle.sqlite.specs.State.{HasCleanDisk, State as Database}
+use Rattle.tb_board.specs.declared.board.Board.{Board}
 use Rattle.tb_board.specs.declared.world.Person.{Person}
 use Rattle.tb_board.specs.declared.world.World.{World}
 use Rattle.tb_board.specs.World.{key_of, number_of}
@@ -14,8 +15,9 @@ use Rattle.tb_calls.specs.Calls.{CallName, State}
 use Rattle.tb_reopen.specs.Forms.{HasForm}
 use Rattle.tb_reopen.specs.Laws.{AreApart}
 use Rattle.tb_rows.specs.Rows.{world_rows, IsSameContent}
+use Rattle.tb_sql_tables.specs.declared.rows.HorizonRow.{HorizonRow}
 use Rattle.tb_sql_tables.specs.declared.rows.KeptRow.{KeptRow}
-use Rattle.tb_sql_tables.specs.Content.{AreRows, Content, Stands, StandsAsEither, StandsEmptyOr}
+use Rattle.tb_sql_tables.specs.Content.{AreOldRows, AreRows, Content, Stands, StandsAsEither, StandsEmptyOr, StandsEmptyOrOld, StandsOld, StandsOldOr}
 
 -- ---- the rows of a state
 
@@ -96,3 +98,41 @@ pub record MayLeave (d : Database) (t : State) : Type 0 where
   pub trees : Trees
   pub left : d.may_leave trees
   pub stored : AreTreesOf t trees
+
+-- ---- rows in the tables of the first version
+
+-- each board looks one ahead, as all did in the first version
+abbrev pub LookOneAhead : State → Type 0
+LookOneAhead s = AllByRecursion (λ (b : Board). b.ahead ≡ 1) s.world.boards
+
+-- the content but for how far ahead the boards look is the rows of such a state
+pub record AreOldRowsOf (s : State) (content : Content) : Type 0 where
+  pub one_ahead : LookOneAhead s
+  pub horizon : List HorizonRow
+  pub rows : AreRowsOf s (record content { horizon = horizon })
+
+pub record AreOldTreesOf (s : State) (db : Trees) : Type 0 where
+  pub content : Content
+  pub rows : AreOldRowsOf s content
+  pub stored : AreOldRows content db
+
+-- the database holds the rows of the state in the tables of the first version, and a stop leaves them
+pub record IsStoredOld (s : State) (d : Database) : Type 0 where
+  pub content : Content
+  pub rows : AreOldRowsOf s content
+  pub stands : StandsOld content d
+  pub idle : d.in_transaction ≡ false
+
+-- it holds the rows of the state, and a stop leaves them, all of them in the tables of one of the versions
+pub record IsStoredInEither (s : State) (d : Database) : Type 0 where
+  pub before : Content
+  pub after : Content
+  pub rows_before : AreOldRowsOf s before
+  pub rows_after : AreRowsOf s after
+  pub stands : StandsOldOr before after d
+
+-- there is no table, or it holds the rows of the state in those of the first version
+pub record IsEmptyOrStoredOld (s : State) (d : Database) : Type 0 where
+  pub content : Content
+  pub rows : AreOldRowsOf s content
+  pub stands : StandsEmptyOrOld content d

@@ -3,7 +3,7 @@
 ghost use Rattle.std.specs.Prelude.{◌≡◌, false, filter, Err, IfOk};
 ghost use Rattle.std.specs.List.{list_any};
 ghost use Rattle.sqlite.specs.Held.{state};
-ghost use Rattle.tb_sql.specs.Changes.{is_board, is_kept, is_named, is_person};
+ghost use Rattle.tb_sql.specs.Changes.{is_board, is_horizon, is_kept, is_named, is_person};
 ghost use Rattle.tb_sql.specs.Opening.{IsAsBefore};
 ghost use Rattle.tb_sql_tables.specs.Content.{IsContent};
 ghost use Rattle.tb_sql_tables.specs.Failing.{FailsByFault, KeepsFaults};
@@ -12,10 +12,11 @@ ghost use Rattle.tb_stored.specs.Reopening.{OfContent};
 
 use sqlite::{Alter, Connection};
 use tb_sql::boards::{find_board, has_board};
+use tb_sql::horizons::find_horizon;
 use tb_sql::kept::find_kept;
 use tb_sql::people::{find_person, find_person_at, has_person};
 use tb_sql::store::StoreFault;
-use tb_sql_tables::rows::{BoardRow, KeptRow, PersonRow};
+use tb_sql_tables::rows::{BoardRow, HorizonRow, KeptRow, PersonRow};
 use tb_task::TaskId;
 
 /// The person of a name.
@@ -109,6 +110,26 @@ pub fn board_row_at<S: Alter>(
 {
     let mut tx = conn.transaction();
     let found = find_board(&mut tx, id);
+    drop(tx);
+    match found {
+        Ok(row) => Ok(row),
+        Err(error) => Err(StoreFault::before_commit(&error)),
+    }
+}
+
+/// How far ahead the board of a number looks.
+pub fn horizon_row_at<S: Alter>(
+    conn: &mut Connection<S>,
+    board: u32,
+) -> Result<Option<HorizonRow>, StoreFault>
+    requires { conn.old.in_transaction ≡ false }
+    ensures idle { conn.new.in_transaction ≡ false }
+    ensures found { IfOk result (λ row. OfContent (state S.Store conn.old) (state S.Store conn.new)
+        (λ content. IsOneOf (filter (is_horizon board) content.horizon) row)) }
+    ensures same { IsAsBefore (state S.Store conn.old) (state S.Store conn.new) }
+{
+    let mut tx = conn.transaction();
+    let found = find_horizon(&mut tx, board);
     drop(tx);
     match found {
         Ok(row) => Ok(row),

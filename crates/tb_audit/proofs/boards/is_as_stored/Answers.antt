@@ -11,6 +11,7 @@ returns c =
     tells_whole c.have_instances.result c.have_instances.ensures
     (λ instances. record {
       row_is = c.in_ok-has_row.ensures.0 c.if-not-branch.false;
+      horizon_is = c.has_horizon.ensures.0 c.if-not-has_horizon.false;
       masks = c.in_ok-have_masks.ensures.0 c.if-not-branch-2.false ∙ sym (masks_are c.args.board.now);
       links_are = c.in_ok-have_links.ensures.0 c.if-not-branch-3.false;
       instances_are = instances;

@@ -1,26 +1,26 @@
-use Rattle.sqlite.specs.Held.{state}
-use Rattle.tb_keeper.proofs.Audited.{both_ok}
+use Rattle.std.proofs.Common.{ap, subst, sym, filter}
 use Rattle.std.proofs.lemmas.Result.{IfOk-weaker}
-use Rattle.tb_keeper.proofs.Counting.{checks}
-use Rattle.tb_keeper.proofs.WholeCount.{check_whole}
+use Rattle.sqlite.specs.Held.{state}
+use Rattle.tb_board.specs.declared.board.Board.{Board}
+use Rattle.tb_sql.specs.Changes.{is_horizon}
+use Rattle.tb_sql_tables.specs.Found.{IsOneOf}
+use Rattle.tb_keeper.specs.Auditing.{IsCheckOf, IsCheckOfRow, StandsFor}
+use Rattle.tb_keeper.proofs.WholeCount.{with_horizon}
 use Rattle.tb_keeper.proofs.auditing.check_board.Goals as goal
 
 pub returns-clause-checked : goal.returns-clause-checked
 returns-clause-checked g c =
-    both_ok c.compare.result _ _ _ (rw (c.as_slice.ensures, c.as_slice-2.ensures) at c.compare.ensures.size)
-    (rw (c.as_slice.ensures, c.as_slice-2.ensures, c.as_slice-3.ensures, c.as_slice-4.ensures) at c.compare.ensures.tells)
-    (λ checked size tells.
-    checks (state g.S.Store c.args.conn.now) (state g.S.Store c.task_rows.new.conn) (state g.S.Store c.gone_rows.new.conn) (state g.S.Store c.link_rows.new.conn) (state g.S.Store c.instance_rows.new.conn)
-    c.args.row.now c.in_ok-tasks.tasks c.in_ok-gone.gone c.in_ok-links.links c.in_ok-instances.instances checked
-    c.in_ok-tasks.ensures.same c.in_ok-gone.ensures.same c.in_ok-links.ensures.same c.in_ok-instances.ensures.same
-    c.in_ok-tasks.ensures.found c.in_ok-gone.ensures.found c.in_ok-links.ensures.found c.in_ok-instances.ensures.found size tells)
+    IfOk-weaker c.check_tables.result _ _
+    (λ checked is.
+    with_horizon (λ content. IsOneOf (filter (is_horizon c.args.row.now.id) content.horizon) c.in_ok-horizon.horizon) (λ content. (b : Board) → StandsFor content c.args.row.now b → IsCheckOf content b checked)
+    (state g.S.Store c.args.conn.now) (state g.S.Store c.horizon_row_at.new.conn) (state g.S.Store c.check_tables.new.conn) c.in_ok-horizon.ensures.same c.check_tables.ensures.same c.in_ok-horizon.ensures.found
+    (λ clean content stands found b for_b. is clean content stands b for_b (subst (λ n. IsOneOf (filter (is_horizon n) content.horizon) c.in_ok-horizon.horizon) for_b.number found)))
+    c.check_tables.ensures.checked
 
 pub returns-clause-whole : goal.returns-clause-whole
 returns-clause-whole g c =
-    IfOk-weaker c.compare.result _ _
-    (λ checked check.
-    check_whole (state g.S.Store c.args.conn.now) (state g.S.Store c.task_rows.new.conn) (state g.S.Store c.gone_rows.new.conn) (state g.S.Store c.link_rows.new.conn) (state g.S.Store c.instance_rows.new.conn)
-    c.args.row.now c.in_ok-tasks.tasks c.in_ok-gone.gone c.in_ok-links.links c.in_ok-instances.instances checked
-    c.in_ok-tasks.ensures.same c.in_ok-gone.ensures.same c.in_ok-links.ensures.same c.in_ok-instances.ensures.same
-    c.in_ok-tasks.ensures.found c.in_ok-gone.ensures.found c.in_ok-links.ensures.found c.in_ok-instances.ensures.found check)
-    (rw (c.as_slice.ensures, c.as_slice-2.ensures, c.as_slice-3.ensures, c.as_slice-4.ensures) at c.compare.ensures.whole)
+    IfOk-weaker c.check_tables.result _ _
+    (λ checked is.
+    with_horizon (λ content. IsOneOf (filter (is_horizon c.args.row.now.id) content.horizon) c.in_ok-horizon.horizon) (λ content. IsCheckOfRow content c.args.row.now checked)
+    (state g.S.Store c.args.conn.now) (state g.S.Store c.horizon_row_at.new.conn) (state g.S.Store c.check_tables.new.conn) c.in_ok-horizon.ensures.same c.check_tables.ensures.same c.in_ok-horizon.ensures.found is)
+    c.check_tables.ensures.whole
