@@ -4,16 +4,17 @@ use Rattle.std.specs.Str.{bytes_eq}
 use Rattle.serde_json.specs.Data.{Data}
 use Rattle.serde_json.specs.Read.{read}
 use Rattle.tb_values.specs.Outcome.{◌>>=◌}
+use Rattle.tb_board.specs.Ahead.{read_ahead}
 use Rattle.tb_board.specs.Names.{read_name, read_key, read_title}
 use Rattle.tb_board.specs.declared.world.Role.{Role}
-use Rattle.tb_board.specs.declared.world.Role.TheVariants.{Owner, Member}
+use Rattle.tb_board.specs.declared.world.Role.TheVariants.{Owner, Member, Reader}
 use Rattle.tb_core.specs.declared.action.Action.TheVariants as action
 use Rattle.tb_core.specs.declared.command.Command.{Command}
 use Rattle.tb_core.specs.declared.command.Command.TheVariants as command
 use Rattle.tb_body.specs.declared.fault.BadBody.{BadBody}
 use Rattle.tb_body.specs.declared.fault.BadBody.TheVariants.{Whole}
 use Rattle.tb_body.specs.Reading.{incoming_in, edits_in, import_in, todo_in}
-use Rattle.tb_http.specs.Bodies.{has_members, person_in, title_in, role_in, description_in, link_in}
+use Rattle.tb_http.specs.Bodies.{has_members, person_in, title_in, role_in, ahead_in, description_in, link_in}
 use Rattle.tb_asking.specs.declared.form.Bare.{Bare}
 use Rattle.tb_asking.specs.declared.form.Bare.TheVariants as bare
 use Rattle.tb_asking.specs.declared.form.Small.{Small}
@@ -62,15 +63,21 @@ board_from json = do
   heading ← or_whole (read_title title)
   Ok (command.NewBoard heading)
 
--- a role's word is one of the two
+-- a role's word is one of the three
 abbrev pub role_named : List ℕ → Role
-role_named word = if bytes_eq word (codes "owner") then Owner else Member
+role_named word = if bytes_eq word (codes "owner") then Owner else if bytes_eq word (codes "member") then Member else Reader
 
 abbrev pub role_from : ℕ → Data → Result Command BadBody
 role_from board json = do
   body ← or_whole (role_in json)
   member ← or_whole (read_name body.0)
   Ok (command.SetRole board member (option_map role_named body.1))
+
+abbrev pub ahead_from : ℕ → Data → Result Command BadBody
+ahead_from board json = do
+  number ← or_whole (ahead_in json)
+  ahead ← or_whole (read_ahead number)
+  Ok (command.SetAhead board ahead)
 
 abbrev pub annotate_from : ℕ → ℕ → Data → Result Command BadBody
 annotate_from board id json = do
@@ -96,6 +103,7 @@ abbrev pub small_from : Small → Data → Result Command BadBody
 small_from small.Person json = person_from json
 small_from small.Board json = board_from json
 small_from (small.Role board) json = role_from board json
+small_from (small.Ahead board) json = ahead_from board json
 small_from (small.Annotate board id) json = annotate_from board id json
 small_from (small.Denotate board id) json = denotate_from board id json
 small_from (small.Depend board id) json = depend_from board id json

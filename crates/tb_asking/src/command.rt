@@ -9,10 +9,12 @@ ghost use Rattle.tb_asking.specs.Commands as commands;
 use crate::form::{Bare, Form, Small};
 use serde_json::Value;
 use std::alloc::{AllocError, Global};
-use tb_board::{Key, Name, Role, Title};
+use tb_board::{Ahead, Key, Name, Role, Title};
 use tb_body::{BadBody, BodyFault, read_edits, read_imported, read_incoming, read_text, read_todo};
 use tb_core::{Action, Command};
-use tb_http::{is_empty_object, read_description, read_link, read_person, read_role, read_title};
+use tb_http::{
+    is_empty_object, read_ahead, read_description, read_link, read_person, read_role, read_title,
+};
 use tb_json::parse;
 use tb_task::{Moment, TaskId};
 use tb_values::Text;
@@ -104,6 +106,7 @@ fn small_from(alloc: Global, asked: Small, value: &Value) -> Result<Command, Bod
         Small::Person => person_from(alloc, value),
         Small::Board => board_from(alloc, value),
         Small::Role(board) => role_from(alloc, board, value),
+        Small::Ahead(board) => ahead_from(board, value),
         Small::Annotate(board, id) => annotate_from(alloc, board, id, value),
         Small::Denotate(board, id) => denotate_from(alloc, board, id, value),
         Small::Depend(board, id) => depend_from(board, id, value),
@@ -147,10 +150,10 @@ fn board_from(alloc: Global, value: &Value) -> Result<Command, BodyFault>
 fn role_named(word: &str) -> Role
     ensures { result ≡ commands.role_named word.now }
 {
-    if word == "owner" {
-        Role::Owner
-    } else {
-        Role::Member
+    match word {
+        "owner" => Role::Owner,
+        "member" => Role::Member,
+        _ => Role::Reader,
     }
 }
 
@@ -175,6 +178,18 @@ fn role_from(alloc: Global, board: u32, value: &Value) -> Result<Command, BodyFa
             name,
             role: role_or_none(body.role),
         }),
+        None => Err(BodyFault::Refused(BadBody::Whole)),
+    }
+}
+
+fn ahead_from(board: u32, value: &Value) -> Result<Command, BodyFault>
+    ensures { Reads result (commands.ahead_from board (view value.now)) }
+{
+    let Some(number) = read_ahead(value) else {
+        return Err(BodyFault::Refused(BadBody::Whole));
+    };
+    match Ahead::read(number) {
+        Some(ahead) => Ok(Command::SetAhead { board, ahead }),
         None => Err(BodyFault::Refused(BadBody::Whole)),
     }
 }

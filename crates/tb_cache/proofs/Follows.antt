@@ -8,10 +8,10 @@ use Rattle.std.proofs.lemmas.List.{take_more}
 use Rattle.tb_board.proofs.Worlds.{changed-append}
 use Rattle.tb_board.specs.declared.board.Board.{Board}
 use Rattle.tb_board.specs.declared.change.Change.{Change}
-use Rattle.tb_board.specs.declared.change.Change.TheVariants.{PutTask, AddPerson, AddBoard, SetRole, SetGone, TakeGone}
+use Rattle.tb_board.specs.declared.change.Change.TheVariants.{PutTask, AddPerson, AddBoard, SetRole, SetGone, TakeGone, SetAhead}
 use Rattle.tb_board.specs.declared.world.World.{World}
 use Rattle.tb_board.specs.World.{find_board, has_number}
-use Rattle.tb_board.specs.Changes.{change_board, changed, changed_by, changed_on, with_task_at, with_gone, without_gone}
+use Rattle.tb_board.specs.Changes.{change_board, changed, changed_by, changed_on, with_task_at, with_ahead, with_gone, without_gone}
 use Rattle.lru.specs.LruCache.{LruCache, lru_cache}
 use Rattle.tb_cache.specs.Cached.{AreOf, touched}
 use Rattle.tb_cache.proofs.Entries.{apart_removed}
@@ -67,6 +67,7 @@ found_after n w (AddBoard m title) b found = find-append (has_number n) w.boards
 found_after n w (SetRole m person role) b found = found
 found_after n w (SetGone m g) b found = found_changed n m (with_gone g) w.boards b (λ x. refl) found
 found_after n w (TakeGone m id k) b found = found_changed n m (without_gone id k) w.boards b (λ x. refl) found
+found_after n w (SetAhead m ahead) b found = found_changed n m (with_ahead ahead) w.boards b (λ x. refl) found
 
 -- a change that touches no board at hand
 pub of_untouched : (w : World) (c : Change) (es : List (ℕ × Board)) → touched c ≡ None → AreOf w es → AreOf (changed_by w c) es

@@ -7,14 +7,15 @@ use std::alloc::{AllocError, Global};
 use tb_board::{Board, Change};
 use tb_values::Shared;
 
-/// The board whose tasks or gone places a change touches.
+/// The board that a change touches: its tasks, its gone places, or how far ahead it looks.
 pub(crate) fn touched(change: &Change) -> Option<u32>
     ensures { result ≡ touched change.now }
 {
     match change {
         Change::PutTask { board, .. }
         | Change::SetGone { board, .. }
-        | Change::TakeGone { board, .. } => Some(*board),
+        | Change::TakeGone { board, .. }
+        | Change::SetAhead { board, .. } => Some(*board),
         Change::AddPerson { .. } | Change::AddBoard { .. } | Change::SetRole { .. } => None,
     }
 }

@@ -36,6 +36,7 @@ pub(crate) fn changed_on(
         } => {
             board.gone = gone_without(alloc, board.gone.as_slice(), *template, *place)?;
         }
+        Change::SetAhead { ahead, .. } => board.ahead = *ahead,
         Change::AddPerson { .. } | Change::AddBoard { .. } | Change::SetRole { .. } => {}
     }
     Ok(board)

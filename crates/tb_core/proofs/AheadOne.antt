@@ -227,6 +227,6 @@ ahead_one w (r ∷ rs) first all =
     let here = step_same w r.name r.command r.at first all.0 in
     let now = apply w r.name r.command r.at in
     let later = ahead_one now.world rs here.first all.1 in (
-      ap (λ as. now.answer ∷ as) later.0 ∙ ap (λ (o : Outcome). o.answer ∷ answers_by apply_at_once o.world rs) here.same,
+      ap (λ rest. now.answer ∷ rest) later.0 ∙ ap (λ (o : Outcome). o.answer ∷ answers_by apply_at_once o.world rs) here.same,
       later.1 ∙ ap (λ (o : Outcome). world_by apply_at_once o.world rs) here.same,
     )

@@ -11,4 +11,4 @@ AllFit (row ∷ table) rows = IsTrue (fits row.0 rows) × AllFit table (with_rou
 
 pub table_fits : AllFit route_table []
 unfolding matchit_on_literals fits with_route
-table_fits = (refl, (refl, (refl, (refl, (refl, (refl, (refl, (refl, (refl, (refl, (refl, (refl, (refl, (refl, tt))))))))))))))
+table_fits = (refl, (refl, (refl, (refl, (refl, (refl, (refl, (refl, (refl, (refl, (refl, (refl, (refl, (refl, (refl, tt)))))))))))))))

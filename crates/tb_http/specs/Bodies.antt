@@ -2,7 +2,7 @@
 use Rattle.std.specs.Prelude.{ℕ, suc, ◌==◌, Bool, false, List, codes, Option, Some, None, option_map, option_and_then, unwrap_or, ◌||◌, if◌then◌else◌}
 use Rattle.std.specs.Str.{bytes_eq}
 use Rattle.serde_json.specs.Data.{Data, null, boolean, number, string, array, object, Members, no_members, member}
-use Rattle.serde_json.specs.Find.{get, as_str, as_object}
+use Rattle.serde_json.specs.Find.{get, as_number, as_str, as_object, as_u64}
 use Rattle.tb_task.specs.TaskId.{read_id}
 
 -- how many members there are
@@ -17,6 +17,10 @@ has_members count d = unwrap_or (option_map (λ ms. count_members ms == count) (
 -- the text of the member of this name
 abbrev pub text_at : List ℕ → Data → Option (List ℕ)
 text_at name d = option_and_then as_str (get name d)
+
+-- the whole number of the member of this name
+abbrev pub number_at : List ℕ → Data → Option ℕ
+number_at name d = option_and_then as_u64 (option_and_then as_number (get name d))
 
 -- both, if both are there
 abbrev pub both : {A B : Type 0} → Option A → Option B → Option (A × B)
@@ -34,7 +38,7 @@ title_in d = if has_members 1 d then text_at (codes "title") d else None
 
 -- a role's word, or null for none
 abbrev pub is_role : List ℕ → Bool
-is_role word = bytes_eq word (codes "owner") || bytes_eq word (codes "member")
+is_role word = bytes_eq word (codes "owner") || (bytes_eq word (codes "member") || bytes_eq word (codes "reader"))
 
 abbrev pub role_word : Data → Option (Option (List ℕ))
 role_word null = Some None
@@ -48,6 +52,10 @@ role_word (object ms) = None
 abbrev pub role_in : Data → Option (List ℕ × Option (List ℕ))
 role_in d =
     if has_members 2 d then both (text_at (codes "member") d) (option_and_then role_word (get (codes "role") d)) else None
+
+-- how many instances ahead a board is to look
+abbrev pub ahead_in : Data → Option ℕ
+ahead_in d = if has_members 1 d then number_at (codes "ahead") d else None
 
 -- the text of an annotation that is added or removed
 abbrev pub description_in : Data → Option (List ℕ)

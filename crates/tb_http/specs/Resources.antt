@@ -5,7 +5,7 @@ use Rattle.std.specs.List.{slice_split, slice_get}
 use Rattle.std.specs.Str.{bytes_eq}
 use Rattle.tb_task.specs.TaskId.{read_id}
 use Rattle.tb_http.specs.declared.route.Route.{Route}
-use Rattle.tb_http.specs.declared.route.Route.TheVariants.{People, Boards, Roles, Tasks, Task, TaskAction as ActionRoute, Sweep, Import, ImportTodo, List as ListRoute, Export, Todo, PeopleOn, Me}
+use Rattle.tb_http.specs.declared.route.Route.TheVariants.{People, Boards, Roles, Tasks, Task, TaskAction as ActionRoute, Sweep, Ahead, Import, ImportTodo, List as ListRoute, Export, Todo, PeopleOn, Me}
 use Rattle.tb_http.specs.declared.route.Verb.{Verb}
 use Rattle.tb_http.specs.declared.fault.WireFault.{WireFault}
 use Rattle.tb_http.specs.declared.fault.WireFault.TheVariants as wire
@@ -71,6 +71,7 @@ resource_of Tasks path = option_map resource.Tasks (board_in path)
 resource_of Task path = task_resource (board_in path) (task_in path)
 resource_of ActionRoute path = action_resource (board_in path) (task_in path) (action_in path)
 resource_of Sweep path = option_map resource.Sweep (board_in path)
+resource_of Ahead path = option_map resource.Ahead (board_in path)
 resource_of Import path = option_map resource.Import (board_in path)
 resource_of ImportTodo path = option_map resource.ImportTodo (board_in path)
 resource_of ListRoute path = option_map resource.List (board_in path)

@@ -8,7 +8,7 @@ use Rattle.matchit.specs.Order.{placed}
 use Rattle.matchit.specs.Seek.{first}
 use Rattle.matchit.specs.declared.error.InsertError.{InsertError}
 use Rattle.tb_http.specs.declared.route.Route.{Route}
-use Rattle.tb_http.specs.declared.route.Route.TheVariants.{People, Boards, Roles, Tasks, Task, TaskAction, Sweep, Import, ImportTodo, List as ListRoute, Export, Todo, PeopleOn, Me}
+use Rattle.tb_http.specs.declared.route.Route.TheVariants.{People, Boards, Roles, Tasks, Task, TaskAction, Sweep, Ahead, Import, ImportTodo, List as ListRoute, Export, Todo, PeopleOn, Me}
 use Rattle.tb_http.specs.declared.route.Verb.{Verb}
 use Rattle.tb_http.specs.declared.route.Verb.TheVariants.{Get, Post}
 
@@ -22,6 +22,7 @@ route_table =
     ∷ (codes "/boards/{b}/tasks/{uuid}", Task)
     ∷ (codes "/boards/{b}/tasks/{uuid}/{action}", TaskAction)
     ∷ (codes "/boards/{b}/sweep", Sweep)
+    ∷ (codes "/boards/{b}/ahead", Ahead)
     ∷ (codes "/boards/{b}/import", Import)
     ∷ (codes "/boards/{b}/import-todo", ImportTodo)
     ∷ (codes "/boards/{b}/list", ListRoute)
@@ -40,6 +41,7 @@ verb_of Tasks = Post
 verb_of Task = Get
 verb_of TaskAction = Post
 verb_of Sweep = Post
+verb_of Ahead = Post
 verb_of Import = Post
 verb_of ImportTodo = Post
 verb_of ListRoute = Get

@@ -13,7 +13,7 @@ pub struct PersonBody<'a> {
     pub key: &'a str,
 }
 
-/// Whose role is set, and the word of that role, `owner` or `member`, or none.
+/// Whose role is set, and the word of that role, `owner`, `member` or `reader`, or none.
 #[derive(Clone, Copy, Debug, PartialEq, Eq)]
 pub struct RoleBody<'a> {
     pub member: &'a str,
@@ -36,6 +36,13 @@ fn text_at<'a>(value: &'a Value, name: &str) -> Option<&'a str>
     ensures { option_map (λ text. text.now) result ≡ bodies.text_at name.now (view value.now) }
 {
     value.get(name)?.as_str()
+}
+
+// The whole number of the member of this name.
+fn number_at(value: &Value, name: &str) -> Option<u64>
+    ensures { result ≡ bodies.number_at name.now (view value.now) }
+{
+    value.get(name)?.as_u64()
 }
 
 /// The person that a body adds.
@@ -63,7 +70,7 @@ pub fn read_title(value: &Value) -> Option<&str>
 fn is_role(word: &str) -> bool
     ensures { result ≡ bodies.is_role word.now }
 {
-    word == "owner" || word == "member"
+    word == "owner" || word == "member" || word == "reader"
 }
 
 // A role's word, or null for none.
@@ -88,6 +95,16 @@ pub fn read_role(value: &Value) -> Option<RoleBody<'_>>
     let member = text_at(value, "member")?;
     let role = role_word(value.get("role")?)?;
     Some(RoleBody { member, role })
+}
+
+/// How many instances ahead a body lets a board look: any number.
+pub fn read_ahead(value: &Value) -> Option<u64>
+    ensures { result ≡ bodies.ahead_in (view value.now) }
+{
+    if !has_members(value, 1) {
+        return None;
+    }
+    number_at(value, "ahead")
 }
 
 /// The text of the annotation that a body adds or removes.

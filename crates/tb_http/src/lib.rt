@@ -22,8 +22,8 @@ mod sender;
 
 pub use answer::{Answer, ContentType, HeadRoom, MediaType};
 pub use body::{
-    PersonBody, RoleBody, is_empty_object, read_description, read_link, read_person, read_role,
-    read_title,
+    PersonBody, RoleBody, is_empty_object, read_ahead, read_description, read_link, read_person,
+    read_role, read_title,
 };
 pub use closing::MESSAGE_LIMIT;
 pub use fault::WireFault;

@@ -16,6 +16,7 @@ pub enum Route {
     Task,
     TaskAction,
     Sweep,
+    Ahead,
     Import,
     ImportTodo,
     List,
@@ -59,6 +60,7 @@ impl Route {
             | Route::Tasks
             | Route::TaskAction
             | Route::Sweep
+            | Route::Ahead
             | Route::Import
             | Route::ImportTodo => Verb::Post,
         }
@@ -91,6 +93,7 @@ fn table(alloc: Global) -> Result<Router<Route>, InsertError>
         Route::TaskAction,
     )?;
     add(&mut router, "/boards/{b}/sweep", Route::Sweep)?;
+    add(&mut router, "/boards/{b}/ahead", Route::Ahead)?;
     add(&mut router, "/boards/{b}/import", Route::Import)?;
     add(&mut router, "/boards/{b}/import-todo", Route::ImportTodo)?;
     add(&mut router, "/boards/{b}/list", Route::List)?;

@@ -4,13 +4,14 @@ use Rattle.serde_json.specs.Data.{Data, array, number, unsigned, string, object,
 use Rattle.serde_json.specs.View.{items_of}
 use Rattle.serde_json.specs.Written.{compact_text}
 use Rattle.tb_board.specs.declared.world.Role.{Role}
-use Rattle.tb_board.specs.declared.world.Role.TheVariants.{Owner, Member}
+use Rattle.tb_board.specs.declared.world.Role.TheVariants.{Owner, Member, Reader}
 use Rattle.tb_reply.specs.declared.roles.BoardRole.{BoardRole}
 use Rattle.tb_reply.specs.declared.roles.PersonRole.{PersonRole}
 
 abbrev pub role_word : Role → List ℕ
 role_word Owner = codes "owner"
 role_word Member = codes "member"
+role_word Reader = codes "reader"
 
 unfoldable pub board_role_data : BoardRole → Data
 board_role_data r = object

@@ -111,5 +111,6 @@ fn role_word(role: Role) -> &'static str
     match role {
         Role::Owner => "owner",
         Role::Member => "member",
+        Role::Reader => "reader",
     }
 }

@@ -6,13 +6,13 @@ use Rattle.tb_task.specs.TaskId.{read_id}
 use Rattle.tb_board.specs.Names.{read_name, read_key, read_title}
 use Rattle.tb_core.specs.declared.action.Action.{Action}
 use Rattle.tb_core.specs.declared.action.Action.TheVariants.{Done, Delete, Reopen, Start, Stop, Annotate, Denotate}
-use Rattle.tb_core.specs.declared.command.Command.TheVariants.{Add, Depend, ImportJson, ImportTodo, Modify, NewBoard, NewPerson, OnTask, SetRole, Sweep, Undepend}
+use Rattle.tb_core.specs.declared.command.Command.TheVariants.{Add, Depend, ImportJson, ImportTodo, Modify, NewBoard, NewPerson, OnTask, SetAhead, SetRole, Sweep, Undepend}
 use Rattle.tb_script.specs.declared.asked.Request.{Request}
 use Rattle.tb_script.specs.declared.asked.Request.TheVariants.{Call, View as ViewOf}
 use Rattle.tb_calls.specs.declared.view.View.TheVariants.{Listing, Export, Todo, One, People, Me}
 use Rattle.tb_script.specs.declared.line_fault.Unreadable.{Unreadable}
 use Rattle.tb_script.specs.declared.line_fault.Unreadable.TheVariants.{BadLine}
-use Rattle.tb_script.specs.Arguments.{board_number, role_named}
+use Rattle.tb_script.specs.Arguments.{ahead_number, board_number, role_named}
 use Rattle.tb_script.specs.Bodies.{edits_in, import_in, incoming_in, tasks_in}
 use Rattle.tb_script.specs.Outcome.{or_bad_line}
 
@@ -120,6 +120,12 @@ sweeping board = do
   n ← or_bad_line (board_number board)
   Ok (Call (Sweep n))
 
+abbrev pub set_ahead : List ℕ → List ℕ → Result Request Unreadable
+set_ahead board number = do
+  n ← or_bad_line (board_number board)
+  ahead ← or_bad_line (ahead_number number)
+  Ok (Call (SetAhead n ahead))
+
 abbrev pub importing : ℕ → List ℕ → List ℕ → Result Request Unreadable
 importing at board text = do
   n ← or_bad_line (board_number board)
@@ -174,6 +180,7 @@ request_in word arguments at =
     else if bytes_eq word (codes "depend") then linking arguments
     else if bytes_eq word (codes "undepend") then unlinking arguments
     else if bytes_eq word (codes "sweep") then one sweeping arguments
+    else if bytes_eq word (codes "ahead") then two set_ahead arguments
     else if bytes_eq word (codes "person") then two new_person arguments
     else if bytes_eq word (codes "board") then one new_board arguments
     else if bytes_eq word (codes "role") then three set_role arguments

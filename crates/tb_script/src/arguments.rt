@@ -3,12 +3,12 @@ ghost use Rattle.std.specs.Prelude.{◌≡◌};
 ghost use Rattle.tb_board.specs.Names.{read_name, read_key, read_title};
 ghost use Rattle.tb_task.specs.MomentText.{moment_of};
 ghost use Rattle.tb_task.specs.TaskId.{read_id};
-ghost use Rattle.tb_script.specs.Arguments.{board_number, role_named};
+ghost use Rattle.tb_script.specs.Arguments.{ahead_number, board_number, role_named};
 ghost use Rattle.tb_script.specs.Outcome.{Reads, or_bad_line};
 
 use crate::line_fault::LineFault;
 use std::alloc::Global;
-use tb_board::{Key, Name, Role, Title};
+use tb_board::{Ahead, Key, Name, Role, Title};
 use tb_task::{Moment, TaskId};
 use tb_values::read_number;
 
@@ -63,6 +63,7 @@ pub(crate) fn read_role(text: &str) -> Result<Option<Role>, LineFault>
     match text {
         "owner" => Ok(Some(Role::Owner)),
         "member" => Ok(Some(Role::Member)),
+        "reader" => Ok(Some(Role::Reader)),
         "none" => Ok(None),
         _ => Err(LineFault::bad_line()),
     }
@@ -74,6 +75,19 @@ pub(crate) fn read_board(text: &str) -> Result<u32, LineFault>
 {
     match read_number(text, u32::MAX) {
         Some(board) => Ok(board),
+        None => Err(LineFault::bad_line()),
+    }
+}
+
+#[tactic(auto, unfolding(crate::specs::Arguments::ahead_number))]
+pub(crate) fn read_ahead(text: &str) -> Result<Ahead, LineFault>
+    ensures { Reads result (or_bad_line (ahead_number text.now)) }
+{
+    let Some(number) = read_number(text, u32::MAX) else {
+        return Err(LineFault::bad_line());
+    };
+    match Ahead::read(number as u64) {
+        Some(ahead) => Ok(ahead),
         None => Err(LineFault::bad_line()),
     }
 }

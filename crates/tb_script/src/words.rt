@@ -4,9 +4,11 @@ ghost use Rattle.tb_core.specs.declared.action.Action.TheVariants.{Annotate, Den
 ghost use Rattle.tb_script.specs.Outcome.{Reads};
 ghost use Rattle.tb_script.specs.declared.asked.Request.TheVariants.{View as ViewOf};
 ghost use Rattle.tb_calls.specs.declared.view.View.TheVariants.{Me};
-ghost use Rattle.tb_script.specs.Words.{acting, acting_with, adding, new_board, export, set_role, importing, importing_todo, new_person, link, linking, listing, modifying, none, one, people, request_in, showing, sweeping, task, three, todo, two, unlinking};
+ghost use Rattle.tb_script.specs.Words.{acting, acting_with, adding, new_board, export, set_role, importing, importing_todo, new_person, link, linking, listing, modifying, none, one, people, request_in, set_ahead, showing, sweeping, task, three, todo, two, unlinking};
 
-use crate::arguments::{read_board, read_heading, read_person, read_role, read_secret, read_uuid};
+use crate::arguments::{
+    read_ahead, read_board, read_heading, read_person, read_role, read_secret, read_uuid,
+};
 use crate::asked::Request;
 use crate::body::{read_edits, read_imported, read_incoming, read_tasks};
 use crate::line_fault::LineFault;
@@ -44,6 +46,7 @@ pub(crate) fn read_request(
         "depend" => read_depend(arguments),
         "undepend" => read_undepend(arguments),
         "sweep" => read_sweep(arguments),
+        "ahead" => read_set_ahead(arguments),
         "person" => read_new_person(alloc, arguments),
         "board" => read_new_board(alloc, arguments),
         "role" => read_set_role(alloc, arguments),
@@ -252,6 +255,17 @@ fn read_sweep(arguments: &[&str]) -> Result<Request, LineFault>
     };
     let board = read_board(board)?;
     Ok(Request::Call(Command::Sweep { board }))
+}
+
+fn read_set_ahead(arguments: &[&str]) -> Result<Request, LineFault>
+    ensures { Reads result (two set_ahead (map (λ argument. argument.now) arguments.entry.now)) }
+{
+    let [board, number] = arguments else {
+        return Err(LineFault::bad_line());
+    };
+    let board = read_board(board)?;
+    let ahead = read_ahead(number)?;
+    Ok(Request::Call(Command::SetAhead { board, ahead }))
 }
 
 fn read_new_person(alloc: Global, arguments: &[&str]) -> Result<Request, LineFault>
