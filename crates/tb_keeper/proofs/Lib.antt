@@ -1,3 +1,5 @@
+pub mod KnownAhead
+pub mod Taken
 pub mod Audited
 pub mod ChangedForms
 pub mod Commits

@@ -269,7 +269,8 @@ fn board_of(command: &Command) -> Option<u32>
         | Command::ImportJson { board, .. }
         | Command::ImportTodo { board, .. }
         | Command::Sweep { board }
-        | Command::SetRole { board, .. } => Some(*board),
+        | Command::SetRole { board, .. }
+        | Command::SetAhead { board, .. } => Some(*board),
         Command::NewPerson { .. } | Command::NewBoard { .. } => None,
     }
 }

@@ -1,9 +1,9 @@
 //! The changes of rows of boards.
 
-ghost use Rattle.std.specs.Prelude.{◌≡◌, ◌≤◌, ◌++◌, ℕ, List, IfOk, OnOk, length};
+ghost use Rattle.std.specs.Prelude.{◌≡◌, ◌≤◌, ◌++◌, IfOk, OnOk, length};
 ghost use Rattle.std.specs.List.{flat_map, list_any};
 ghost use Rattle.tb_rows.specs.Part.{empty_board};
-ghost use Rattle.tb_rows.specs.Rows.{board_row, horizon_row};
+ghost use Rattle.tb_rows.specs.Rows.{board_row};
 ghost use Rattle.tb_rows.specs.Steps.{ahead_changes, changed_templates, kept_board, later_board, low_changes, put_place, sets_ahead};
 ghost use Rattle.tb_rows.specs.Sought.{AreFor};
 
@@ -130,7 +130,7 @@ fn sets_ahead(change: &Change, board: u32) -> bool
 
 /// How far ahead a new board looks.
 pub(crate) fn first_horizon(number: u32) -> HorizonRow
-    ensures { (title : List ℕ) → result ≡ horizon_row (empty_board number title) }
+    ensures { result ≡ record { board = number; ahead = 1 } }
 {
     HorizonRow {
         board: number,

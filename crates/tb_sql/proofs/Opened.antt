@@ -1,5 +1,5 @@
 -- What a connection that has just been opened shows.
-use Rattle.std.proofs.Common.{◌≡◌, ◌∙◌, ◌⊎◌, ◌&&◌, ◌==◌, Bool, List, [], ◌∷◌, codes, bytes_eq, cond, length, Result, IsPermutation, IsTrue, true, false, Ok, Err, arith, inl, inr, refl, sym, ap, subst}
+use Rattle.std.proofs.Common.{◌≡◌, ◌∙◌, ◌⊎◌, ◌&&◌, ◌==◌, Bool, List, [], ◌∷◌, codes, bytes_eq, cond, length, Result, IsPermutation, IsTrue, true, false, true≢false, Ok, Err, arith, inl, inr, refl, sym, ap, subst}
 use Rattle.std.proofs.lemmas.List.Sorted.{length_permutation, All-permutation}
 use Rattle.std.proofs.lemmas.List.Elements.{All-from_recursion, recursion_from_All}
 use Rattle.sqlite_trees.specs.Tree.{Trees}
@@ -19,7 +19,7 @@ use Rattle.tb_sql.specs.declared.opening.Version.{Version}
 use Rattle.tb_sql.specs.declared.opening.Version.TheVariants.{First, Second}
 use Rattle.tb_sql.specs.declared.store.StoreFault.{StoreFault}
 use Rattle.tb_sql.specs.declared.store.StoreFault.TheVariants.{Memory as StoreMemory, Store as StoreFailed}
-use Rattle.tb_sql.specs.Opening.{are_tables, by_version, has_meta, if_there, is_old, is_ours, judged, old_meta, our_meta, taken, AreMetas, IsAsBefore, IsOfStore, is_meta, is_person, is_board, is_role, is_task, is_link, is_instance, is_gone, is_kept, is_horizon}
+use Rattle.tb_sql.specs.Opening.{are_tables, by_version, has_meta, has_tables, if_there, is_old, is_ours, judged, old_meta, our_meta, taken, AreMetas, IsAsBefore, IsOfStore, is_meta, is_person, is_board, is_role, is_task, is_link, is_instance, is_gone, is_kept, is_horizon}
 
 -- rows of a content make the schema that of a store
 pub opened_content : (s : State) (content : Content) → Opens s → IsLive s → AreRows content s.now.trees → IsContent content s.now
@@ -93,6 +93,27 @@ either_of_store s content opened live (inr rows) = inr (opened_old s content ope
 
 pub first_refused : (s : State) (content : Content) → Opens s → IsLive s → has_meta s.now.schema.tables ≡ false → AreEither content s.now.trees → ⊥
 first_refused s content opened live other rows = store_has_meta s.now.schema (either_of_store s content opened live rows) other
+
+ours_not_old : is_old store_schema ≡ false
+unfolding Rattle.sqlite_schema.specs.Names.same_name is_meta is_person is_board is_role is_task is_link is_instance is_gone is_kept is_horizon
+ours_not_old = refl
+
+old_not_ours : is_ours old_schema ≡ false
+unfolding Rattle.sqlite_schema.specs.Names.same_name is_meta is_person is_board is_role is_task is_link is_instance is_gone is_kept is_horizon
+old_not_ours = refl
+
+-- the version is that of the tables which have the rows
+pub rows_second : (s : State) (content : Content) (version : Version) → Opens s → IsLive s → has_tables version s.now.schema ≡ true → AreRows content s.now.trees → version ≡ Second
+rows_second s content Second opened live has rows = refl
+rows_second s content First opened live has rows =
+    let none : is_old s.now.schema ≡ false = ap (λ x. is_old x) (opened_content s content opened live rows).schema ∙ ours_not_old in
+    absurd (true≢false (sym has ∙ none))
+
+pub rows_first : (s : State) (content : Content) (version : Version) → Opens s → IsLive s → has_tables version s.now.schema ≡ true → AreOldRows content s.now.trees → version ≡ First
+rows_first s content First opened live has rows = refl
+rows_first s content Second opened live has rows =
+    let none : is_ours s.now.schema ≡ false = ap (λ x. is_ours x) (opened_old s content opened live rows).schema ∙ old_not_ours in
+    absurd (true≢false (sym has ∙ none))
 
 -- they are taken as a store of one of the versions
 either_taken : (s : State) (content : Content) (metas : List MetaRow) → Opens s → IsLive s → AreMetas s.now metas → AreEither content s.now.trees → (version : Version) × (taken s.now.schema metas ≡ Ok version)

@@ -123,7 +123,9 @@ pub fn accept<S: Alter>(conn: &mut Connection<S>) -> Result<Version, OpenFault>
     requires { conn.old.in_transaction ≡ false }
     ensures idle { conn.new.in_transaction ≡ false }
     ensures shows { OnOk result (Opens (state S.Store conn.old) → (content : Content) → AreRows content (state S.Store conn.old).now.trees → Stands content (state S.Store conn.new)) }
-    ensures old { OnOk result (Opens (state S.Store conn.old) → (content : Content) → AreOldRows content (state S.Store conn.old).now.trees → StandsOld content (state S.Store conn.new)) }
+    ensures old { Opens (state S.Store conn.old) → (content : Content) → AreOldRows content (state S.Store conn.old).now.trees → StandsOld content (state S.Store conn.new) }
+    ensures second { IfOk result (λ version. Opens (state S.Store conn.old) → (content : Content) → AreRows content (state S.Store conn.old).now.trees → version ≡ Version.Second) }
+    ensures first { IfOk result (λ version. Opens (state S.Store conn.old) → (content : Content) → AreOldRows content (state S.Store conn.old).now.trees → version ≡ Version.First) }
     ensures refuses { (result ≡ Err OpenFault.NotOurs) ⊎ (result ≡ Err OpenFault.WrongVersion)
         → HasCleanDisk (state S.Store conn.new) → Opens (state S.Store conn.old) → (content : Content) → AreRows content (state S.Store conn.old).now.trees ⊎ AreOldRows content (state S.Store conn.old).now.trees → ⊥ }
     ensures tables { IfOk result (λ version. has_tables version (state S.Store conn.old).now.schema ≡ true) }

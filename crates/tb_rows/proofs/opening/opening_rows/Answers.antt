@@ -1,4 +1,4 @@
-use Rattle.std.proofs.Common.{[], refl}
+use Rattle.std.proofs.Common.{refl}
 use Rattle.tb_rows.proofs.opening.opening_rows.Goals as goal
 
 pub returns : goal.returns
@@ -11,5 +11,5 @@ returns c =
       c.new-rows.ensures,
       c.in_ok-person.ensures,
       c.in_ok-board.ensures,
-      c.first_horizon.ensures [],
+      c.first_horizon.ensures,
     ) refl

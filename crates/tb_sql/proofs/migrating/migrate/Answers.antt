@@ -1,4 +1,4 @@
-use Rattle.std.proofs.Common.{rules, ◌≡◌, refl, subst}
+use Rattle.std.proofs.Common.{rules, ◌≡◌, IsTrue, refl, subst}
 use Rattle.sqlite.specs.Held.{state}
 use Rattle.sqlite.specs.State.{HasCleanDisk, Survives}
 use Rattle.sqlite.proofs.Callers.{survives_begin}
@@ -40,3 +40,10 @@ returns-in-Err-commit-clause-store g c _ content stands =
     c.in-Err-commit.field-0 c.in-Err-commit.ensures.err in
     let same : end ≡ c.conn-2-1.given.0 = search rules in
     subst (λ h. StandsOldOr content (migrated content) (state g.S.Store h)) same stands_now
+
+pub returns-in-Ok-commit-clause-usable : goal.returns-in-Ok-commit-clause-usable
+returns-in-Ok-commit-clause-usable g c =
+    let end = c.commit.new.self.0 in
+    let shown : HasCleanDisk (state g.S.Store end) → IsTrue (state g.S.Store end).is_open = λ clean. (c.in-Ok-commit.ensures.ok clean).1.is_open in
+    let same : end ≡ c.conn-2-1.given.0 = search rules in
+    subst (λ h. HasCleanDisk (state g.S.Store h) → IsTrue (state g.S.Store h).is_open) same shown

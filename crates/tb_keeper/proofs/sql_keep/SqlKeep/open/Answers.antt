@@ -1,31 +1,80 @@
-use Rattle.std.proofs.Common.{rules}
+use Rattle.std.proofs.Common.{◌≡◌, ◌∙◌, true, false, true≢false, sym, inl, inr, refl, rules}
 use Rattle.sqlite.specs.Held.{state}
 use Rattle.tb_sql_tables.specs.Content.{AreRows, Stands}
-use Rattle.tb_stored.specs.Stored.{IsStored}
+use Rattle.tb_stored.specs.Stored.{IsStored, IsStoredOld}
 use Rattle.tb_stored.proofs.Standing.{before_then, fails_then, stored_again}
 use Rattle.tb_keeper.proofs.Holding.{first_held}
+use Rattle.tb_keeper.proofs.Taken.{in_first, never_both, stood_old}
 use Rattle.tb_keeper.proofs.sql_keep.SqlKeep.open.Goals as goal
 
-pub returns-in-Ok-clause-holds : goal.returns-in-Ok-clause-holds
-returns-in-Ok-clause-holds g c clean s stored =
+-- ---- it is no store
+
+pub returns-in-Err-clause-stopped : goal.returns-in-Err-clause-stopped
+returns-in-Err-clause-stopped g c opened s trees =
+    in_first s (state g.S.Store c.accept.new.conn) trees.content trees.rows (c.in-Err.ensures.old opened trees.content trees.stored)
+
+-- ---- it is one of the first version
+
+pub returns-in-First-in-Ok-clause-version : goal.returns-in-First-in-Ok-clause-version
+returns-in-First-in-Ok-clause-version g c first clean = c.in-Ok.ensures.answered (c.in-Ok-migrated.ensures.clean clean) first
+
+pub returns-in-First-in-Ok-clause-opened : goal.returns-in-First-in-Ok-clause-opened
+returns-in-First-in-Ok-clause-opened g c clean opened s trees = absurd (never_both (c.in-Ok.ensures.second opened trees.content trees.stored))
+
+pub returns-in-First-in-Ok-clause-migrated : goal.returns-in-First-in-Ok-clause-migrated
+returns-in-First-in-Ok-clause-migrated g c clean opened s trees =
     let mid = state g.S.Store c.accept.new.conn in
-    let accepted : IsStored s mid = stored_again s (state g.S.Store c.args.conn) mid stored c.in_default.ensures.same c.in_default.ensures.idle in
-    first_held c.in-Ok.hand.people c.in-Ok.hand.boards c.in-Ok.hand.cache.entries mid (state g.S.Store c.at_hand.new.conn) s accepted c.in-Ok.ensures.same c.in-Ok.ensures.idle c.in-Ok.ensures.held
+    let stored : IsStoredOld s mid = record { content = trees.content; rows = trees.rows; stands = c.in-Ok.ensures.old opened trees.content trees.stored; idle = c.in-Ok.ensures.idle } in
+    c.in-Ok-migrated.ensures.held clean s stored
 
-pub returns-in-Ok-clause-opened : goal.returns-in-Ok-clause-opened
-returns-in-Ok-clause-opened g c clean opened s trees =
+pub returns-in-First-in-Err-Memory-clause-refused : goal.returns-in-First-in-Err-Memory-clause-refused
+returns-in-First-in-Err-Memory-clause-refused g c other =
+    before_then (state g.S.Store c.args.conn) (state g.S.Store c.accept.new.conn) (state g.S.Store c.migrated.new.conn) c.in-Ok.ensures.same (c.in-Err-Memory-migrated.ensures.memory refl)
+
+pub returns-in-First-in-Err-Memory-clause-stopped : goal.returns-in-First-in-Err-Memory-clause-stopped
+returns-in-First-in-Err-Memory-clause-stopped g c opened s trees =
     let mid = state g.S.Store c.accept.new.conn in
-    let accepted : IsStored s mid = record { content = trees.content; rows = trees.rows; stands = c.in_default.ensures.shows opened trees.content trees.stored; idle = c.in_default.ensures.idle } in
-    first_held c.in-Ok.hand.people c.in-Ok.hand.boards c.in-Ok.hand.cache.entries mid (state g.S.Store c.at_hand.new.conn) s accepted c.in-Ok.ensures.same c.in-Ok.ensures.idle c.in-Ok.ensures.held
+    let new = state g.S.Store c.migrated.new.conn in
+    in_first s new trees.content trees.rows (stood_old trees.content mid new (c.in-Ok.ensures.old opened trees.content trees.stored) (c.in-Err-Memory-migrated.ensures.memory refl))
 
-pub returns-in-Ok-clause-same : goal.returns-in-Ok-clause-same
-returns-in-Ok-clause-same g c = before_then (state g.S.Store c.args.conn) (state g.S.Store c.accept.new.conn) (state g.S.Store c.at_hand.new.conn) c.in_default.ensures.same c.in-Ok.ensures.same
+pub returns-in-First-in-Err-Store-clause-refused : goal.returns-in-First-in-Err-Store-clause-refused
+returns-in-First-in-Err-Store-clause-refused g c (inl other) = absurd (other refl)
+returns-in-First-in-Err-Store-clause-refused g c (inr none) = absurd (true≢false (sym c.in-Ok.ensures.tables ∙ none))
 
-pub returns-in-Err-Store-clause-excused : goal.returns-in-Err-Store-clause-excused
-returns-in-Err-Store-clause-excused g c is opened =
+pub returns-in-First-in-Err-Store-clause-stopped : goal.returns-in-First-in-Err-Store-clause-stopped
+returns-in-First-in-Err-Store-clause-stopped g c opened s trees =
+    let mid = state g.S.Store c.accept.new.conn in
+    let stored : IsStoredOld s mid = record { content = trees.content; rows = trees.rows; stands = c.in-Ok.ensures.old opened trees.content trees.stored; idle = c.in-Ok.ensures.idle } in
+    c.in-Err-Store-migrated.ensures.store refl s stored
+
+pub returns-in-First-in-Err-Store-clause-excused : goal.returns-in-First-in-Err-Store-clause-excused
+returns-in-First-in-Err-Store-clause-excused g c is opened clean ready content rows = absurd (never_both (c.in-Ok.ensures.second opened content rows))
+
+-- ---- it is one of the second
+
+pub returns-in-Second-in-Ok-clause-holds : goal.returns-in-Second-in-Ok-clause-holds
+returns-in-Second-in-Ok-clause-holds g c _ clean s stored =
+    let mid = state g.S.Store c.accept.new.conn in
+    let accepted : IsStored s mid = stored_again s (state g.S.Store c.args.conn) mid stored c.in-Ok.ensures.same c.in-Ok.ensures.idle in
+    first_held c.in-Ok-at_hand.hand.people c.in-Ok-at_hand.hand.boards c.in-Ok-at_hand.hand.cache.entries mid (state g.S.Store c.at_hand.new.conn) s accepted c.in-Ok-at_hand.ensures.same c.in-Ok-at_hand.ensures.idle c.in-Ok-at_hand.ensures.held
+
+pub returns-in-Second-in-Ok-clause-opened : goal.returns-in-Second-in-Ok-clause-opened
+returns-in-Second-in-Ok-clause-opened g c clean opened s trees =
+    let mid = state g.S.Store c.accept.new.conn in
+    let accepted : IsStored s mid = record { content = trees.content; rows = trees.rows; stands = c.in-Ok.ensures.shows opened trees.content trees.stored; idle = c.in-Ok.ensures.idle } in
+    first_held c.in-Ok-at_hand.hand.people c.in-Ok-at_hand.hand.boards c.in-Ok-at_hand.hand.cache.entries mid (state g.S.Store c.at_hand.new.conn) s accepted c.in-Ok-at_hand.ensures.same c.in-Ok-at_hand.ensures.idle c.in-Ok-at_hand.ensures.held
+
+pub returns-in-Second-in-Ok-clause-migrated : goal.returns-in-Second-in-Ok-clause-migrated
+returns-in-Second-in-Ok-clause-migrated g c clean opened s trees = absurd (never_both (sym (c.in-Ok.ensures.first opened trees.content trees.stored)))
+
+pub returns-in-Second-in-Ok-clause-same : goal.returns-in-Second-in-Ok-clause-same
+returns-in-Second-in-Ok-clause-same g c _ = before_then (state g.S.Store c.args.conn) (state g.S.Store c.accept.new.conn) (state g.S.Store c.at_hand.new.conn) c.in-Ok.ensures.same c.in-Ok-at_hand.ensures.same
+
+pub returns-in-Second-in-Err-Store-clause-excused : goal.returns-in-Second-in-Err-Store-clause-excused
+returns-in-Second-in-Err-Store-clause-excused g c is opened =
     let old = state g.S.Store c.args.conn in
     let mid = state g.S.Store c.accept.new.conn in
     let new = state g.S.Store c.at_hand.new.conn in
-    let taken = c.in_default.ensures in
-    let hand = c.in-Err-Store.ensures in
+    let taken = c.in-Ok.ensures in
+    let hand = c.in-Err-Store-at_hand.ensures in
     fails_then (λ content. AreRows content old.now.trees) (λ content. Stands content mid) old mid new (λ _ _ content rows. taken.shows opened content rows) taken.faults hand.same.clean hand.faults (hand.excused (search rules))

@@ -1,0 +1,70 @@
+-- What an opening leaves of a store of the first version.
+use Rattle.std.proofs.Common.{◌≡◌, ◌≢◌, ◌∙◌, ◌⊎◌, ◌+◌, ℕ, List, [], ◌∷◌, length, map, Option, refl, sym, ap, subst, IsTrue, false, inl, inr, arith}
+use Rattle.std.proofs.lemmas.List.{length-map}
+use Rattle.std.proofs.lemmas.List.Sorted.{length_permutation}
+use Rattle.sqlite.specs.State.{HasCleanDisk, State as Database}
+use Rattle.tb_board.specs.declared.board.Board.{Board}
+use Rattle.tb_board.specs.declared.world.Person.{Person}
+use Rattle.tb_calls.specs.Calls.{State}
+use Rattle.tb_rows.specs.Rows.{board_row, person_row, rows_from}
+use Rattle.tb_sql.specs.declared.migrating.Counts.{Counts}
+use Rattle.tb_sql.specs.Migrating.{migrated, IsMigrated}
+use Rattle.tb_sql.specs.Opening.{IsAsBefore}
+use Rattle.tb_sql.specs.declared.opening.Version.TheVariants.{First, Second}
+use Rattle.tb_sql.proofs.Opened.{stands_again}
+use Rattle.tb_sql_tables.specs.Content.{AreOldRows, AreRows, Content, IsOldContent, Stands, StandsBy, StandsOld, StandsOldOr}
+use Rattle.tb_stored.specs.Stored.{AreOldRowsOf, AreOldTreesOf, AreRowsOf, IsStoredInEither, IsStoredOld}
+use Rattle.tb_stored.proofs.Migrating.{migrated_rows}
+use Rattle.tb_keeper.specs.Holds.{Holds}
+use Rattle.tb_keeper.specs.Versions.{OfOldState}
+use Rattle.tb_keeper.proofs.Holding.{made_held}
+
+people_rows : (n : ℕ) (ps : List Person) → length (rows_from (λ k p. person_row k p ∷ []) n ps) ≡ length ps
+people_rows n [] = refl
+people_rows n (p ∷ ps) = let later = people_rows (n + 1) ps in omega (arith, later)
+
+module _ (old new : Database) where
+  -- what is held once a store has been migrated
+  pub migrated_held : (counts : Counts) (cached : List (ℕ × Board)) → cached ≡ [] → new.in_transaction ≡ false → (HasCleanDisk new → IsTrue new.is_open)
+      → ((content : Content) → StandsOld content old → StandsBy (IsMigrated content counts) (AreRows (migrated content)) new) → OfOldState old new (λ s. Holds false counts.people counts.boards cached new s)
+  migrated_held counts cached none idle usable done clean s stored =
+      let content = stored.content in
+      let now = done content stored.stands in
+      let rows = migrated_rows s content stored.rows in
+      let is = (now.seen clean (usable clean)).0 in
+      let stands : Stands (migrated content) new = record { seen = λ c is_open. let at = now.seen c is_open in (at.0.is, at.1); left = now.left } in
+      let same = rows.same.tables in
+      let of_people : counts.people ≡ length s.world.people = is.people ∙ length_permutation _ _ same.people ∙ people_rows 1 s.world.people in
+      let of_boards : counts.boards ≡ length s.world.boards = is.boards ∙ length_permutation _ _ same.boards ∙ length-map s.world.boards board_row in
+      made_held counts.people counts.boards cached (migrated content) new s rows stands idle of_people of_boards none
+
+  -- where the commit fails, either version is there
+  pub either_version : ((content : Content) → StandsOld content old → StandsOldOr content (migrated content) new) → (s : State) → IsStoredOld s old → IsStoredInEither s new
+  either_version store s stored = record {
+    before = stored.content;
+    after = migrated stored.content;
+    rows_before = stored.rows;
+    rows_after = migrated_rows s stored.content stored.rows;
+    stands = store stored.content stored.stands;
+  }
+
+-- what stood in the tables of the first version stands
+pub stood_old : (c : Content) (old new : Database) → StandsOld c old → IsAsBefore old new → StandsOld c new
+stood_old c old new stands same = stands_again (IsOldContent c) (AreOldRows c) old new stands same
+
+-- so it is stored in one of the versions
+pub in_first : (s : State) (d : Database) (content : Content) → AreOldRowsOf s content → StandsOld content d → IsStoredInEither s d
+in_first s d content rows stands = record {
+  before = content;
+  after = migrated content;
+  rows_before = rows;
+  rows_after = migrated_rows s content rows;
+  stands = record {
+    seen = λ clean is_open. let at = stands.seen clean is_open in (inl at.0, at.1);
+    left = λ clean db may. inl (stands.left clean db may);
+  };
+}
+
+-- the versions differ
+pub never_both : First ≡ Second → ⊥
+never_both same = cc
