@@ -1,5 +1,5 @@
 -- What an opening leaves of a store of the first version.
-use Rattle.std.proofs.Common.{◌≡◌, ◌≢◌, ◌∙◌, ◌⊎◌, ◌+◌, ℕ, List, [], ◌∷◌, length, map, Option, refl, sym, ap, subst, IsTrue, false, inl, inr, arith}
+use Rattle.std.proofs.Common.{◌≡◌, ◌∙◌, ◌+◌, ℕ, List, [], ◌∷◌, length, refl, sym, IsTrue, false, inl, arith}
 use Rattle.std.proofs.lemmas.List.{length-map}
 use Rattle.std.proofs.lemmas.List.Sorted.{length_permutation}
 use Rattle.sqlite.specs.State.{HasCleanDisk, State as Database}
@@ -13,7 +13,7 @@ use Rattle.tb_sql.specs.Opening.{IsAsBefore}
 use Rattle.tb_sql.specs.declared.opening.Version.TheVariants.{First, Second}
 use Rattle.tb_sql.proofs.Opened.{stands_again}
 use Rattle.tb_sql_tables.specs.Content.{AreOldRows, AreRows, Content, IsOldContent, Stands, StandsBy, StandsOld, StandsOldOr}
-use Rattle.tb_stored.specs.Stored.{AreOldRowsOf, AreOldTreesOf, AreRowsOf, IsStoredInEither, IsStoredOld}
+use Rattle.tb_stored.specs.Stored.{AreOldRowsOf, IsStoredInEither, IsStoredOld}
 use Rattle.tb_stored.proofs.Migrating.{migrated_rows}
 use Rattle.tb_keeper.specs.Holds.{Holds}
 use Rattle.tb_keeper.specs.Versions.{OfOldState}
@@ -34,8 +34,8 @@ module _ (old new : Database) where
       let is = (now.seen clean (usable clean)).0 in
       let stands : Stands (migrated content) new = record { seen = λ c is_open. let at = now.seen c is_open in (at.0.is, at.1); left = now.left } in
       let same = rows.same.tables in
-      let of_people : counts.people ≡ length s.world.people = is.people ∙ length_permutation _ _ same.people ∙ people_rows 1 s.world.people in
-      let of_boards : counts.boards ≡ length s.world.boards = is.boards ∙ length_permutation _ _ same.boards ∙ length-map s.world.boards board_row in
+      let of_people : counts.people ≡ length s.world.people = is.people ∙ sym (length_permutation _ _ same.people) ∙ people_rows 1 s.world.people in
+      let of_boards : counts.boards ≡ length s.world.boards = is.boards ∙ sym (length_permutation _ _ same.boards) ∙ length-map s.world.boards board_row in
       made_held counts.people counts.boards cached (migrated content) new s rows stands idle of_people of_boards none
 
   -- where the commit fails, either version is there

@@ -59,7 +59,8 @@ struct Checked {
 
 impl<S: Alter> SqlKeep<S> {
     /// Looks at all that is stored. It changes nothing. What no state has is Store: a person, a role or a reply that can't be read or names
-    /// nobody, people or boards that aren't numbered from 1, a board without an owner, and one that isn't good by itself.
+    /// nobody, people or boards that aren't numbered from 1, a board without an owner, one that looks further ahead than a board can, and
+    /// one that isn't good by itself.
     pub fn audit(&mut self, alloc: Global) -> Result<Audit, KeepFault>
         ensures sound { IfOk result (λ audit. HasCleanDisk (state S.Store self.new.conn) → (s : State) → IsStored s (state S.Store self.old.conn) → audit ≡ sound s.world) }
         ensures counted { IfOk result (λ audit. HasCleanDisk (state S.Store self.new.conn) → (c : Content) → Stands c (state S.Store self.old.conn)

@@ -59,8 +59,8 @@ module _ (a b c d : State) (content : Content) (people : List PersonRow) (boards
         let of_boards = boards_found.found bare at_b in
         record {
           is = record { schema = at_d.schema; rows = reordered _ (migrated content) d.now.trees (in_any_order content boards of_boards.same) at_d.rows };
-          people = people_are ∙ sym (length_permutation _ _ of_people.same);
-          boards = boards_are ∙ sym (length_permutation _ _ of_boards.same);
+          people = people_are ∙ length_permutation _ _ of_people.same;
+          boards = boards_are ∙ length_permutation _ _ of_boards.same;
         };
   }
 

@@ -1,13 +1,11 @@
 -- The rows of the first version become those of the same state.
-use Rattle.std.proofs.Common.{◌≡◌, ◌∙◌, List, [], ◌∷◌, map, refl, sym, ap₂, subst, IsPermutation}
+use Rattle.std.proofs.Common.{◌≡◌, List, [], ◌∷◌, map, refl, ap₂, subst, IsPermutation}
 use Rattle.std.specs.List.{AllByRecursion}
 use Rattle.std.proofs.lemmas.List.Sorted.{IsPermutation-map}
-use Rattle.sqlite_trees.proofs.ListLemmas.{map-map}
 use Rattle.tb_board.specs.declared.board.Board.{Board}
 use Rattle.tb_calls.specs.Calls.{State}
 use Rattle.tb_rows.specs.Rows.{board_row, horizon_row}
 use Rattle.tb_sql.specs.Migrating.{first_horizon, migrated}
-use Rattle.tb_sql_tables.specs.declared.rows.HorizonRow.{HorizonRow}
 use Rattle.tb_sql_tables.specs.Content.{Content}
 use Rattle.tb_stored.specs.Stored.{AreOldRowsOf, AreRowsOf}
 

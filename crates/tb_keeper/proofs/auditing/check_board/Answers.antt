@@ -1,4 +1,4 @@
-use Rattle.std.proofs.Common.{ap, subst, sym, filter}
+use Rattle.std.proofs.Common.{subst, filter}
 use Rattle.std.proofs.lemmas.Result.{IfOk-weaker}
 use Rattle.sqlite.specs.Held.{state}
 use Rattle.tb_board.specs.declared.board.Board.{Board}

@@ -1,6 +1,4 @@
-use Rattle.std.proofs.Common.{◌≡◌, ◌∙◌, ap, arith, length, Some, Ok, rules}
-use Rattle.tb_reopen.specs.Reading.{board_of}
-use Rattle.tb_keeper.specs.Auditing.{known_horizon}
+use Rattle.std.proofs.Common.{◌≡◌, ◌∙◌, ap, arith, length, rules}
 use Rattle.tb_keeper.proofs.KnownAhead.{same_tasks, tells_known}
 use Rattle.tb_keeper.proofs.auditing.compare.Goals as goal
 

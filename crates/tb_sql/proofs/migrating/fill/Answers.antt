@@ -10,11 +10,11 @@ use Rattle.tb_sql.proofs.migrating.fill.Goals as goal
 pub returns-clause-made : goal.returns-clause-made
 returns-clause-made g c clean inside content =
     let a = state g.S.Store c.args.tx.now.conn.now in
-    let b = state g.S.Store c.select_people-people.new.tx.conn.now in
-    let d = state g.S.Store c.select_boards-boards.new.tx.conn.now in
+    let b = state g.S.Store c.select_people.new.tx.conn.now in
+    let d = state g.S.Store c.select_boards.new.tx.conn.now in
     let e = state g.S.Store c.apply_changes.new.tx.conn.now in
     let clean_d : HasCleanDisk d = omega (arith, c.apply_changes.ensures.survives.clean) in
-    let clean_b : HasCleanDisk b = omega (arith, clean_d, c.select_boards-boards.ensures.survives.clean) in
+    let clean_b : HasCleanDisk b = omega (arith, clean_d, c.select_boards.ensures.survives.clean) in
     let first : Changes (λ x. x) a b = c.in_ok-people.ensures.looks clean_b inside in
     let second : Changes (λ x. x) b d = c.in_ok-boards.ensures.looks clean_d first.shown.mode in
     let put : Changes (changed_by_all (horizon_changes c.in_ok-boards.boards)) d e =

@@ -3,4 +3,4 @@ use Rattle.tb_sql.specs.Migrating.{horizon_changes}
 use Rattle.tb_sql.proofs.migrating.horizon_changes.Given as goal
 
 abbrev pub invariant-boards : goal.invariant-boards
-invariant-boards g l = l.rows ≡ horizon_changes (take l.board-index l.boards)
+invariant-boards l = l.rows ≡ horizon_changes (take l.board-index l.boards)
