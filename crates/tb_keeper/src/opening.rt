@@ -22,7 +22,7 @@ use tb_sql::store::StoreFault;
 
 impl<S: Alter> SqlKeep<S> {
     /// Takes a database as the store that it is. Of its rows it looks at some of the numbers of people and boards alone. A store of the
-    /// first version it makes one of the second, at once and last of all.
+    /// first version it makes one of the second, at once and last of all; where that fails as `Store`, either is there, whole.
     pub fn open(
         alloc: Global,
         mut conn: Connection<S>,
