@@ -1,8 +1,9 @@
 -- What becomes of the rows of the first version.
-use Rattle.std.proofs.Common.{◌≡◌, ◌∙◌, List, [], ◌∷◌, ◌++◌, map, length, refl, sym, ap, subst, IsPermutation}
+use Rattle.std.proofs.Common.{◌≡◌, ◌∙◌, List, [], ◌∷◌, ◌++◌, map, length, Result, Ok, Err, OnErr, refl, sym, subst, IsPermutation}
 use Rattle.std.proofs.lemmas.List.{append-nil}
 use Rattle.std.proofs.lemmas.List.Sorted.{IsPermutation-map, IsPermutation-middle, IsPermutation-refl, IsPermutation-sym, IsPermutation-trans, length_permutation}
-use Rattle.sqlite.specs.State.{State}
+use Rattle.sqlite.specs.Effect.{Database}
+use Rattle.sqlite.specs.State.{KeepsCommit, State}
 use Rattle.tb_sql_tables.specs.declared.rows.BoardRow.{BoardRow}
 use Rattle.tb_sql_tables.specs.declared.rows.HorizonRow.{HorizonRow}
 use Rattle.tb_sql_tables.specs.declared.rows.PersonRow.{PersonRow}
@@ -67,3 +68,17 @@ module _ (a b c d : State) (content : Content) (people : List PersonRow) (boards
 -- of what is made the rows alone
 pub only_content : (content : Content) (counts : Counts) (old new : State) → Turns (IsOldContent content) (IsMigrated content counts) old new → Turns (IsOldContent content) (IsContent (migrated content)) old new
 only_content content counts old new turn = record { shown = turn.shown; made = λ is. (turn.made is).is }
+
+-- ---- one statement after another
+
+-- where a call fails, whatever the error is
+pub at_err : {A E P : Type 0} (result : Result A E) → P → OnErr result P
+at_err (Ok a) holds = tt
+at_err (Err e) holds = holds
+
+pub where_err : {A E P Q : Type 0} (result : Result A E) → (P → Q) → OnErr result P → OnErr result Q
+where_err (Ok a) step h = tt
+where_err (Err e) step h = step h
+
+pub turned_kept : (P Q : Database → Type 0) (a b : State) → Turns P Q a b → KeepsCommit a b
+turned_kept P Q a b turn = record { was_open = λ _. turn.shown.was_open; committed = λ _. turn.shown.committed_is }

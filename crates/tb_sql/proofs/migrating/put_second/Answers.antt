@@ -3,8 +3,9 @@ use Rattle.std.proofs.lemmas.Result.{IfOk-weaker}
 use Rattle.sqlite.specs.Held.{state}
 use Rattle.sqlite.specs.State.{HasCleanDisk}
 use Rattle.tb_sql_tables.specs.Content.{nothing, Content, IsContent, IsOldContent, Turns}
-use Rattle.tb_sql_tables.proofs.Changing.{turns_then}
+use Rattle.tb_sql_tables.proofs.Changing.{commit_kept_then, turns_then}
 use Rattle.tb_sql.specs.Migrating.{without_horizon, IsMigrated}
+use Rattle.tb_sql.proofs.Migrated.{turned_kept, where_err}
 use Rattle.tb_sql.proofs.migrating.put_second.Goals as goal
 
 pub returns-clause-made : goal.returns-clause-made
@@ -17,3 +18,12 @@ returns-clause-made g c clean inside =
     IfOk-weaker c.fill.result _ _
     (λ counts next content. turns_then (IsOldContent content) (IsContent (without_horizon content)) (IsMigrated content counts) a b d (first content) (next content))
     (c.fill.ensures.made clean (first nothing).shown.mode)
+
+pub returns-clause-kept : goal.returns-clause-kept
+returns-clause-kept g c clean inside =
+    let a = state g.S.Store c.args.tx.now.conn.now in
+    let b = state g.S.Store c.widen.new.tx.conn.now in
+    let d = state g.S.Store c.fill.new.tx.conn.now in
+    let clean_b : HasCleanDisk b = omega (arith, c.fill.ensures.survives.clean) in
+    let first : Turns (IsOldContent nothing) (IsContent (without_horizon nothing)) a b = c.in_ok-widen.ensures.made clean_b inside nothing in
+    where_err c.fill.result (commit_kept_then a b d (turned_kept _ _ a b first)) (c.fill.ensures.kept clean first.shown.mode)
