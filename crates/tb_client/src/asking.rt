@@ -83,7 +83,8 @@ fn ask_once<L: Line>(
 ) -> Result<Option<Reply>, AllocError>
     ensures answer { IfOk result (λ found. IfSome found (λ reply. (came : List ℕ) × IsWholeAnswer came reply × (asks_again reply.status ≡ false)
         × L.follows (asked message.now came ∷ []) line.old line.new)) }
-    ensures none { IfOk result (λ found. IfNone found ((event : Event) × IsTry message.now event × L.follows (event ∷ []) line.old line.new)) }
+    ensures none { IfOk result (λ found. IfNone found ((event : Event) × IsTry message.now event
+        × L.follows (event ∷ []) line.old line.new)) }
     ensures memory { OnErr result ((came : List ℕ) × L.follows (asked message.now came ∷ []) line.old line.new) }
 {
     let Some(came) = line.ask(message) else {

@@ -34,7 +34,8 @@ pub fn make<S: Alter>(
     ensures begun { IfOk result (λ desk. Opens (state S.Store conn)
         → IsAt (opening name.now key.now) (⟦<SqlKeep<S> as Keep>⟧.holds desk)
         (⟦<SqlKeep<S> as Keep>⟧.after_stop desk)) }
-    ensures filled { IsFilled (state S.Store conn) → MatchResult result (λ desk. ⊥) (λ e. (e.0 ≡ conn) × (e.1 ≡ CreateFault.NotEmpty)) }
+    ensures filled { IsFilled (state S.Store conn)
+        → MatchResult result (λ desk. ⊥) (λ e. (e.0 ≡ conn) × (e.1 ≡ CreateFault.NotEmpty)) }
     ensures unmade { IfErr result (λ e. IsUnmade S.Store (opening name.now key.now) conn e.0 e.1) }
     ensures idle { IfErr result (λ e. e.0.in_transaction ≡ false) }
 {
@@ -54,7 +55,8 @@ pub fn resume<S: Alter>(
         → (s : State) → AreTreesOf s (state S.Store conn).now.trees
         → IsAt s (⟦<SqlKeep<S> as Keep>⟧.holds desk) (⟦<SqlKeep<S> as Keep>⟧.after_stop desk)) }
     ensures ours { IfOk result (λ desk. is_ours (state S.Store conn).now.schema ≡ true) }
-    ensures said { IfOk result (λ desk. WhileHonest (state S.Store desk.conn) (Says S.Store conn (Ok tt))) }
+    ensures said { IfOk result (λ desk. WhileHonest (state S.Store desk.conn)
+        (Says S.Store conn (Ok tt))) }
     ensures refused { IfErr result (λ e. IsRefused S.Store conn (state S.Store e.0) e.1) }
     ensures same { IfErr result (λ e. IsAsBefore (state S.Store conn) (state S.Store e.0)) }
     ensures idle { IfErr result (λ e. e.0.in_transaction ≡ false) }
