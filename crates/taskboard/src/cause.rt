@@ -1,4 +1,5 @@
 //! What happened, and what to do: the line behind the name of a fault.
+use crate::send::may_have_acted;
 use crate::wrong::wrong_word;
 use sqlite::{Connection, Error, ErrorCode};
 use std::alloc::AllocError;
@@ -16,7 +17,7 @@ pub(crate) fn tell_cause(rt: &HostRuntime, fault: Fault, order: &Order) {
     match (fault, order) {
         (Fault::Store, _) => tell_file(rt, file_of(order)),
         (Fault::NoListen, Order::Serve(order)) => tell_port(rt, order.port),
-        (Fault::NoAnswer, Order::Send(order)) => tell_again(rt, order),
+        (Fault::NoAnswer, Order::Send(order)) => tell_unanswered(rt, order),
         (Fault::Bad, Order::Send(_)) => tell(
             rt,
             "The words behind KEY are no call and no view, or a board or a task among them isn't one: `taskboard send --help` has their forms.",
@@ -153,6 +154,17 @@ fn tell_port(rt: &HostRuntime, port: u16) {
             rt,
             "Another program has the port, as a server that still runs: end that one, or take another port.",
         );
+    }
+}
+
+/// Tells what to do where no answer came. Where no memory tells a view from a call, it is told as a call.
+fn tell_unanswered(rt: &HostRuntime, order: &SendOrder) {
+    match may_have_acted(rt, order) {
+        Ok(false) => tell(
+            rt,
+            "No answer came in the time, and nothing was to change: look whether a server runs at ADDRESS:PORT, and ask again.",
+        ),
+        Ok(true) | Err(_) => tell_again(rt, order),
     }
 }
 

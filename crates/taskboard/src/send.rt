@@ -106,6 +106,16 @@ fn print_no_task(rt: &HostRuntime) -> Result<Ending, Fault>
     }
 }
 
+/// Whether a call of the order may have reached the server. A view changes nothing, and places are looked up before their call is sent.
+pub(crate) fn may_have_acted(rt: &HostRuntime, order: &SendOrder) -> Result<bool, AllocError> {
+    let words = order.words.as_slice();
+    let has_body = match request_of(rt.alloc(), words)? {
+        Some(request) => request.body.is_some(),
+        None => false,
+    };
+    Ok(has_body && places_of(rt.alloc(), words)?.is_empty())
+}
+
 /// Sends what the words ask for.
 fn send_words(
     rt: &HostRuntime,
