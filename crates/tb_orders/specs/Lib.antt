@@ -1,4 +1,6 @@
+pub mod Cutting
 pub mod Inputs
 pub mod Messages
 pub mod Orders
+pub mod Running
 pub mod Telling
