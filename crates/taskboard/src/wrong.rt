@@ -41,19 +41,7 @@ pub(crate) fn wrong_word(alloc: Global, words: &[&str]) -> Result<&'static str, 
             &[Form::File, Form::Name, Form::Key],
             "`init` takes FILE NAME KEY.",
         ),
-        "import" => wrong_of(
-            alloc,
-            rest,
-            &[
-                Form::File,
-                Form::Name,
-                Form::Key,
-                Form::Id,
-                Form::Board,
-                Form::Kind,
-            ],
-            "`import` takes FILE MEMBER KEY ID BOARD KIND.",
-        ),
+        "import" => wrong_of_import(alloc, rest),
         "list" | "export" | "todo" => wrong_of(
             alloc,
             rest,
@@ -68,6 +56,29 @@ pub(crate) fn wrong_word(alloc: Global, words: &[&str]) -> Result<&'static str, 
         "send" => wrong_of_send(alloc, rest),
         _ => Ok(NO_ORDER),
     }
+}
+
+/// The first word of `import` that isn't of its form, or which there are to be. `--all` may stand anywhere, once.
+fn wrong_of_import(alloc: Global, words: &[&str]) -> Result<&'static str, AllocError> {
+    let mut others = Vec::new(alloc);
+    for word in words {
+        if *word != "--all" {
+            others.push(*word)?;
+        }
+    }
+    wrong_of(
+        alloc,
+        others.as_slice(),
+        &[
+            Form::File,
+            Form::Name,
+            Form::Key,
+            Form::Id,
+            Form::Board,
+            Form::Kind,
+        ],
+        "`import` takes FILE MEMBER KEY ID BOARD KIND, and --all once for a text of any length.",
+    )
 }
 
 /// The first word of `send` that isn't of its form, or how they are to be.

@@ -1,5 +1,6 @@
 pub mod Cutting
 pub mod Inputs
+pub mod Items
 pub mod Messages
 pub mod Orders
 pub mod Running

@@ -1,7 +1,9 @@
 //! The import of a text in parts, a call each.
-ghost use Rattle.std.specs.Prelude.{◌≡◌, ◌+◌, ◌∷◌, ◌<◌, ◌^◌, [], IfErr, IfOk, IsErrOf, length, true};
+ghost use Rattle.std.specs.Prelude.{◌≡◌, ◌+◌, ◌∷◌, ◌<◌, ◌^◌, [], IfErr, IfOk, IfSome, IsErrOf, Some, length, true};
+ghost use Rattle.tb_asking.specs.Asking.{asked_of};
 ghost use Rattle.tb_calls.specs.Calls.{State};
 ghost use Rattle.tb_calls.specs.Keeping.{Only};
+ghost use Rattle.tb_orders.specs.Items.{IsBadBehind, end_of, item_in};
 ghost use Rattle.tb_orders.specs.Running.{IsRun, messages_behind, part_id, part_message};
 ghost use Rattle.tb_orders.specs.Telling.{is_of_imports};
 ghost use Rattle.tb_program.specs.declared.fault.Fault.TheVariants.{Store};
@@ -9,6 +11,7 @@ ghost use Rattle.tb_program.specs.declared.fault.Fault.TheVariants.{Store};
 use crate::ending::Ending;
 use crate::importing::import_text;
 use crate::message::message_under;
+use crate::order_fault::{OrderFault, with_item};
 use std::alloc::{AllocError, Global};
 use std::io::Write;
 use tb_calls::Keep;
@@ -19,31 +22,47 @@ use tb_program::Fault;
 use tb_task::{Moment, TaskId};
 use tb_values::{Duplicate, Items};
 
+/// Who is told how far an import in parts is.
+pub trait Progress {
+    /// The part of this number, counted from 1, is begun, of so many.
+    fn begin(&self, part: usize, parts: usize);
+}
+
+/// What the parts of an import share: who imports them and where to, when, and how many they are.
+#[derive(Drop)]
+pub(crate) struct Run<'a> {
+    pub order: &'a ImportOrder,
+    pub at: Moment,
+    pub count: usize,
+}
+
 /// Makes the calls of parts in order, each under an identifier of its own, up to the first that isn't accepted, and prints the body of
 /// each reply on a line.
 #[tactic(auto, using(crate::proofs::Runs::end_run))]
-pub(crate) fn import_parts<K: Keep, W: Write>(
+pub(crate) fn import_parts<K: Keep, W: Write, P: Progress>(
     alloc: Global,
     desk: &mut Desk<K>,
-    order: &ImportOrder,
+    run: &Run<'_>,
     before: usize,
     parts: &[Items<u8>],
-    at: Moment,
     writer: &mut W,
-) -> Result<Ending, Fault>
+    progress: &P,
+) -> Result<Ending, OrderFault>
     requires { before + length parts.now < 2 ^ 64 }
     ensures run { (s : State) → K.holds desk.old s → Only s (K.after_stop desk.old)
-        → IsRun (messages_behind order.now before parts.entry.now) at s result (K.is_honest desk.new)
+        → IsRun (messages_behind run.now.order.now before parts.entry.now) run.now.at s (end_of result) (K.is_honest desk.new)
         (K.holds desk.new) (K.after_stop desk.new) (W.contents writer.old) (W.contents writer.new) }
+    ensures item { IfErr result (λ failed. IfSome failed.item (IsBadBehind run.now.order.now before parts.entry.now run.now.at)) }
     ensures honest { K.is_honest desk.new ≡ true → K.is_honest desk.old ≡ true }
-    ensures fault { IfErr result (λ fault. is_of_imports fault ≡ true) }
-    ensures store { IsErrOf result Store → K.has_failed desk.new ≡ true }
+    ensures fault { IfErr (end_of result) (λ fault. is_of_imports fault ≡ true) }
+    ensures store { IsErrOf (end_of result) Store → K.has_failed desk.new ≡ true }
 {
     let Some((part, rest)) = parts.split_first() else {
         return Ok(Ending::Accepted);
     };
-    match import_part(alloc, desk, order, before + 1, part, at, writer) {
-        Ok(Ending::Accepted) => import_parts(alloc, desk, order, before + 1, rest, at, writer),
+    progress.begin(before + 1, run.count);
+    match import_part(alloc, desk, run, before + 1, part, writer) {
+        Ok(Ending::Accepted) => import_parts(alloc, desk, run, before + 1, rest, writer, progress),
         Ok(Ending::Refused) => Ok(Ending::Refused),
         Err(fault) => Err(fault),
     }
@@ -53,22 +72,29 @@ pub(crate) fn import_parts<K: Keep, W: Write>(
 fn import_part<K: Keep, W: Write>(
     alloc: Global,
     desk: &mut Desk<K>,
-    order: &ImportOrder,
+    run: &Run<'_>,
     number: usize,
     part: &Items<u8>,
-    at: Moment,
     writer: &mut W,
-) -> Result<Ending, Fault>
+) -> Result<Ending, OrderFault>
     ensures run { (s : State) → K.holds desk.old s → Only s (K.after_stop desk.old)
-        → IsRun (part_message order.now number part.now ∷ []) at s result (K.is_honest desk.new)
+        → IsRun (part_message run.now.order.now number part.now ∷ []) run.now.at s (end_of result) (K.is_honest desk.new)
         (K.holds desk.new) (K.after_stop desk.new) (W.contents writer.old) (W.contents writer.new) }
+    ensures item { IfErr result (λ failed. IfSome failed.item
+        (λ item. item_in number (asked_of (part_message run.now.order.now number part.now) run.now.at) ≡ Some item)) }
     ensures honest { K.is_honest desk.new ≡ true → K.is_honest desk.old ≡ true }
-    ensures fault { IfErr result (λ fault. is_of_imports fault ≡ true) }
-    ensures store { IsErrOf result Store → K.has_failed desk.new ≡ true }
+    ensures fault { IfErr (end_of result) (λ fault. is_of_imports fault ≡ true) }
+    ensures store { IsErrOf (end_of result) Store → K.has_failed desk.new ≡ true }
 {
-    match part_message(alloc, order, number, part) {
-        Ok(message) => import_text(alloc, desk, &message, at, writer),
-        Err(AllocError) => Err(Fault::Memory),
+    match part_message(alloc, run.order, number, part) {
+        Ok(message) => {
+            let end = import_text(alloc, desk, &message, run.at, writer);
+            with_item(alloc, end, &message, run.at, number)
+        }
+        Err(AllocError) => Err(OrderFault {
+            fault: Fault::Memory,
+            item: None,
+        }),
     }
 }
 

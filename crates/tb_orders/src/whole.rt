@@ -3,13 +3,15 @@ ghost use Rattle.std.specs.Prelude.{◌≡◌, ℕ, List, Some, IfErr, IfOk, IfS
 ghost use Rattle.tb_calls.specs.Calls.{State};
 ghost use Rattle.tb_calls.specs.Keeping.{Only};
 ghost use Rattle.tb_orders.specs.Cutting.{parts_of};
+ghost use Rattle.tb_orders.specs.Items.{IsBadAmong, end_of};
 ghost use Rattle.tb_orders.specs.Running.{IsRunOf};
 ghost use Rattle.tb_orders.specs.Telling.{is_of_inputs, is_of_messages};
 ghost use Rattle.tb_program.specs.declared.fault.Fault.TheVariants.{Store};
 
 use crate::cutting::parts_of;
 use crate::ending::Ending;
-use crate::running::import_parts;
+use crate::order_fault::OrderFault;
+use crate::running::{Progress, Run, import_parts};
 use std::alloc::Global;
 use std::io::{ErrorKind, Read, Write};
 use std::time::Clock;
@@ -36,24 +38,26 @@ pub fn import_all<K: Keep, R: Read + Drop, W: Write>(
     reader: R,
     clock: &impl Clock,
     writer: &mut W,
-) -> Result<Ending, Fault>
+    progress: &impl Progress,
+) -> Result<Ending, OrderFault>
     ensures run { (s : State) → K.holds desk.old s → Only s (K.after_stop desk.old)
-        → IsRunOf order.now (R.remaining reader) s result (K.is_honest desk.new)
+        → IsRunOf order.now (R.remaining reader) s (end_of result) (K.is_honest desk.new)
         (K.holds desk.new) (K.after_stop desk.new) (W.contents writer.old) (W.contents writer.new) }
-    ensures fault { IfErr result (λ fault. is_of_inputs fault ≡ true) }
-    ensures store { IsErrOf result Store → K.has_failed desk.new ≡ true }
+    ensures item { IfErr result (λ failed. IfSome failed.item (IsBadAmong order.now (R.remaining reader))) }
+    ensures fault { IfErr (end_of result) (λ fault. is_of_inputs fault ≡ true) }
+    ensures store { IsErrOf (end_of result) Store → K.has_failed desk.new ≡ true }
 {
     match read_parts(alloc, order, reader, clock) {
-        Ok(arrived) => import_parts(
-            alloc,
-            desk,
-            order,
-            0,
-            arrived.parts.as_slice(),
-            arrived.at,
-            writer,
-        ),
-        Err(fault) => Err(fault),
+        Ok(arrived) => {
+            let parts = arrived.parts.as_slice();
+            let run = Run {
+                order,
+                at: arrived.at,
+                count: parts.len(),
+            };
+            import_parts(alloc, desk, &run, 0, parts, writer, progress)
+        }
+        Err(fault) => Err(OrderFault { fault, item: None }),
     }
 }
 
