@@ -8,7 +8,7 @@ use tb_command_line::ImportOrder;
 use tb_orders::{Ending, OrderFault, Progress, import_all, import_input};
 
 /// Imports standard input into the boards of a file.
-#[tactic(auto, using(crate::proofs::Faults::of_input))]
+#[tactic(auto, using(crate::proofs::Faults::of_input, crate::proofs::Faults::of_opening))]
 pub(crate) fn import_into_file(rt: &HostRuntime, order: &ImportOrder) -> Result<Ending, OrderFault>
     ensures { IfErr result (λ failed. is_of_imports failed.fault ≡ true) }
 {
@@ -26,7 +26,7 @@ pub(crate) fn import_into_file(rt: &HostRuntime, order: &ImportOrder) -> Result<
 }
 
 /// The same in as many parts as the text takes.
-#[tactic(auto, using(crate::proofs::Faults::of_input))]
+#[tactic(auto, using(crate::proofs::Faults::of_input, crate::proofs::Faults::of_opening))]
 pub(crate) fn import_parts_into_file(
     rt: &HostRuntime,
     order: &ImportOrder,
