@@ -83,16 +83,14 @@ fn wrong_of_import(alloc: Global, words: &[&str]) -> Result<&'static str, AllocE
 
 /// The first word of `send` that isn't of its form, or how they are to be.
 fn wrong_of_send(alloc: Global, words: &[&str]) -> Result<&'static str, AllocError> {
-    let mut words = words;
-    for (name, form) in [("--id", Form::Id), ("--for", Form::Seconds)] {
-        if let Some((value, rest)) = option_of(words, name) {
-            if !is_of(alloc, value, form)? {
-                return Ok(text_of(form));
-            }
-            words = rest;
-        }
+    if is_wrong_option(alloc, words, "--id", Form::Id)? {
+        return Ok(text_of(Form::Id));
     }
-    let [server, member, key, _, ..] = words else {
+    let words = behind(words, "--id");
+    if is_wrong_option(alloc, words, "--for", Form::Seconds)? {
+        return Ok(text_of(Form::Seconds));
+    }
+    let [server, member, key, _, ..] = behind(words, "--for") else {
         return Ok(SEND_USAGE);
     };
     wrong_of(
@@ -103,11 +101,27 @@ fn wrong_of_send(alloc: Global, words: &[&str]) -> Result<&'static str, AllocErr
     )
 }
 
-/// The word behind an option and those behind that, where the option is in front.
-fn option_of<'w, 't>(words: &'w [&'t str], name: &str) -> Option<(&'t str, &'w [&'t str])> {
+/// Whether an option is in front of the words, and the word behind it isn't of its form.
+fn is_wrong_option(
+    alloc: Global,
+    words: &[&str],
+    name: &str,
+    form: Form,
+) -> Result<bool, AllocError> {
+    let [first, value, ..] = words else {
+        return Ok(false);
+    };
+    if *first != name {
+        return Ok(false);
+    }
+    Ok(!is_of(alloc, value, form)?)
+}
+
+/// The words behind an option and its value, where they begin with it.
+fn behind<'w, 't>(words: &'w [&'t str], name: &str) -> &'w [&'t str] {
     match words {
-        [first, value, rest @ ..] if *first == name => Some((*value, rest)),
-        _ => None,
+        [first, _, rest @ ..] if *first == name => rest,
+        _ => words,
     }
 }
 
