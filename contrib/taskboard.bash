@@ -71,6 +71,7 @@ _taskboard() {
     send:*) _taskboard_of_send "$@" ;;
     init:2 | import:2 | list:2 | export:2 | todo:2 | check:2) _taskboard_files "$2" ;;
     import:7) _taskboard_words "json todo" "$2" ;;
+    import:8) _taskboard_words "--all" "$2" ;;
     esac
 }
 

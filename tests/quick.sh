@@ -33,6 +33,7 @@ attempt scripts.py python3
 attempt wire.py python3
 attempt mutations.sh python3
 attempt serve.sh python3
+attempt import.sh python3
 attempt kill.sh python3
 attempt store_fails.sh python3
 attempt strange_rows.sh python3

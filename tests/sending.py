@@ -165,6 +165,25 @@ def look_at_no_server():
         fail(f"no server: {ran.stderr!r} doesn't say how to go on")
     if not 0.5 < time.monotonic() - begun < 10:
         fail("it was sent for another time than it was told")
+    for words in (["list", "1"], ["done", "1", "3"]):
+        ran = send(*words, server=THERE, options=["--for", "1"])
+        expect(f"no server for {words}", ran, 1, "", "taskboard: NoAnswer")
+        if "--id" in ran.stderr or "look whether a server runs" not in ran.stderr:
+            fail(f"no server for {words}: {ran.stderr!r} speaks of a call")
+
+
+def look_at_servers():
+    """Texts that are no address with a port are told at once."""
+    for server in ("127.0.0.1", "127.0.0.1:", ":8080", "127.0.0.1:0", "127.0.0.1:65536", "127.0.0.1:08080", "127.0.0.1 :8080", "127.0.0.1\t:8080", ""):
+        ran = send("list", "1", server=server)
+        expect(f"the server {server!r}", ran, 2, "", "taskboard: Bad")
+        if "The server is wrong" not in ran.stderr:
+            fail(f"the server {server!r}: {ran.stderr!r} doesn't say so")
+    for options, text in ((["--id", "x"], "The identifier is wrong"), (["--for", "0"], "The seconds of --for are wrong")):
+        ran = send("list", "1", options=options)
+        expect(f"{options}", ran, 2, "", "taskboard: Bad")
+        if text not in ran.stderr:
+            fail(f"{options}: {ran.stderr!r} doesn't say so")
 
 
 def add_tasks(client, sent, killing):
@@ -285,6 +304,7 @@ try:
     look_at_places()
     look_at_keys()
     look_at_no_server()
+    look_at_servers()
     look_at_lost_place()
     look_at_cuts()
     look_at_kills(server)

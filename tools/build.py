@@ -12,6 +12,7 @@ import shutil
 import subprocess
 import sys
 import tempfile
+import time
 
 import proving
 
@@ -31,11 +32,10 @@ def is_built(wanted):
         return False
 
 
-def copy_crates(room):
-    """Copies the program's crates, and a crates.txt of these alone. An empty `.git` says that this is the top of a repository."""
+def copy_crates(room, names):
+    """Copies these crates without their must-fail edits, and a crates.txt of these alone. An empty `.git` says that this is the top of a repository."""
     os.mkdir(f"{room}/.git")
     shutil.copy(f"{TOP}/HANDLES", room)
-    names = proving.all_below("taskboard", proving.crates_of(TOP))
     for name in names:
         shutil.copytree(f"{TOP}/crates/{name}", f"{room}/crates/{name}", ignore=shutil.ignore_patterns("out", "must-fail"))
     with open(f"{TOP}/crates.txt") as whole, open(f"{room}/crates.txt", "w") as cut:
@@ -55,9 +55,11 @@ def put(built, wanted):
 def build(wanted):
     with tempfile.TemporaryDirectory(prefix="taskboard-build-") as room:
         os.chmod(room, 0o755)
-        copy_crates(room)
+        copy_crates(room, proving.all_below("taskboard", proving.crates_of(TOP)))
         print("taskboard: building, which proves every crate below the program first", file=sys.stderr, flush=True)
-        status, lines = proving.prove(room, f"{TOP}/out/build-times.txt", f"{TOP}/out/build.log")
+        began = time.time()
+        status, lines, sums = proving.prove(room, f"{TOP}/out/build.log")
+        proving.write_times(f"{TOP}/out/build-times.txt", sums, began)
         if status:
             print("\n".join(proving.failures(lines)), file=sys.stderr)
             sys.exit(f"taskboard: the build failed; {TOP}/out/build.log has all that was said")

@@ -156,34 +156,46 @@ def end_by_signals():
         signal.signal(number, lambda number, _: sys.exit(128 + number))
 
 
-def prove(top, times, log):
-    """Runs `rt ci` at the top of a repository. Writes what it says into one file and the processor minutes into another; returns its status and its lines."""
-    progress, began, lines = Progress(top), time.time(), []
+def run(words, top, log, hear):
+    """Runs a command in a folder, writes what it says into a file, and lets each line be heard. Returns its status, its lines, and the processor seconds of its provers."""
     end_by_signals()
     child = subprocess.Popen(
-        ["rt", "ci"], cwd=top, stdin=subprocess.DEVNULL, stdout=subprocess.PIPE, stderr=subprocess.STDOUT,
+        words, cwd=top, stdin=subprocess.DEVNULL, stdout=subprocess.PIPE, stderr=subprocess.STDOUT,
         text=True, errors="replace", start_new_session=True,
     )
-    measured = Times(child.pid)
+    measured, lines = Times(child.pid), []
     try:
         with open(log, "w") as kept:
             for line in child.stdout:
                 kept.write(line)
                 kept.flush()
                 lines.append(line.rstrip("\n"))
-                proved = re.fullmatch(r"rt: (\w+) proved", lines[-1])
-                if proved:
-                    progress.tell(proved[1])
-                elif re.fullmatch(r"rt: .* NOT PROVED.*", lines[-1]):
-                    print(lines[-1], file=sys.stderr, flush=True)
+                hear(lines[-1])
         status = child.wait()
     except BaseException:
-        os.killpg(child.pid, 15)
+        os.killpg(child.pid, signal.SIGTERM)
         child.wait()
         raise
-    with open(times, "w") as it:
-        it.write(table_of(measured.by_crate(), time.time() - began))
-    return status, lines
+    return status, lines, measured.by_crate()
+
+
+def prove(top, log):
+    """Runs `rt ci` at the top of a repository, as `run` runs a command, and tells how far it is."""
+    progress = Progress(top)
+
+    def hear(line):
+        proved = re.fullmatch(r"rt: (\w+) proved", line)
+        if proved:
+            progress.tell(proved[1])
+        elif re.fullmatch(r"rt: .* NOT PROVED.*", line):
+            print(line, file=sys.stderr, flush=True)
+
+    return run(["rt", "ci"], top, log, hear)
+
+
+def write_times(file, sums, began):
+    with open(file, "w") as it:
+        it.write(table_of(sums, time.time() - began))
 
 
 def failures(lines):

@@ -109,6 +109,34 @@ fn answers_to<K: Keep>(
     Ok(steps.told.text)
 }
 
+/// How a line ended: answered as lists answer it, refused since it is no line, or unanswered by a keeper that has failed.
+#[derive(Clone, Copy, PartialEq)]
+enum End {
+    Answered,
+    Refused,
+    Failed,
+}
+
+/// Sends a line to a desk, and to one over lists, which has to answer the same.
+fn send_line<K: Keep>(
+    owner: &Owner,
+    desk: &mut Desk<K>,
+    lists: &mut Desk<ListKeep>,
+    line: &str,
+) -> io::Result<End> {
+    let told = answers_to(owner, desk, &[line])?;
+    let wanted = answers_to(owner, lists, &[line])?;
+    if told.as_str() == FAILED {
+        Ok(End::Failed)
+    } else if told.as_str() != wanted.as_str() {
+        Err(io::Error::other("an answer that is not of the lists"))
+    } else if wanted.as_str().starts_with("< 400 - ") {
+        Ok(End::Refused)
+    } else {
+        Ok(End::Answered)
+    }
+}
+
 /// How many of the lines have a kept reply.
 fn kept_among<K: Keep>(owner: &Owner, keep: &mut K, lines: &[&str]) -> Result<String, AllocError> {
     let alloc = owner.alloc;
@@ -218,23 +246,26 @@ impl<'t> Trial<'t> {
 
     /// Sends the lines to a store and closes it. Tells how many are answered before it fails, and whether all are and it is closed.
     fn send_to(&self, keep: SqlKeep<FileStore<Frail>>) -> io::Result<(Stage, usize, bool)> {
-        let (mut desk, mut lists) = (Desk::new(keep), self.lists()?);
+        let mut desk = Desk::new(keep);
+        let (answered, has_failed) = self.send_each(&mut desk)?;
+        let (stage, word) = close(desk.into_keep().close());
+        Ok((stage, answered, !has_failed && word.is_empty()))
+    }
+
+    /// Sends the lines to a desk, and to one over lists. Tells how many are answered before its keeper fails, and whether it does.
+    fn send_each<K: Keep>(&self, desk: &mut Desk<K>) -> io::Result<(usize, bool)> {
+        let mut lists = self.lists()?;
         let (mut answered, mut has_failed) = (0usize, false);
         for line in self.lines {
-            let told = answers_to(self.owner, &mut desk, &[*line])?;
-            let wanted = answers_to(self.owner, &mut lists, &[*line])?;
-            if told.as_str() == FAILED {
-                has_failed = true;
-            } else if told.as_str() != wanted.as_str() {
-                return Err(io::Error::other("an answer that is not of the lists"));
-            } else if !has_failed {
+            let end = send_line(self.owner, desk, &mut lists, line)?;
+            has_failed = has_failed || end == End::Failed;
+            if !has_failed {
                 answered = answered.saturating_add(1);
-            } else if !wanted.as_str().starts_with("< 400 - ") {
+            } else if end == End::Answered {
                 return Err(io::Error::other("a store that has failed answers"));
             }
         }
-        let (stage, word) = close(desk.into_keep().close());
-        Ok((stage, answered, !has_failed && word.is_empty()))
+        Ok((answered, has_failed))
     }
 
     /// What is seen in the files, where an audit has no fault. They are stopped then.

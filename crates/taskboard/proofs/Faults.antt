@@ -1,7 +1,7 @@
 -- Faults of the parts of an order are faults of it.
 use Rattle.std.proofs.Common.{◌≡◌, true, true≢false, refl, sym}
 use Rattle.tb_orders.specs.Telling as orders
-use Rattle.tb_outcome.specs.Faults.{is_of_printing}
+use Rattle.tb_outcome.specs.Faults.{is_of_opening, is_of_printing}
 use Rattle.tb_program.specs.declared.fault.Fault.{Fault}
 use Rattle.tb_program.specs.declared.fault.Fault.TheVariants.{Bad, BadBody, Memory, NoAnswer, NoClock, NoKey, NoListen, NoPage, NotEmpty, NotOurs, ReadFailed, Store, WriteFailed, WrongVersion}
 use Rattle.taskboard.specs.Telling.{is_of_checking, is_of_imports}
@@ -53,3 +53,19 @@ of_keep ReadFailed is = absurd (true≢false (sym is))
 of_keep Store is = refl
 of_keep WriteFailed is = refl
 of_keep WrongVersion is = refl
+
+pub of_opening : (fault : Fault) → is_of_opening fault ≡ true → is_of_imports fault ≡ true
+of_opening Bad is = absurd (true≢false (sym is))
+of_opening BadBody is = absurd (true≢false (sym is))
+of_opening Memory is = refl
+of_opening NoClock is = absurd (true≢false (sym is))
+of_opening NoListen is = absurd (true≢false (sym is))
+of_opening NoAnswer is = absurd (true≢false (sym is))
+of_opening NoKey is = absurd (true≢false (sym is))
+of_opening NoPage is = absurd (true≢false (sym is))
+of_opening NotEmpty is = absurd (true≢false (sym is))
+of_opening NotOurs is = refl
+of_opening ReadFailed is = absurd (true≢false (sym is))
+of_opening Store is = refl
+of_opening WriteFailed is = absurd (true≢false (sym is))
+of_opening WrongVersion is = refl

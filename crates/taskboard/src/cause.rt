@@ -1,10 +1,13 @@
 //! What happened, and what to do: the line behind the name of a fault.
+use crate::body::{tell_body, tell_part};
+use crate::send::may_have_acted;
 use crate::wrong::wrong_word;
 use sqlite::{Connection, Error, ErrorCode};
 use std::alloc::AllocError;
 use std::io::{ErrorKind, Write};
 use std::{env, fs, io};
 use tb_command_line::{Order, SendOrder, Topic};
+use tb_orders::OrderFault;
 use tb_program::Fault;
 use tb_values::Text;
 
@@ -12,15 +15,17 @@ use tb_values::Text;
 const FIRST_FREE_PORT: u16 = 1024;
 
 /// Tells what happened, and what to do.
-pub(crate) fn tell_cause(rt: &HostRuntime, fault: Fault, order: &Order) {
-    match (fault, order) {
+pub(crate) fn tell_cause(rt: &HostRuntime, failed: &OrderFault, order: &Order) {
+    match (failed.fault, order) {
         (Fault::Store, _) => tell_file(rt, file_of(order)),
         (Fault::NoListen, Order::Serve(order)) => tell_port(rt, order.port),
-        (Fault::NoAnswer, Order::Send(order)) => tell_again(rt, order),
+        (Fault::NoAnswer, Order::Send(order)) => tell_unanswered(rt, order),
         (Fault::Bad, Order::Send(_)) => tell(
             rt,
             "The words behind KEY are no call and no view, or a board or a task among them isn't one: `taskboard send --help` has their forms.",
         ),
+        (Fault::BadBody, Order::Import(_)) => tell_body(rt, &failed.item),
+        (Fault::BadBody, Order::ImportAll(_)) => tell_part(rt, &failed.item),
         (fault, _) => tell(rt, cause_of(fault)),
     }
 }
@@ -61,7 +66,7 @@ fn cause_of(fault: Fault) -> &'static str {
         Fault::Bad =>
             "The words are no order: `taskboard --help` lists the orders, and `taskboard ORDER --help` what each takes.",
         Fault::BadBody =>
-            "The text is longer than 1,048,576 bytes, has more than 1,000 tasks, or isn't of its kind: json is what `task export` prints, todo are lines of todo.txt. Nothing was taken.",
+            "The text is longer than 1,048,576 bytes, which no server takes. Nothing was sent.",
         Fault::Memory =>
             "There was no memory, and nothing was half done. End other programs, or let this one have more, and try again.",
         Fault::NoAnswer => "No answer came.",
@@ -90,7 +95,7 @@ fn file_of(order: &Order) -> Option<&Text> {
     match order {
         Order::Init(order) => Some(&order.file),
         Order::Serve(order) => Some(&order.file),
-        Order::Import(order) => Some(&order.file),
+        Order::Import(order) | Order::ImportAll(order) => Some(&order.file),
         Order::View(order) => Some(&order.file),
         Order::Check(file) => Some(file),
         Order::Run | Order::Send(_) | Order::Help(_) | Order::Version => None,
@@ -153,6 +158,17 @@ fn tell_port(rt: &HostRuntime, port: u16) {
             rt,
             "Another program has the port, as a server that still runs: end that one, or take another port.",
         );
+    }
+}
+
+/// Tells what to do where no answer came. Where no memory tells a view from a call, it is told as a call.
+fn tell_unanswered(rt: &HostRuntime, order: &SendOrder) {
+    match may_have_acted(rt, order) {
+        Ok(false) => tell(
+            rt,
+            "No answer came in the time, and nothing was to change: look whether a server runs at ADDRESS:PORT, and ask again.",
+        ),
+        Ok(true) | Err(_) => tell_again(rt, order),
     }
 }
 

@@ -6,6 +6,7 @@
 ghost use Rattle.std.specs.Prelude.{◌≡◌, IfErr, true};
 ghost use Rattle.tb_outcome.specs.Faults.{is_of_scripts};
 
+mod body;
 mod cause;
 mod check;
 mod clock;
@@ -20,14 +21,14 @@ mod wrong;
 
 use crate::cause::{tell_cause, tell_words};
 use crate::check::check_file;
-use crate::import::import_into_file;
+use crate::import::{import_into_file, import_parts_into_file};
 use crate::init::make_file;
 use crate::send::{name_call, send_order};
 use crate::serve::serve_file;
 use crate::view::print_board;
 use std::process::ExitCode;
 use tb_command_line::Order;
-use tb_orders::{Ending, read_order};
+use tb_orders::{Ending, OrderFault, read_order};
 use tb_outcome::{fault_of_script, print_fault, status_of};
 use tb_program::{Fault, print_text};
 use tb_script::run_lines;
@@ -56,25 +57,29 @@ fn end_of(rt: &HostRuntime, mut order: Order) -> Result<Ending, Fault> {
     if let Order::Send(order) = &mut order {
         name_call(rt, order);
     }
-    let end = carry_out(rt, &mut order);
-    if let Err(fault) = end {
-        let _ = print_fault(fault, &mut rt.stderr());
-        tell_cause(rt, fault, &order);
+    match carry_out(rt, &mut order) {
+        Ok(ending) => Ok(ending),
+        Err(failed) => {
+            let _ = print_fault(failed.fault, &mut rt.stderr());
+            tell_cause(rt, &failed, &order);
+            Err(failed.fault)
+        }
     }
-    end
 }
 
-fn carry_out(rt: &HostRuntime, order: &mut Order) -> Result<Ending, Fault> {
+/// Carries out an order; of an import alone more than the fault may be told.
+fn carry_out(rt: &HostRuntime, order: &mut Order) -> Result<Ending, OrderFault> {
     match order {
-        Order::Init(order) => make_file(rt, order),
-        Order::Serve(order) => serve_file(rt, order),
-        Order::Run => run_script(rt),
+        Order::Init(order) => Ok(make_file(rt, order)?),
+        Order::Serve(order) => Ok(serve_file(rt, order)?),
+        Order::Run => Ok(run_script(rt)?),
         Order::Import(order) => import_into_file(rt, order),
-        Order::View(order) => print_board(rt, order),
-        Order::Check(file) => check_file(rt, file),
-        Order::Send(order) => send_order(rt, order),
-        Order::Help(topic) => tell(rt, topic.text()),
-        Order::Version => tell(rt, VERSION),
+        Order::ImportAll(order) => import_parts_into_file(rt, order),
+        Order::View(order) => Ok(print_board(rt, order)?),
+        Order::Check(file) => Ok(check_file(rt, file)?),
+        Order::Send(order) => Ok(send_order(rt, order)?),
+        Order::Help(topic) => Ok(tell(rt, topic.text())?),
+        Order::Version => Ok(tell(rt, VERSION)?),
     }
 }
 

@@ -1,5 +1,5 @@
 //! Calls and views that are sent to a server.
-ghost use Rattle.std.specs.Prelude.{◌≡◌, IfErr, true};
+ghost use Rattle.std.specs.Prelude.{◌≡◌, IfErr, IsSome, true};
 ghost use Rattle.tb_client.specs.Asking.{Event};
 ghost use Rattle.taskboard.specs.Telling.{is_of_sending};
 
@@ -32,7 +32,10 @@ const NO_TASK: &[u8] = b"{\"name\":\"NoTask\",\"refused\":5}\n";
 const LONGEST_ANSWER: u64 = 268_435_456;
 
 /// Gives the call an identifier, if it has none: one of version 4.
-pub(crate) fn name_call(rt: &HostRuntime, order: &mut SendOrder) {
+pub(crate) fn name_call(rt: &HostRuntime, order: &mut SendOrder)
+    ensures given { IsSome order.old.id → order.new ≡ order.old }
+    ensures others { order.new ≡ record order.old { id = order.new.id } }
+{
     if order.id.is_some() {
         return;
     }
@@ -104,6 +107,16 @@ fn print_no_task(rt: &HostRuntime) -> Result<Ending, Fault>
         Ok(()) => Ok(Ending::Refused),
         Err(_) => Err(Fault::WriteFailed),
     }
+}
+
+/// Whether a call of the order may have reached the server. A view changes nothing, and places are looked up before their call is sent.
+pub(crate) fn may_have_acted(rt: &HostRuntime, order: &SendOrder) -> Result<bool, AllocError> {
+    let words = order.words.as_slice();
+    let has_body = match request_of(rt.alloc(), words)? {
+        Some(request) => request.body.is_some(),
+        None => false,
+    };
+    Ok(has_body && places_of(rt.alloc(), words)?.is_empty())
 }
 
 /// Sends what the words ask for.

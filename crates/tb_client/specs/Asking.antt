@@ -1,5 +1,5 @@
 -- What is asked of a server, and what comes of it.
-use Rattle.std.specs.Prelude.{◌≡◌, ◌≤◌, ◌⊎◌, ℕ, suc, false, true, List, [], ◌∷◌, ◌++◌, All, Result, Ok, Err}
+use Rattle.std.specs.Prelude.{◌≡◌, ◌<◌, ◌⊎◌, ℕ, ◌*◌, min, false, true, List, [], ◌∷◌, ◌++◌, All, length, Result, Ok, Err}
 use Rattle.tb_client.specs.declared.answer.Reply.{Reply}
 use Rattle.tb_client.specs.declared.asking.AskFault.{AskFault}
 use Rattle.tb_client.specs.declared.asking.AskFault.TheVariants.{NoAnswer, Memory}
@@ -24,44 +24,69 @@ IsFront front text = (rest : List ℕ) × (text ≡ front ++ rest)
 abbrev pub BringsNone : List ℕ → Type 0
 BringsNone came = (reply : Reply) → IsWholeAnswer came reply → asks_again reply.status ≡ true
 
--- what may happen before an answer: the message or a front of it is sent, and nothing else, and no answer comes; or a pause of up to 5 seconds
+-- a try without an answer: the message or a front of it is sent, and nothing else, and no answer comes by which the asking ends
 abbrev pub IsTry : List ℕ → Event → Type 0
 IsTry message (asked sent came) = (sent ≡ message) × BringsNone came
 IsTry message (torn sent) = IsFront sent message
-IsTry message (waited pause) = pause ≤ 5000
+IsTry message (waited pause) = ⊥
 IsTry message late = ⊥
 
--- how often something was sent
-abbrev pub count_asked : List Event → ℕ
-count_asked [] = 0
-count_asked (asked sent came ∷ more) = suc (count_asked more)
-count_asked (torn sent ∷ more) = suc (count_asked more)
-count_asked (waited pause ∷ more) = count_asked more
-count_asked (late ∷ more) = count_asked more
+-- how often a message is sent at most
+abbrev pub most_tries : ℕ
+most_tries = 1000000
 
--- the last try brought this answer to the whole message
+-- the pause behind the first try, in milliseconds
+abbrev pub first_pause : ℕ
+first_pause = 100
+
+-- the pause behind the next try: twice as long, and 5 seconds at most
+abbrev pub next_pause : ℕ → ℕ
+next_pause pause = min 5000 (pause * 2)
+
+-- tries with a pause behind each, the first of this length
+abbrev pub with_pauses : ℕ → List Event → List Event
+with_pauses pause [] = []
+with_pauses pause (try ∷ more) = try ∷ waited pause ∷ with_pauses (next_pause pause) more
+
+-- what happens while no answer comes: tries, each with its pause behind it
+abbrev pub turns_of : List Event → List Event
+turns_of tries = with_pauses first_pause tries
+
+-- behind turns without an answer, one more try brought this answer to the whole message
 pub record IsAnswered (message : List ℕ) (happened : List Event) (reply : Reply) : Type 0 where
-  pub before : List Event
-  pub tries : All (IsTry message) before
+  pub tries : List Event
+  pub failed : All (IsTry message) tries
+  pub few : length tries < most_tries
   pub came : List ℕ
-  pub last : happened ≡ before ++ asked message came ∷ []
+  pub last : happened ≡ turns_of tries ++ asked message came ∷ []
   pub is : IsWholeAnswer came reply
   pub final : asks_again reply.status ≡ false
 
--- the time was over, or it was sent as often as can be
-pub record IsGivenUp (message : List ℕ) (happened : List Event) : Type 0 where
-  pub before : List Event
-  pub tries : All (IsTry message) before
-  pub last : (happened ≡ before ++ late ∷ []) ⊎ ((happened ≡ before) × (1000000 ≤ count_asked before))
+-- behind turns without an answer, one more try brought none, and then the time was over
+pub record IsLate (message : List ℕ) (happened : List Event) : Type 0 where
+  pub tries : List Event
+  pub failed : All (IsTry message) tries
+  pub few : length tries < most_tries
+  pub tried : Event
+  pub fails : IsTry message tried
+  pub last : happened ≡ turns_of tries ++ tried ∷ late ∷ []
 
--- there was no memory to read what the last try brought
+-- it was sent as often as can be, and no time was over
+pub record IsSentOut (message : List ℕ) (happened : List Event) : Type 0 where
+  pub tries : List Event
+  pub failed : All (IsTry message) tries
+  pub all : length tries ≡ most_tries
+  pub whole : happened ≡ turns_of tries
+
+-- behind turns without an answer, there was no memory to read what one more try brought
 pub record IsUnread (message : List ℕ) (happened : List Event) : Type 0 where
-  pub before : List Event
-  pub tries : All (IsTry message) before
+  pub tries : List Event
+  pub failed : All (IsTry message) tries
+  pub few : length tries < most_tries
   pub came : List ℕ
-  pub last : happened ≡ before ++ asked message came ∷ []
+  pub last : happened ≡ turns_of tries ++ asked message came ∷ []
 
 abbrev pub EndsBy : List ℕ → List Event → Result Reply AskFault → Type 0
 EndsBy message happened (Ok reply) = IsAnswered message happened reply
-EndsBy message happened (Err NoAnswer) = IsGivenUp message happened
+EndsBy message happened (Err NoAnswer) = IsLate message happened ⊎ IsSentOut message happened
 EndsBy message happened (Err Memory) = IsUnread message happened

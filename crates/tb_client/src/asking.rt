@@ -1,7 +1,7 @@
 //! A message that is sent until it is answered.
 ghost use Rattle.std.specs.Prelude.{◌≡◌, List, [], ◌∷◌, ◌++◌, false, true, IfNone, IfOk, IfSome, OnErr, ℕ};
 ghost use Rattle.tb_client.specs.Answers.{IsWholeAnswer, asks_again};
-ghost use Rattle.tb_client.specs.Asking.{Event, EndsBy, IsFront, IsTry, asked, count_asked, late, torn, waited};
+ghost use Rattle.tb_client.specs.Asking.{Event, EndsBy, IsFront, IsTry, asked, late, torn, waited};
 ghost use Rattle.tb_client.specs.declared.asking.AskFault.TheVariants.{Memory};
 
 use crate::answer::{Reply, read_reply};
@@ -51,8 +51,8 @@ const FIRST_PAUSE: u32 = 100;
 
 const LONGEST_PAUSE: u32 = 5_000;
 
-/// Sends a message again and again, the same each time, until a whole answer comes. A server that couldn't take it and a proxy that
-/// couldn't reach the server are asked again too.
+/// Sends a message again and again, the same each time, until a whole answer comes, with a pause behind each try that doubles from
+/// a tenth of a second to 5 seconds. A server that couldn't take it and a proxy that couldn't reach the server are asked again too.
 pub fn ask_until_answered<L: Line>(
     alloc: Global,
     line: &mut L,
@@ -83,7 +83,7 @@ fn ask_once<L: Line>(
 ) -> Result<Option<Reply>, AllocError>
     ensures answer { IfOk result (λ found. IfSome found (λ reply. (came : List ℕ) × IsWholeAnswer came reply × (asks_again reply.status ≡ false)
         × L.follows (asked message.now came ∷ []) line.old line.new)) }
-    ensures none { IfOk result (λ found. IfNone found ((event : Event) × IsTry message.now event × (count_asked (event ∷ []) ≡ 1)
+    ensures none { IfOk result (λ found. IfNone found ((event : Event) × IsTry message.now event
         × L.follows (event ∷ []) line.old line.new)) }
     ensures memory { OnErr result ((came : List ℕ) × L.follows (asked message.now came ∷ []) line.old line.new) }
 {

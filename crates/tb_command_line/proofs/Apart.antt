@@ -24,7 +24,7 @@ unfolding told_of
 not_told (Init file name key) plain = refl
 not_told (Serve file port count is_forever log) plain = refl
 not_told Run plain = refl
-not_told (Import file member key id board kind) plain = refl
+not_told (Import file member key id board kind is_all) plain = refl
 not_told (View kind file member key board) plain = refl
 not_told (Check file) plain = rw (no_help file (and_parts (is_plain file) true plain).0) refl
 
@@ -36,7 +36,7 @@ listed : (request : Request) → is_send (words_of request) ≡ false
 listed (Init file name key) = refl
 listed (Serve file port count is_forever log) = refl
 listed Run = refl
-listed (Import file member key id board kind) = refl
+listed (Import file member key id board kind is_all) = refl
 listed (View view.Export file member key board) = refl
 listed (View view.Listing file member key board) = refl
 listed (View view.Todo file member key board) = refl

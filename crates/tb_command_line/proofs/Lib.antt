@@ -1,4 +1,5 @@
 pub mod Apart
+pub mod Colons
 pub mod Entering
 pub mod Options
 pub mod Paging

@@ -1,9 +1,10 @@
 -- The walk over plain words, each of which the next positional takes.
-use Rattle.std.proofs.Common.{◌≡◌, ◌∙◌, ℕ, Bool, true, false, not, ◌&&◌, ◌==◌, List, [], ◌∷◌, Option, Some, None, fold, refl, ap, sym}
+use Rattle.std.proofs.Common.{◌≡◌, ◌∙◌, ℕ, Bool, true, false, not, ◌&&◌, ◌==◌, List, [], ◌∷◌, ◌++◌, Option, Some, None, fold, refl, ap, sym}
 use Rattle.std.specs.List.{list_all}
 use Rattle.std.specs.Option.{option_map_or}
 use Rattle.std.specs.Str.{bytes_eq}
 use Rattle.std.proofs.lemmas.Bool.{and_parts}
+use Rattle.std.proofs.lemmas.List.Sums.{fold-append}
 use Rattle.clap.specs.Lexer.{strip_byte}
 use Rattle.clap.specs.Walk.{Row, Rule, Text, Held, Walk, idle, walked, arg_by_index, is_multiple, positional_held, next_position, nothing_held, rows_after, finished}
 use Rattle.clap.specs.Simple.{Shape}
@@ -108,3 +109,41 @@ level_taken s words plain e =
     let parts = and_parts (fits s words nothing_held 1) _ e in
     let all = arrives s words nothing_held 1 plain parts.0 in
     rw (all.passes, all.there) parts.1
+
+-- ---- with other words behind them
+
+passes_then : (s : Shape) (w : Walk) (words others : List Text) → walk_passes s [] w words ≡ true
+    → walk_passes s [] (fold (walked s.rules []) w words) others ≡ true → walk_passes s [] w (words ++ others) ≡ true
+unfolding walk_passes
+passes_then s w [] others passes then = then
+passes_then s w (word ∷ words) others passes then =
+    let parts = and_parts (turn_passes s [] w word) (walk_passes s [] (walked s.rules [] w word) words) passes in
+    rw (parts.0, passes_then s (walked s.rules [] w word) words others parts.1 then) (refl {a = true})
+
+-- where a walk stands after other words behind the positionals
+abbrev pub reached_then : Shape → List Text → List Text → Walk
+reached_then s words others = fold (walked s.rules []) (reached s words nothing_held 1) others
+
+walk_then : (s : Shape) (words others : List Text) → list_all is_plain words ≡ true → fits s words nothing_held 1 ≡ true
+    → fold (walked s.rules []) (at nothing_held 1) (words ++ others) ≡ reached_then s words others
+walk_then s words others plain fit =
+    fold-append (walked s.rules []) (at nothing_held 1) words others
+    ∙ ap (λ w. fold (walked s.rules []) w others) (arrives s words nothing_held 1 plain fit).there
+
+-- a subcommand takes the words, each by one positional, and the others as it takes them
+abbrev pub takes_then : Shape → List Text → List Text → Bool
+takes_then s words others = let end = (reached_then s words others).held in
+    walk_passes s [] (reached s words nothing_held 1) others && (settle_passes s.rules s.args_override_self end
+    && (list_all default_passes s.rules && is_valid s (finished s.rules end) false))
+
+pub rows_then : (s : Shape) (words others : List Text) → list_all is_plain words ≡ true → fits s words nothing_held 1 ≡ true
+    → rows_after s.rules [] (words ++ others) ≡ finished s.rules (reached_then s words others).held
+rows_then s words others plain fit = ap (λ w. finished s.rules w.held) (walk_then s words others plain fit)
+
+pub level_then : (s : Shape) (words others : List Text) → list_all is_plain words ≡ true → fits s words nothing_held 1 ≡ true → takes_then s words others ≡ true
+    → level_passes s [] nothing_held (words ++ others) false ≡ true
+level_then s words others plain fit e =
+    let parts = and_parts (walk_passes s [] (reached s words nothing_held 1) others) _ e in
+    let all = arrives s words nothing_held 1 plain fit in
+    let passes = passes_then s (at nothing_held 1) words others all.passes (ap (λ w. walk_passes s [] w others) all.there ∙ parts.0) in
+    rw (passes, walk_then s words others plain fit) parts.1

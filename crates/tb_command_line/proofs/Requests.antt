@@ -1,7 +1,7 @@
 -- What the words of a request come to.
-use Rattle.std.proofs.Common.{◌≡◌, ◌∙◌, Bool, true, false, List, [], ◌∷◌, codes, Option, Some, None, Result, refl, ap}
+use Rattle.std.proofs.Common.{◌≡◌, ◌∙◌, Bool, true, false, List, [], ◌∷◌, ◌++◌, codes, Option, Some, None, Result, refl, ap}
 use Rattle.std.specs.List.{list_all}
-use Rattle.clap.specs.Walk.{Text, nothing_held, rows_after}
+use Rattle.clap.specs.Walk.{Text, finished, nothing_held, rows_after}
 use Rattle.clap.specs.Simple.{Shape, subcommand_of}
 use Rattle.clap.specs.Takes.{level_passes, takes}
 use Rattle.clap.proofs.OnLiterals.{clap_on_literals}
@@ -14,7 +14,7 @@ use Rattle.tb_command_line.specs.Matches.{named_at, order_at}
 use Rattle.tb_command_line.specs.Orders.{Request, Init, Serve, Run, Import, View, Check, is_plain, order_of, texts_of, words_of}
 use Rattle.tb_command_line.proofs.Entering.{Enters, leaf, taken_below, found_below}
 use Rattle.tb_command_line.proofs.Options.{are_words, options_have, options_pass, serve_rows, serve_words, serving}
-use Rattle.tb_command_line.proofs.Positionals.{takes_words, rows_of_words, rows_taken, level_taken}
+use Rattle.tb_command_line.proofs.Positionals.{fits, takes_words, takes_then, reached_then, rows_of_words, rows_taken, rows_then, level_taken, level_then}
 use Rattle.clap.specs.Simple.{new_app}
 
 -- the program takes the words, and they are the order
@@ -31,6 +31,13 @@ below name s rest order e passes is = record { taken = taken_below name s rest e
 plainly : (name : Text) (s : Shape) (rest : List Text) (order : Result Order WordsFault) → Enters name s → list_all is_plain rest ≡ true → takes_words s rest ≡ true
     → named_at s.name (rows_of_words s rest) ≡ order → Reaches (name ∷ rest) order
 plainly name s rest order e plain takes is = below name s rest order e (level_taken s rest plain takes) (ap (named_at s.name) (rows_taken s rest plain takes) ∙ is)
+
+-- by its positionals, with flags behind them
+flagged : (name : Text) (s : Shape) (words flags : List Text) (order : Result Order WordsFault) → Enters name s → list_all is_plain words ≡ true
+    → fits s words nothing_held 1 ≡ true → takes_then s words flags ≡ true
+    → named_at s.name (finished s.rules (reached_then s words flags).held) ≡ order → Reaches (name ∷ (words ++ flags)) order
+flagged name s words flags order e plain fit takes is =
+    below name s (words ++ flags) order e (level_then s words flags plain fit takes) (ap (named_at s.name) (rows_then s words flags plain fit) ∙ is)
 
 init_enters : Enters (codes "init") (leaf init_app)
 unfolding clap_on_literals
@@ -74,11 +81,14 @@ run_reaches : Reaches (words_of Run) (order_of Run)
 unfolding named_at
 run_reaches = plainly (codes "run") (leaf (new_app (codes "run"))) [] (order_of Run) run_enters refl refl refl
 
-import_reaches : (file member key id board kind : Text) → list_all is_plain (file ∷ member ∷ key ∷ id ∷ board ∷ kind ∷ []) ≡ true
-    → Reaches (words_of (Import file member key id board kind)) (order_of (Import file member key id board kind))
-unfolding named_at
-import_reaches file member key id board kind plain =
-    plainly (codes "import") (leaf import_app) (file ∷ member ∷ key ∷ id ∷ board ∷ kind ∷ []) (order_of (Import file member key id board kind)) import_enters plain refl refl
+import_reaches : (file member key id board kind : Text) (is_all : Bool) → list_all is_plain (file ∷ member ∷ key ∷ id ∷ board ∷ kind ∷ []) ≡ true
+    → Reaches (words_of (Import file member key id board kind is_all)) (order_of (Import file member key id board kind is_all))
+unfolding named_at clap_on_literals
+import_reaches file member key id board kind false plain =
+    plainly (codes "import") (leaf import_app) (file ∷ member ∷ key ∷ id ∷ board ∷ kind ∷ []) (order_of (Import file member key id board kind false)) import_enters plain refl refl
+import_reaches file member key id board kind true plain =
+    flagged (codes "import") (leaf import_app) (file ∷ member ∷ key ∷ id ∷ board ∷ kind ∷ []) (codes "--all" ∷ []) (order_of (Import file member key id board kind true))
+    import_enters plain refl refl refl
 
 view_reaches : (kind : ViewKind) (file member key board : Text) → list_all is_plain (file ∷ member ∷ key ∷ board ∷ []) ≡ true
     → Reaches (words_of (View kind file member key board)) (order_of (View kind file member key board))
@@ -120,6 +130,6 @@ pub reaches : (request : Request) → list_all is_plain (texts_of request) ≡ t
 reaches (Init file name key) plain = init_reaches file name key plain
 reaches (Serve file port count is_forever log) plain = serve_reaches file port count is_forever log plain
 reaches Run plain = run_reaches
-reaches (Import file member key id board kind) plain = import_reaches file member key id board kind plain
+reaches (Import file member key id board kind is_all) plain = import_reaches file member key id board kind is_all plain
 reaches (View kind file member key board) plain = view_reaches kind file member key board plain
 reaches (Check file) plain = check_reaches file plain

@@ -36,8 +36,12 @@ abbrev pub view_app : Text → App
 view_app name = with_rule (member_app name) (needed (codes "board"))
 
 -- `import FILE MEMBER KEY ID BOARD KIND`
+abbrev pub one_import_app : App
+one_import_app = with_rule (with_rule (with_rule (member_app (codes "import")) (needed (codes "id"))) (needed (codes "board"))) (needed (codes "kind"))
+
+-- `import FILE MEMBER KEY ID BOARD KIND [--all]`
 abbrev pub import_app : App
-import_app = with_rule (with_rule (with_rule (member_app (codes "import")) (needed (codes "id"))) (needed (codes "board"))) (needed (codes "kind"))
+import_app = with_rule one_import_app (flag_rule (codes "all"))
 
 -- `check FILE`
 abbrev pub check_app : App

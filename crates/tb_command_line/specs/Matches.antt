@@ -13,7 +13,7 @@ use Rattle.tb_command_line.specs.declared.order.ViewKind.{ViewKind}
 use Rattle.tb_command_line.specs.declared.order.ViewKind.TheVariants as view
 use Rattle.tb_command_line.specs.declared.order.WordsFault.{WordsFault}
 use Rattle.tb_command_line.specs.declared.order.WordsFault.TheVariants.{Bad}
-use Rattle.tb_command_line.specs.Orders.{board_in, connections_in, kind_in, port_in}
+use Rattle.tb_command_line.specs.Orders.{board_in, connections_in, importing, kind_in, port_in}
 use Rattle.tb_command_line.specs.Outcome.{or_bad}
 
 -- what the value of an argument reads as
@@ -52,7 +52,7 @@ import_at rows = do
   i ← value_at read_id (codes "id") rows
   b ← value_at board_in (codes "board") rows
   t ← value_at kind_in (codes "kind") rows
-  Ok (order.Import (record { file = file; member = n; key = k; id = i; board = b; kind = t }))
+  Ok (importing (flag_at (codes "all") rows) (record { file = file; member = n; key = k; id = i; board = b; kind = t }))
 
 abbrev pub view_at : ViewKind → List Row → Result Order WordsFault
 view_at kind rows = do

@@ -8,6 +8,7 @@ use Rattle.tb_command_line.specs.declared.order.Connections.{Connections}
 use Rattle.tb_command_line.specs.declared.order.Connections.TheVariants as connections
 use Rattle.tb_command_line.specs.declared.order.ImportKind.{ImportKind}
 use Rattle.tb_command_line.specs.declared.order.ImportKind.TheVariants as kind
+use Rattle.tb_command_line.specs.declared.order.ImportOrder.{ImportOrder}
 use Rattle.tb_command_line.specs.declared.order.Order.{Order}
 use Rattle.tb_command_line.specs.declared.order.Order.TheVariants as order
 use Rattle.tb_command_line.specs.declared.order.ViewKind.{ViewKind}
@@ -26,8 +27,8 @@ pub data Request : Type 0 where
   -- FILE, the port, the number of connections where it is given, and whether `--forever` and `--log` are
   Serve : Text → Text → Option Text → Bool → Bool → Request
   Run : Request
-  -- FILE, MEMBER, KEY, ID, BOARD and KIND
-  Import : Text → Text → Text → Text → Text → Text → Request
+  -- FILE, MEMBER, KEY, ID, BOARD and KIND, and whether `--all` is given
+  Import : Text → Text → Text → Text → Text → Text → Bool → Request
   -- FILE, MEMBER, KEY and BOARD
   View : ViewKind → Text → Text → Text → Text → Request
   Check : Text → Request
@@ -44,7 +45,7 @@ texts_of (Init file name key) = file ∷ name ∷ key ∷ []
 texts_of (Serve file port None is_forever log) = file ∷ port ∷ []
 texts_of (Serve file port (Some count) is_forever log) = file ∷ port ∷ count ∷ []
 texts_of Run = []
-texts_of (Import file member key id board kind) = file ∷ member ∷ key ∷ id ∷ board ∷ kind ∷ []
+texts_of (Import file member key id board kind is_all) = file ∷ member ∷ key ∷ id ∷ board ∷ kind ∷ []
 texts_of (View kind file member key board) = file ∷ member ∷ key ∷ board ∷ []
 texts_of (Check file) = file ∷ []
 
@@ -64,7 +65,7 @@ words_of (Serve file port count is_forever log) =
     codes "serve" ∷ file ∷ codes "--port" ∷ port ∷ (option_words (codes "--connections") count
     ++ (flag_words (codes "--forever") is_forever ++ flag_words (codes "--log") log))
 words_of Run = codes "run" ∷ []
-words_of (Import file member key id board kind) = codes "import" ∷ file ∷ member ∷ key ∷ id ∷ board ∷ kind ∷ []
+words_of (Import file member key id board kind is_all) = codes "import" ∷ file ∷ member ∷ key ∷ id ∷ board ∷ kind ∷ flag_words (codes "--all") is_all
 words_of (View kind file member key board) = word_of kind ∷ file ∷ member ∷ key ∷ board ∷ []
 words_of (Check file) = codes "check" ∷ file ∷ []
 
@@ -109,14 +110,19 @@ serve_of file port count is_forever log = do
   n ← or_bad (connections_in count is_forever)
   Ok (order.Serve (record { file = file; port = p; connections = n; page = None; log = log }))
 
-abbrev pub import_of : Text → Text → Text → Text → Text → Text → Result Order WordsFault
-import_of file member key id board kind = do
+-- an import by one call, or in as many parts as it takes
+abbrev pub importing : Bool → ImportOrder → Order
+importing true asked = order.ImportAll asked
+importing false asked = order.Import asked
+
+abbrev pub import_of : Text → Text → Text → Text → Text → Text → Bool → Result Order WordsFault
+import_of file member key id board kind is_all = do
   n ← or_bad (read_name member)
   k ← or_bad (read_key key)
   i ← or_bad (read_id id)
   b ← or_bad (board_in board)
   t ← or_bad (kind_in kind)
-  Ok (order.Import (record { file = file; member = n; key = k; id = i; board = b; kind = t }))
+  Ok (importing is_all (record { file = file; member = n; key = k; id = i; board = b; kind = t }))
 
 abbrev pub view_of : ViewKind → Text → Text → Text → Text → Result Order WordsFault
 view_of kind file member key board = do
@@ -130,6 +136,6 @@ abbrev pub order_of : Request → Result Order WordsFault
 order_of (Init file name key) = init_of file name key
 order_of (Serve file port count is_forever log) = serve_of file port count is_forever log
 order_of Run = Ok order.Run
-order_of (Import file member key id board kind) = import_of file member key id board kind
+order_of (Import file member key id board kind is_all) = import_of file member key id board kind is_all
 order_of (View kind file member key board) = view_of kind file member key board
 order_of (Check file) = Ok (order.Check file)

@@ -2,7 +2,7 @@
 use Rattle.std.specs.Prelude.{ℕ, suc, ◌+◌, ◌&&◌, Bool, false, List, [], ◌∷◌, ◌++◌, codes, take, drop, length, nat_lt, slice_get, Option, Some, None, Result, Ok, Err, if◌then◌else◌}
 use Rattle.std.specs.Str.{bytes_eq}
 use Rattle.tb_command_line.specs.declared.order.Order.{Order}
-use Rattle.tb_command_line.specs.declared.order.Order.TheVariants.{Init, Serve, Run, Import, View, Check, Send, Help, Version}
+use Rattle.tb_command_line.specs.declared.order.Order.TheVariants.{Init, Serve, Run, Import, ImportAll, View, Check, Send, Help, Version}
 use Rattle.tb_command_line.specs.declared.order.WordsFault.{WordsFault}
 use Rattle.tb_command_line.specs.Orders.{Text}
 
@@ -38,6 +38,7 @@ paged page (Serve order) = Serve (record order { page = Some page })
 paged page (Init order) = Init order
 paged page Run = Run
 paged page (Import order) = Import order
+paged page (ImportAll order) = ImportAll order
 paged page (View order) = View order
 paged page (Check file) = Check file
 paged page (Send order) = Send order

@@ -1,9 +1,11 @@
 -- The words of a sending, and those that ask for help.
-use Rattle.std.specs.Prelude.{ℕ, List, [], ◌∷◌, codes, drop, Option, Some, None, option_map, Result, Ok, Err, if◌then◌else◌}
+use Rattle.std.specs.Prelude.{◌==◌, ◌&&◌, ℕ, Bool, false, not, List, [], ◌∷◌, codes, drop, length, Option, Some, None, is_some, option_map, Result, Ok, Err, if◌then◌else◌}
+use Rattle.std.specs.List.{list_all}
 use Rattle.std.specs.Option.{unwrap_or}
+use Rattle.std.specs.Path.{rsplit_once}
 use Rattle.std.specs.Str.{bytes_eq}
 use Rattle.tb_values.specs.Outcome.{◌>>=◌}
-use Rattle.tb_board.specs.Names.{read_name, read_key}
+use Rattle.tb_board.specs.Names.{is_key_byte, read_name, read_key}
 use Rattle.tb_task.specs.TaskId.{read_id}
 use Rattle.tb_command_line.specs.declared.order.Order.{Order}
 use Rattle.tb_command_line.specs.declared.order.Order.TheVariants as order
@@ -12,10 +14,10 @@ use Rattle.tb_command_line.specs.declared.order.Topic.TheVariants as topic
 use Rattle.tb_command_line.specs.declared.order.WordsFault.{WordsFault}
 use Rattle.tb_command_line.specs.declared.order.WordsFault.TheVariants.{Bad}
 use Rattle.tb_values.specs.Numerals.{number_to}
-use Rattle.tb_command_line.specs.Orders.{Text}
+use Rattle.tb_command_line.specs.Orders.{Text, port_in}
 use Rattle.tb_command_line.specs.Outcome.{or_bad}
 
--- ---- `send [--id UUID] [--for SECONDS] SERVER MEMBER KEY WORD ARGUMENTS..`
+-- ---- `send [--id UUID] [--for SECONDS] ADDRESS:PORT MEMBER KEY WORD ARGUMENTS..`
 
 -- from 1 to 86400
 abbrev pub seconds_in : Text → Option ℕ
@@ -44,11 +46,28 @@ behind (Some value) words = drop 2 words
 abbrev pub key_in : Text → Option (Option (List ℕ))
 key_in text = if bytes_eq text (codes "-") then Some None else option_map Some (read_key text)
 
+-- an address of a byte at least, and a port from 1 to 65535
+abbrev pub are_address_and_port : Text → Text → Bool
+are_address_and_port address port = not (length address == 0) && is_some (port_in port)
+
+-- so is what stands before the last colon and behind it
+abbrev pub has_address_and_port : Option (Text × Text) → Bool
+has_address_and_port None = false
+has_address_and_port (Some parts) = are_address_and_port parts.0 parts.1
+
+-- visible characters of ASCII alone, split at the last colon
+unfoldable pub is_server : Text → Bool
+is_server text = list_all is_key_byte text && has_address_and_port (rsplit_once 58 text)
+
+abbrev pub server_in : Text → Option Text
+server_in text = if is_server text then Some text else None
+
 abbrev pub sent_with : Option ℕ → Option ℕ → List Text → Result Order WordsFault
 sent_with id seconds (server ∷ member ∷ key ∷ word ∷ arguments) = do
+  s ← or_bad (server_in server)
   n ← or_bad (read_name member)
   k ← or_bad (key_in key)
-  Ok (order.Send (record { server = server; member = n; key = k; id = id; seconds = unwrap_or seconds 60; words = word ∷ arguments }))
+  Ok (order.Send (record { server = s; member = n; key = k; id = id; seconds = unwrap_or seconds 60; words = word ∷ arguments }))
 sent_with id seconds [] = Err Bad
 sent_with id seconds (server ∷ []) = Err Bad
 sent_with id seconds (server ∷ member ∷ []) = Err Bad

@@ -7,6 +7,7 @@ mod order;
 mod page;
 mod reading;
 mod sending;
+mod server;
 mod telling;
 mod words;
 
@@ -14,4 +15,5 @@ pub use order::{
     Connections, ImportKind, ImportOrder, InitOrder, Order, SendOrder, ServeOrder, Topic, ViewKind,
     ViewOrder, WordsFault,
 };
+pub use server::is_server;
 pub use words::command_of;

@@ -16,6 +16,8 @@ pub enum Order {
     Serve(ServeOrder),
     Run,
     Import(ImportOrder),
+    /// The same of a text of any length, in as many parts as it takes.
+    ImportAll(ImportOrder),
     View(ViewOrder),
     /// Compares what the file stores with what its tasks say.
     Check(Text),

@@ -85,14 +85,19 @@ fn read_import(alloc: Global, found: &ArgMatches<'_>) -> Result<Order, WordsFaul
     let id = id_of(found)?;
     let board = board_of(found)?;
     let kind = kind_of(found)?;
-    Ok(Order::Import(ImportOrder {
+    let asked = ImportOrder {
         file,
         member,
         key,
         id,
         board,
         kind,
-    }))
+    };
+    if has_flag(found, "all") {
+        Ok(Order::ImportAll(asked))
+    } else {
+        Ok(Order::Import(asked))
+    }
 }
 
 fn read_view(alloc: Global, kind: ViewKind, found: &ArgMatches<'_>) -> Result<Order, WordsFault>

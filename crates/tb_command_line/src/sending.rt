@@ -1,11 +1,12 @@
 //! The order to send a call or a view: its words begin with options, and end with the words of a script, which begin with anything.
 ghost use Rattle.std.specs.Prelude.{◌≡◌, ◌∷◌, IfOk, Bool, List, codes, drop, false, map, option_map, true, ℕ, if◌then◌else◌};
 ghost use Rattle.tb_command_line.specs.Outcome.{Reads, or_bad};
-ghost use Rattle.tb_command_line.specs.Sending.{behind, key_in, option_in, option_value, seconds_in, send_of, sent_with};
+ghost use Rattle.tb_command_line.specs.Sending.{behind, key_in, option_in, option_value, seconds_in, send_of, sent_with, server_in};
 ghost use Rattle.tb_task.specs.TaskId.{read_id};
 ghost use Rattle.tb_board.specs.Names.{read_name};
 
 use crate::order::{Order, SendOrder, WordsFault};
+use crate::server::is_server;
 use std::alloc::{AllocError, Global};
 use tb_board::{Key, Name};
 use tb_task::TaskId;
@@ -88,16 +89,26 @@ fn read_sent(
     if script.is_empty() {
         return Err(WordsFault::Bad);
     }
+    let server = read_server(alloc, server)?;
     let member = read_member(alloc, member)?;
     let key = read_key_or_none(alloc, key)?;
     Ok(Order::Send(SendOrder {
-        server: Text::from_str(alloc, server)?,
+        server,
         member,
         key,
         id,
         seconds: seconds.unwrap_or(USUAL_SECONDS),
         words: texts_of(alloc, script)?,
     }))
+}
+
+fn read_server(alloc: Global, text: &str) -> Result<Text, WordsFault>
+    ensures { Reads result (or_bad (server_in text.now)) }
+{
+    if !is_server(text) {
+        return Err(WordsFault::Bad);
+    }
+    Ok(Text::from_str(alloc, text)?)
 }
 
 fn read_member(alloc: Global, text: &str) -> Result<Name, WordsFault>

@@ -3,7 +3,7 @@ ghost use Rattle.std.specs.Prelude.{◌≡◌, ◌∷◌, IfOk, Bool, List, None
 ghost use Rattle.std.specs.List.{list_all};
 ghost use Rattle.clap.specs.Simple.{app_of, new_app};
 ghost use Rattle.clap.specs.Walk.{rule_of};
-ghost use Rattle.tb_command_line.specs.Grammar.{IsShaped, bare, check_app, counted_serve_app, file_app, flag_rule, import_app, init_app, input_app, member_app, needed, option_rule, program_app, serve_app, view_app};
+ghost use Rattle.tb_command_line.specs.Grammar.{IsShaped, bare, check_app, counted_serve_app, file_app, flag_rule, import_app, init_app, input_app, member_app, needed, one_import_app, option_rule, program_app, serve_app, view_app};
 ghost use Rattle.tb_command_line.specs.Orders.{Request, is_plain, order_of, texts_of, words_of};
 ghost use Rattle.tb_command_line.specs.Outcome.{Reads};
 ghost use Rattle.tb_command_line.specs.Pages.{page_in, with_page, without_page};
@@ -146,9 +146,16 @@ fn member<'a>(alloc: Global, name: &'a str) -> Result<Command<'a>, AllocError>
         .arg(positional(alloc, "key"))
 }
 
-/// `import FILE MEMBER KEY ID BOARD KIND`.
+/// `import FILE MEMBER KEY ID BOARD KIND [--all]`.
 fn import<'a>(alloc: Global) -> Result<Command<'a>, AllocError>
     ensures { IfOk result (IsShaped import_app) }
+{
+    one_import(alloc)?.arg(flag(alloc, "all"))
+}
+
+/// `import FILE MEMBER KEY ID BOARD KIND`.
+fn one_import<'a>(alloc: Global) -> Result<Command<'a>, AllocError>
+    ensures { IfOk result (IsShaped one_import_app) }
 {
     member(alloc, "import")?
         .arg(positional(alloc, "id"))?

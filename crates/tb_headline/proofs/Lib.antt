@@ -3,6 +3,7 @@ mod Lives
 mod Left
 mod Came
 mod Played
+mod Refused
 mod Replies
 mod InTurn
 mod Texts

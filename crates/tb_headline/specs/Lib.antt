@@ -1,4 +1,5 @@
 pub mod Connections
 pub mod Headline
 pub mod ImportAgain
+pub mod Refusals
 pub mod Sessions

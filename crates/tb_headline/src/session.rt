@@ -1,12 +1,14 @@
 //! A session over a file: it begins with an empty database or with a store that stands, and handles
 //! calls, or serves connections, until it stops.
-ghost use Rattle.std.specs.Prelude.{◌≡◌, ◌≢◌, false, length, take, true, IfErr, IfOk, IsErr, None, OnErr, OnOk, Some};
+ghost use Rattle.std.specs.Prelude.{◌≡◌, ◌≢◌, false, length, take, true, IfErr, IfOk, IsErr, MatchResult, None, Ok, OnErr, OnOk, Some};
 ghost use Rattle.sqlite.specs.Held.{state};
 ghost use Rattle.sqlite.specs.State.{HasCleanDisk, Opens};
 ghost use Rattle.tb_calls.specs.declared.fault.KeepFault.TheVariants.{Store};
 ghost use Rattle.tb_calls.specs.Calls.{State, once, plain};
 ghost use Rattle.tb_calls.specs.Opening.{opening};
+ghost use Rattle.tb_headline.specs.Refusals.{IsFilled, IsRefused, IsUnmade, Says};
 ghost use Rattle.tb_headline.specs.Sessions.{IsAt, IsCut, IsPlayed, IsSession, WhileHonest};
+ghost use Rattle.tb_sql.specs.Opening.{is_ours, IsAsBefore};
 ghost use Rattle.tb_stored.specs.Stored.{AreTreesOf};
 ghost use Rattle.tb_peers.specs.Happening.{done_at, talk_at};
 
@@ -32,10 +34,14 @@ pub fn make<S: Alter>(
     ensures begun { IfOk result (λ desk. Opens (state S.Store conn)
         → IsAt (opening name.now key.now) (⟦<SqlKeep<S> as Keep>⟧.holds desk)
         (⟦<SqlKeep<S> as Keep>⟧.after_stop desk)) }
+    ensures filled { IsFilled (state S.Store conn)
+        → MatchResult result (λ desk. ⊥) (λ e. (e.0 ≡ conn) × (e.1 ≡ CreateFault.NotEmpty)) }
+    ensures unmade { IfErr result (λ e. IsUnmade S.Store (opening name.now key.now) conn e.0 e.1) }
+    ensures idle { IfErr result (λ e. e.0.in_transaction ≡ false) }
 {
     match SqlKeep::create(alloc, conn, name, key) {
         Ok(keep) => Ok(Desk::new(keep)),
-        Err(refused) => Err(refused),
+        Err(unmade) => Err(unmade),
     }
 }
 
@@ -48,6 +54,12 @@ pub fn resume<S: Alter>(
     ensures begun { IfOk result (λ desk. Opens (state S.Store conn)
         → (s : State) → AreTreesOf s (state S.Store conn).now.trees
         → IsAt s (⟦<SqlKeep<S> as Keep>⟧.holds desk) (⟦<SqlKeep<S> as Keep>⟧.after_stop desk)) }
+    ensures ours { IfOk result (λ desk. is_ours (state S.Store conn).now.schema ≡ true) }
+    ensures said { IfOk result (λ desk. WhileHonest (state S.Store desk.conn)
+        (Says S.Store conn (Ok tt))) }
+    ensures refused { IfErr result (λ e. IsRefused S.Store conn (state S.Store e.0) e.1) }
+    ensures same { IfErr result (λ e. IsAsBefore (state S.Store conn) (state S.Store e.0)) }
+    ensures idle { IfErr result (λ e. e.0.in_transaction ≡ false) }
 {
     match SqlKeep::open(alloc, conn) {
         Ok(keep) => Ok(Desk::new(keep)),

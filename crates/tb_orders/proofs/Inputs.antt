@@ -24,7 +24,7 @@ is_call_or_not (Ok (asked.View sender view)) = inr (λ call is. absurd (cc))
 is_call_or_not (Ok asked.Unknown) = inr (λ call is. absurd (cc))
 is_call_or_not (Err rejection) = inr (λ call is. absurd (cc))
 
-asks_or_not : (m : Message) (at : ℕ) → ((call : Call) × AsksFor m at call) ⊎ ((call : Call) → AsksFor m at call → ⊥)
+pub asks_or_not : (m : Message) (at : ℕ) → ((call : Call) × AsksFor m at call) ⊎ ((call : Call) → AsksFor m at call → ⊥)
 asks_or_not m at = is_call_or_not (asked_of m at)
 
 -- an accepted import made the call that was asked for

@@ -1,2 +1,4 @@
 pub mod Inputs
+pub mod Items
+pub mod Runs
 pub mod Standing

@@ -47,6 +47,7 @@ pub fn import_text<K: Keep, W: Write>(
         → ((result ≡ Err BadBody) ⊎ (result ≡ Err Memory)) × (desk.new ≡ desk.old) × (writer.new ≡ writer.old) }
     ensures unread { IsErrOf result BadBody → (call : Call) → AsksFor message.now at call → ⊥ }
     ensures same { IsErrOf result BadBody → desk.new ≡ desk.old }
+    ensures honest { K.is_honest desk.new ≡ true → K.is_honest desk.old ≡ true }
     ensures fault { IfErr result (λ fault. is_of_imports fault ≡ true) }
     ensures store { IsErrOf result Store → K.has_failed desk.new ≡ true }
 {
@@ -75,6 +76,7 @@ fn make_call<K: Keep, W: Write>(
     ensures written { (s : State) → K.holds desk.old s → IsErrOf result WriteFailed → K.holds desk.new (plain s (once s (call.now ∷ []))) }
     ensures stands { (s : State) → K.holds desk.old s → Only s (K.after_stop desk.old)
         → StandsAfter s (call.now ∷ []) (calls_made result) (K.holds desk.new) (K.after_stop desk.new) }
+    ensures honest { K.is_honest desk.new ≡ true → K.is_honest desk.old ≡ true }
     ensures fault { IfErr result (λ fault. is_of_answers fault ≡ true) }
     ensures store { IsErrOf result Store → K.has_failed desk.new ≡ true }
 {

@@ -4,6 +4,7 @@ ghost use Rattle.tb_calls.specs.Calls.{State};
 ghost use Rattle.tb_calls.specs.Keeping.{Only, StandsAfter};
 ghost use Rattle.tb_calls.specs.declared.call.Call.{Call};
 ghost use Rattle.tb_orders.specs.Inputs.{AreAskedBy, IsMade};
+ghost use Rattle.tb_orders.specs.Items.{IsBadIn, end_of};
 ghost use Rattle.tb_orders.specs.Messages.{message_of};
 ghost use Rattle.tb_orders.specs.Orders.{calls_made};
 ghost use Rattle.tb_orders.specs.Telling.{is_of_inputs, is_of_messages};
@@ -12,6 +13,7 @@ ghost use Rattle.tb_program.specs.declared.fault.Fault.TheVariants.{Memory, Stor
 use crate::ending::Ending;
 use crate::importing::import_text;
 use crate::message::import_message;
+use crate::order_fault::{OrderFault, with_item};
 use std::alloc::Global;
 use std::io::{Read, Write};
 use std::time::Clock;
@@ -37,19 +39,23 @@ pub fn import_input<K: Keep, R: Read + Drop, W: Write>(
     reader: R,
     clock: &impl Clock,
     writer: &mut W,
-) -> Result<Ending, Fault>
-    ensures made { (s : State) → K.holds desk.old s → IfOk result (IsMade order.now (R.remaining reader) s
+) -> Result<Ending, OrderFault>
+    ensures made { (s : State) → K.holds desk.old s → IfOk (end_of result) (IsMade order.now (R.remaining reader) s
         (K.is_honest desk.new) (K.holds desk.new) (W.contents writer.old) (W.contents writer.new)) }
-    ensures memory { (s : State) → K.holds desk.old s → IsErrOf result Memory → K.holds desk.new s }
+    ensures memory { (s : State) → K.holds desk.old s → IsErrOf (end_of result) Memory → K.holds desk.new s }
     ensures stands { (s : State) → K.holds desk.old s → Only s (K.after_stop desk.old)
         → (calls : List Call) × AreAskedBy order.now (R.remaining reader) calls
-        × StandsAfter s calls (calls_made result) (K.holds desk.new) (K.after_stop desk.new) }
-    ensures fault { IfErr result (λ fault. is_of_inputs fault ≡ true) }
-    ensures store { IsErrOf result Store → K.has_failed desk.new ≡ true }
+        × StandsAfter s calls (calls_made (end_of result)) (K.holds desk.new) (K.after_stop desk.new) }
+    ensures item { IfErr result (λ failed. IfSome failed.item (IsBadIn order.now (R.remaining reader))) }
+    ensures fault { IfErr (end_of result) (λ fault. is_of_inputs fault ≡ true) }
+    ensures store { IsErrOf (end_of result) Store → K.has_failed desk.new ≡ true }
 {
     match read_message(alloc, order, reader, clock) {
-        Ok(arrived) => import_text(alloc, desk, &arrived.message, arrived.at, writer),
-        Err(fault) => Err(fault),
+        Ok(arrived) => {
+            let end = import_text(alloc, desk, &arrived.message, arrived.at, writer);
+            with_item(alloc, end, &arrived.message, arrived.at, 1)
+        }
+        Err(fault) => Err(OrderFault { fault, item: None }),
     }
 }
 

@@ -1,11 +1,12 @@
 //! The message of an import.
 ghost use Rattle.std.specs.Prelude.{◌≡◌, IfOk};
-ghost use Rattle.tb_orders.specs.Messages.{field, fields_of, message_of, target_of};
+ghost use Rattle.tb_orders.specs.Messages.{field, fields_under, message_of, message_under, target_of};
 
 use http::Method;
 use std::alloc::{AllocError, Global};
 use tb_command_line::{ImportKind, ImportOrder};
 use tb_http::{Field, Message};
+use tb_task::TaskId;
 use tb_values::{Items, Text};
 
 /// The message by which the same import comes over HTTP.
@@ -16,8 +17,20 @@ pub fn import_message(
 ) -> Result<Message, AllocError>
     ensures { IfOk result (λ message. message ≡ message_of order.now text) }
 {
+    message_under(alloc, order, order.id, text)
+}
+
+/// The same message, but under another identifier.
+pub(crate) fn message_under(
+    alloc: Global,
+    order: &ImportOrder,
+    id: TaskId,
+    text: Items<u8>,
+) -> Result<Message, AllocError>
+    ensures { IfOk result (λ message. message ≡ message_under order.now id text) }
+{
     let target = target_of(alloc, order)?;
-    let fields = fields_of(alloc, order)?;
+    let fields = fields_under(alloc, order, id)?;
     Ok(Message {
         method: Method::POST,
         target,
@@ -38,12 +51,12 @@ fn target_of(alloc: Global, order: &ImportOrder) -> Result<Text, AllocError>
     Ok(Text::from_string(target))
 }
 
-fn fields_of(alloc: Global, order: &ImportOrder) -> Result<Items<Field>, AllocError>
-    ensures { IfOk result (λ fields. fields ≡ fields_of order.now) }
+fn fields_under(alloc: Global, order: &ImportOrder, id: TaskId) -> Result<Items<Field>, AllocError>
+    ensures { IfOk result (λ fields. fields ≡ fields_under order.now id) }
 {
     let member = field(alloc, "x-member", order.member.as_str().as_bytes())?;
     let key = field(alloc, "x-key", order.key.as_str().as_bytes())?;
-    let id = field(alloc, "x-request-id", &order.id.write())?;
+    let id = field(alloc, "x-request-id", &id.write())?;
     let mut fields = Vec::new(alloc);
     fields.push(member)?;
     fields.push(key)?;

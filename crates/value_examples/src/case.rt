@@ -3,8 +3,8 @@
 use crate::given::halves;
 use crate::told::{Told, say};
 use crate::{
-    boards, caches, changes, graphs, identifiers, imports, json, lists, machine, messages, moments,
-    orders, outcomes, recurrences, rows, scripts, statuses, tasks, texts, todo_lines,
+    boards, caches, changes, clients, graphs, identifiers, imports, json, lists, machine, messages,
+    moments, orders, outcomes, recurrences, rows, scripts, statuses, tasks, texts, todo_lines,
 };
 use std::alloc::Global;
 use std::io;
@@ -61,6 +61,7 @@ fn answer(alloc: Global, word: &str, given: &str) -> Told {
         .or_else(|| scripts::answer(alloc, word, given))
         .or_else(|| machine::answer(alloc, word, given))
         .or_else(|| orders::answer(alloc, word, given))
+        .or_else(|| clients::answer(alloc, word, given))
         .or_else(|| outcomes::answer(alloc, word, given))
         .unwrap_or_else(|| Ok(format!(in alloc; "no such word: {word}")?))
 }

@@ -41,7 +41,7 @@ pub(crate) fn ordered_of(alloc: Global, words: &str) -> Result<Ordered<Text>, Al
 }
 
 /// How many items there are, and each of them.
-fn words_of(alloc: Global, items: &[Text]) -> Told {
+pub(crate) fn words_of(alloc: Global, items: &[Text]) -> Told {
     let mut told = format!(in alloc; "{}", items.len())?;
     for item in items {
         told.push(' ')?;

@@ -7,6 +7,7 @@ mod boards;
 mod caches;
 mod case;
 mod changes;
+mod clients;
 mod ends;
 mod given;
 mod graphs;

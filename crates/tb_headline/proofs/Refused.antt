@@ -1,0 +1,82 @@
+-- Why no session begins over a database: what the making and the opening of a store tell is handed on.
+use Rattle.std.proofs.Common.{◌≡◌, ◌&&◌, Bool, true, false, List, [], ◌∷◌, Result, Err, inl, inr, refl}
+use Rattle.std.specs.Prelude.{◌⊎◌}
+use Rattle.sqlite.specs.Held.{Held, state}
+use Rattle.sqlite.specs.State.{HasCleanDisk, Opens, State as Database}
+use Rattle.sqlite_schema.specs.declared.schema.Schema.{Schema}
+use Rattle.sqlite_schema.specs.declared.schema.Table.{Table}
+use Rattle.sqlite_trees.specs.declared.store.Store.{Ghosts}
+use Rattle.tb_calls.specs.Calls.{State}
+use Rattle.tb_keeper.specs.declared.creating.CreateFault.{CreateFault}
+use Rattle.tb_keeper.specs.declared.creating.CreateFault.TheVariants.{NotEmpty, Store as MakingFailed, Memory as MakingMemory}
+use Rattle.tb_sql.specs.declared.opening.OpenFault.{OpenFault}
+use Rattle.tb_sql.specs.declared.opening.OpenFault.TheVariants.{NotOurs, WrongVersion, Store, Memory}
+use Rattle.tb_sql.specs.Opening.{IsAnswered, are_ours, has_meta, is_meta, is_ours}
+use Rattle.tb_sql_tables.specs.Content.{AreRows, Content, StandsEmpty}
+use Rattle.tb_sql_tables.specs.Failing.{FailsByFault}
+use Rattle.tb_stored.specs.Stored.{IsEmptyOrStored}
+use Rattle.tb_headline.specs.Refusals.{HasMeta, IsFilled, IsRefused, IsUnmade, Says}
+
+-- ---- the first table
+
+first_true : (p q : Bool) → (p && q) ≡ true → p ≡ true
+first_true true q is = refl
+first_true false q is = is
+
+first_of : (tables : List Table) → are_ours tables ≡ true → has_meta tables ≡ true
+first_of [] is = is
+first_of (table ∷ tables) is = first_true (is_meta table) _ is
+
+-- it is among the tables of a store
+pub ours_meta : (schema : Schema) → is_ours schema ≡ true → has_meta schema.tables ≡ true
+ours_meta schema is = first_of schema.tables (first_true (are_ours schema.tables) _ is)
+
+-- only what isn't ours may lack it
+marked : (b : Bool) (fault : OpenFault) → (b ≡ false → fault ≡ NotOurs) → (fault ≡ NotOurs → ⊥) → b ≡ true
+marked true fault unmarked other = refl
+marked false fault unmarked other = absurd (other (unmarked refl))
+
+-- ---- what is told
+
+-- a database that is told to be no store of this version
+abbrev IsForeign : OpenFault → Type 0
+IsForeign fault = (fault ≡ NotOurs) ⊎ (fault ≡ WrongVersion)
+
+module _ {S : Type 0} (g : Ghosts S) (conn : Held S) where
+  -- an answer that tells of no failure is what the tables and the rows say
+  pub said : (answer : Result (Unit {0}) OpenFault) → (answer ≡ Err Store → ⊥) → (answer ≡ Err Memory → ⊥) → IsAnswered g conn answer → Says g conn answer
+  said answer held room (inl found) = record { rows = found.0; shown = found.1; is = found.2 }
+  said answer held room (inr (inl is)) = absurd (held is)
+  said answer held room (inr (inr is)) = absurd (room is)
+
+  pub refused : (new : Database) (fault : OpenFault)
+      → (IsForeign fault → HasCleanDisk new → Opens (state g conn) → (content : Content) → AreRows content (state g conn).now.trees → ⊥)
+      → (has_meta (state g conn).now.schema.tables ≡ false → fault ≡ NotOurs)
+      → (IsForeign fault → HasCleanDisk new → HasMeta g conn → IsAnswered g conn (Err fault))
+      → (fault ≡ Store → Opens (state g conn) → FailsByFault (state g conn) new (λ content. AreRows content (state g conn).now.trees))
+      → IsRefused g conn new fault
+  refused new NotOurs foreign unmarked shown excused = λ clean. (
+    λ opens s rows. foreign (inl refl) clean opens rows.content rows.stored,
+    λ meta. said (Err NotOurs) (λ is. absurd (cc)) (λ is. absurd (cc)) (shown (inl refl) clean meta),
+  )
+  refused new WrongVersion foreign unmarked shown excused =
+      let meta = marked (has_meta (state g conn).now.schema.tables) WrongVersion unmarked (λ is. absurd (cc)) in (
+        meta,
+        λ clean. (
+          λ opens s rows. foreign (inr refl) clean opens rows.content rows.stored,
+          said (Err WrongVersion) (λ is. absurd (cc)) (λ is. absurd (cc)) (shown (inr refl) clean meta),
+        ),
+      )
+  refused new Store foreign unmarked shown excused = (
+    marked (has_meta (state g conn).now.schema.tables) Store unmarked (λ is. absurd (cc)),
+    λ clean opens ready s rows. excused refl opens clean ready rows.content rows.stored,
+  )
+  refused new Memory foreign unmarked shown excused = marked (has_meta (state g conn).now.schema.tables) Memory unmarked (λ is. absurd (cc))
+
+  -- what is left where no store is made
+  pub unmade : (first : State) (left : Held S) (fault : CreateFault) → (fault ≡ NotEmpty → (left ≡ conn) × IsFilled (state g conn))
+      → (fault ≡ MakingMemory → Opens (state g conn) → StandsEmpty (state g left))
+      → (fault ≡ MakingFailed → Opens (state g conn) → IsEmptyOrStored first (state g left)) → IsUnmade g first conn left fault
+  unmade first left NotEmpty taken memory store = taken refl
+  unmade first left MakingFailed taken memory store = store refl
+  unmade first left MakingMemory taken memory store = memory refl

@@ -1,0 +1,233 @@
+-- Runs of parts, by what the import of each promises.
+use Rattle.std.proofs.Common.{◌≡◌, ◌≢◌, ◌⊎◌, ◌∙◌, ◌+◌, ◌==◌, ℕ, zero, suc, Bool, true, false, if◌then◌else◌, List, [], ◌∷◌, ◌++◌, length, take, Option, Some, None, IfOk, IfSome, OnOk, Result, Ok, Err, ap, append_assoc, arith, inl, inr, refl, subst, sym}
+use Rattle.std.proofs.lemmas.List.{append-nil}
+use Rattle.std.specs.Io.KnownBytes.{Appends}
+use Rattle.tb_calls.specs.Calls.{State, replies_after, replies_to, reply, told_in}
+use Rattle.tb_calls.specs.Keeping.{IsAfterSome, Only, StandsAfter}
+use Rattle.tb_calls.specs.declared.call.Call.{Call}
+use Rattle.tb_command_line.specs.declared.order.ImportOrder.{ImportOrder}
+use Rattle.tb_desk.proofs.Runs.{after_all, after_all-append}
+use Rattle.tb_http.specs.declared.message.Message.{Message}
+use Rattle.tb_orders.proofs.Inputs.{asks_or_not, none_made}
+use Rattle.tb_orders.specs.Orders.{AsksFor, calls_made, ending_of, line_text}
+use Rattle.tb_orders.specs.Running.{AreFirst, IsRun, IsRunOf, ends_as, is_refused, lines_text, messages_behind, part_message}
+use Rattle.tb_orders.specs.declared.ending.Ending.{Ending}
+use Rattle.tb_orders.specs.declared.ending.Ending.TheVariants.{Accepted, Refused}
+use Rattle.tb_program.specs.declared.fault.Fault.{Fault}
+use Rattle.tb_program.specs.declared.fault.Fault.TheVariants.{BadBody, Memory}
+use Rattle.tb_reply.specs.declared.reply.Reply.{Reply}
+use Rattle.tb_values.proofs.Appends.{Appends-nil, Appends-then}
+
+-- ---- replies and states after a first call
+
+replies-on : (s : State) (xs ys cs : List Call) → replies_after s (xs ++ ys) cs ≡ replies_after (after_all s xs) ys cs
+replies-on s xs ys [] = refl
+replies-on s xs ys (c ∷ cs) =
+    ap (λ t. told_in t c ∷ replies_after s ((xs ++ ys) ++ c ∷ []) cs) (after_all-append s xs ys)
+    ∙ ap (λ b. told_in (after_all (after_all s xs) ys) c ∷ replies_after s b cs) (append_assoc xs ys (c ∷ []))
+    ∙ ap (λ rs. told_in (after_all (after_all s xs) ys) c ∷ rs) (replies-on s xs (ys ++ c ∷ []) cs)
+
+replies_more : (s : State) (c : Call) (cs : List Call) → replies_to s (c ∷ cs) ≡ reply s [] c ∷ replies_to (after_all s (c ∷ [])) cs
+replies_more s c cs = ap (λ rs. reply s [] c ∷ rs) (replies-on s (c ∷ []) [] cs)
+
+stands_behind : (s : State) (c : Call) (cs : List Call) (n : ℕ) (now stops : State → Type 0)
+    → StandsAfter (after_all s (c ∷ [])) cs n now stops → StandsAfter s (c ∷ cs) (n + 1) now stops
+stands_behind s c cs n now stops stood =
+    record { held = (stood.held.0, stood.held.1, moved stood.held.0 stood.held.2); stops = λ t left. moved t (stood.stops t left) }
+  where
+    moved : (u : State) → IsAfterSome (after_all s (c ∷ [])) cs n u → IsAfterSome s (c ∷ cs) (n + 1) u
+    moved u (j, low, high, same) = (suc j, omega arith, omega arith, same ∙ sym (after_all-append s (c ∷ []) (take j cs)))
+
+-- an answered call has one state behind it
+answered_once : (s : State) (c : Call) (t : State) → IsAfterSome s (c ∷ []) 1 t → t ≡ after_all s (c ∷ [])
+answered_once s c t (zero, low, high, same) = absurd (omega arith)
+answered_once s c t (suc zero, low, high, same) = same
+answered_once s c t (suc (suc j), low, high, same) = same
+
+-- ---- what is told
+
+told_more : (r : Result Ending Fault) (a b c : Option (List ℕ)) (xs ys : List ℕ) → Appends a b xs → OnOk r (Appends b c ys) → OnOk r (Appends a c (xs ++ ys))
+told_more (Ok ending) a b c xs ys first rest = Appends-then a b c xs ys first rest
+told_more (Err fault) a b c xs ys first rest = tt
+
+is_then : (b : Bool) → (if b then true else false) ≡ true → b ≡ true
+is_then true is = refl
+is_then false is = is
+
+ends_more : (r : Result Ending Fault) (x : Reply) (rs : List Reply) → ends_as (x ∷ []) Accepted ≡ true
+    → IfOk r (λ ending. ends_as rs ending ≡ true) → IfOk r (λ ending. ends_as (x ∷ rs) ending ≡ true)
+ends_more (Ok ending) x rs first rest = rw (is_then (x.number == 0) first) rest
+ends_more (Err fault) x rs first rest = tt
+
+ends_at : (b : Bool) → (if b then ends_as [] (if b then Accepted else Refused) else is_refused [] (if b then Accepted else Refused)) ≡ true
+ends_at true = refl
+ends_at false = refl
+
+ends_one : (r : Result Ending Fault) (x : Reply) → IfOk r (λ ending. ending ≡ ending_of x) → IfOk r (λ ending. ends_as (x ∷ []) ending ≡ true)
+ends_one (Ok ending) x is = subst (λ e. ends_as (x ∷ []) e ≡ true) (sym is) (ends_at (x.number == 0))
+ends_one (Err fault) x is = tt
+
+done_one : (r : Result Ending Fault) → OnOk r (calls_made r ≡ 1)
+done_one (Ok ending) = refl
+done_one (Err fault) = tt
+
+done_more : (r : Result Ending Fault) (n m : ℕ) → OnOk r (n ≡ m) → OnOk r (n + 1 ≡ suc m)
+done_more (Ok ending) n m is = omega (arith, is)
+done_more (Err fault) n m is = tt
+
+-- ---- runs
+
+-- of no call
+pub none_run : (messages : List Message) (at : ℕ) (s : State) (fault : Fault) (honest : Bool) (now stops : State → Type 0) (before after : Option (List ℕ))
+    → now s → Only s stops → IsRun messages at s (Err fault) honest now stops before after
+none_run messages at s fault honest now stops before after held only = record {
+  calls = [];
+  answered = 0;
+  asked = tt;
+  stands = none_made s now stops held only;
+  done = tt;
+  all = λ e. absurd (cc);
+  told = λ so. tt;
+  ends = λ so. tt;
+}
+
+-- of no message
+pub end_run : (order : ImportOrder) (n : ℕ) (parts : List (List ℕ)) (at : ℕ) (s : State) (honest : Bool) (now stops : State → Type 0) (before : Option (List ℕ))
+    → length parts ≡ 0 → now s → Only s stops → IsRun (messages_behind order n parts) at s (Ok Accepted) honest now stops before before
+end_run order n [] at s honest now stops before none held only = record {
+  calls = [];
+  answered = 0;
+  asked = tt;
+  stands = none_made s now stops held only;
+  done = refl;
+  all = λ e. refl;
+  told = λ so. Appends-nil before;
+  ends = λ so. refl;
+}
+end_run order n (part ∷ parts) at s honest now stops before none held only = absurd (omega arith)
+
+-- of one message
+pub one_run : {D : Type 0} (r : Result Ending Fault) (m : Message) (at : ℕ) (s : State) (honest : Bool) (holds stops : D → State → Type 0) (old new : D)
+    (before after : Option (List ℕ))
+    → (honest ≡ true → (call : Call) → AsksFor m at call → OnOk r (Appends before after (line_text (reply s [] call))))
+    → (honest ≡ true → (call : Call) → AsksFor m at call → IfOk r (λ ending. ending ≡ ending_of (reply s [] call)))
+    → ((call : Call) → AsksFor m at call → StandsAfter s (call ∷ []) (calls_made r) (holds new) (stops new))
+    → (((call : Call) → AsksFor m at call → ⊥) → ((r ≡ Err BadBody) ⊎ (r ≡ Err Memory)) × (new ≡ old))
+    → holds old s → Only s (stops old) → IsRun (m ∷ []) at s r honest (holds new) (stops new) before after
+one_run r m at s honest holds stops old new before after told ends stands unasked held only =
+    elim (asks_or_not m at) [
+      | inl made ↦ record {
+        calls = made.0 ∷ [];
+        answered = calls_made r;
+        asked = (made.1, tt);
+        stands = stands made.0 made.1;
+        done = done_one r;
+        all = λ e. refl;
+        told = λ so. subst (λ text. OnOk r (Appends before after text)) (sym (append-nil (line_text (reply s [] made.0)))) (told so made.0 made.1);
+        ends = λ so. ends_one r (reply s [] made.0) (ends so made.0 made.1);
+      }
+      | inr none ↦ unmade (unasked none)
+    ]
+  where
+    at_fault : (fault : Fault) → r ≡ Err fault → new ≡ old → IsRun (m ∷ []) at s r honest (holds new) (stops new) before after
+    at_fault fault is same =
+        subst (λ x. IsRun (m ∷ []) at s x honest (holds new) (stops new) before after) (sym is)
+        (subst (λ d. IsRun (m ∷ []) at s (Err fault) honest (holds d) (stops d) before after) (sym same)
+        (none_run (m ∷ []) at s fault honest (holds old) (stops old) before after held only))
+
+    unmade : ((r ≡ Err BadBody) ⊎ (r ≡ Err Memory)) × (new ≡ old) → IsRun (m ∷ []) at s r honest (holds new) (stops new) before after
+    unmade why = elim why.0 [ inl is ↦ at_fault BadBody is why.1 | inr is ↦ at_fault Memory is why.1 ]
+
+first_of_more : (m : Message) (ms : List Message) (at : ℕ) (calls : List Call) → AreFirst (m ∷ []) at calls → AreFirst (m ∷ ms) at calls
+first_of_more m ms at [] asked = tt
+first_of_more m ms at (c ∷ []) asked = (asked.0, tt)
+first_of_more m ms at (c ∷ d ∷ cs) asked = absurd asked.1
+
+-- one that ended before the others
+pub cut_run : (m : Message) (ms : List Message) (at : ℕ) (s : State) (r : Result Ending Fault) (honest : Bool) (now stops : State → Type 0) (before after : Option (List ℕ))
+    → r ≢ Ok Accepted → IsRun (m ∷ []) at s r honest now stops before after → IsRun (m ∷ ms) at s r honest now stops before after
+cut_run m ms at s r honest now stops before after apart run = record {
+  calls = run.calls;
+  answered = run.answered;
+  asked = first_of_more m ms at run.calls run.asked;
+  stands = run.stands;
+  done = run.done;
+  all = λ e. absurd (apart e);
+  told = run.told;
+  ends = run.ends;
+}
+
+-- one, and then others
+pub then_run : (m : Message) (ms : List Message) (at : ℕ) (s : State) (r : Result Ending Fault) (first last : Bool)
+    (mid mid_stops now stops : State → Type 0) (a b c : Option (List ℕ)) → (last ≡ true → first ≡ true)
+    → IsRun (m ∷ []) at s (Ok Accepted) first mid mid_stops a b
+    → ((t : State) → mid t → Only t mid_stops → IsRun ms at t r last now stops b c)
+    → IsRun (m ∷ ms) at s r last now stops a c
+then_run m ms at s r first last mid mid_stops now stops a b c honest run next =
+    by run.calls run.asked (subst (λ n. StandsAfter s run.calls n mid mid_stops) run.done run.stands) (run.all refl) run.told run.ends
+  where
+    by : (calls : List Call) → AreFirst (m ∷ []) at calls → StandsAfter s calls (length calls) mid mid_stops → length calls ≡ 1
+        → (first ≡ true → Appends a b (lines_text (replies_to s calls))) → (first ≡ true → ends_as (replies_to s calls) Accepted ≡ true)
+        → IsRun (m ∷ ms) at s r last now stops a c
+    by [] asked stood one told ends = absurd (omega arith)
+    by (x ∷ y ∷ calls) asked stood one told ends = absurd asked.1
+    by (x ∷ []) asked stood one told ends =
+        let t = after_all s (x ∷ []) in
+        let held = subst mid (answered_once s x stood.held.0 stood.held.2) stood.held.1 in
+        let rest = next t held (λ u left. answered_once s x u (stood.stops u left)) in
+        record {
+          calls = x ∷ rest.calls;
+          answered = rest.answered + 1;
+          asked = (asked.0, rest.asked);
+          stands = stands_behind s x rest.calls rest.answered now stops rest.stands;
+          done = done_more r rest.answered (length rest.calls) rest.done;
+          all = λ e. ap suc (rest.all e);
+          told = λ so.
+              subst (λ rs. OnOk r (Appends a c (lines_text rs))) (sym (replies_more s x rest.calls))
+              (told_more r a b c (line_text (reply s [] x)) (lines_text (replies_to t rest.calls))
+              (subst (Appends a b) (append-nil (line_text (reply s [] x))) (told (honest so))) (rest.told so));
+          ends = λ so.
+              subst (λ rs. IfOk r (λ ending. ends_as rs ending ≡ true)) (sym (replies_more s x rest.calls))
+              (ends_more r (reply s [] x) (replies_to t rest.calls) (ends (honest so)) (rest.ends so));
+        }
+
+-- ---- of parts
+
+pub cut_parts : (order : ImportOrder) (n : ℕ) (parts : List (List ℕ)) (part : List ℕ) (rest : List (List ℕ)) (at : ℕ) (s : State) (r : Result Ending Fault)
+    (honest : Bool) (now stops : State → Type 0) (before after : Option (List ℕ)) → parts ≡ part ∷ rest → r ≢ Ok Accepted
+    → IsRun (part_message order (n + 1) part ∷ []) at s r honest now stops before after → IsRun (messages_behind order n parts) at s r honest now stops before after
+cut_parts order n parts part rest at s r honest now stops before after is apart run =
+    subst (λ ps. IsRun (messages_behind order n ps) at s r honest now stops before after) (sym is)
+    (cut_run (part_message order (n + 1) part) (messages_behind order (n + 1) rest) at s r honest now stops before after apart run)
+
+pub then_parts : (order : ImportOrder) (n : ℕ) (parts : List (List ℕ)) (part : List ℕ) (rest : List (List ℕ)) (at : ℕ) (s : State) (r : Result Ending Fault)
+    (first last : Bool) (mid mid_stops now stops : State → Type 0) (a b c : Option (List ℕ)) → parts ≡ part ∷ rest → (last ≡ true → first ≡ true)
+    → IsRun (part_message order (n + 1) part ∷ []) at s (Ok Accepted) first mid mid_stops a b
+    → ((t : State) → mid t → Only t mid_stops → IsRun (messages_behind order (n + 1) rest) at t r last now stops b c)
+    → IsRun (messages_behind order n parts) at s r last now stops a c
+then_parts order n parts part rest at s r first last mid mid_stops now stops a b c is honest run next =
+    subst (λ ps. IsRun (messages_behind order n ps) at s r last now stops a c) (sym is)
+    (then_run (part_message order (n + 1) part) (messages_behind order (n + 1) rest) at s r first last mid mid_stops now stops a b c honest run next)
+
+-- ---- of an input
+
+-- the text of an input, or none where it isn't known
+abbrev text_in : Option (List ℕ) → List ℕ
+text_in None = []
+text_in (Some text) = text
+
+is_text_in : (input : Option (List ℕ)) → IfSome input (λ all. text_in input ≡ all)
+is_text_in None = tt
+is_text_in (Some text) = refl
+
+-- an input that came to no parts
+pub unread_run : (order : ImportOrder) (input : Option (List ℕ)) (s : State) (fault : Fault) (honest : Bool) (now stops : State → Type 0) (before after : Option (List ℕ))
+    → now s → Only s stops → IsRunOf order input s (Err fault) honest now stops before after
+unread_run order input s fault honest now stops before after held only = record {
+  text = text_in input;
+  parts = [];
+  at = 0;
+  whole = is_text_in input;
+  cut = inr (refl, refl);
+  run = none_run [] 0 s fault honest now stops before after held only;
+}

@@ -1,0 +1,94 @@
+//! The import of an input that is longer than one call takes.
+ghost use Rattle.std.specs.Prelude.{◌≡◌, ℕ, List, Some, IfErr, IfOk, IfSome, IsErrOf, true};
+ghost use Rattle.tb_calls.specs.Calls.{State};
+ghost use Rattle.tb_calls.specs.Keeping.{Only};
+ghost use Rattle.tb_orders.specs.Cutting.{parts_of};
+ghost use Rattle.tb_orders.specs.Items.{IsBadAmong, end_of};
+ghost use Rattle.tb_orders.specs.Running.{IsRunOf};
+ghost use Rattle.tb_orders.specs.Telling.{is_of_inputs, is_of_messages};
+ghost use Rattle.tb_program.specs.declared.fault.Fault.TheVariants.{Store};
+
+use crate::cutting::parts_of;
+use crate::ending::Ending;
+use crate::order_fault::OrderFault;
+use crate::running::{Progress, Run, import_parts};
+use std::alloc::Global;
+use std::io::{ErrorKind, Read, Write};
+use std::time::Clock;
+use tb_calls::Keep;
+use tb_command_line::ImportOrder;
+use tb_desk::Desk;
+use tb_program::{Fault, machine_moment};
+use tb_task::Moment;
+use tb_values::Items;
+
+/// The parts of a text, and the moment after it was read.
+#[derive(Drop)]
+struct Arrived {
+    parts: Vec<Items<u8>>,
+    at: Moment,
+}
+
+/// Reads the text of an import, cuts it into parts, and makes the call of each, up to the first that isn't accepted; prints the body of
+/// each reply on a line.
+pub fn import_all<K: Keep, R: Read + Drop, W: Write>(
+    alloc: Global,
+    desk: &mut Desk<K>,
+    order: &ImportOrder,
+    reader: R,
+    clock: &impl Clock,
+    writer: &mut W,
+    progress: &impl Progress,
+) -> Result<Ending, OrderFault>
+    ensures run { (s : State) → K.holds desk.old s → Only s (K.after_stop desk.old)
+        → IsRunOf order.now (R.remaining reader) s (end_of result) (K.is_honest desk.new)
+        (K.holds desk.new) (K.after_stop desk.new) (W.contents writer.old) (W.contents writer.new) }
+    ensures item { IfErr result (λ failed. IfSome failed.item (IsBadAmong order.now (R.remaining reader))) }
+    ensures fault { IfErr (end_of result) (λ fault. is_of_inputs fault ≡ true) }
+    ensures store { IsErrOf (end_of result) Store → K.has_failed desk.new ≡ true }
+{
+    match read_parts(alloc, order, reader, clock) {
+        Ok(arrived) => {
+            let parts = arrived.parts.as_slice();
+            let run = Run {
+                order,
+                at: arrived.at,
+                count: parts.len(),
+            };
+            import_parts(alloc, desk, &run, 0, parts, writer, progress)
+        }
+        Err(fault) => Err(OrderFault { fault, item: None }),
+    }
+}
+
+fn read_parts<R: Read + Drop>(
+    alloc: Global,
+    order: &ImportOrder,
+    reader: R,
+    clock: &impl Clock,
+) -> Result<Arrived, Fault>
+    ensures read { IfOk result (λ arrived. (text : List ℕ) × IfSome (R.remaining reader) (λ all. text ≡ all)
+        × (parts_of order.now.kind text ≡ Some arrived.parts.items)) }
+    ensures fault { IfErr result (λ fault. is_of_messages fault ≡ true) }
+{
+    let text = read_all(alloc, reader)?;
+    let at = machine_moment(clock).ok_or(Fault::NoClock)?;
+    match parts_of(alloc, order.kind, text)? {
+        Some(parts) => Ok(Arrived { parts, at }),
+        None => Err(Fault::BadBody),
+    }
+}
+
+/// The whole text of a reader.
+fn read_all<R: Read + Drop>(alloc: Global, reader: R) -> Result<Items<u8>, Fault>
+    ensures whole { IfSome (R.remaining reader) (λ text. IfOk result (λ read. read ≡ text)) }
+    ensures fault { IfErr result (λ fault. is_of_messages fault ≡ true) }
+{
+    let mut reader = reader;
+    let mut bytes = Vec::new(alloc);
+    match reader.read_to_end(&mut bytes) {
+        Ok(_) => Ok(Items::from_vec(bytes)),
+        Err(error) if error.kind() == ErrorKind::OutOfMemory => Err(Fault::Memory),
+        Err(_) => Err(Fault::ReadFailed),
+    }
+}

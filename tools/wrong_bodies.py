@@ -1,0 +1,157 @@
+#!/usr/bin/env python3
+"""Tries the must-fail edits of crates that `rt ci` has proved in a folder: none may leave what it changes provable.
+
+`rt ci` and `rt must-fail` prove a whole crate with each edit, and begin by proving it once more without. An edit is refused as soon as one function that it changes
+isn't proved, so this checks those alone (`rattle check --only`), over the statements that `rt ci` left of the libraries below, and for several edits of a crate over
+one check of what they change. Where that is still proved the whole crate is tried, as `rt must-fail` does it. Edits are read, applied and judged by the kit's
+own functions, which are taken from its command `rt`."""
+import importlib.machinery
+import importlib.util
+import os
+import re
+import shutil
+import sys
+import tempfile
+
+FUNCTION = re.compile(r"\s*(?:pub(?:\(crate\))? )?(?:const )?fn (\w+)")
+
+
+def load_kit():
+    """The kit's command `rt` as a module, which checks crates over the statements of their libraries, as `rt ci` does."""
+    loader = importlib.machinery.SourceFileLoader("kit_rt", os.path.realpath(shutil.which("rt")))
+    kit = importlib.util.module_from_spec(importlib.util.spec_from_loader(loader.name, loader))
+    words, sys.argv = sys.argv, ["rt"]
+    loader.exec_module(kit)
+    sys.argv = words
+    kit.rtlib.Crate.cuts_libraries = True
+    return kit
+
+
+def module_of(path):
+    """The module of a source file, below the crate."""
+    return re.sub(r"^src/|\.rt$", "", path).replace("/", "::")
+
+
+def changed_functions(old, new):
+    """The functions that have a line of the old text which isn't in the new one as well, or None where such a line stands in none."""
+    found, function, kept = set(), None, new.split("\n")
+    for line in old.split("\n"):
+        begins = FUNCTION.match(line)
+        if begins:
+            function = begins[1]
+        elif line.startswith("}") or line and not line.startswith((" ", "{", ")", "#", "/")):
+            function = None
+        if line not in kept:
+            if not function:
+                return None
+            found.add(function)
+    return found or None
+
+
+def paths_of(crate, texts, proved):
+    """What an edit changes, by the paths of functions where these are known, and by modules."""
+    functions, modules = [], []
+    for path, text in texts.items():
+        module = module_of(path)
+        modules.append(module)
+        with open(f"{crate.folder}/{path}", encoding="utf-8") as it:
+            names = changed_functions(it.read(), text)
+        inside = f"{crate.name}::{module}::"
+        functions += [it.removeprefix(f"{crate.name}::") for it in proved if it.startswith(inside) and it.split("::")[-1] in (names or ())]
+    return [it for it in (functions, modules) if it]
+
+
+def what_fails(kit, lines, texts):
+    """The first line that says what isn't proved with the edit, or None where its text can't even be read."""
+    if any(kit.unread(it, texts) for it in lines):
+        return None
+    return next((it for it in lines if re.match(r"fn \S+: (not proved|no proof)|\S+:\d+:\d+: error", it)), None)
+
+
+def only(paths):
+    """The flags by which a check looks at these alone, with what they call."""
+    return ["--jobs", "1", *[word for path in paths for word in ("--only", path)]]
+
+
+class Crate:
+    """A crate's edits, with what each changes, and where what they change is proved as it stands."""
+
+    def __init__(self, kit, crate, edits, proved):
+        self.kit, self.crate, self.edits, self.seed = kit, crate, edits, None
+        self.texts = [kit.read_edit(it, crate.folder)[0] for it in edits]
+        self.paths = [paths_of(crate, texts, proved) if texts else [] for texts in self.texts]
+
+    def prove(self, folder):
+        """Proves what the edits change, as it stands, into a new folder, from which the edits' checks take what they leave as it was."""
+        wanted = sorted({path for paths in self.paths for path in (paths[0] if paths else [])})
+        os.mkdir(folder)
+        if wanted and self.kit.checked(self.crate, {}, only(wanted), folder).returncode == 0:
+            self.seed = folder
+
+    def try_over_seed(self, number, paths):
+        with tempfile.TemporaryDirectory(prefix="rt-kept-") as room:
+            kept = f"{room}/kept" if self.seed else None
+            if kept:
+                self.kit.linked(self.seed, kept)
+            return self.kit.checked(self.crate, self.texts[number], only(paths), kept)
+
+    def try_edit(self, number):
+        """What a try of an edit comes to, and what to say of it, by the kit's words."""
+        for paths in self.paths[number]:
+            ran = self.try_over_seed(number, paths)
+            lines = ran.stdout.rstrip("\n").split("\n")
+            ended = re.fullmatch(r"only=(\d+) proved=(\d+)", lines[-1])
+            failure = what_fails(self.kit, lines, self.texts[number])
+            if ran.returncode == 1 and ended and ended[1] != ended[2] and failure:
+                label = f"must-fail {self.crate.name}/{os.path.basename(self.edits[number])}"
+                return self.kit.REFUSED, f"{label}: refused, as it must be: {failure[:160]}"
+        return self.kit.must_fail(self.crate, self.edits[number], ["--jobs", "1"])
+
+
+def tasks_of(kit, crate, edits, proved, room):
+    """The tasks that try a crate's edits, for the kit's scheduler: what each waits for, its length, its memory, and its call."""
+    tried, needs = Crate(kit, crate, edits, proved), kit.OVER * kit.need(crate)
+    tasks, first, length = {}, [], crate.count(rb"\n")
+    if len(edits) > 1:
+        first = [(crate.name, "seed")]
+        tasks[first[0]] = ([], length, needs, lambda given, jobs: tried.prove(f"{room}/{crate.name}"))
+    for number in range(len(edits)):
+        tasks[crate.name, "edits", number] = (first, length, needs, lambda given, jobs, number=number: tried.try_edit(number))
+    return tasks
+
+
+def proved_functions(log):
+    """The functions that `rt ci` proved, as it names them."""
+    with open(log, errors="replace") as it:
+        return re.findall(r"(?m)^fn (\S+): proved$", it.read())
+
+
+def try_all(top, log):
+    """Tries the edits of all crates of a folder. Returns what to say of each, and how many of them weren't refused."""
+    os.chdir(top)
+    kit, told, tasks = load_kit(), [], {}
+    # (its first call sets the handler of a signal, which only the main thread may)
+    kit.rtlib.guarded()
+    kit.Crate.allowed = kit.handles_of(top)
+    proved = proved_functions(log)
+    with tempfile.TemporaryDirectory(prefix="taskboard-edits-") as room:
+        for crate in kit.crates_of(top):
+            edits, strange = kit.edits_of(crate)
+            told += [(kit.BAD, f"must-fail {crate.name}: {it} is no edit") for it in strange]
+            own = [it for it in proved if it.startswith(f"{crate.name}::")]
+            tasks |= tasks_of(kit, crate, edits, own, room)
+        told += [it for it in kit.in_lanes(tasks).values() if it]
+    failed = sum(kind not in (kit.REFUSED, kit.AT_LIMIT) for kind, _ in told)
+    return [text for _, text in told], failed
+
+
+def main():
+    top, log = sys.argv[1:3]
+    lines, failed = try_all(os.path.abspath(top), os.path.abspath(log))
+    print("\n".join(lines))
+    print(f"{len(lines) - failed} edits refused, {failed} not")
+    sys.exit(1 if failed else 0)
+
+
+if __name__ == "__main__":
+    main()
