@@ -22,6 +22,11 @@ fn number(text: &str) -> io::Result<u32> {
     text.parse().ok().ok_or(missing())
 }
 
+/// How far ahead a board looks.
+fn small_number(text: &str) -> io::Result<u8> {
+    text.parse().ok().ok_or(missing())
+}
+
 /// The due of an instance: the first due, the step, and the instance's number.
 fn due_in(alloc: Global, given: &str) -> Told {
     let (first, rest) = halves(given);
@@ -30,26 +35,28 @@ fn due_in(alloc: Global, given: &str) -> Told {
     Ok(due.text(alloc)?.into_string())
 }
 
-/// Whether an instance is wanted: the first due, the step, until when or `-`, the instance's number, and the moment.
+/// Whether an instance is wanted: the first due, the step, until when or `-`, how far ahead, the instance's number, and the moment.
 fn is_wanted(alloc: Global, given: &str) -> Told {
     let (first, rest) = halves(given);
     let (step, rest) = halves(rest);
     let (until, rest) = halves(rest);
+    let (ahead, rest) = halves(rest);
     let (k, at) = halves(rest);
     let (first, step) = (moment_at(first)?, step_of(step)?);
-    let until = moment_at(until).ok();
+    let (until, ahead) = (moment_at(until).ok(), small_number(ahead)?);
     show(
         alloc,
-        &wanted(first, step, until, number(k)?, moment_at(at)?),
+        &wanted(first, step, until, ahead, number(k)?, moment_at(at)?),
     )
 }
 
-/// Whether an instance of a template is wanted, and by which plan: the instance's number, the moment, and the template.
+/// Whether an instance of a template is wanted, and by which plan: how far ahead, the instance's number, the moment, and the template.
 fn plan_wants(alloc: Global, given: &str) -> Told {
-    let (k, rest) = halves(given);
+    let (ahead, rest) = halves(given);
+    let (k, rest) = halves(rest);
     let (at, json) = halves(rest);
     let plan = plan_of(&read(alloc, json)?).ok_or(missing())?;
-    let wants = plan.wants(number(k)?, moment_at(at)?);
+    let wants = plan.wants(small_number(ahead)?, number(k)?, moment_at(at)?);
     let (due, step) = (plan.due.text(alloc)?, plan.step);
     show(alloc, &(due.as_str(), step, wants))
 }
