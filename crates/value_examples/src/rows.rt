@@ -6,7 +6,7 @@ use std::alloc::{AllocError, Global};
 use std::io;
 use tb_board::{Board, Person};
 use tb_reopen::{add_roles, read_board, read_people};
-use tb_sql_tables::rows::{BoardRow, GoneRow, PersonRow, RoleRow, TaskRow};
+use tb_sql_tables::rows::{BoardRow, GoneRow, HorizonRow, PersonRow, RoleRow, TaskRow};
 use tb_task::TaskId;
 use tb_values::{Items, Text};
 
@@ -87,8 +87,15 @@ fn gone_row(alloc: Global, words: &str) -> io::Result<GoneRow> {
     })
 }
 
-/// The board of one task and one place that is gone, `PLACE NUMBER/TEMPLATE MARK/JSON`.
+/// The row of how far ahead a board looks, if there is one.
+fn horizon_row(ahead: &str) -> Option<HorizonRow> {
+    let ahead = ahead.parse().ok()?;
+    Some(HorizonRow { board: 1, ahead })
+}
+
+/// The board of one task and one place that is gone, `AHEAD PLACE NUMBER/TEMPLATE MARK/JSON`.
 fn board(alloc: Global, given: &str) -> Told {
+    let (ahead, given) = halves(given);
     let (task, rest) = given.split_once('/').unwrap_or((given, ""));
     let (gone, json) = rest.split_once('/').unwrap_or((rest, ""));
     let task = task_row(alloc, task, json)?;
@@ -98,17 +105,18 @@ fn board(alloc: Global, given: &str) -> Told {
         title: Text::from_str(alloc, "home")?,
         low: 2,
     };
-    match read_board(alloc, &row, &[task], &[gone]) {
+    match read_board(alloc, &row, horizon_row(ahead), &[task], &[gone]) {
         Ok(board) => tell_board(alloc, &board),
         Err(fault) => show(alloc, &fault),
     }
 }
 
-/// The first task of a board, whether its first gone place is that task's, and that place's mark.
+/// The first task of a board, how far ahead it looks, whether its first gone place is that task's, and that place's mark.
 fn tell_board(alloc: Global, board: &Board) -> Told {
     let task = board.tasks.get(0).ok_or(missing())?.get();
     let place = board.gone.get(0).ok_or(missing())?;
     let is_its = place.template == task.id;
     let mark = char::from(place.mark.byte());
-    Ok(format!(in alloc; "{} {is_its} {mark}", task.description.as_str())?)
+    let (text, ahead) = (task.description.as_str(), board.ahead.number());
+    Ok(format!(in alloc; "{text} {ahead} {is_its} {mark}")?)
 }
