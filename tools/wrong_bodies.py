@@ -73,7 +73,7 @@ def only(paths):
     return ["--jobs", "1", *[word for path in paths for word in ("--only", path)]]
 
 
-class Crate:
+class TriedCrate:
     """A crate's edits, with what each changes, and where what they change is proved as it stands."""
 
     def __init__(self, kit, crate, edits, proved):
@@ -110,7 +110,7 @@ class Crate:
 
 def tasks_of(kit, crate, edits, proved, room):
     """The tasks that try a crate's edits, for the kit's scheduler: what each waits for, its length, its memory, and its call."""
-    tried, needs = Crate(kit, crate, edits, proved), kit.OVER * kit.need(crate)
+    tried, needs = TriedCrate(kit, crate, edits, proved), kit.OVER * kit.need(crate)
     tasks, first, length = {}, [], crate.count(rb"\n")
     if len(edits) > 1:
         first = [(crate.name, "seed")]
