@@ -13,7 +13,7 @@ use Rattle.tb_sql.specs.declared.opening.OpenFault.{OpenFault}
 use Rattle.tb_sql.specs.declared.opening.OpenFault.TheVariants.{NotOurs, WrongVersion, Store, Memory}
 use Rattle.tb_sql.specs.declared.opening.Version.{Version}
 use Rattle.tb_sql.specs.declared.opening.Version.TheVariants.{First, Second}
-use Rattle.tb_sql.specs.Opening.{IsAnswered, are_old, are_ours, are_tables, has_meta, has_tables, is_meta}
+use Rattle.tb_sql.specs.Opening.{IsAnswered, are_old, are_ours, are_tables, has_key_indexes, has_meta, has_tables, is_meta, is_person, is_board, is_role, is_task, is_link, is_instance, is_gone, is_kept, is_horizon}
 use Rattle.tb_sql_tables.specs.Content.{AreOldRows, AreRows, Content, StandsEmpty}
 use Rattle.tb_sql_tables.specs.Failing.{FailsByFault}
 use Rattle.tb_stored.specs.Stored.{IsEmptyOrStored}
@@ -32,8 +32,12 @@ first_of tests (table ∷ tables) is = first_true (is_meta table) _ is
 
 -- it is among the tables of a store of either version
 pub has_first : (version : Version) (schema : Schema) → has_tables version schema ≡ true → has_meta schema.tables ≡ true
-has_first First schema is = first_of _ schema.tables (first_true (are_old schema.tables) _ is)
-has_first Second schema is = first_of _ schema.tables (first_true (are_ours schema.tables) _ is)
+has_first First schema is =
+    first_of (is_person ∷ is_board ∷ is_role ∷ is_task ∷ is_link ∷ is_instance ∷ is_gone ∷ is_kept ∷ []) schema.tables
+    (first_true (are_old schema.tables) (has_key_indexes schema) is)
+has_first Second schema is =
+    first_of (is_person ∷ is_board ∷ is_role ∷ is_task ∷ is_link ∷ is_instance ∷ is_gone ∷ is_kept ∷ is_horizon ∷ []) schema.tables
+    (first_true (are_ours schema.tables) (has_key_indexes schema) is)
 
 -- only what isn't ours may lack it
 marked : (b : Bool) (fault : OpenFault) → (b ≡ false → fault ≡ NotOurs) → (fault ≡ NotOurs → ⊥) → b ≡ true

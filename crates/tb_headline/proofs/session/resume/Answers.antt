@@ -8,15 +8,23 @@ use Rattle.tb_headline.proofs.session.resume.Goals as goal
 
 pub returns-in-Ok-clause-begun : goal.returns-in-Ok-clause-begun
 returns-in-Ok-clause-begun g c opens s rows =
-    let old = state g.S.Store c.args.conn in
-    let held = held_file _ _ _ _ _ s old.now.trees rows (λ clean. c.in-Ok.ensures.opened clean opens s) (λ clean. c.in-Ok.ensures.migrated clean opens s) in
-    rw c.new.ensures (at _ _ _ _ _ s held c.in-Ok.ensures.fresh)
+    let keep = c.in-Ok.keep in
+    let new = state g.S.Store keep.conn in
+    let was = (state g.S.Store c.args.conn).now.trees in
+    let given = c.in-Ok.ensures in
+    let held =
+    held_file keep.failed keep.people keep.boards keep.cache.entries new s was rows (λ clean. given.opened clean opens s) (λ clean. given.migrated clean opens s) in
+    rw c.new.ensures (at keep.failed keep.people keep.boards keep.cache.entries new s held given.fresh)
 
 pub returns-in-Ok-clause-stopped : goal.returns-in-Ok-clause-stopped
 returns-in-Ok-clause-stopped g c opens s rows =
-    let old = state g.S.Store c.args.conn in
-    let held = held_file _ _ _ _ _ s old.now.trees rows (λ clean. c.in-Ok.ensures.opened clean opens s) (λ clean. c.in-Ok.ensures.migrated clean opens s) in
-    rw c.new.ensures (stays _ _ _ _ _ s held c.in-Ok.ensures.fresh)
+    let keep = c.in-Ok.keep in
+    let new = state g.S.Store keep.conn in
+    let was = (state g.S.Store c.args.conn).now.trees in
+    let given = c.in-Ok.ensures in
+    let held =
+    held_file keep.failed keep.people keep.boards keep.cache.entries new s was rows (λ clean. given.opened clean opens s) (λ clean. given.migrated clean opens s) in
+    rw c.new.ensures (stays keep.failed keep.people keep.boards keep.cache.entries new s held given.fresh)
 
 pub returns-in-Ok-clause-said : goal.returns-in-Ok-clause-said
 returns-in-Ok-clause-said g c = rw c.new.ensures (λ clean.
