@@ -1,18 +1,35 @@
 use Rattle.std.proofs.Common.{Ok}
 use Rattle.sqlite.specs.Held.{state}
-use Rattle.tb_headline.proofs.Left.{at, held_clean}
-use Rattle.tb_headline.proofs.Refused.{ours_meta, refused, said}
+use Rattle.tb_headline.proofs.Left.{at, held_file, stays}
+use Rattle.tb_headline.proofs.Refused.{has_first, refused, said}
+use Rattle.tb_headline.proofs.Stopped.{stopped}
+use Rattle.tb_keeper.specs.Versions.{version_taken}
 use Rattle.tb_headline.proofs.session.resume.Goals as goal
 
 pub returns-in-Ok-clause-begun : goal.returns-in-Ok-clause-begun
 returns-in-Ok-clause-begun g c opens s rows =
-    rw c.new.ensures (at _ _ _ _ _ s (held_clean _ _ _ _ _ s rows.rows.good (λ clean. c.in-Ok.ensures.opened clean opens s rows)) c.in-Ok.ensures.fresh)
+    let old = state g.S.Store c.args.conn in
+    let held = held_file _ _ _ _ _ s old.now.trees rows (λ clean. c.in-Ok.ensures.opened clean opens s) (λ clean. c.in-Ok.ensures.migrated clean opens s) in
+    rw c.new.ensures (at _ _ _ _ _ s held c.in-Ok.ensures.fresh)
+
+pub returns-in-Ok-clause-stopped : goal.returns-in-Ok-clause-stopped
+returns-in-Ok-clause-stopped g c opens s rows =
+    let old = state g.S.Store c.args.conn in
+    let held = held_file _ _ _ _ _ s old.now.trees rows (λ clean. c.in-Ok.ensures.opened clean opens s) (λ clean. c.in-Ok.ensures.migrated clean opens s) in
+    rw c.new.ensures (stays _ _ _ _ _ s held c.in-Ok.ensures.fresh)
 
 pub returns-in-Ok-clause-said : goal.returns-in-Ok-clause-said
-returns-in-Ok-clause-said g c clean =
-    let meta = ours_meta c.args.conn.schema c.in-Ok.ensures.ours in
-    let version = rw c.in-Ok.is at c.open.ensures.version meta in
-    said g.S.Store c.args.conn (Ok tt) (λ is. absurd (cc)) (λ is. absurd (cc)) (version (rw c.new.ensures at clean))
+returns-in-Ok-clause-said g c = rw c.new.ensures (λ clean.
+    let version = version_taken c.in-Ok.keep.migrated in
+    let first = has_first version c.args.conn.schema c.in-Ok.ensures.tables in
+    let told = rw c.in-Ok.is at c.open.ensures.version first in
+    said g.S.Store c.args.conn (Ok version) (λ is. absurd (cc)) (λ is. absurd (cc)) (told clean))
+
+pub returns-in-Err-clause-stopped : goal.returns-in-Err-clause-stopped
+returns-in-Err-clause-stopped g c =
+    let conn = c.args.conn in
+    stopped (state g.S.Store conn) (state g.S.Store c.in-Err.refused.0) (λ db is_open. g.met.S.Store.settled conn.store db is_open)
+    c.in-Err.refused.1 c.is_live.ensures c.in-Err.ensures.refused c.in-Err.ensures.stopped
 
 pub returns-in-Err-clause-refused : goal.returns-in-Err-clause-refused
 returns-in-Err-clause-refused g c =
