@@ -1,2 +1,1 @@
-pub mod Notices
 pub mod Telling
