@@ -1,11 +1,14 @@
 //! The file of boards.
-ghost use Rattle.std.specs.Prelude.{◌≡◌, false, IfErr, IfOk, true};
+ghost use Rattle.std.specs.Io.KnownBytes.{Appends};
+ghost use Rattle.std.specs.Prelude.{◌≡◌, false, IfErr, IfOk, OnOk, true};
+ghost use Rattle.taskboard.specs.Notices.{migrated_line};
 ghost use Rattle.tb_program.specs.declared.fault.Fault.TheVariants.{Store};
 ghost use Rattle.tb_outcome.specs.Faults.{is_of_files, is_of_opening};
 
 use sqlite::{Connection, Error, ErrorCode, File, FileStore};
-use std::fs;
+use std::io::Write;
 use std::os::unix::fs::OpenOptionsExt;
+use std::{fs, io};
 use tb_desk::Desk;
 use tb_headline::session::resume;
 use tb_keeper::SqlKeep;
@@ -40,9 +43,32 @@ pub(crate) fn open_desk(rt: &HostRuntime, path: &str) -> Result<Desk<SqlKeep<Rea
     }
     let conn = open_file(rt, path)?;
     match resume(rt.alloc(), conn) {
-        Ok(desk) => Ok(desk),
+        Ok(desk) => Ok(with_notice(rt, path, desk)),
         Err((_, fault)) => Err(fault_of_opening(fault)),
     }
+}
+
+/// The desk. Where its file was of version 1, that is told on standard error.
+fn with_notice(
+    rt: &HostRuntime,
+    path: &str,
+    desk: Desk<SqlKeep<RealFile>>,
+) -> Desk<SqlKeep<RealFile>>
+    ensures { result ≡ desk }
+{
+    let keep = desk.into_keep();
+    if keep.has_migrated() {
+        let _ = tell_migrated(&mut rt.stderr(), path);
+    }
+    Desk::new(keep)
+}
+
+/// Tells of a file that it is of version 2 from now on.
+fn tell_migrated<W: Write>(writer: &mut W, path: &str) -> io::Result<()>
+    ensures { OnOk result
+        (Appends (W.contents writer.old) (W.contents writer.new) (migrated_line path.now)) }
+{
+    writeln!(writer, "taskboard: {path} is now of version 2")
 }
 
 /// Ends a session.

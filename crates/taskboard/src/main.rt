@@ -36,7 +36,7 @@ use tb_script::run_lines;
 /// Which program this is.
 const VERSION: &str = "\
 taskboard 1
-tables of version 1
+tables of version 2
 proved with rattle-kit-13f logic dac8208d650f15bf
 ";
 
