@@ -8,6 +8,11 @@ use Rattle.tb_event_loop.specs.declared.fault.LoopFault.{LoopFault}
 use Rattle.tb_event_loop.specs.declared.fault.LoopFault.TheVariants as ending
 use Rattle.tb_program.specs.declared.fault.Fault.TheVariants.{Bad, BadBody, Memory, NoAnswer, NoClock, NoKey, NoListen, NoPage, ReadFailed, Store, WriteFailed}
 
+-- of what the program tells of itself
+abbrev pub is_of_telling : Fault → Bool
+is_of_telling WriteFailed = true
+is_of_telling _ = false
+
 -- of serving it
 abbrev pub is_of_serving : Fault → Bool
 is_of_serving NoListen = true
@@ -47,11 +52,15 @@ is_of_keys Memory = true
 is_of_keys NoKey = true
 is_of_keys _ = false
 
+-- of asking a server
+abbrev pub is_of_asking : Fault → Bool
+is_of_asking BadBody = true
+is_of_asking NoAnswer = true
+is_of_asking ReadFailed = true
+is_of_asking fault = is_of_keys fault
+
 -- of sending
 abbrev pub is_of_sending : Fault → Bool
 is_of_sending Bad = true
-is_of_sending BadBody = true
-is_of_sending NoAnswer = true
-is_of_sending ReadFailed = true
 is_of_sending WriteFailed = true
-is_of_sending fault = is_of_keys fault
+is_of_sending fault = is_of_asking fault

@@ -1,14 +1,18 @@
 //! The file of boards.
+ghost use Rattle.sqlite.specs.Files.{file_state};
+ghost use Rattle.sqlite.specs.State.{HasCleanDisk, Opens};
 ghost use Rattle.std.specs.Io.KnownBytes.{Appends};
 ghost use Rattle.std.specs.Prelude.{◌≡◌, false, IfErr, IfOk, OnOk, true};
 ghost use Rattle.taskboard.specs.Notices.{migrated_line};
-ghost use Rattle.tb_program.specs.declared.fault.Fault.TheVariants.{Store};
+ghost use Rattle.taskboard.specs.Opened.{IsBegun, IsSaved};
 ghost use Rattle.tb_outcome.specs.Faults.{is_of_files, is_of_opening};
+ghost use Rattle.tb_program.specs.declared.fault.Fault.TheVariants.{Store};
 
 use sqlite::{Connection, Error, ErrorCode, File, FileStore};
 use std::io::Write;
 use std::os::unix::fs::OpenOptionsExt;
 use std::{fs, io};
+use tb_calls::Keep;
 use tb_desk::Desk;
 use tb_headline::session::resume;
 use tb_keeper::SqlKeep;
@@ -25,6 +29,7 @@ pub(crate) type RealFile = FileStore<File>;
 pub(crate) fn open_file(rt: &HostRuntime, path: &str) -> Result<Connection<RealFile>, Fault>
     ensures fault { IfErr result (λ fault. is_of_files fault ≡ true) }
     ensures idle { IfOk result (λ conn. conn.in_transaction ≡ false) }
+    ensures opens { IfOk result (λ conn. HasCleanDisk (file_state conn) → Opens (file_state conn)) }
 {
     match Connection::open(rt, path) {
         Ok(conn) if conn.is_autocommit() => Ok(conn),
@@ -36,7 +41,10 @@ pub(crate) fn open_file(rt: &HostRuntime, path: &str) -> Result<Connection<RealF
 
 /// Begins a session over the boards in the file at a path. A file that isn't there isn't made.
 pub(crate) fn open_desk(rt: &HostRuntime, path: &str) -> Result<Desk<SqlKeep<RealFile>>, Fault>
-    ensures { IfErr result (λ fault. is_of_opening fault ≡ true) }
+    ensures fault { IfErr result (λ fault. is_of_opening fault ≡ true) }
+    ensures begun { IfOk result (λ desk. (conn : _) × IsBegun conn
+        (⟦<SqlKeep<RealFile> as Keep>⟧.holds desk)
+        (⟦<SqlKeep<RealFile> as Keep>⟧.after_stop desk)) }
 {
     if fs::metadata(rt, path).is_err() {
         return Err(Fault::Store);
@@ -65,26 +73,34 @@ fn with_notice(
 
 /// Tells of a file that it is of version 2 from now on.
 fn tell_migrated<W: Write>(writer: &mut W, path: &str) -> io::Result<()>
-    ensures { OnOk result
-        (Appends (W.contents writer.old) (W.contents writer.new) (migrated_line path.now)) }
+    ensures { OnOk result (Appends (W.contents writer.old)
+        (W.contents writer.new) (migrated_line path.now)) }
 {
     writeln!(writer, "taskboard: {path} is now of version 2")
 }
 
 /// Ends a session.
 pub(crate) fn close_desk(desk: Desk<SqlKeep<RealFile>>) -> Result<(), Fault>
-    ensures { IfErr result (λ fault. fault ≡ Store) }
+    ensures fault { IfErr result (λ fault. fault ≡ Store) }
+    ensures saved { OnOk result ((files : _) × IsSaved desk.conn files) }
 {
     close_keep(desk.into_keep())
 }
 
 /// Copies what was committed into the database file, and closes it.
 pub(crate) fn close_keep(keep: SqlKeep<RealFile>) -> Result<(), Fault>
-    ensures { IfErr result (λ fault. fault ≡ Store) }
+    ensures fault { IfErr result (λ fault. fault ≡ Store) }
+    ensures saved { OnOk result ((files : _) × IsSaved keep.conn files) }
 {
-    match keep.close().close() {
-        Ok(()) => Ok(()),
-        Err(_) => Err(Fault::Store),
+    match keep.close().close_files() {
+        Ok(files) => {
+            drop(files);
+            Ok(())
+        }
+        Err((_, store)) => {
+            drop(store.close());
+            Err(Fault::Store)
+        }
     }
 }
 

@@ -1,7 +1,11 @@
 //! Keys that stand on no command line.
-ghost use Rattle.std.specs.Prelude.{◌≡◌, IfErr, true};
+ghost use Rattle.std.specs.Prelude.{◌≡◌, IfErr, IfOk, IsErrOf, None, Some, true};
+ghost use Rattle.taskboard.specs.Sending.{IsKeyOf};
 ghost use Rattle.taskboard.specs.Telling.{is_of_keys};
+ghost use Rattle.tb_board.specs.Names.{read_key};
+ghost use Rattle.tb_program.specs.declared.fault.Fault.TheVariants.{NoKey};
 
+use std::alloc::Global;
 use std::os::unix::fs::PermissionsExt;
 use std::{env, fs};
 use tb_board::Key;
@@ -14,24 +18,28 @@ const OTHERS: u32 = 0o077;
 
 /// The key of an order: that of its words, or else of the environment, or else of a file that its owner alone may read.
 pub(crate) fn key_of(rt: &HostRuntime, order: &SendOrder) -> Result<Key, Fault>
-    ensures { IfErr result (λ fault. is_of_keys fault ≡ true) }
+    ensures given { IfOk result (IsKeyOf order.now.key) }
+    ensures none { IsErrOf result NoKey → order.now.key ≡ None }
+    ensures fault { IfErr result (λ fault. is_of_keys fault ≡ true) }
 {
     if let Some(key) = &order.key {
         return Ok(key.duplicate()?);
     }
     if let Ok(text) = env::var(rt, "TASKBOARD_KEY") {
-        return read_key(rt, text.as_str());
+        return read_key(rt.alloc(), text.as_str());
     }
     match key_text(rt) {
-        Some(text) => read_key(rt, text.as_str().trim_end()),
+        Some(text) => read_key(rt.alloc(), text.as_str().trim_end()),
         None => Err(Fault::NoKey),
     }
 }
 
-fn read_key(rt: &HostRuntime, text: &str) -> Result<Key, Fault>
-    ensures { IfErr result (λ fault. is_of_keys fault ≡ true) }
+fn read_key(alloc: Global, text: &str) -> Result<Key, Fault>
+    ensures read { IfOk result (λ key. read_key text.now ≡ Some key) }
+    ensures unread { IsErrOf result NoKey → read_key text.now ≡ None }
+    ensures fault { IfErr result (λ fault. is_of_keys fault ≡ true) }
 {
-    match Key::read(rt.alloc(), text)? {
+    match Key::read(alloc, text)? {
         Some(key) => Ok(key),
         None => Err(Fault::NoKey),
     }

@@ -1,7 +1,9 @@
 //! The server of a file, on the loopback.
-ghost use Rattle.std.specs.Prelude.{◌≡◌, IfErr, IfOk, IsSome, OnOk, true};
+ghost use Rattle.std.specs.Prelude.{◌≡◌, IfErr, IfOk, IsErrOf, IsSome, OnOk, true};
+ghost use Rattle.taskboard.specs.Pages.{IsPageOf};
 ghost use Rattle.taskboard.specs.Telling.{fault_of_loop, is_of_serving, limit_of};
 ghost use Rattle.tb_event_loop.specs.History.{still_to_end};
+ghost use Rattle.tb_program.specs.declared.fault.Fault.TheVariants.{NoPage};
 
 use crate::clock::MachineClock;
 use crate::file::{close_desk, open_desk};
@@ -39,7 +41,8 @@ pub(crate) fn serve_file(rt: &HostRuntime, order: &ServeOrder) -> Result<Ending,
 
 fn listen(rt: &HostRuntime, order: &ServeOrder) -> Result<EventLoop, Fault>
     ensures fault { IfErr result (λ fault. is_of_serving fault ≡ true) }
-    ensures limit { IfOk result (λ event_loop. still_to_end event_loop ≡ limit_of order.now.connections) }
+    ensures limit { IfOk result (λ event_loop. still_to_end event_loop
+        ≡ limit_of order.now.connections) }
 {
     match EventLoop::listen(
         rt,
@@ -74,7 +77,9 @@ fn fault_of_loop(fault: LoopFault) -> Fault
 
 // The files that browsers are given, none where no folder is named.
 fn page_of(rt: &HostRuntime, order: &ServeOrder) -> Result<Site, Fault>
-    ensures { IfErr result (λ fault. is_of_serving fault ≡ true) }
+    ensures page { IfOk result (IsPageOf order.now.page) }
+    ensures folder { IsErrOf result NoPage → IsSome order.now.page }
+    ensures fault { IfErr result (λ fault. is_of_serving fault ≡ true) }
 {
     let Some(folder) = &order.page else {
         return Ok(Site::none(rt.alloc()));

@@ -1,4 +1,7 @@
 //! Which word is wrong of words that are no order, and what it may be.
+ghost use Rattle.std.specs.Prelude.{◌≡◌, IfOk, OnOk, map};
+ghost use Rattle.taskboard.specs.Words.{behind, first_wrong, form_text, is_of, is_wrong_option, order_text, others_of, with_other, wrong_of, wrong_of_import, wrong_of_send, wrong_of_sent, wrong_text};
+
 use std::alloc::{AllocError, Global};
 use tb_board::{Key, Name};
 use tb_command_line::is_server;
@@ -20,8 +23,37 @@ enum Form {
     SentKey,
 }
 
+const INIT_FORMS: [Form; 3] = [Form::File, Form::Name, Form::Key];
+
+const VIEW_FORMS: [Form; 4] = [Form::File, Form::Name, Form::Key, Form::Board];
+
+const IMPORT_FORMS: [Form; 6] = [
+    Form::File,
+    Form::Name,
+    Form::Key,
+    Form::Id,
+    Form::Board,
+    Form::Kind,
+];
+
+const SEND_FORMS: [Form; 3] = [Form::Server, Form::Name, Form::SentKey];
+
 /// The longest time of `send`, in seconds.
 const MOST_SECONDS: u32 = 86_400;
+
+const INIT_USAGE: &str = "`init` takes FILE NAME KEY.";
+
+const VIEW_USAGE: &str = "`list`, `export` and `todo` each take FILE MEMBER KEY BOARD.";
+
+const IMPORT_USAGE: &str =
+    "`import` takes FILE MEMBER KEY ID BOARD KIND, and --all once for a text of any length.";
+
+const CHECK_USAGE: &str = "`check` takes FILE alone.";
+
+const RUN_USAGE: &str = "`run` takes no words, and lines on standard input.";
+
+const SERVE_USAGE: &str =
+    "`serve` takes FILE --port P, P from 1 to 65535, and --connections N, N from 1 to 1,000,000, or --forever, and --page FOLDER and --log.";
 
 const SEND_USAGE: &str =
     "`send` takes [--id UUID] [--for SECONDS] ADDRESS:PORT MEMBER KEY WORD ARGUMENTS...";
@@ -29,76 +61,114 @@ const SEND_USAGE: &str =
 const NO_ORDER: &str =
     "The first word is no order: init, serve, send, import, list, export, todo, check or run. `taskboard --help` tells more.";
 
+const WRONG_FILE: &str = "The file is wrong.";
+
+const WRONG_NAME: &str = "The person's name is wrong: 1 to 32 bytes of a to z, 0 to 9, _ and -.";
+
+const WRONG_KEY: &str = "The key is wrong: 8 to 64 visible ASCII characters.";
+
+const WRONG_ID: &str = "The identifier is wrong: a uuid, as 00000000-0000-4000-8000-000000000001.";
+
+const WRONG_BOARD: &str = "The board is wrong: a number from 1, without a zero in front.";
+
+const WRONG_KIND: &str = "The kind is wrong: json or todo.";
+
+const WRONG_SECONDS: &str = "The seconds of --for are wrong: a number from 1 to 86,400.";
+
+const WRONG_SERVER: &str =
+    "The server is wrong: an address, a colon and a port from 1 to 65535, as 127.0.0.1:8080.";
+
+const WRONG_SENT_KEY: &str =
+    "The key is wrong: 8 to 64 visible ASCII characters, or - where it is kept elsewhere.";
+
 /// What is wrong with the words behind the program's name.
-pub(crate) fn wrong_word(alloc: Global, words: &[&str]) -> Result<&'static str, AllocError> {
-    let Some((order, rest)) = words.split_first() else {
-        return Ok(NO_ORDER);
-    };
-    match *order {
-        "init" => wrong_of(
-            alloc,
-            rest,
-            &[Form::File, Form::Name, Form::Key],
-            "`init` takes FILE NAME KEY.",
-        ),
+pub(crate) fn wrong_word(alloc: Global, words: &[&str]) -> Result<&'static str, AllocError>
+    ensures { IfOk result (λ text. text.now ≡ wrong_text (map (λ word. word.now) words.entry.now)) }
+{
+    match words {
+        [order, rest @ ..] => wrong_of_order(alloc, order, rest),
+        [] => Ok(NO_ORDER),
+    }
+}
+
+#[tactic(auto, unfolding(crate::specs::Words::order_text))]
+fn wrong_of_order(alloc: Global, order: &str, rest: &[&str]) -> Result<&'static str, AllocError>
+    ensures { IfOk result (λ text. text.now ≡ order_text order.now (map
+        (λ word. word.now) rest.entry.now)) }
+{
+    match order {
+        "init" => wrong_of(alloc, INIT_USAGE, rest, &INIT_FORMS),
         "import" => wrong_of_import(alloc, rest),
-        "list" | "export" | "todo" => wrong_of(
-            alloc,
-            rest,
-            &[Form::File, Form::Name, Form::Key, Form::Board],
-            "`list`, `export` and `todo` each take FILE MEMBER KEY BOARD.",
-        ),
-        "check" => Ok("`check` takes FILE alone."),
-        "run" => Ok("`run` takes no words, and lines on standard input."),
-        "serve" => Ok(
-            "`serve` takes FILE --port P, P from 1 to 65535, and --connections N, N from 1 to 1,000,000, or --forever, and --page FOLDER and --log.",
-        ),
+        "list" | "export" | "todo" => wrong_of(alloc, VIEW_USAGE, rest, &VIEW_FORMS),
+        "check" => Ok(CHECK_USAGE),
+        "run" => Ok(RUN_USAGE),
+        "serve" => Ok(SERVE_USAGE),
         "send" => wrong_of_send(alloc, rest),
         _ => Ok(NO_ORDER),
     }
 }
 
 /// The first word of `import` that isn't of its form, or which there are to be. `--all` may stand anywhere, once.
-fn wrong_of_import(alloc: Global, words: &[&str]) -> Result<&'static str, AllocError> {
+fn wrong_of_import(alloc: Global, words: &[&str]) -> Result<&'static str, AllocError>
+    ensures { IfOk result (λ text. text.now ≡ wrong_of_import (map
+        (λ word. word.now) words.entry.now)) }
+{
+    let others = others_of(alloc, words)?;
+    wrong_of(alloc, IMPORT_USAGE, others.as_slice(), &IMPORT_FORMS)
+}
+
+/// The words that aren't `--all`.
+fn others_of<'t>(alloc: Global, words: &[&'t str]) -> Result<Vec<&'t str>, AllocError>
+    ensures { IfOk result (λ others. map (λ word. word.now) others.items
+        ≡ others_of (map (λ word. word.now) words.entry.now)) }
+{
     let mut others = Vec::new(alloc);
     for word in words {
-        if *word != "--all" {
-            others.push(*word)?;
-        }
+        push_other(&mut others, *word)?;
     }
-    wrong_of(
-        alloc,
-        others.as_slice(),
-        &[
-            Form::File,
-            Form::Name,
-            Form::Key,
-            Form::Id,
-            Form::Board,
-            Form::Kind,
-        ],
-        "`import` takes FILE MEMBER KEY ID BOARD KIND, and --all once for a text of any length.",
-    )
+    Ok(others)
+}
+
+fn push_other<'t>(others: &mut Vec<&'t str>, word: &'t str) -> Result<(), AllocError>
+    ensures { OnOk result (map (λ word. word.now) others.new.items
+        ≡ with_other (map (λ word. word.now) others.old.items) word.now) }
+{
+    if word == "--all" {
+        return Ok(());
+    }
+    others.push(word)?;
+    Ok(())
 }
 
 /// The first word of `send` that isn't of its form, or how they are to be.
-fn wrong_of_send(alloc: Global, words: &[&str]) -> Result<&'static str, AllocError> {
+fn wrong_of_send(alloc: Global, words: &[&str]) -> Result<&'static str, AllocError>
+    ensures { IfOk result (λ text. text.now ≡ wrong_of_send (map
+        (λ word. word.now) words.entry.now)) }
+{
     if is_wrong_option(alloc, words, "--id", Form::Id)? {
-        return Ok(text_of(Form::Id));
+        return Ok(WRONG_ID);
     }
     let words = behind(words, "--id");
     if is_wrong_option(alloc, words, "--for", Form::Seconds)? {
-        return Ok(text_of(Form::Seconds));
+        return Ok(WRONG_SECONDS);
     }
-    let [server, member, key, _, ..] = behind(words, "--for") else {
-        return Ok(SEND_USAGE);
-    };
-    wrong_of(
-        alloc,
-        &[*server, *member, *key],
-        &[Form::Server, Form::Name, Form::SentKey],
-        SEND_USAGE,
-    )
+    wrong_of_sent(alloc, behind(words, "--for"))
+}
+
+/// The same of the words behind the options.
+fn wrong_of_sent(alloc: Global, words: &[&str]) -> Result<&'static str, AllocError>
+    ensures { IfOk result (λ text. text.now ≡ wrong_of_sent (map
+        (λ word. word.now) words.entry.now)) }
+{
+    match words {
+        [server, member, key, _, ..] => first_wrong(
+            alloc,
+            SEND_USAGE,
+            &[*server, *member, *key],
+            &SEND_FORMS,
+        ),
+        _ => Ok(SEND_USAGE),
+    }
 }
 
 /// Whether an option is in front of the words, and the word behind it isn't of its form.
@@ -107,18 +177,21 @@ fn is_wrong_option(
     words: &[&str],
     name: &str,
     form: Form,
-) -> Result<bool, AllocError> {
-    let [first, value, ..] = words else {
-        return Ok(false);
-    };
-    if *first != name {
-        return Ok(false);
+) -> Result<bool, AllocError>
+    ensures { IfOk result (λ is. is ≡ is_wrong_option (map
+        (λ word. word.now) words.entry.now) name.now form) }
+{
+    match words {
+        [first, value, ..] if *first == name => Ok(!is_of(alloc, value, form)?),
+        _ => Ok(false),
     }
-    Ok(!is_of(alloc, value, form)?)
 }
 
 /// The words behind an option and its value, where they begin with it.
-fn behind<'w, 't>(words: &'w [&'t str], name: &str) -> &'w [&'t str] {
+fn behind<'w, 't>(words: &'w [&'t str], name: &str) -> &'w [&'t str]
+    ensures { map (λ word. word.now) result.now ≡ behind (map
+        (λ word. word.now) words.entry.now) name.now }
+{
     match words {
         [first, _, rest @ ..] if *first == name => rest,
         _ => words,
@@ -128,22 +201,45 @@ fn behind<'w, 't>(words: &'w [&'t str], name: &str) -> &'w [&'t str] {
 /// The first word that isn't of its form, or how many there are to be.
 fn wrong_of(
     alloc: Global,
+    usage: &'static str,
     words: &[&str],
     forms: &[Form],
-    usage: &'static str,
-) -> Result<&'static str, AllocError> {
+) -> Result<&'static str, AllocError>
+    ensures { IfOk result (λ text. text.now ≡ wrong_of usage.now (map
+        (λ word. word.now) words.entry.now) forms.now) }
+{
     if words.len() != forms.len() {
         return Ok(usage);
     }
-    for (word, form) in words.iter().zip(forms.iter()) {
-        if !is_of(alloc, word, *form)? {
-            return Ok(text_of(*form));
-        }
-    }
-    Ok(usage)
+    first_wrong(alloc, usage, words, forms)
 }
 
-fn is_of(alloc: Global, word: &str, form: Form) -> Result<bool, AllocError> {
+/// What is told of the first word that isn't of its form, or else how the words are to be.
+fn first_wrong(
+    alloc: Global,
+    usage: &'static str,
+    words: &[&str],
+    forms: &[Form],
+) -> Result<&'static str, AllocError>
+    ensures { IfOk result (λ text. text.now ≡ first_wrong usage.now (map
+        (λ word. word.now) words.entry.now) forms.now) }
+{
+    let Some((word, words)) = words.split_first() else {
+        return Ok(usage);
+    };
+    let Some((form, forms)) = forms.split_first() else {
+        return Ok(usage);
+    };
+    if is_of(alloc, word, *form)? {
+        first_wrong(alloc, usage, words, forms)
+    } else {
+        Ok(form_text(*form))
+    }
+}
+
+fn is_of(alloc: Global, word: &str, form: Form) -> Result<bool, AllocError>
+    ensures { IfOk result (λ is. is ≡ is_of word.now form) }
+{
     match form {
         Form::File => Ok(true),
         Form::Name => Ok(Name::read(alloc, word)?.is_some()),
@@ -157,18 +253,18 @@ fn is_of(alloc: Global, word: &str, form: Form) -> Result<bool, AllocError> {
     }
 }
 
-fn text_of(form: Form) -> &'static str {
+fn form_text(form: Form) -> &'static str
+    ensures { result.now ≡ form_text form }
+{
     match form {
-        Form::File => "The file is wrong.",
-        Form::Name => "The person's name is wrong: 1 to 32 bytes of a to z, 0 to 9, _ and -.",
-        Form::Key => "The key is wrong: 8 to 64 visible ASCII characters.",
-        Form::Id => "The identifier is wrong: a uuid, as 00000000-0000-4000-8000-000000000001.",
-        Form::Board => "The board is wrong: a number from 1, without a zero in front.",
-        Form::Kind => "The kind is wrong: json or todo.",
-        Form::Seconds => "The seconds of --for are wrong: a number from 1 to 86,400.",
-        Form::Server =>
-            "The server is wrong: an address, a colon and a port from 1 to 65535, as 127.0.0.1:8080.",
-        Form::SentKey =>
-            "The key is wrong: 8 to 64 visible ASCII characters, or - where it is kept elsewhere.",
+        Form::File => WRONG_FILE,
+        Form::Name => WRONG_NAME,
+        Form::Key => WRONG_KEY,
+        Form::Id => WRONG_ID,
+        Form::Board => WRONG_BOARD,
+        Form::Kind => WRONG_KIND,
+        Form::Seconds => WRONG_SECONDS,
+        Form::Server => WRONG_SERVER,
+        Form::SentKey => WRONG_SENT_KEY,
     }
 }
