@@ -21,6 +21,7 @@ export const changes = {
     denotate: (board, task, description) => ofTask(board, task, "denotate", { description }, "Take a note off"),
     depend: (board, task, on) => ofTask(board, task, "depend", { on }, "Add a dependency to"),
     undepend: (board, task, on) => ofTask(board, task, "undepend", { on }, "Take a dependency off"),
+    ahead: (board, ahead) => change(board, `/boards/${board}/ahead`, { ahead }, "Look ahead", `${ahead} of each repeating task`),
     sweep: (board) => change(board, `/boards/${board}/sweep`, null, "Bring up to date", "the repeating tasks"),
     // One part of an import, as it is written; its answer is kept until it was read.
     part: (board, path, body, name) => ({ ...change(board, `/boards/${board}/${path}`, null, "Import", name), body, reports: true }),
@@ -38,6 +39,7 @@ const REFUSALS = {
     NoBoard: () => "You have no role on this board, or it isn't there. Ask an owner of the board to let you in.",
     NotAllowed: ({ path }) => {
         if (path === "/people") return "Only the first person of this server adds people. Ask them to.";
+        if (path.endsWith("/ahead")) return "Only owners say how far a board looks ahead. Ask an owner of the board.";
         return path.endsWith("/roles") ? "Only owners set roles. Ask an owner of the board." : "Your role doesn't allow it. Ask an owner of the board.";
     },
     NoTask: () => "There is no such task on this board. Look at the list again, and choose another.",

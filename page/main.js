@@ -58,6 +58,7 @@ function drawBoards() {
     find("no-board").hidden = state.boards.length > 0;
     if (!here() && state.boards.length > 0) return go(state.boards[0].board);
     document.body.classList.toggle("without-board", !here());
+    document.body.classList.toggle("reader", here()?.role === "reader");
     find("heading").textContent = oneLine(here()?.title ?? "");
     document.title = here() ? `${oneLine(here().title, 60)} · taskboard` : "taskboard";
 }

@@ -8,7 +8,7 @@ import { keep } from "./sending.js";
 import { here, listen, state } from "./state.js";
 
 // The roles that are known here, and those that the server tells of.
-const roles = new Set(["owner", "member"]);
+const roles = new Set(["owner", "member", "reader"]);
 let shown = "";
 
 const isOwner = () => here()?.role === "owner";

@@ -1,6 +1,6 @@
 // The view of a board's templates, each with the row of its instances.
 import { changes } from "./changes.js";
-import { button, fill, find, make, said } from "./dom.js";
+import { button, fill, find, make, said, whenSent } from "./dom.js";
 import { inFull, now, seconds } from "./moments.js";
 import { tellFault } from "./notices.js";
 import { keep } from "./sending.js";
@@ -49,12 +49,17 @@ function sweepIfBehind() {
 function draw() {
     if (state.view !== "repeating" || state.board?.number !== state.number) return;
     const templates = state.board.templates;
+    find("ahead-form").hidden = here()?.role !== "owner";
     find("no-templates").hidden = templates.length > 0;
     fill(find("templates"), templates.map(card));
 }
 
 export function beginRepeating() {
     find("sweep").addEventListener("click", sweep);
+    whenSent("ahead-form", (form) => {
+        keep(changes.ahead(state.number, Number(find("ahead").value))).catch(tellFault);
+        form.reset();
+    });
     listen("board", (isNew) => isNew && [sweepIfBehind, draw].forEach((part) => part()));
     listen("route", draw);
 }

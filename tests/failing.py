@@ -19,6 +19,8 @@ CALLS = [
     (f"/boards/1/tasks/{LOST}/done", {}),
     ("/boards/1/import", TASKS),
     (f"/boards/1/tasks/{RENT}/delete", {}),
+    ("/boards/1/ahead", {"ahead": 3}),
+    ("/boards/1/roles", {"member": "bob", "role": "reader"}),
     ("/boards", {"title": "Shop"}),
     ("/boards/2/import-todo", "(A) Call Mom +Family @phone\nx 2011-03-03 2011-03-02 Paint\n"),
     (f"/boards/1/tasks/{MILK}/done", {}),

@@ -3,11 +3,12 @@
 Each line of a worked script is sent as a message to a server at the line's moment, while the server's first allocation from then on is refused,
 then its second, and so on, until one isn't come to. An answer that there was no memory leaves the boards as they were, and the same server is
 asked again. So it goes with the script over lists, and, for the last example, with what a server does before it listens, which are thousands
-of allocations: one of STEP of these."""
+of allocations: one of STEP of these; and of an order that opens a file of version 1."""
 import collections
 import datetime
 import itertools
 import json
+import lzma
 import mmap
 import os
 import pathlib
@@ -83,6 +84,8 @@ class Line:
             return b"POST", f"/boards/{rest[0]}/tasks", rest[1]
         if word in ("sweep", "import", "import-todo"):
             return b"POST", f"/boards/{rest[0]}/{word}", "\n".join(rest[1:])
+        if word == "ahead":
+            return b"POST", f"/boards/{rest[0]}/ahead", json.dumps({"ahead": int(rest[1])})
         if word == "done":
             return b"POST", f"/boards/{rest[0]}/tasks/{rest[1]}/done", ""
         raise ValueError(f"no message for {word}")
@@ -277,6 +280,37 @@ class Example:
         print(f"{self.name}: {sum(numbers)} allocations refused: {told}", flush=True)
 
 
+def old_file():
+    for name in FILES:
+        pathlib.Path(name).write_bytes(lzma.decompress((TESTS / f"data/version_1/{name}.xz").read_bytes()))
+
+
+def audited():
+    """How an order looks through a file, and how often it says that the file has become one of version 2."""
+    done = orders.run("check", "b.db")
+    return done, done.stderr.count(b"taskboard: b.db is now of version 2\n")
+
+
+def refuse_in_migration():
+    """Refuses an allocation of STEP of an order that makes a file of version 1 one of version 2. The next order finds all there, and makes nothing anew."""
+    counts = collections.Counter()
+    for count in itertools.count():
+        old_file()
+        orders.refuse(1 + count * STEP)
+        done, told = audited()
+        if not orders.was_refused():
+            break
+        fault = re.search(rb"(?m)^taskboard: (Memory|Store)$", done.stderr)
+        if (done.returncode, bool(fault)) not in ((0, False), (1, True)):
+            raise Wrong(f"check of a file of version 1: {done}")
+        counts[fault[1].decode() if fault else "answered"] += 1
+        again, told_again = audited()
+        expect("check behind it", (0, b"boards 3 tasks 62 faults 0\n"), (again.returncode, again.stdout))
+        if told + told_again > 1:
+            raise Wrong(f"a file became one of version 2 twice: {done}, {again}")
+    print(f"a file of version 1: {count} allocations refused: {', '.join(f'{many} {what}' for what, many in sorted(counts.items()))}", flush=True)
+
+
 def can_connect():
     try:
         socket.create_connection(("127.0.0.1", PORT), timeout=10).close()
@@ -289,6 +323,10 @@ def can_connect():
 orders, wrong = Orders(), []
 for name in EXAMPLES:
     Example(name).refuse()
+try:
+    refuse_in_migration()
+except (Wrong, OSError, subprocess.SubprocessError) as fault:
+    wrong.append(f"a file of version 1: {type(fault).__name__} {fault}")
 for told in wrong[:20]:
     print(f"wrong: {told[:1000]}")
 sys.exit(1 if wrong else 0)

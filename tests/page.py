@@ -161,7 +161,7 @@ def by_keyboard(browser):
 
 
 def repeat(office):
-    """A task that repeats, and the row of its instances."""
+    """A task that repeats, and the row of its instances; then three of them ahead of their dates."""
     browser = office.browser
     browser.click("#add-more")
     browser.type("#add-line", "Water the plants due:" + str(datetime.date.today() - datetime.timedelta(days=8)))
@@ -175,6 +175,9 @@ def repeat(office):
     browser.click("#task-actions .primary")
     browser.wait("return document.querySelectorAll('.mask .completed').length === 1")
     browser.click("#close-panel")
+    browser.type("#ahead", "3" + ENTER)
+    browser.wait("return document.querySelectorAll('.mask .cell').length === 5")
+    browser.wait(ALL_ANSWERED)
     office.shot("repeating")
     office.go(1)
 

@@ -38,29 +38,31 @@ TASKS
 
 "$program" init b.db ann ann-key-1
 "$program" import b.db ann ann-key-1 00000000-0000-4000-8000-000000000001 1 json <tasks >/dev/null
-start_server 3
+start_server 4
 send 2 /people '{"name":"bob","key":"bob-key-01"}'
-send 3 /boards/1/roles '{"member":"bob","role":"member"}'
+send 3 /boards/1/roles '{"member":"bob","role":"reader"}'
 send 4 "/boards/1/tasks/$milk/depend" "{\"on\":\"$instance\"}"
+send 5 /boards/1/ahead '{"ahead":2}'
 wait "$server"
 server=
 
 expect "integrity" "ok" "$(ask 'PRAGMA integrity_check')"
 expect "foreign keys" "" "$(ask 'PRAGMA foreign_key_check')"
-expect "tables" "meta person board role task link instance gone kept" \
+expect "tables" "meta person board role task link instance gone kept horizon" \
     "$(ask "SELECT name FROM sqlite_schema WHERE type = 'table' ORDER BY rootpage" | tr '\n' ' ' | sed 's/ $//')"
-for table in meta person board role task link instance gone kept; do
+for table in meta person board role task link instance gone kept horizon; do
     if ! ask ".schema $table" | grep -q "CREATE TABLE $table(.*) STRICT"; then
         echo "the table $table is not STRICT, or is not there"
         exit 1
     fi
 done
-expect "meta" "1|taskboard|1" "$(ask 'SELECT * FROM meta')"
+expect "meta" "1|taskboard|2" "$(ask 'SELECT * FROM meta')"
 expect "people" "1|ann
 2|bob" "$(ask 'SELECT id, name FROM person ORDER BY id')"
 expect "board" "1|board|1" "$(ask 'SELECT * FROM board')"
 expect "roles" "1|1|1
-1|2|2" "$(ask 'SELECT * FROM role ORDER BY person')"
+1|2|3" "$(ask 'SELECT * FROM role ORDER BY person')"
+expect "horizon" "1|2" "$(ask 'SELECT * FROM horizon')"
 expect "tasks" "1|rent|-X|16|blob
 2|rent||16|blob
 3|buy milk||16|blob" \
@@ -71,6 +73,7 @@ expect "gone" "1|1|1|X" "$(ask 'SELECT * FROM gone')"
 expect "kept" "1|16|0|200
 1|16|0|200
 1|16|0|200
+1|16|0|200
 1|16|0|200" "$(ask 'SELECT person, length(id), number, status FROM kept ORDER BY id')"
-expect "contents" "4|blob" "$(ask 'SELECT count(DISTINCT content), typeof(content) FROM kept WHERE length(content) > 0 GROUP BY typeof(content)')"
+expect "contents" "5|blob" "$(ask 'SELECT count(DISTINCT content), typeof(content) FROM kept WHERE length(content) > 0 GROUP BY typeof(content)')"
 echo "sqlite3 reads it"

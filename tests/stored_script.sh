@@ -33,6 +33,8 @@ make_script() {
         first[2] = "board\tShop"
         first[3] = "role\t1\tbob\tmember"
         first[4] = "add\t1\t{\"description\":\"Water\",\"due\":\"20260301T060000Z\",\"recur\":\"daily\"}"
+        first[5] = "ahead\t1\t3"
+        first[6] = "role\t2\tbob\treader"
         for (n = 1; n <= 500; n++) {
             ten = int(n / 10)
             at = sprintf("202603%02dT%02d0000Z", 1 + int(ten / 24), ten % 24)
@@ -73,14 +75,17 @@ printf '20260401T000000Z\troot\troot-key-1\t00000000-0000-4000-8000-000000000000
 
 expect "integrity" "ok" "$(ask 'PRAGMA integrity_check')"
 expect "foreign keys" "" "$(ask 'PRAGMA foreign_key_check')"
-expect "meta" "1|taskboard|1" "$(ask 'SELECT * FROM meta')"
+expect "meta" "1|taskboard|2" "$(ask 'SELECT * FROM meta')"
 expect "people" "1|root
 2|bob" "$(ask 'SELECT id, name FROM person ORDER BY id')"
 expect "boards" "1|board
 2|Shop" "$(ask 'SELECT id, title FROM board ORDER BY id')"
 expect "roles" "1|1|1
 1|2|2
-2|1|1" "$(ask 'SELECT board, person, kind FROM role ORDER BY board, person')"
+2|1|1
+2|2|3" "$(ask 'SELECT board, person, kind FROM role ORDER BY board, person')"
+expect "horizon" "1|3
+2|1" "$(ask 'SELECT board, ahead FROM horizon ORDER BY board')"
 expect "tasks" "$(line_count '^{' exported)" "$(ask 'SELECT count(*) FROM task WHERE board = 1')"
 expect "places" "$(line_count '^{' exported)" "$(ask 'SELECT max(place) FROM task WHERE board = 1')"
 expect "links" "$(line_count '"depends":' exported)" "$(ask 'SELECT count(*) FROM link')"

@@ -1,6 +1,6 @@
 #!/bin/sh
 # Changes the rows of a file by another hand. `check` looks at all: it tells Store for what no boards have, and counts boards with other
-# masks and least free numbers. `list` tells Store for what it looks at alone. Needs python3 with its sqlite3, and takes seconds once the
+# masks and least free numbers, or without the row of how far ahead they look. `list` tells Store for what it looks at alone. Needs python3 with its sqlite3, and takes seconds once the
 # program is there.
 set -eu
 
@@ -60,6 +60,9 @@ tried("one link", [depends_on(1, ids[1])], "faults 1\n", tasks)
 tried("another mask", ["UPDATE task SET mask = '-' WHERE mask IS NOT NULL"], "faults 1\n", tasks)
 tried("another least number", ["UPDATE board SET low = 77"], "faults 1\n", tasks)
 tried("another version", ["UPDATE meta SET version = 7"], "taskboard: WrongVersion\n", "taskboard: WrongVersion\n")
+tried("the version before, with a table that it lacks", ["UPDATE meta SET version = 1"], "taskboard: NotOurs\n", "taskboard: NotOurs\n")
+tried("another row of how far ahead it looks", ["UPDATE horizon SET ahead = 12"], "faults 0\n", tasks)
+tried("no row of how far ahead it looks", ["DELETE FROM horizon"], "faults 1\n", store)
 tried("a circle", [depends_on(1, ids[1]), depends_on(2, ids[0])], store, store)
 tried("a link to itself", [depends_on(1, ids[0])], store, store)
 tried("a link to nowhere", [depends_on(1, call)], store, store)
@@ -69,6 +72,7 @@ tried("an empty body", ["UPDATE task SET body = '{}' WHERE place = 1"], store, s
 tried("another board", ["UPDATE board SET id = 3"], store, store)
 tried("no key", ["UPDATE person SET secret = 'a'"], store, store)
 tried("no name", ["UPDATE person SET name = 'a b'"], store, '{"name":"UnknownCaller","refused":1}\n')
+tried("a reader alone", ["UPDATE role SET kind = 3"], store, tasks)
 tried("no owner", ["DELETE FROM role"], store, '{"name":"NoBoard","refused":3}\n')
 tried("a reply of no number", ["UPDATE kept SET number = 300"], store, tasks)
 print("refused and counted")

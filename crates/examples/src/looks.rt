@@ -8,6 +8,7 @@ use tb_calls::Keep;
 use tb_keeper::SqlKeep;
 use tb_sql::boards::{find_board, select_boards};
 use tb_sql::gone::select_gone;
+use tb_sql::horizons::find_horizon;
 use tb_sql::instances::select_instances;
 use tb_sql::kept::{find_kept, select_kept};
 use tb_sql::lend::{next_task, task_rows};
@@ -26,6 +27,11 @@ pub fn tell_audit<S: Alter>(keep: &mut SqlKeep<S>, told: &mut Told) -> Result<()
     };
     let (boards, tasks, faults) = (found.boards, found.tasks, found.faults);
     told.answer(&format!(in told.alloc; "boards {boards}, tasks {tasks}, faults {faults}")?)
+}
+
+/// Whether the store was of the first version before it was opened.
+pub fn tell_migrated<S: Alter>(keep: &SqlKeep<S>, told: &mut Told) -> Result<(), AllocError> {
+    told.answer(if keep.has_migrated() { "yes" } else { "no" })
 }
 
 /// How many of these lines have a kept reply.
@@ -58,6 +64,7 @@ pub fn tell_tables<S: Alter>(conn: &mut Connection<S>, told: &mut Told) -> Resul
         let mut tx = conn.transaction();
         tell_people(&mut tx, told)?;
         tell_boards(&mut tx, told)?;
+        tell_horizons(&mut tx, told)?;
         tell_roles(&mut tx, told)?;
         tell_tasks(&mut tx, told)?;
         tell_links(&mut tx, told)?;
@@ -90,6 +97,17 @@ fn tell_boards<S: Alter>(tx: &mut Transaction<'_, S>, told: &mut Told) -> Result
         let (id, title) = (board.id, board.title.as_str());
         let low = find_board(tx, id)?.map_or(0, |found| found.low);
         told.answer(&format!(in told.alloc; "board {id} {title} {low}")?)?;
+    }
+    Ok(())
+}
+
+/// The number of each board, and how far ahead it looks.
+fn tell_horizons<S: Alter>(tx: &mut Transaction<'_, S>, told: &mut Told) -> Result<(), Error> {
+    for board in select_boards(tx)?.as_slice() {
+        if let Some(horizon) = find_horizon(tx, board.id)? {
+            let (board, ahead) = (horizon.board, horizon.ahead);
+            told.answer(&format!(in told.alloc; "horizon {board} {ahead}")?)?;
+        }
     }
     Ok(())
 }

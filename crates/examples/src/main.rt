@@ -9,6 +9,7 @@ mod breaking;
 mod hiccup;
 mod lines;
 mod looks;
+mod openings;
 mod play;
 mod scene;
 mod script;

@@ -1,9 +1,10 @@
 //! Steps over boards in two files, as they are read from a file of steps.
 
 use crate::lines::{Told, compare, unreadable};
-use crate::looks::{count_kept, tell_audit, tell_tables};
+use crate::looks::{count_kept, tell_audit, tell_migrated, tell_tables};
+use crate::openings::open_each;
 use crate::stops::{Frail, read_files, stop_each};
-use crate::store::{Owner, open_store};
+use crate::store::{Owner, make_first_version, open_store};
 use sqlite::{Connection, FileStore, Files, Options};
 use sqlite_disk::Crash;
 use std::alloc::AllocError;
@@ -49,18 +50,38 @@ impl Stage {
         Stage::Files(files)
     }
 
-    /// Opens the database, and the store in it. Gives the word for why one isn't open too, or none.
-    pub fn open(self, owner: &Owner, how: &str) -> (Stage, &'static str) {
+    /// Opens the database. Gives the files and the word for why it isn't open, where it isn't.
+    fn connect(self, owner: &Owner) -> Result<Database, (Stage, &'static str)> {
         let files = self.into_files();
         if !files.may_be_used() {
-            return (Stage::Files(files), "Unusable");
+            return Err((Stage::Files(files), "Unusable"));
         }
         match Connection::open_files(owner.alloc, files, Options::new(7)) {
-            Ok(conn) => match open_store(owner, conn, how) {
-                Ok(keep) => (Stage::Store(keep), ""),
-                Err((conn, word)) => (Stage::Database(conn), word),
-            },
-            Err((_, left)) => (Stage::Files(left.into_files()), "Unopened"),
+            Ok(conn) => Ok(conn),
+            Err((_, left)) => Err((Stage::Files(left.into_files()), "Unopened")),
+        }
+    }
+
+    /// Opens the database, and the store in it. Gives the word for why one isn't open too, or none.
+    pub fn open(self, owner: &Owner, how: &str) -> (Stage, &'static str) {
+        let conn = match self.connect(owner) {
+            Ok(conn) => conn,
+            Err(fault) => return fault,
+        };
+        match open_store(owner, conn, how) {
+            Ok(keep) => (Stage::Store(keep), ""),
+            Err((conn, word)) => (Stage::Database(conn), word),
+        }
+    }
+
+    /// Opens the database, and makes a store of the first version in it, which stays closed. Gives the word for what failed too, or none.
+    fn make_first(self, owner: &Owner) -> (Stage, &'static str) {
+        match self.connect(owner) {
+            Ok(conn) => {
+                let (conn, word) = make_first_version(owner, conn);
+                (Stage::Database(conn), word)
+            }
+            Err(fault) => fault,
         }
     }
 }
@@ -128,16 +149,26 @@ impl<'o, 't> Steps<'o, 't> {
                 Ok(Stage::Files(read_files(self.owner.alloc, rest)?))
             }
             "each" => {
-                self.tell_stops(rest)?;
+                let count = stop_each(self.owner, self.sent.as_slice(), rest);
+                self.tell_trial(count)?;
                 Ok(stage)
             }
+            "each_open" => self.tell_openings(stage, rest),
             _ => self.take(stage, line),
         }
     }
 
-    /// Stops the lines that were sent at each call of a file.
-    fn tell_stops(&mut self, words: &str) -> io::Result<()> {
-        match stop_each(self.owner, self.sent.as_slice(), words) {
+    /// Stops the opening of the files at each of its calls.
+    fn tell_openings(&mut self, stage: Stage, way: &str) -> io::Result<Stage> {
+        let files = stage.into_files();
+        let count = open_each(self.owner, &files, way);
+        self.tell_trial(count)?;
+        Ok(Stage::Files(files))
+    }
+
+    /// Tells that all stood, where a file went its way at least once, or what went otherwise.
+    fn tell_trial(&mut self, count: io::Result<u64>) -> io::Result<()> {
+        match count {
             Ok(0) => self.told.answer("NeverStopped")?,
             Ok(_) => self.told.answer("stands")?,
             Err(error) => self
@@ -147,10 +178,12 @@ impl<'o, 't> Steps<'o, 't> {
         Ok(())
     }
 
-    fn take(&mut self, stage: Stage, step: &'t str) -> io::Result<Stage> {
+    /// Takes a step over the files that are there.
+    pub fn take(&mut self, stage: Stage, step: &'t str) -> io::Result<Stage> {
         let (word, rest) = step.split_once(' ').unwrap_or((step, ""));
         let (stage, text) = match word {
             "open" | "make" | "take" => stage.open(self.owner, word),
+            "make_first" => stage.make_first(self.owner),
             "stop" => (stage.stop(), ""),
             "close" => close(stage.into_database()?),
             "hand" => change(stage.into_database()?, rest),
@@ -175,6 +208,7 @@ impl<'o, 't> Steps<'o, 't> {
         };
         match step {
             "audit" => tell_audit(&mut keep, &mut self.told)?,
+            "migrated" => tell_migrated(&keep, &mut self.told)?,
             "kept" => count_kept(&mut keep, self.sent.as_slice(), &mut self.told)?,
             line => {
                 let mut desk = Desk::new(keep);

@@ -17,7 +17,7 @@ use tb_keeper::SqlKeep;
 pub type Frail = Hiccup<Fuse<Memory>>;
 
 /// The ways of a file: it stops after some calls, or fails the call behind these and goes on.
-const WAYS: [&str; 4] = ["log", "file", "log_once", "file_once"];
+pub const WAYS: [&str; 4] = ["log", "file", "log_once", "file_once"];
 
 /// The lines that show the boards: two as the first person sees them, and one as another does.
 const LOOKS: [&str; 3] = [
@@ -27,7 +27,7 @@ const LOOKS: [&str; 3] = [
 ];
 
 /// What is told where a store isn't opened.
-const FAULTS: [&str; 3] = ["Store", "Unopened", "Unusable"];
+pub const FAULTS: [&str; 3] = ["Store", "Unopened", "Unusable"];
 
 /// What a store tells that has failed.
 const FAILED: &str = "< Store\n";
@@ -51,11 +51,34 @@ fn frail(log: Memory, db: Memory, way: &str, calls: u64) -> Files<Frail> {
     }
 }
 
+/// Files with the same content, of which one goes this way after so many calls.
+pub fn copies(
+    alloc: Global,
+    files: &Files<Frail>,
+    way: &str,
+    calls: u64,
+) -> io::Result<Files<Frail>> {
+    let (log, db) = (copy(alloc, &files.log)?, copy(alloc, &files.db)?);
+    Ok(frail(log, db, way, calls))
+}
+
 fn copy(alloc: Global, file: &Frail) -> io::Result<Memory> {
     let mut memory = Memory::new(alloc);
     memory.write_at(0, file.inner().inner().bytes())?;
     memory.sync()?;
     Ok(memory)
+}
+
+/// The files as the next session finds them, and whether a call of them failed: those of which one failed once as they are, where they may
+/// be used, and others as a machine that comes back finds them.
+pub fn left_by(files: Files<Frail>) -> (Stage, bool) {
+    let has_failed = files.log.has_failed() || files.db.has_failed();
+    let stage = if has_failed && files.may_be_used() {
+        Stage::Files(files)
+    } else {
+        Stage::Files(files).stop()
+    };
+    (stage, has_failed)
 }
 
 /// Sends lines over files that go one way after no call, after one and so on, for the words `WAY`. For `WAY WAY STEP` they go the second
@@ -206,8 +229,7 @@ impl<'t> Trial<'t> {
     /// Sends the lines over files with the same content, of which one goes this way after so many calls.
     fn session(&self, way: &str, calls: u64) -> io::Result<Trial<'t>> {
         let alloc = self.owner.alloc;
-        let (log, db) = (copy(alloc, &self.files.log)?, copy(alloc, &self.files.db)?);
-        match self.send(frail(log, db, way, calls)) {
+        match self.send(copies(alloc, &self.files, way, calls)?) {
             Ok(trial) => Ok(trial),
             Err(error) => {
                 let text = format!(in alloc; "{way} after {calls} calls: {error}")?;
@@ -226,14 +248,7 @@ impl<'t> Trial<'t> {
         if !word.is_empty() && !FAULTS.contains(&word) {
             return Err(io::Error::other(word));
         }
-        let files = stage.into_files();
-        let has_failed = files.log.has_failed() || files.db.has_failed();
-        // Files of which one failed once are opened again as they are, where they may be.
-        let stage = if has_failed && files.may_be_used() {
-            Stage::Files(files)
-        } else {
-            Stage::Files(files).stop()
-        };
+        let (stage, has_failed) = left_by(stage.into_files());
         let (files, seen) = self.look(stage)?;
         Ok(Trial {
             owner: self.owner,

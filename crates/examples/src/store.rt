@@ -7,6 +7,7 @@ use std::alloc::{AllocError, Global};
 use std::io;
 use tb_board::{Key, Name};
 use tb_desk::{Desk, ListKeep};
+use tb_keeper::first_version::create_v1;
 use tb_keeper::{CreateFault, SqlKeep};
 use tb_script::{LinesFault, run_lines_on};
 use tb_sql::opening::{OpenFault, is_empty};
@@ -54,9 +55,30 @@ fn made<S: Alter + Drop>(owner: &Owner, conn: Connection<S>) -> Opened<S>
 {
     match SqlKeep::create(owner.alloc, conn, &owner.name, &owner.key) {
         Ok(keep) => Ok(keep),
-        Err((conn, CreateFault::NotEmpty)) => Err((conn, "NotEmpty")),
-        Err((conn, CreateFault::Store)) => Err((conn, "Store")),
-        Err((conn, CreateFault::Memory)) => Err((conn, "Memory")),
+        Err((conn, fault)) => Err((conn, word_of(fault))),
+    }
+}
+
+/// The word for why no store is made.
+fn word_of(fault: CreateFault) -> &'static str {
+    match fault {
+        CreateFault::NotEmpty => "NotEmpty",
+        CreateFault::Store => "Store",
+        CreateFault::Memory => "Memory",
+    }
+}
+
+/// Makes a store of the first version in a database, which it leaves closed. Gives the word for why there is none too, or none.
+pub fn make_first_version<S: Alter + Drop>(
+    owner: &Owner,
+    conn: Connection<S>,
+) -> (Connection<S>, &'static str) {
+    if !conn.is_autocommit() {
+        return (conn, "InTransaction");
+    }
+    match create_v1(owner.alloc, conn, &owner.name, &owner.key) {
+        Ok(conn) => (conn, ""),
+        Err((conn, fault)) => (conn, word_of(fault)),
     }
 }
 

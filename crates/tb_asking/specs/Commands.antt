@@ -65,7 +65,10 @@ board_from json = do
 
 -- a role's word is one of the three
 abbrev pub role_named : List ℕ → Role
-role_named word = if bytes_eq word (codes "owner") then Owner else if bytes_eq word (codes "member") then Member else Reader
+role_named word =
+    if bytes_eq word (codes "owner") then Owner
+    else if bytes_eq word (codes "member") then Member
+    else Reader
 
 abbrev pub role_from : ℕ → Data → Result Command BadBody
 role_from board json = do

@@ -1,10 +1,11 @@
 -- The messages that the words of a script are sent as.
 use Rattle.std.specs.Prelude.{ℕ, List, [], ◌∷◌, ◌++◌, ◌&&◌, is_some, length, codes, decimal, Option, Some, None, option_and_then, option_map, if◌then◌else◌}
 use Rattle.std.specs.Str.{bytes_eq}
-use Rattle.serde_json.specs.Data.{Data, null, string, object, member, no_members}
+use Rattle.serde_json.specs.Data.{Data, null, number, unsigned, string, object, member, no_members}
 use Rattle.serde_json.specs.Written.{compact_text}
 use Rattle.tb_task.specs.TaskId.{id_text, read_id}
 use Rattle.tb_values.specs.Numerals.{number_to}
+use Rattle.tb_board.specs.Ahead.{read_ahead}
 use Rattle.tb_client.specs.Lines.{add_body}
 use Rattle.tb_client.specs.declared.message.Sender.{Sender}
 use Rattle.tb_client.specs.declared.request.Request.{Request}
@@ -130,6 +131,19 @@ role_call (a ∷ []) = None
 role_call (a ∷ b ∷ []) = None
 role_call (a ∷ b ∷ c ∷ d ∷ more) = None
 
+abbrev pub ahead_data : ℕ → Data
+ahead_data n = object (member (codes "ahead") (number (unsigned n)) no_members)
+
+-- a board that looks so far
+abbrev pub ahead_request : Text → ℕ → Option Request
+ahead_request board n = option_map (call_at (compact_text (ahead_data n))) (board_target board (codes "/ahead"))
+
+abbrev pub ahead_call : List Text → Option Request
+ahead_call (board ∷ n ∷ []) = option_and_then (ahead_request board) (option_and_then read_ahead (number_to 4294967295 n))
+ahead_call [] = None
+ahead_call (a ∷ []) = None
+ahead_call (a ∷ b ∷ c ∷ more) = None
+
 unfoldable pub request_named : Text → List Text → Option Request
 request_named word arguments =
     if bytes_eq word (codes "list") then board_view (codes "/list") arguments
@@ -155,6 +169,7 @@ request_named word arguments =
     else if bytes_eq word (codes "person") then person_call arguments
     else if bytes_eq word (codes "board") then title_call arguments
     else if bytes_eq word (codes "role") then role_call arguments
+    else if bytes_eq word (codes "ahead") then ahead_call arguments
     else None
 
 -- what the words of a script ask a server for

@@ -2,11 +2,12 @@
 ghost use Rattle.std.specs.Prelude.{◌≡◌, ◌++◌, ◌∷◌, IfOk, codes, false, option_map};
 ghost use Rattle.serde_json.specs.View.{view};
 ghost use Rattle.serde_json.specs.Written.{compact_text, has_float};
-ghost use Rattle.tb_client.specs.Messages.{add_call, board_call, board_target, board_view, call_at, lines_call, lines_text, link_body, link_data, me_view, note_body, note_data, person_call, person_data, request_named, request_of, role_call, role_data, sweep_call, task_call, task_call_with, task_target, task_view, title_call, title_data, view_at};
+ghost use Rattle.tb_client.specs.Messages.{add_call, ahead_call, ahead_data, ahead_request, board_call, board_target, board_view, call_at, lines_call, lines_text, link_body, link_data, me_view, note_body, note_data, person_call, person_data, request_named, request_of, role_call, role_data, sweep_call, task_call, task_call_with, task_target, task_view, title_call, title_data, view_at};
 
 use crate::line::add_body;
 use serde_json::{Value, json};
 use std::alloc::{AllocError, Global};
+use tb_board::Ahead;
 use tb_task::TaskId;
 use tb_values::{Text, read_number};
 
@@ -59,6 +60,7 @@ fn request_named(
         "person" => person_call(alloc, arguments),
         "board" => title_call(alloc, arguments),
         "role" => role_call(alloc, arguments),
+        "ahead" => ahead_call(alloc, arguments),
         _ => Ok(None),
     }
 }
@@ -225,6 +227,30 @@ fn role_call(alloc: Global, arguments: &[Text]) -> Result<Option<Request>, Alloc
     Ok(call_at(target, body))
 }
 
+fn ahead_call(alloc: Global, arguments: &[Text]) -> Result<Option<Request>, AllocError>
+    ensures { IfOk result (λ found. found ≡ ahead_call arguments.now) }
+{
+    let [board, number] = arguments else {
+        return Ok(None);
+    };
+    let Some(number) = read_number(number.as_str(), u32::MAX) else {
+        return Ok(None);
+    };
+    match Ahead::read(number as u64) {
+        Some(ahead) => ahead_request(alloc, board, ahead),
+        None => Ok(None),
+    }
+}
+
+fn ahead_request(alloc: Global, board: &Text, ahead: Ahead) -> Result<Option<Request>, AllocError>
+    ensures { IfOk result (λ found. found ≡ ahead_request board.now ahead) }
+{
+    let target = board_target(alloc, board, "/ahead")?;
+    let body = ahead_value(alloc, ahead.number())?;
+    let body = body_text(alloc, &body)?;
+    Ok(call_at(target, body))
+}
+
 fn note_value(alloc: Global, note: &str) -> Result<Value, AllocError>
     ensures { IfOk result (λ body. view body ≡ note_data note.now) }
 {
@@ -258,6 +284,12 @@ fn role_body(alloc: Global, name: &str, word: &str) -> Result<Value, AllocError>
     } else {
         json!(in alloc; {"member": name, "role": word})
     }
+}
+
+fn ahead_value(alloc: Global, number: u8) -> Result<Value, AllocError>
+    ensures { IfOk result (λ body. view body ≡ ahead_data number) }
+{
+    json!(in alloc; {"ahead": number})
 }
 
 fn body_text(alloc: Global, body: &Value) -> Result<Text, AllocError>

@@ -12,7 +12,7 @@ use Rattle.tb_board.specs.Board.{has_id, is_on, wake}
 use Rattle.tb_board.specs.Changes.{change_board}
 use Rattle.tb_board.specs.Good.{IsGood}
 use Rattle.tb_board.specs.Links.{links}
-use Rattle.tb_board.specs.World.{find_board, has_number, number_of, role_of}
+use Rattle.tb_board.specs.World.{find_board, has_number, may_change, number_of, role_of}
 use Rattle.tb_board.proofs.Goodness.{ids-wake, on-same}
 use Rattle.tb_board.proofs.Worlds.{number_found}
 use Rattle.tb_sweep.specs.Sweep.{more, sweep}
@@ -32,7 +32,7 @@ use Rattle.tb_core.specs.declared.command.BoardAnswer.{BoardAnswer}
 use Rattle.tb_core.specs.declared.command.Command.TheVariants.{ImportJson}
 use Rattle.tb_core.specs.declared.command.Told.TheVariants.{Imported}
 use Rattle.tb_core.specs.declared.refusal.Refusal.{Refusal}
-use Rattle.tb_core.specs.Apply.{answered, applied, apply, board_answer, board_for, decided, outcome, seen_with}
+use Rattle.tb_core.specs.Apply.{answered, applied, apply, board_answer, board_for, decided, if_allowed, outcome, seen_with}
 use Rattle.tb_core.specs.GoodWorld.{IsGoodWorld}
 use Rattle.tb_core.specs.ImportJson.{judged_import_json, told_of}
 use Rattle.tb_core.proofs.GoodWorlds.{all-found}
@@ -159,9 +159,10 @@ IsKnownAgain name n is m a later = apply later name (ImportJson n is) m ≡ reco
 
 again_at : (w : World) (name : List ℕ) (n : ℕ) (is : List Incoming) (m : ℕ) (a : BoardAnswer) (caller : ℕ) (role : Role) (x y : Board)
     → IsGoodWorld (record w { boards = change_board y.number (λ _. y) w.boards })
-    → number_of w name ≡ Some caller → role_of w n caller ≡ Some role → find_board w n ≡ Some x → outcome x (ImportJson n is) m ≡ Ok (y, a) → a.more ≡ false
+    → number_of w name ≡ Some caller → role_of w n caller ≡ Some role → find_board w n ≡ Some x → may_change role ≡ true
+    → outcome x (ImportJson n is) m ≡ Ok (y, a) → a.more ≡ false
     → IsKnownAgain name n is m a (record w { boards = change_board y.number (λ _. y) w.boards })
-again_at w name n is m a caller role x y good known own found gives enough =
+again_at w name n is m a caller role x y good known own found allowed gives enough =
     let later : World = record w { boards = change_board y.number (λ _. y) w.boards } in
     let c = ImportJson n is in
     let number : y.number ≡ n = number_kept x n is m y a gives ∙ number_found n w.boards x found in
@@ -171,17 +172,28 @@ again_at w name n is m a caller role x y good known own found gives enough =
     ap (λ k. applied later (decided k (board_for later k (Some n)) c m)) known
     ∙ ap (λ r. applied later (decided (Some caller) (seen_with r (find_board later n)) c m)) own
     ∙ ap (λ o. applied later (decided (Some caller) (seen_with (Some role) o) c m)) there
+    ∙ ap (λ q. applied later (if_allowed q (outcome y c m))) allowed
     ∙ ap (applied later) (outcome_again x n is m y a good_board gives enough)
     ∙ ap (λ bs. record { world = record later { boards = bs }; answer = Ok (OnBoard (known_answer a.board is)) }) (put_twice y.number y w.boards refl)
 
 again_outcome : (w : World) (name : List ℕ) (n : ℕ) (is : List Incoming) (m : ℕ) (a : BoardAnswer) (caller : ℕ) (role : Role) (x : Board)
     (r : Result (Board × BoardAnswer) Refusal) → IsGoodWorld (applied w r).world
-    → number_of w name ≡ Some caller → role_of w n caller ≡ Some role → find_board w n ≡ Some x → outcome x (ImportJson n is) m ≡ r
+    → number_of w name ≡ Some caller → role_of w n caller ≡ Some role → find_board w n ≡ Some x → may_change role ≡ true
+    → outcome x (ImportJson n is) m ≡ r
     → (applied w r).answer ≡ Ok (OnBoard a) → a.more ≡ false → IsKnownAgain name n is m a (applied w r).world
-again_outcome w name n is m a caller role x (Err refusal) good known own found gives h enough = absurd (cc)
-again_outcome w name n is m a caller role x (Ok r) good known own found gives h enough =
+again_outcome w name n is m a caller role x (Err refusal) good known own found allowed gives h enough = absurd (cc)
+again_outcome w name n is m a caller role x (Ok r) good known own found allowed gives h enough =
     let told : r.1 ≡ a = ap (answer_on a) h in
-    again_at w name n is m a caller role x r.0 good known own found (gives ∙ ap (λ b. Ok (r.0, b)) told) enough
+    again_at w name n is m a caller role x r.0 good known own found allowed (gives ∙ ap (λ b. Ok (r.0, b)) told) enough
+
+again_allowed : (w : World) (name : List ℕ) (n : ℕ) (is : List Incoming) (m : ℕ) (a : BoardAnswer) (caller : ℕ) (role : Role) (x : Board)
+    (allowed : Bool) → IsGoodWorld (applied w (if_allowed allowed (outcome x (ImportJson n is) m))).world
+    → number_of w name ≡ Some caller → role_of w n caller ≡ Some role → find_board w n ≡ Some x → may_change role ≡ allowed
+    → (applied w (if_allowed allowed (outcome x (ImportJson n is) m))).answer ≡ Ok (OnBoard a) → a.more ≡ false
+    → IsKnownAgain name n is m a (applied w (if_allowed allowed (outcome x (ImportJson n is) m))).world
+again_allowed w name n is m a caller role x true good known own found allowed h enough =
+    again_outcome w name n is m a caller role x (outcome x (ImportJson n is) m) good known own found allowed refl h enough
+again_allowed w name n is m a caller role x false good known own found refused h enough = absurd (cc)
 
 again_seen : (w : World) (name : List ℕ) (n : ℕ) (is : List Incoming) (m : ℕ) (a : BoardAnswer) (caller : ℕ) (role : Option Role) (o : Option Board)
     → IsGoodWorld (applied w (decided (Some caller) (seen_with role o) (ImportJson n is) m)).world
@@ -191,7 +203,7 @@ again_seen : (w : World) (name : List ℕ) (n : ℕ) (is : List Incoming) (m : �
 again_seen w name n is m a caller None o good known own found h enough = absurd (cc)
 again_seen w name n is m a caller (Some role) None good known own found h enough = absurd (cc)
 again_seen w name n is m a caller (Some role) (Some x) good known own found h enough =
-    again_outcome w name n is m a caller role x (outcome x (ImportJson n is) m) good known own found refl h enough
+    again_allowed w name n is m a caller role x (may_change role) good known own found refl h enough
 
 again_by : (w : World) (name : List ℕ) (n : ℕ) (is : List Incoming) (m : ℕ) (a : BoardAnswer) (caller : Option ℕ)
     → IsGoodWorld (applied w (decided caller (board_for w caller (Some n)) (ImportJson n is) m)).world → number_of w name ≡ caller

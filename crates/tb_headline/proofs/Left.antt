@@ -1,5 +1,5 @@
 -- What a session begins with, and what it leaves: what a stop leaves of a store is the rows of a state.
-use Rattle.std.proofs.Common.{◌≡◌, ℕ, Bool, true, false, List, length, take, inl, inr}
+use Rattle.std.proofs.Common.{◌≡◌, ℕ, Bool, true, false, true≢false, List, length, take, inl, inr}
 use Rattle.sqlite.specs.State.{HasCleanDisk, State as Database}
 use Rattle.sqlite_trees.specs.Tree.{Trees}
 use Rattle.sqlite_trees.proofs.Doubt.{clean_of, no_doubt}
@@ -11,8 +11,8 @@ use Rattle.tb_core.specs.GoodWorld.{IsGoodWorld}
 use Rattle.tb_keeper.specs.Holds.{Holds, Kept}
 use Rattle.tb_keeper.specs.Laws.{alone}
 use Rattle.tb_reply.specs.declared.reply.Reply.{Reply}
-use Rattle.tb_stored.specs.Stored.{AreTreesOf, MayLeave}
-use Rattle.tb_headline.specs.Sessions.{IsAt, IsSession, Leaves}
+use Rattle.tb_stored.specs.Stored.{AreOldTreesOf, AreTreesOf, MayLeave}
+use Rattle.tb_headline.specs.Sessions.{IsAt, IsFileOf, IsSession, Leaves, StopLeaves}
 
 -- a keeper is honest while its disk returns what was written
 pub honest : (d : Database) → HasCleanDisk d → d.is_clean ≡ true
@@ -20,6 +20,14 @@ honest d clean = clean_of d.is_clean clean
 
 pub clean_before : (old new : Database) → (new.is_clean ≡ true → old.is_clean ≡ true) → HasCleanDisk new → HasCleanDisk old
 clean_before old new before clean = no_doubt old.is_clean (before (honest new clean))
+
+-- until the store has failed, they are those of what is held
+own_rows : (failed : Bool) (people boards : ℕ) (es : List (ℕ × Board)) (d : Database) (s : State) → Kept failed people boards es d s
+    → failed ≡ false → HasCleanDisk d → (db : Trees) → d.may_leave db → AreTreesOf s db
+own_rows true people boards es d s kept fine clean db left = absurd (true≢false fine)
+own_rows false people boards es d s kept fine clean db left =
+    let stored = kept.0 in
+    record { content = stored.content; rows = stored.rows; stored = stored.stands.left clean db left }
 
 left_rows : (failed : Bool) (people boards : ℕ) (es : List (ℕ × Board)) (d : Database) (s : State) → Kept failed people boards es d s
     → HasCleanDisk d → (db : Trees) → d.may_leave db → (t : State) × AreTreesOf t db
@@ -44,6 +52,16 @@ module _ (failed : Bool) (people boards : ℕ) (es : List (ℕ × Board)) (d : D
   -- what is held is said of a clean disk alone
   pub held_clean : (s : State) → IsGoodWorld s.world → (HasCleanDisk d → now s) → now s
   held_clean s good held = record { good = good; kept = λ clean. (held clean).kept clean }
+
+  -- what is in a file is held, whichever its tables are
+  pub held_file : (s : State) (db : Trees) → IsFileOf s db → (HasCleanDisk d → AreTreesOf s db → now s)
+      → (HasCleanDisk d → AreOldTreesOf s db → now s) → now s
+  held_file s db (inl rows) held migrated = held_clean s rows.rows.good (λ clean. held clean rows)
+  held_file s db (inr rows) held migrated = held_clean s rows.rows.rows.good (λ clean. migrated clean rows)
+
+  -- what a stop leaves of a store that hasn't failed
+  pub stays : (s : State) → now s → failed ≡ false → StopLeaves d (AreTreesOf s)
+  stays s holds fine clean db left = own_rows failed people boards es d s (holds.kept clean) fine clean db left
 
   -- what a stop leaves on a clean disk
   pub leaves : HasCleanDisk d → (s : State) (calls : List Call) (answered : ℕ)

@@ -5,5 +5,6 @@ mod Came
 mod Played
 mod Refused
 mod Replies
+mod Stopped
 mod InTurn
 mod Texts

@@ -11,11 +11,14 @@ use Rattle.tb_keeper.specs.declared.creating.CreateFault.{CreateFault}
 use Rattle.tb_keeper.specs.declared.creating.CreateFault.TheVariants.{NotEmpty, Store as MakingFailed, Memory as MakingMemory}
 use Rattle.tb_sql.specs.declared.opening.OpenFault.{OpenFault}
 use Rattle.tb_sql.specs.declared.opening.OpenFault.TheVariants.{NotOurs, WrongVersion, Store, Memory}
-use Rattle.tb_sql.specs.Opening.{IsAnswered, are_ours, has_meta, is_meta, is_ours}
-use Rattle.tb_sql_tables.specs.Content.{AreRows, Content, StandsEmpty}
+use Rattle.tb_sql.specs.declared.opening.Version.{Version}
+use Rattle.tb_sql.specs.declared.opening.Version.TheVariants.{First, Second}
+use Rattle.tb_sql.specs.Opening.{IsAnswered, are_old, are_ours, are_tables, has_key_indexes, has_meta, has_tables, is_meta, is_person, is_board, is_role, is_task, is_link, is_instance, is_gone, is_kept, is_horizon}
+use Rattle.tb_sql_tables.specs.Content.{AreOldRows, AreRows, Content, StandsEmpty}
 use Rattle.tb_sql_tables.specs.Failing.{FailsByFault}
 use Rattle.tb_stored.specs.Stored.{IsEmptyOrStored}
 use Rattle.tb_headline.specs.Refusals.{HasMeta, IsFilled, IsRefused, IsUnmade, Says}
+use Rattle.tb_headline.specs.Sessions.{IsFileOf}
 
 -- ---- the first table
 
@@ -23,13 +26,18 @@ first_true : (p q : Bool) → (p && q) ≡ true → p ≡ true
 first_true true q is = refl
 first_true false q is = is
 
-first_of : (tables : List Table) → are_ours tables ≡ true → has_meta tables ≡ true
-first_of [] is = is
-first_of (table ∷ tables) is = first_true (is_meta table) _ is
+first_of : (tests : List (Table → Bool)) (tables : List Table) → are_tables (is_meta ∷ tests) tables ≡ true → has_meta tables ≡ true
+first_of tests [] is = is
+first_of tests (table ∷ tables) is = first_true (is_meta table) _ is
 
--- it is among the tables of a store
-pub ours_meta : (schema : Schema) → is_ours schema ≡ true → has_meta schema.tables ≡ true
-ours_meta schema is = first_of schema.tables (first_true (are_ours schema.tables) _ is)
+-- it is among the tables of a store of either version
+pub has_first : (version : Version) (schema : Schema) → has_tables version schema ≡ true → has_meta schema.tables ≡ true
+has_first First schema is =
+    first_of (is_person ∷ is_board ∷ is_role ∷ is_task ∷ is_link ∷ is_instance ∷ is_gone ∷ is_kept ∷ []) schema.tables
+    (first_true (are_old schema.tables) (has_key_indexes schema) is)
+has_first Second schema is =
+    first_of (is_person ∷ is_board ∷ is_role ∷ is_task ∷ is_link ∷ is_instance ∷ is_gone ∷ is_kept ∷ is_horizon ∷ []) schema.tables
+    (first_true (are_ours schema.tables) (has_key_indexes schema) is)
 
 -- only what isn't ours may lack it
 marked : (b : Bool) (fault : OpenFault) → (b ≡ false → fault ≡ NotOurs) → (fault ≡ NotOurs → ⊥) → b ≡ true
@@ -44,26 +52,32 @@ IsForeign fault = (fault ≡ NotOurs) ⊎ (fault ≡ WrongVersion)
 
 module _ {S : Type 0} (g : Ghosts S) (conn : Held S) where
   -- an answer that tells of no failure is what the tables and the rows say
-  pub said : (answer : Result (Unit {0}) OpenFault) → (answer ≡ Err Store → ⊥) → (answer ≡ Err Memory → ⊥) → IsAnswered g conn answer → Says g conn answer
+  pub said : (answer : Result Version OpenFault) → (answer ≡ Err Store → ⊥) → (answer ≡ Err Memory → ⊥) → IsAnswered g conn answer → Says g conn answer
   said answer held room (inl found) = record { rows = found.0; shown = found.1; is = found.2 }
   said answer held room (inr (inl is)) = absurd (held is)
   said answer held room (inr (inr is)) = absurd (room is)
 
+  no_state : ((content : Content) → AreRows content (state g conn).now.trees ⊎ AreOldRows content (state g conn).now.trees → ⊥)
+      → (s : State) → IsFileOf s (state g conn).now.trees → ⊥
+  no_state foreign s (inl rows) = foreign rows.content (inl rows.stored)
+  no_state foreign s (inr rows) = foreign rows.content (inr rows.stored)
+
   pub refused : (new : Database) (fault : OpenFault)
-      → (IsForeign fault → HasCleanDisk new → Opens (state g conn) → (content : Content) → AreRows content (state g conn).now.trees → ⊥)
+      → (IsForeign fault → HasCleanDisk new → Opens (state g conn)
+      → (content : Content) → AreRows content (state g conn).now.trees ⊎ AreOldRows content (state g conn).now.trees → ⊥)
       → (has_meta (state g conn).now.schema.tables ≡ false → fault ≡ NotOurs)
       → (IsForeign fault → HasCleanDisk new → HasMeta g conn → IsAnswered g conn (Err fault))
       → (fault ≡ Store → Opens (state g conn) → FailsByFault (state g conn) new (λ content. AreRows content (state g conn).now.trees))
       → IsRefused g conn new fault
   refused new NotOurs foreign unmarked shown excused = λ clean. (
-    λ opens s rows. foreign (inl refl) clean opens rows.content rows.stored,
+    λ opens. no_state (foreign (inl refl) clean opens),
     λ meta. said (Err NotOurs) (λ is. absurd (cc)) (λ is. absurd (cc)) (shown (inl refl) clean meta),
   )
   refused new WrongVersion foreign unmarked shown excused =
       let meta = marked (has_meta (state g conn).now.schema.tables) WrongVersion unmarked (λ is. absurd (cc)) in (
         meta,
         λ clean. (
-          λ opens s rows. foreign (inr refl) clean opens rows.content rows.stored,
+          λ opens. no_state (foreign (inr refl) clean opens),
           said (Err WrongVersion) (λ is. absurd (cc)) (λ is. absurd (cc)) (shown (inr refl) clean meta),
         ),
       )

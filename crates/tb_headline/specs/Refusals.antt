@@ -8,21 +8,22 @@ use Rattle.tb_keeper.specs.declared.creating.CreateFault.{CreateFault}
 use Rattle.tb_keeper.specs.declared.creating.CreateFault.TheVariants.{NotEmpty, Store as MakingFailed, Memory as MakingMemory}
 use Rattle.tb_sql.specs.declared.opening.OpenFault.{OpenFault}
 use Rattle.tb_sql.specs.declared.opening.OpenFault.TheVariants.{NotOurs, WrongVersion, Store, Memory}
+use Rattle.tb_sql.specs.declared.opening.Version.{Version}
 use Rattle.tb_sql.specs.Opening.{AreShownFrom, has_meta, taken}
 use Rattle.tb_sql_tables.specs.declared.rows.MetaRow.{MetaRow}
 use Rattle.tb_sql_tables.specs.Content.{StandsEmpty}
 use Rattle.tb_sql_tables.specs.Failing.{HasFaulted, IsReady}
 use Rattle.tb_sql_tables.specs.Tables.{no_schema}
 use Rattle.tb_stored.specs.Stored.{AreTreesOf, IsEmptyOrStored}
-use Rattle.tb_headline.specs.Sessions.{WhileHonest}
+use Rattle.tb_headline.specs.Sessions.{IsFileOf, WhileHonest}
 
 -- ---- a database that should be a store
 
--- it is no store: there is no state whose rows are in it
+-- it is no store of this version or the first: there is no state whose rows are in it
 abbrev pub HoldsNoState : Database → Type 0
-HoldsNoState d = Opens d → (s : State) → AreTreesOf s d.now.trees → ⊥
+HoldsNoState d = Opens d → (s : State) → IsFileOf s d.now.trees → ⊥
 
--- where it is a store, and no limit is set on the steps of a query, the disk has failed or refused a call since
+-- where it is a store of this version, and no limit is set on the steps of a query, the disk has failed or refused a call since
 abbrev pub FailsByDisk : Database → Database → Type 0
 FailsByDisk old new = Opens old → IsReady old → (s : State) → AreTreesOf s old.now.trees → HasFaulted old new
 
@@ -32,7 +33,7 @@ module _ {S : Type 0} (g : Ghosts S) where
   HasMeta conn = has_meta (state g conn).now.schema.tables ≡ true
 
   -- the tables, and the rows of the first that a query shows, say this of it
-  pub record Says (conn : Held S) (said : Result (Unit {0}) OpenFault) : Type 0 where
+  pub record Says (conn : Held S) (said : Result Version OpenFault) : Type 0 where
     pub rows : List MetaRow
     pub shown : AreShownFrom g conn rows
     pub is : said ≡ taken conn.schema rows

@@ -1,11 +1,11 @@
 -- What a session over a file begins with, and what it leaves.
-use Rattle.std.specs.Prelude.{◌≡◌, ℕ, ◌==◌, false, List, ◌∷◌, ◌++◌, Option, length, take}
+use Rattle.std.specs.Prelude.{◌≡◌, ◌⊎◌, ℕ, ◌==◌, false, List, ◌∷◌, ◌++◌, Option, length, take}
 use Rattle.sqlite.specs.State.{HasCleanDisk, State as Database}
 use Rattle.sqlite_trees.specs.Tree.{Trees}
 use Rattle.tb_calls.specs.declared.call.Call.{Call}
 use Rattle.tb_calls.specs.Calls.{State, replies_to}
 use Rattle.tb_calls.specs.Keeping.{IsAfterSome, Only}
-use Rattle.tb_stored.specs.Stored.{AreTreesOf}
+use Rattle.tb_stored.specs.Stored.{AreOldTreesOf, AreTreesOf}
 use Rattle.tb_peers.specs.Happening.{Stops}
 use Rattle.tb_peers.specs.Server.{Timed, calls_among, calls_at, server}
 use Rattle.tb_reply.specs.declared.reply.Reply.{Reply}
@@ -13,6 +13,10 @@ use Rattle.tb_serve.specs.Telling.{after}
 use Rattle.tb_turns.specs.Told.{IsSame, IsServed, handled}
 use Rattle.tb_turns.specs.Turns.{Happening, Run, Step, Talk, done_in}
 use Rattle.tb_site.specs.declared.site.Site.{Site}
+
+-- The trees are all rows of the state: in the tables of this version, or in those of the first, where each board looks one ahead.
+abbrev pub IsFileOf : State → Trees → Type 0
+IsFileOf s db = AreTreesOf s db ⊎ AreOldTreesOf s db
 
 -- this state is held, and a stop leaves it alone
 pub record IsAt (s : State) (now : State → Type 0) (may_leave : State → Type 0) : Type 0 where
@@ -23,6 +27,10 @@ pub record IsAt (s : State) (now : State → Type 0) (may_leave : State → Type
 -- to the end of the session.
 abbrev pub WhileHonest : Database → Type 0 → Type 0
 WhileHonest d promise = HasCleanDisk d → promise
+
+-- each content that a stop may leave is one of these
+abbrev pub StopLeaves : Database → (Trees → Type 0) → Type 0
+StopLeaves d P = WhileHonest d ((db : Trees) → d.may_leave db → P db)
 
 -- Each content that a stop may leave is the rows of a state after some of the calls, all that were answered among them,
 -- and one more at most.

@@ -1,14 +1,15 @@
 //! A session over a file: it begins with an empty database or with a store that stands, and handles
 //! calls, or serves connections, until it stops.
-ghost use Rattle.std.specs.Prelude.{◌≡◌, ◌≢◌, false, length, take, true, IfErr, IfOk, IsErr, MatchResult, None, Ok, OnErr, OnOk, Some};
+ghost use Rattle.std.specs.Prelude.{◌≡◌, ◌≢◌, ◌⊎◌, false, length, take, true, IfErr, IfOk, IsErr, MatchResult, None, Ok, OnErr, OnOk, Some};
 ghost use Rattle.sqlite.specs.Held.{state};
-ghost use Rattle.sqlite.specs.State.{HasCleanDisk, Opens};
+ghost use Rattle.sqlite.specs.State.{HasCleanDisk, IsLive, Opens};
 ghost use Rattle.tb_calls.specs.declared.fault.KeepFault.TheVariants.{Store};
 ghost use Rattle.tb_calls.specs.Calls.{State, once, plain};
 ghost use Rattle.tb_calls.specs.Opening.{opening};
 ghost use Rattle.tb_headline.specs.Refusals.{IsFilled, IsRefused, IsUnmade, Says};
-ghost use Rattle.tb_headline.specs.Sessions.{IsAt, IsCut, IsPlayed, IsSession, WhileHonest};
-ghost use Rattle.tb_sql.specs.Opening.{is_ours, IsAsBefore};
+ghost use Rattle.tb_headline.specs.Sessions.{IsAt, IsCut, IsFileOf, IsPlayed, IsSession, StopLeaves, WhileHonest};
+ghost use Rattle.tb_keeper.specs.Versions.{version_taken};
+ghost use Rattle.tb_sql.specs.Opening.{has_tables, is_old, IsAsBefore};
 ghost use Rattle.tb_stored.specs.Stored.{AreTreesOf};
 ghost use Rattle.tb_peers.specs.Happening.{done_at, talk_at};
 
@@ -45,26 +46,41 @@ pub fn make<S: Alter>(
     }
 }
 
-/// Begins a session over the store that a database is.
+/// Begins a session over the store that a database is. One of the first version becomes one of this version then; whenever a stop
+/// comes, all of it is there in the tables of one of the two, and either opens as the same.
 pub fn resume<S: Alter>(
     alloc: Global,
     conn: Connection<S>,
 ) -> Result<Desk<SqlKeep<S>>, (Connection<S>, OpenFault)>
     requires { conn.in_transaction ≡ false }
     ensures begun { IfOk result (λ desk. Opens (state S.Store conn)
-        → (s : State) → AreTreesOf s (state S.Store conn).now.trees
+        → (s : State) → IsFileOf s (state S.Store conn).now.trees
         → IsAt s (⟦<SqlKeep<S> as Keep>⟧.holds desk) (⟦<SqlKeep<S> as Keep>⟧.after_stop desk)) }
-    ensures ours { IfOk result (λ desk. is_ours (state S.Store conn).now.schema ≡ true) }
+    ensures stopped { Opens (state S.Store conn) → (s : State) → IsFileOf s (state S.Store conn).now.trees
+        → MatchResult result (λ desk. StopLeaves (state S.Store desk.conn) (AreTreesOf s))
+        (λ e. StopLeaves (state S.Store e.0) (IsFileOf s)) }
+    ensures ours { IfOk result (λ desk.
+        has_tables (version_taken desk.migrated) (state S.Store conn).now.schema ≡ true) }
     ensures said { IfOk result (λ desk. WhileHonest (state S.Store desk.conn)
-        (Says S.Store conn (Ok tt))) }
+        (Says S.Store conn (Ok (version_taken desk.migrated)))) }
     ensures refused { IfErr result (λ e. IsRefused S.Store conn (state S.Store e.0) e.1) }
-    ensures same { IfErr result (λ e. IsAsBefore (state S.Store conn) (state S.Store e.0)) }
+    ensures same { IfErr result (λ e.
+        (e.1 ≢ OpenFault.Store) ⊎ (is_old (state S.Store conn).now.schema ≡ false)
+        → IsAsBefore (state S.Store conn) (state S.Store e.0)) }
     ensures idle { IfErr result (λ e. e.0.in_transaction ≡ false) }
 {
+    is_live(&conn);
     match SqlKeep::open(alloc, conn) {
         Ok(keep) => Ok(Desk::new(keep)),
         Err(refused) => Err(refused),
     }
+}
+
+/// The tables that a connection sees are those of its schema.
+fn is_live<S: Alter>(conn: &Connection<S>)
+    ensures { IsLive (state S.Store conn.now) }
+{
+    let _schema = conn.schema();
 }
 
 /// Handles calls in order, up to the first fault: whenever the session stops then, what is left is the rows of a state after some

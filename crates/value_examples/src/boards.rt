@@ -5,7 +5,7 @@ use crate::tasks::read;
 use crate::told::{Told, missing, show};
 use std::alloc::Global;
 use std::io;
-use tb_board::{Board, Person, Title, World};
+use tb_board::{Board, Person, Role, RoleOn, Title, World};
 use tb_good::is_good_world;
 use tb_report::urgency;
 use tb_values::{Items, Shared};
@@ -14,7 +14,9 @@ pub(crate) fn answer(alloc: Global, word: &str, given: &str) -> Option<Told> {
     Some(match word {
         "urgency" => urgency_in(alloc, given),
         "good" => is_good(alloc, given),
-        "good_without_roles" | "good_with_twin" => is_good_otherwise(alloc, word),
+        "good_without_roles" | "good_with_twin" | "good_with_reader" => {
+            is_good_otherwise(alloc, word)
+        }
         _ => return None,
     })
 }
@@ -66,13 +68,24 @@ fn is_good(alloc: Global, tasks: &str) -> Told {
     show(alloc, &is_good_world(alloc, &world)?)
 }
 
-/// Whether it is good with its person twice, or without its role.
+/// Whether it is good with its person twice, as a reader, or without a role.
 fn is_good_otherwise(alloc: Global, word: &str) -> Told {
     let mut world = opened(alloc)?;
-    if word == "good_with_twin" {
-        world.people.push(ann(alloc)?)?;
-    } else {
-        world.roles = Items::new(alloc);
+    match word {
+        "good_with_twin" => world.people.push(ann(alloc)?)?,
+        "good_with_reader" => world.roles = reading(alloc)?,
+        _ => world.roles = Items::new(alloc),
     }
     show(alloc, &is_good_world(alloc, &world)?)
+}
+
+/// The roles where the first person is a reader of board 1.
+fn reading(alloc: Global) -> io::Result<Items<RoleOn>> {
+    let mut roles = Items::new(alloc);
+    roles.push(RoleOn {
+        board: 1,
+        person: 1,
+        role: Role::Reader,
+    })?;
+    Ok(roles)
 }

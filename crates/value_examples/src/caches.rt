@@ -1,12 +1,12 @@
 //! Boards at hand, and boards after changes.
 
 use crate::boards::empty_board;
-use crate::given::{halves, read_place};
+use crate::given::{halves, read_count, read_place};
 use crate::tasks::read;
-use crate::told::Told;
+use crate::told::{Told, missing};
 use std::alloc::Global;
 use std::io;
-use tb_board::{Board, Change};
+use tb_board::{Ahead, Board, Change};
 use tb_cache::{BoardCache, MOST_BOARDS_AT_HAND, replayed};
 use tb_values::{Items, Shared};
 
@@ -45,13 +45,19 @@ fn push_board(told: &mut String, board: &Board) -> io::Result<()> {
     if !board.tasks.is_empty() {
         write!(told, "+{}", board.tasks.len())?;
     }
+    if board.ahead != Ahead::one() {
+        write!(told, "^{}", board.ahead.number())?;
+    }
     Ok(())
 }
 
-/// `N` uses a board, `N-M` each of several in turn, and `+N` puts a task more on a board.
+/// `N` uses a board, `N-M` each of several in turn, `+N` puts a task more on a board, and `N^A` lets one look A ahead.
 fn take_step(alloc: Global, cache: &mut BoardCache, step: &str) -> io::Result<()> {
     if let Some(number) = step.strip_prefix('+') {
         return put_task(alloc, cache, board_number(number));
+    }
+    if let Some((number, ahead)) = step.split_once('^') {
+        return look_ahead(alloc, cache, board_number(number), ahead);
     }
     let (first, last) = step.split_once('-').unwrap_or((step, step));
     for number in board_number(first)..=board_number(last) {
@@ -78,6 +84,17 @@ fn put_task(alloc: Global, cache: &mut BoardCache, number: u32) -> io::Result<()
     let place = cache.cached(number).map_or(0, |board| board.tasks.len());
     let mut changes = Items::new(alloc);
     changes.push(task_put(alloc, number, place, TASK)?)?;
+    cache.follow(alloc, changes.as_slice())?;
+    Ok(())
+}
+
+fn look_ahead(alloc: Global, cache: &mut BoardCache, number: u32, ahead: &str) -> io::Result<()> {
+    let ahead = Ahead::read(read_count(ahead) as u64).ok_or(missing())?;
+    let mut changes = Items::new(alloc);
+    changes.push(Change::SetAhead {
+        board: number,
+        ahead,
+    })?;
     cache.follow(alloc, changes.as_slice())?;
     Ok(())
 }

@@ -1,10 +1,11 @@
-use Rattle.std.proofs.Common.{◌≡◌, ◌∙◌, ap, arith, length, rules}
+use Rattle.std.proofs.Common.{◌≡◌, ◌∙◌, Some, ap, arith, length, rules}
+use Rattle.tb_rows.specs.Rows.{horizon_row}
 use Rattle.tb_keeper.proofs.KnownAhead.{same_tasks, tells_known}
 use Rattle.tb_keeper.proofs.auditing.compare.Goals as goal
 
 pub returns-in-Ok-is_as_stored-clause-size : goal.returns-in-Ok-is_as_stored-clause-size
 returns-in-Ok-is_as_stored-clause-size c b read =
-    let same = same_tasks c.args.row.now _ _ c.args.tasks.now c.args.gone.now c.in-Ok.board b c.in-Ok.ensures read in
+    let same = same_tasks c.args.row.now (Some c.known_horizon-known.result) (Some (horizon_row b)) c.args.tasks.now c.args.gone.now c.in-Ok.board b c.in-Ok.ensures read in
     let size : c.len.result ≡ length c.in-Ok.board.tasks = first_of (search rules, grind arith) in
     size ∙ ap length same
 

@@ -1,4 +1,4 @@
-use Rattle.std.proofs.Common.{◌≡◌, ◌∙◌, true, false, true≢false, sym, inl, inr, refl, rules}
+use Rattle.std.proofs.Common.{◌∙◌, Err, true≢false, sym, ap, inl, inr, refl}
 use Rattle.sqlite.specs.Held.{state}
 use Rattle.tb_sql_tables.specs.Content.{AreRows, Stands}
 use Rattle.tb_stored.specs.Stored.{IsStored, IsStoredOld}
@@ -15,66 +15,81 @@ returns-in-Err-clause-stopped g c opened s trees =
 
 -- ---- it is one of the first version
 
-pub returns-in-First-in-Ok-clause-version : goal.returns-in-First-in-Ok-clause-version
-returns-in-First-in-Ok-clause-version g c first clean = c.in-Ok.ensures.answered (c.in-Ok-migrated.ensures.clean clean) first
+pub returns-in-Ok-migrated-clause-tables : goal.returns-in-Ok-migrated-clause-tables
+returns-in-Ok-migrated-clause-tables g c = rw c.in-First.is at c.in-Ok.ensures.tables
 
-pub returns-in-First-in-Ok-clause-opened : goal.returns-in-First-in-Ok-clause-opened
-returns-in-First-in-Ok-clause-opened g c clean opened s trees = absurd (never_both (c.in-Ok.ensures.second opened trees.content trees.stored))
+pub returns-in-Ok-migrated-clause-version : goal.returns-in-Ok-migrated-clause-version
+returns-in-Ok-migrated-clause-version g c first clean = rw c.in-First.is at (c.in-Ok.ensures.answered (c.in-Ok-migrated.ensures.clean clean) first)
 
-pub returns-in-First-in-Ok-clause-migrated : goal.returns-in-First-in-Ok-clause-migrated
-returns-in-First-in-Ok-clause-migrated g c clean opened s trees =
+pub returns-in-Ok-migrated-clause-opened : goal.returns-in-Ok-migrated-clause-opened
+returns-in-Ok-migrated-clause-opened g c clean opened s trees = absurd (never_both (sym c.in-First.is ∙ c.in-Ok.ensures.second opened trees.content trees.stored))
+
+pub returns-in-Ok-migrated-clause-migrated : goal.returns-in-Ok-migrated-clause-migrated
+returns-in-Ok-migrated-clause-migrated g c clean opened s trees =
     let mid = state g.S.Store c.accept.new.conn in
     let stored : IsStoredOld s mid = record { content = trees.content; rows = trees.rows; stands = c.in-Ok.ensures.old opened trees.content trees.stored; idle = c.in-Ok.ensures.idle } in
     c.in-Ok-migrated.ensures.held clean s stored
 
-pub returns-in-First-in-Err-Memory-clause-refused : goal.returns-in-First-in-Err-Memory-clause-refused
-returns-in-First-in-Err-Memory-clause-refused g c other =
-    before_then (state g.S.Store c.args.conn) (state g.S.Store c.accept.new.conn) (state g.S.Store c.migrated.new.conn) c.in-Ok.ensures.same (c.in-Err-Memory-migrated.ensures.memory refl)
+pub returns-in-Err-Memory-clause-refused : goal.returns-in-Err-Memory-clause-refused
+returns-in-Err-Memory-clause-refused g c other =
+    before_then (state g.S.Store c.args.conn) (state g.S.Store c.accept.new.conn) (state g.S.Store c.migrated.new.conn) c.in-Ok.ensures.same (c.in-Err-Memory.ensures.memory (ap Err c.in-Err-Memory.field-0-is))
 
-pub returns-in-First-in-Err-Memory-clause-stopped : goal.returns-in-First-in-Err-Memory-clause-stopped
-returns-in-First-in-Err-Memory-clause-stopped g c opened s trees =
+pub returns-in-Err-Memory-clause-stopped : goal.returns-in-Err-Memory-clause-stopped
+returns-in-Err-Memory-clause-stopped g c opened s trees =
     let mid = state g.S.Store c.accept.new.conn in
     let new = state g.S.Store c.migrated.new.conn in
-    in_first s new trees.content trees.rows (stood_old trees.content mid new (c.in-Ok.ensures.old opened trees.content trees.stored) (c.in-Err-Memory-migrated.ensures.memory refl))
+    in_first s new trees.content trees.rows (stood_old trees.content mid new (c.in-Ok.ensures.old opened trees.content trees.stored) (c.in-Err-Memory.ensures.memory (ap Err c.in-Err-Memory.field-0-is)))
 
-pub returns-in-First-in-Err-Store-clause-refused : goal.returns-in-First-in-Err-Store-clause-refused
-returns-in-First-in-Err-Store-clause-refused g c (inl other) = absurd (other refl)
-returns-in-First-in-Err-Store-clause-refused g c (inr none) = absurd (true≢false (sym c.in-Ok.ensures.tables ∙ none))
+pub returns-in-Err-Store-clause-refused : goal.returns-in-Err-Store-clause-refused
+returns-in-Err-Store-clause-refused g c (inl other) = absurd (other refl)
+returns-in-Err-Store-clause-refused g c (inr none) = absurd (true≢false (sym (rw c.in-First.is at c.in-Ok.ensures.tables) ∙ none))
 
-pub returns-in-First-in-Err-Store-clause-stopped : goal.returns-in-First-in-Err-Store-clause-stopped
-returns-in-First-in-Err-Store-clause-stopped g c opened s trees =
+pub returns-in-Err-Store-clause-stopped : goal.returns-in-Err-Store-clause-stopped
+returns-in-Err-Store-clause-stopped g c opened s trees =
     let mid = state g.S.Store c.accept.new.conn in
     let stored : IsStoredOld s mid = record { content = trees.content; rows = trees.rows; stands = c.in-Ok.ensures.old opened trees.content trees.stored; idle = c.in-Ok.ensures.idle } in
-    c.in-Err-Store-migrated.ensures.store refl s stored
+    c.in-Err-Store.ensures.store (ap Err c.in-Err-Store.field-0-is) s stored
 
-pub returns-in-First-in-Err-Store-clause-excused : goal.returns-in-First-in-Err-Store-clause-excused
-returns-in-First-in-Err-Store-clause-excused g c is opened clean ready content rows = absurd (never_both (c.in-Ok.ensures.second opened content rows))
+pub returns-in-Err-Store-clause-excused : goal.returns-in-Err-Store-clause-excused
+returns-in-Err-Store-clause-excused g c is opened clean ready content rows = absurd (never_both (sym c.in-First.is ∙ c.in-Ok.ensures.second opened content rows))
 
 -- ---- it is one of the second
 
-pub returns-in-Second-in-Ok-clause-holds : goal.returns-in-Second-in-Ok-clause-holds
-returns-in-Second-in-Ok-clause-holds g c _ clean s stored =
+pub returns-in-Ok-at_hand-clause-tables : goal.returns-in-Ok-at_hand-clause-tables
+returns-in-Ok-at_hand-clause-tables g c = rw c.in-Second.is at c.in-Ok.ensures.tables
+
+pub returns-in-Ok-at_hand-clause-version : goal.returns-in-Ok-at_hand-clause-version
+returns-in-Ok-at_hand-clause-version g c first clean = rw c.in-Second.is at (c.in-Ok.ensures.answered (c.in-Ok-at_hand.ensures.same.clean clean) first)
+
+pub returns-in-Ok-at_hand-clause-holds : goal.returns-in-Ok-at_hand-clause-holds
+returns-in-Ok-at_hand-clause-holds g c _ clean s stored =
     let mid = state g.S.Store c.accept.new.conn in
     let accepted : IsStored s mid = stored_again s (state g.S.Store c.args.conn) mid stored c.in-Ok.ensures.same c.in-Ok.ensures.idle in
     first_held c.in-Ok-at_hand.hand.people c.in-Ok-at_hand.hand.boards c.in-Ok-at_hand.hand.cache.entries mid (state g.S.Store c.at_hand.new.conn) s accepted c.in-Ok-at_hand.ensures.same c.in-Ok-at_hand.ensures.idle c.in-Ok-at_hand.ensures.held
 
-pub returns-in-Second-in-Ok-clause-opened : goal.returns-in-Second-in-Ok-clause-opened
-returns-in-Second-in-Ok-clause-opened g c clean opened s trees =
+pub returns-in-Ok-at_hand-clause-opened : goal.returns-in-Ok-at_hand-clause-opened
+returns-in-Ok-at_hand-clause-opened g c clean opened s trees =
     let mid = state g.S.Store c.accept.new.conn in
     let accepted : IsStored s mid = record { content = trees.content; rows = trees.rows; stands = c.in-Ok.ensures.shows opened trees.content trees.stored; idle = c.in-Ok.ensures.idle } in
     first_held c.in-Ok-at_hand.hand.people c.in-Ok-at_hand.hand.boards c.in-Ok-at_hand.hand.cache.entries mid (state g.S.Store c.at_hand.new.conn) s accepted c.in-Ok-at_hand.ensures.same c.in-Ok-at_hand.ensures.idle c.in-Ok-at_hand.ensures.held
 
-pub returns-in-Second-in-Ok-clause-migrated : goal.returns-in-Second-in-Ok-clause-migrated
-returns-in-Second-in-Ok-clause-migrated g c clean opened s trees = absurd (never_both (sym (c.in-Ok.ensures.first opened trees.content trees.stored)))
+pub returns-in-Ok-at_hand-clause-migrated : goal.returns-in-Ok-at_hand-clause-migrated
+returns-in-Ok-at_hand-clause-migrated g c clean opened s trees = absurd (never_both (sym (c.in-Ok.ensures.first opened trees.content trees.stored) ∙ c.in-Second.is))
 
-pub returns-in-Second-in-Ok-clause-same : goal.returns-in-Second-in-Ok-clause-same
-returns-in-Second-in-Ok-clause-same g c _ = before_then (state g.S.Store c.args.conn) (state g.S.Store c.accept.new.conn) (state g.S.Store c.at_hand.new.conn) c.in-Ok.ensures.same c.in-Ok-at_hand.ensures.same
+pub returns-in-Ok-at_hand-clause-same : goal.returns-in-Ok-at_hand-clause-same
+returns-in-Ok-at_hand-clause-same g c _ = before_then (state g.S.Store c.args.conn) (state g.S.Store c.accept.new.conn) (state g.S.Store c.at_hand.new.conn) c.in-Ok.ensures.same c.in-Ok-at_hand.ensures.same
 
-pub returns-in-Second-in-Err-Store-clause-excused : goal.returns-in-Second-in-Err-Store-clause-excused
-returns-in-Second-in-Err-Store-clause-excused g c is opened =
+pub returns-in-Err-Memory-at_hand-clause-stopped : goal.returns-in-Err-Memory-at_hand-clause-stopped
+returns-in-Err-Memory-at_hand-clause-stopped g c opened s trees = absurd (never_both (sym (c.in-Ok.ensures.first opened trees.content trees.stored) ∙ c.in-Second.is))
+
+pub returns-in-Err-Store-at_hand-clause-stopped : goal.returns-in-Err-Store-at_hand-clause-stopped
+returns-in-Err-Store-at_hand-clause-stopped g c opened s trees = absurd (never_both (sym (c.in-Ok.ensures.first opened trees.content trees.stored) ∙ c.in-Second.is))
+
+pub returns-in-Err-Store-at_hand-clause-excused : goal.returns-in-Err-Store-at_hand-clause-excused
+returns-in-Err-Store-at_hand-clause-excused g c is opened =
     let old = state g.S.Store c.args.conn in
     let mid = state g.S.Store c.accept.new.conn in
     let new = state g.S.Store c.at_hand.new.conn in
     let taken = c.in-Ok.ensures in
     let hand = c.in-Err-Store-at_hand.ensures in
-    fails_then (λ content. AreRows content old.now.trees) (λ content. Stands content mid) old mid new (λ _ _ content rows. taken.shows opened content rows) taken.faults hand.same.clean hand.faults (hand.excused (search rules))
+    fails_then (λ content. AreRows content old.now.trees) (λ content. Stands content mid) old mid new (λ _ _ content rows. taken.shows opened content rows) taken.faults hand.same.clean hand.faults (hand.excused (ap Err c.in-Err-Store-at_hand.field-0-is))

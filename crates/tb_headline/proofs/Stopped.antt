@@ -1,0 +1,40 @@
+-- What a stop within an opening leaves of a file.
+use Rattle.std.proofs.Common.{◌≡◌, ◌≢◌, ◌⊎◌, ◌∙◌, Bool, true, false, IsTrue, inl, inr, refl, sym, ap, subst}
+use Rattle.sqlite.specs.Effect.{Database as Contents}
+use Rattle.sqlite.specs.State.{IsLive, Opens, State as Database}
+use Rattle.sqlite_trees.specs.Tree.{Trees}
+use Rattle.tb_calls.specs.Calls.{State}
+use Rattle.tb_sql.specs.declared.opening.OpenFault.{OpenFault}
+use Rattle.tb_sql.specs.declared.opening.OpenFault.TheVariants.{Store}
+use Rattle.tb_sql.specs.declared.opening.Version.TheVariants.{First, Second}
+use Rattle.tb_sql.specs.Opening.{is_old, IsAsBefore}
+use Rattle.tb_sql.proofs.Opened.{rows_second}
+use Rattle.tb_sql_tables.specs.Content.{AreRows, Content}
+use Rattle.tb_stored.specs.Stored.{AreOldTreesOf, AreTreesOf, IsStoredInEither}
+use Rattle.tb_headline.specs.Sessions.{IsFileOf, StopLeaves}
+
+-- the tables of this version aren't those of the first
+not_old : (d : Database) (content : Content) → Opens d → IsLive d → AreRows content d.now.trees → (old : Bool) → is_old d.now.schema ≡ old → is_old d.now.schema ≡ false
+not_old d content opens live rows false is = is
+not_old d content opens live rows true is = absurd (let same : First ≡ Second = rows_second d content First opens live is rows in cc)
+
+-- what is left of rows in the tables of the first version
+in_either : (s : State) (d : Database) → IsStoredInEither s d → StopLeaves d (IsFileOf s)
+in_either s d stored clean db left = elim (stored.stands.left clean db left) [
+  | inl is ↦ inr (record { content = stored.before; rows = stored.rows_before; stored = is })
+  | inr is ↦ inl (record { content = stored.after; rows = stored.rows_after; stored = is })
+]
+
+module _ (old new : Database) (settled : (db : Trees) → IsTrue old.is_open → old.may_leave db → db ≡ old.committed.trees) where
+  -- what is left of rows that stay as they were
+  as_before : (s : State) → Opens old → AreTreesOf s old.now.trees → IsAsBefore old new → StopLeaves new (IsFileOf s)
+  as_before s opens rows same clean db left =
+      let is : db ≡ old.now.trees = settled db opens.is_open (same.left clean db left) ∙ ap (λ (d : Contents). d.trees) (sym opens.clean) in
+      inl (subst (AreTreesOf s) (sym is) rows)
+
+  pub stopped : (fault : OpenFault) → IsLive old → ((fault ≢ Store) ⊎ (is_old old.now.schema ≡ false) → IsAsBefore old new)
+      → (Opens old → (s : State) → AreOldTreesOf s old.now.trees → IsStoredInEither s new)
+      → Opens old → (s : State) → IsFileOf s old.now.trees → StopLeaves new (IsFileOf s)
+  stopped fault live same either opens s (inl rows) =
+      as_before s opens rows (same (inr (not_old old rows.content opens live rows.stored (is_old old.now.schema) refl)))
+  stopped fault live same either opens s (inr rows) = in_either s new (either opens s rows)
