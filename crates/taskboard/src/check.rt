@@ -1,14 +1,13 @@
 //! The comparison of what a file stores with what its tasks say.
-ghost use Rattle.sqlite.specs.Files.{file_state};
 ghost use Rattle.std.specs.Io.KnownBytes.{Appends};
 ghost use Rattle.std.specs.Prelude.{◌≡◌, IfErr, IfOk, true};
+ghost use Rattle.taskboard.specs.Opened.{IsCounted};
 ghost use Rattle.taskboard.specs.Telling.{is_of_checking};
-ghost use Rattle.tb_keeper.specs.Auditing.{IsCountOf};
 ghost use Rattle.tb_keeper.specs.declared.auditing.Audit.{Audit};
 ghost use Rattle.tb_outcome.specs.Audits.{audit_line, ending_of_audit};
-ghost use Rattle.tb_stored.specs.Reopening.{OfContent};
 
-use crate::file::{close_keep, open_desk};
+use crate::file::{RealFile, close_keep, open_desk};
+use sqlite::Alter;
 use std::io::Write;
 use tb_orders::{Ending, fault_of_keep};
 use tb_outcome::print_audit;
@@ -24,8 +23,7 @@ pub(crate) fn check_file<W: Write>(
 ) -> Result<Ending, Fault>
     ensures told { IfOk result (λ ending. (audit : Audit) × (ending ≡ ending_of_audit audit)
         × Appends (W.contents writer.old) (W.contents writer.new) (audit_line audit)
-        × (old : _) × (new : _)
-        × OfContent (file_state old) (file_state new) (λ c. IsCountOf c audit)) }
+        × IsCounted ⟦<RealFile as Alter>⟧.Store audit) }
     ensures fault { IfErr result (λ fault. is_of_checking fault ≡ true) }
 {
     let mut keep = open_desk(rt, file.as_str())?.into_keep();

@@ -1,12 +1,11 @@
 //! A new file of boards.
-ghost use Rattle.sqlite.specs.Files.{file_state};
-ghost use Rattle.sqlite.specs.State.{HasCleanDisk};
 ghost use Rattle.std.specs.Prelude.{◌≡◌, IfErr, IfOk, true};
+ghost use Rattle.taskboard.specs.Opened.{IsBegunAt};
 ghost use Rattle.tb_calls.specs.Opening.{opening};
-ghost use Rattle.tb_headline.specs.Sessions.{IsAt};
 ghost use Rattle.tb_outcome.specs.Faults.{is_of_making};
 
 use crate::file::{RealFile, close_desk, make_private, open_file};
+use sqlite::Alter;
 use tb_calls::Keep;
 use tb_command_line::InitOrder;
 use tb_headline::session::make;
@@ -17,10 +16,9 @@ use tb_program::Fault;
 
 /// Makes the tables of a file with one person, who owns its first board. A file that isn't there is made for its owner alone.
 pub(crate) fn make_file(rt: &HostRuntime, order: &InitOrder) -> Result<Ending, Fault>
-    ensures made { IfOk result (λ ending. (ending ≡ Ending.Accepted) × ((conn : _) × (desk : _)
-        × (HasCleanDisk (file_state conn) → IsAt (opening order.now.name order.now.key)
-        (⟦<SqlKeep<RealFile> as Keep>⟧.holds desk)
-        (⟦<SqlKeep<RealFile> as Keep>⟧.after_stop desk)))) }
+    ensures made { IfOk result (λ ending. (ending ≡ Ending.Accepted)
+        × IsBegunAt ⟦<RealFile as Alter>⟧.Store ⟦<SqlKeep<RealFile> as Keep>⟧
+        (opening order.now.name order.now.key)) }
     ensures fault { IfErr result (λ fault. is_of_making fault ≡ true) }
 {
     make_private(rt, order.file.as_str());

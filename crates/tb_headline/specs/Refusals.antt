@@ -1,5 +1,5 @@
 -- Why no session begins over a database, and what is left then.
-use Rattle.std.specs.Prelude.{◌≡◌, ◌⊎◌, true, false, List, Result, Ok, Err}
+use Rattle.std.specs.Prelude.{◌≡◌, true, List, Result, Err}
 use Rattle.sqlite.specs.Held.{Held, state}
 use Rattle.sqlite.specs.State.{Opens, State as Database}
 use Rattle.sqlite_trees.specs.declared.store.Store.{Ghosts}
