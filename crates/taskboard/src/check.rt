@@ -23,7 +23,7 @@ pub(crate) fn check_file<W: Write>(
 ) -> Result<Ending, Fault>
     ensures told { IfOk result (λ ending. (audit : Audit) × (ending ≡ ending_of_audit audit)
         × Appends (W.contents writer.old) (W.contents writer.new) (audit_line audit)
-        × IsCounted ⟦<RealFile as Alter>⟧.Store audit) }
+        × IsCounted ⟦<RealFile as Alter>⟧ audit) }
     ensures fault { IfErr result (λ fault. is_of_checking fault ≡ true) }
 {
     let mut keep = open_desk(rt, file.as_str())?.into_keep();

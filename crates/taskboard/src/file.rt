@@ -43,7 +43,7 @@ pub(crate) fn open_file(rt: &HostRuntime, path: &str) -> Result<Connection<RealF
 /// Begins a session over the boards in the file at a path. A file that isn't there isn't made.
 pub(crate) fn open_desk(rt: &HostRuntime, path: &str) -> Result<Desk<SqlKeep<RealFile>>, Fault>
     ensures fault { IfErr result (λ fault. is_of_opening fault ≡ true) }
-    ensures begun { IfOk result (λ desk. IsBegun ⟦<RealFile as Alter>⟧.Store (version_taken desk.migrated)
+    ensures begun { IfOk result (λ desk. IsBegun ⟦<RealFile as Alter>⟧ (version_taken desk.migrated)
         (⟦<SqlKeep<RealFile> as Keep>⟧.holds desk)
         (⟦<SqlKeep<RealFile> as Keep>⟧.after_stop desk)) }
 {

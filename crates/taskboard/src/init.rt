@@ -17,7 +17,7 @@ use tb_program::Fault;
 /// Makes the tables of a file with one person, who owns its first board. A file that isn't there is made for its owner alone.
 pub(crate) fn make_file(rt: &HostRuntime, order: &InitOrder) -> Result<Ending, Fault>
     ensures made { IfOk result (λ ending. (ending ≡ Ending.Accepted)
-        × IsBegunAt ⟦<RealFile as Alter>⟧.Store ⟦<SqlKeep<RealFile> as Keep>⟧
+        × IsBegunAt ⟦<RealFile as Alter>⟧ ⟦<SqlKeep<RealFile> as Keep>⟧
         (opening order.now.name order.now.key)) }
     ensures fault { IfErr result (λ fault. is_of_making fault ≡ true) }
 {
