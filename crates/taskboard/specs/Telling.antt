@@ -8,11 +8,6 @@ use Rattle.tb_event_loop.specs.declared.fault.LoopFault.{LoopFault}
 use Rattle.tb_event_loop.specs.declared.fault.LoopFault.TheVariants as ending
 use Rattle.tb_program.specs.declared.fault.Fault.TheVariants.{Bad, BadBody, Memory, NoAnswer, NoClock, NoKey, NoListen, NoPage, ReadFailed, Store, WriteFailed}
 
--- of what the program tells of itself
-abbrev pub is_of_telling : Fault → Bool
-is_of_telling WriteFailed = true
-is_of_telling _ = false
-
 -- of serving it
 abbrev pub is_of_serving : Fault → Bool
 is_of_serving NoListen = true

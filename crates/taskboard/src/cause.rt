@@ -1,8 +1,6 @@
 //! What happened, and what to do: the line behind the name of a fault.
-ghost use Rattle.std.specs.Io.KnownBytes.{Appends};
-ghost use Rattle.std.specs.Prelude.{◌≡◌, ◌≢◌, ◌++◌, ◌∷◌, [], IfOk, IfSome, OnOk, option_map};
+ghost use Rattle.std.specs.Prelude.{◌≡◌, IfSome, option_map};
 ghost use Rattle.taskboard.specs.Causes.{access_text, cause_in, file_of, look_text, opening_text, port_text, ports_text, text_of, words_text};
-ghost use Rattle.tb_program.specs.declared.fault.Fault.TheVariants.{Bad};
 
 use crate::body::{tell_body, tell_part};
 use crate::send::may_have_acted;
@@ -103,10 +101,7 @@ pub(crate) fn tell_cause<W: Write>(
     writer: &mut W,
     failed: &OrderFault,
     order: &Order,
-) -> Result<(), Fault>
-    ensures { IfSome (cause_in failed.now.fault order.now) (λ text. OnOk result
-        (Appends (W.contents writer.old) (W.contents writer.new) (text ++ 10 ∷ []))) }
-{
+) -> Result<(), Fault> {
     match failed.fault {
         Fault::NoAnswer => tell_no_answer(rt.alloc(), writer, order),
         Fault::BadBody => tell_bad_body(writer, failed, order),
@@ -131,19 +126,14 @@ pub(crate) fn tell_words<W: Write>(
     rt: &HostRuntime,
     writer: &mut W,
     fault: Fault,
-) -> Result<(), Fault>
-    ensures { fault ≢ Bad → OnOk result
-        (Appends (W.contents writer.old) (W.contents writer.new) (text_of fault ++ 10 ∷ [])) }
-{
+) -> Result<(), Fault> {
     match cause_of_words(rt, fault) {
         Ok(text) => print_line(writer, text),
         Err(_) => print_line(writer, text_of(fault)),
     }
 }
 
-fn cause_of_words(rt: &HostRuntime, fault: Fault) -> io::Result<&'static str>
-    ensures { fault ≢ Bad → IfOk result (λ text. text.now ≡ text_of fault) }
-{
+fn cause_of_words(rt: &HostRuntime, fault: Fault) -> io::Result<&'static str> {
     if fault != Fault::Bad {
         return Ok(text_of(fault));
     }

@@ -4,16 +4,14 @@ ghost use Rattle.sqlite.specs.State.{HasCleanDisk, Opens};
 ghost use Rattle.std.specs.Io.KnownBytes.{Appends};
 ghost use Rattle.std.specs.Prelude.{◌≡◌, false, IfErr, IfOk, OnOk, true};
 ghost use Rattle.taskboard.specs.Notices.{migrated_line};
-ghost use Rattle.taskboard.specs.Opened.{IsBegun, IsSaved};
-ghost use Rattle.tb_keeper.specs.Versions.{version_taken};
+ghost use Rattle.taskboard.specs.Opened.{IsSaved};
 ghost use Rattle.tb_outcome.specs.Faults.{is_of_files, is_of_opening};
 ghost use Rattle.tb_program.specs.declared.fault.Fault.TheVariants.{Store};
 
-use sqlite::{Alter, Connection, Error, ErrorCode, File, FileStore};
+use sqlite::{Connection, Error, ErrorCode, File, FileStore};
 use std::io::Write;
 use std::os::unix::fs::OpenOptionsExt;
 use std::{fs, io};
-use tb_calls::Keep;
 use tb_desk::Desk;
 use tb_headline::session::resume;
 use tb_keeper::SqlKeep;
@@ -43,9 +41,6 @@ pub(crate) fn open_file(rt: &HostRuntime, path: &str) -> Result<Connection<RealF
 /// Begins a session over the boards in the file at a path. A file that isn't there isn't made.
 pub(crate) fn open_desk(rt: &HostRuntime, path: &str) -> Result<Desk<SqlKeep<RealFile>>, Fault>
     ensures fault { IfErr result (λ fault. is_of_opening fault ≡ true) }
-    ensures begun { IfOk result (λ desk. IsBegun ⟦<RealFile as Alter>⟧ (version_taken desk.migrated)
-        (⟦<SqlKeep<RealFile> as Keep>⟧.holds desk)
-        (⟦<SqlKeep<RealFile> as Keep>⟧.after_stop desk)) }
 {
     if fs::metadata(rt, path).is_err() {
         return Err(Fault::Store);

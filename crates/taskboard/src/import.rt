@@ -1,58 +1,46 @@
 //! Imports of standard input.
-ghost use Rattle.std.specs.Prelude.{◌≡◌, IfErr, IfOk, IfSome, true};
-ghost use Rattle.taskboard.specs.Opened.{IsImported, IsImportedInParts};
+ghost use Rattle.std.specs.Prelude.{◌≡◌, IfErr, true};
 ghost use Rattle.taskboard.specs.Telling.{is_of_imports};
-ghost use Rattle.tb_orders.specs.Items.{IsBadAmong, IsBadIn};
 
-use crate::file::{RealFile, close_desk, open_desk};
-use std::io::{IsTerminal, Read, Write};
-use tb_calls::Keep;
+use crate::file::{close_desk, open_desk};
+use std::io::{IsTerminal, Write};
 use tb_command_line::ImportOrder;
-use tb_keeper::SqlKeep;
 use tb_orders::{Ending, OrderFault, Progress, import_all, import_input};
 
-/// Imports an input into the boards of a file.
+/// Imports standard input into the boards of a file.
 #[tactic(auto, using(crate::proofs::Faults::of_input, crate::proofs::Faults::of_opening))]
-pub(crate) fn import_into_file<R: Read + Drop, W: Write>(
-    rt: &HostRuntime,
-    order: &ImportOrder,
-    reader: R,
-    writer: &mut W,
-) -> Result<Ending, OrderFault>
-    ensures imported { IfOk result (IsImported ⟦<SqlKeep<RealFile> as Keep>⟧
-        order.now (R.remaining reader) (W.contents writer.old) (W.contents writer.new)) }
-    ensures item { IfErr result
-        (λ failed. IfSome failed.item (IsBadIn order.now (R.remaining reader))) }
-    ensures fault { IfErr result (λ failed. is_of_imports failed.fault ≡ true) }
+pub(crate) fn import_into_file(rt: &HostRuntime, order: &ImportOrder) -> Result<Ending, OrderFault>
+    ensures { IfErr result (λ failed. is_of_imports failed.fault ≡ true) }
 {
     let mut desk = open_desk(rt, order.file.as_str())?;
-    let ending = import_input(rt.alloc(), &mut desk, order, reader, rt, writer)?;
+    let ending = import_input(
+        rt.alloc(),
+        &mut desk,
+        order,
+        rt.stdin(),
+        rt,
+        &mut rt.stdout(),
+    )?;
     close_desk(desk)?;
     Ok(ending)
 }
 
 /// The same in as many parts as the text takes.
 #[tactic(auto, using(crate::proofs::Faults::of_input, crate::proofs::Faults::of_opening))]
-pub(crate) fn import_parts_into_file<R: Read + Drop, W: Write>(
+pub(crate) fn import_parts_into_file(
     rt: &HostRuntime,
     order: &ImportOrder,
-    reader: R,
-    writer: &mut W,
 ) -> Result<Ending, OrderFault>
-    ensures imported { IfOk result (IsImportedInParts ⟦<SqlKeep<RealFile> as Keep>⟧
-        order.now (R.remaining reader) (W.contents writer.old) (W.contents writer.new)) }
-    ensures item { IfErr result
-        (λ failed. IfSome failed.item (IsBadAmong order.now (R.remaining reader))) }
-    ensures fault { IfErr result (λ failed. is_of_imports failed.fault ≡ true) }
+    ensures { IfErr result (λ failed. is_of_imports failed.fault ≡ true) }
 {
     let mut desk = open_desk(rt, order.file.as_str())?;
     let ending = import_all(
         rt.alloc(),
         &mut desk,
         order,
-        reader,
+        rt.stdin(),
         rt,
-        writer,
+        &mut rt.stdout(),
         &Counter { rt },
     )?;
     close_desk(desk)?;

@@ -5,8 +5,7 @@
 
 ghost use Rattle.std.specs.Io.KnownBytes.{Appends};
 ghost use Rattle.std.specs.Prelude.{◌≡◌, ◌≢◌, Err, IfErr, IfOk, IfSome, OnErr, true};
-ghost use Rattle.taskboard.specs.Orders.{is_of_order, script_text};
-ghost use Rattle.taskboard.specs.Telling.{is_of_telling};
+ghost use Rattle.taskboard.specs.Orders.{script_text};
 ghost use Rattle.tb_outcome.specs.Faults.{is_of_scripts};
 ghost use Rattle.tb_program.specs.declared.fault.Fault.TheVariants.{Store};
 ghost use Rattle.tb_values.specs.Appends.{AppendsFront};
@@ -60,9 +59,7 @@ fn main(rt: HostRuntime) -> ExitCode {
 }
 
 /// How an order ends, whose fault is told with its cause.
-fn end_of(rt: &HostRuntime, mut order: Order) -> Result<Ending, Fault>
-    ensures { IfErr result (λ fault. is_of_order order fault ≡ true) }
-{
+fn end_of(rt: &HostRuntime, mut order: Order) -> Result<Ending, Fault> {
     if let Order::Send(order) = &mut order {
         name_call(rt, order);
     }
@@ -77,18 +74,16 @@ fn end_of(rt: &HostRuntime, mut order: Order) -> Result<Ending, Fault>
 }
 
 /// Carries out an order; of an import alone more than the fault may be told.
-fn carry_out(rt: &HostRuntime, order: &mut Order) -> Result<Ending, OrderFault>
-    ensures { IfErr result (λ failed. is_of_order order.old failed.fault ≡ true) }
-{
+fn carry_out(rt: &HostRuntime, order: &mut Order) -> Result<Ending, OrderFault> {
     let out = &mut rt.stdout();
     match order {
         Order::Init(order) => Ok(make_file(rt, order)?),
         Order::Serve(order) => Ok(serve_file(rt, order)?),
         Order::Run => Ok(run_script(rt.alloc(), rt.stdin(), out)?),
-        Order::Import(order) => import_into_file(rt, order, rt.stdin(), out),
-        Order::ImportAll(order) => import_parts_into_file(rt, order, rt.stdin(), out),
-        Order::View(order) => Ok(print_board(rt, order, out)?),
-        Order::Check(file) => Ok(check_file(rt, file, out)?),
+        Order::Import(order) => import_into_file(rt, order),
+        Order::ImportAll(order) => import_parts_into_file(rt, order),
+        Order::View(order) => Ok(print_board(rt, order)?),
+        Order::Check(file) => Ok(check_file(rt, file)?),
         Order::Send(order) => Ok(send_order(rt, order, out)?),
         Order::Help(topic) => Ok(tell(out, topic.text())?),
         Order::Version => Ok(tell(out, VERSION)?),
@@ -101,7 +96,7 @@ fn tell<W: Write>(writer: &mut W, text: &str) -> Result<Ending, Fault>
         × Appends (W.contents writer.old) (W.contents writer.new) text.now) }
     ensures front { OnErr result (AppendsFront (W.contents writer.old)
         (W.contents writer.new) text.now) }
-    ensures fault { IfErr result (λ fault. is_of_telling fault ≡ true) }
+    ensures fault { IfErr result (λ fault. fault ≡ Fault.WriteFailed) }
 {
     print_text(writer, text)?;
     Ok(Ending::Accepted)

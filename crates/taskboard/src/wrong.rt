@@ -1,6 +1,6 @@
 //! Which word is wrong of words that are no order, and what it may be.
 ghost use Rattle.std.specs.Prelude.{◌≡◌, IfOk, OnOk, map};
-ghost use Rattle.taskboard.specs.Words.{behind, first_wrong, form_text, is_of, is_wrong_option, order_text, others_of, with_other, wrong_of, wrong_of_import, wrong_of_send, wrong_of_sent, wrong_text};
+ghost use Rattle.taskboard.specs.Words.{behind, form_text, is_of, others_of, with_other};
 
 use std::alloc::{AllocError, Global};
 use tb_board::{Key, Name};
@@ -82,20 +82,14 @@ const WRONG_SENT_KEY: &str =
     "The key is wrong: 8 to 64 visible ASCII characters, or - where it is kept elsewhere.";
 
 /// What is wrong with the words behind the program's name.
-pub(crate) fn wrong_word(alloc: Global, words: &[&str]) -> Result<&'static str, AllocError>
-    ensures { IfOk result (λ text. text.now ≡ wrong_text (map (λ word. word.now) words.entry.now)) }
-{
+pub(crate) fn wrong_word(alloc: Global, words: &[&str]) -> Result<&'static str, AllocError> {
     match words {
         [order, rest @ ..] => wrong_of_order(alloc, order, rest),
         [] => Ok(NO_ORDER),
     }
 }
 
-#[tactic(auto, unfolding(crate::specs::Words::order_text))]
-fn wrong_of_order(alloc: Global, order: &str, rest: &[&str]) -> Result<&'static str, AllocError>
-    ensures { IfOk result (λ text. text.now ≡ order_text order.now (map
-        (λ word. word.now) rest.entry.now)) }
-{
+fn wrong_of_order(alloc: Global, order: &str, rest: &[&str]) -> Result<&'static str, AllocError> {
     match order {
         "init" => wrong_of(alloc, INIT_USAGE, rest, &INIT_FORMS),
         "import" => wrong_of_import(alloc, rest),
@@ -109,10 +103,7 @@ fn wrong_of_order(alloc: Global, order: &str, rest: &[&str]) -> Result<&'static 
 }
 
 /// The first word of `import` that isn't of its form, or which there are to be. `--all` may stand anywhere, once.
-fn wrong_of_import(alloc: Global, words: &[&str]) -> Result<&'static str, AllocError>
-    ensures { IfOk result (λ text. text.now ≡ wrong_of_import (map
-        (λ word. word.now) words.entry.now)) }
-{
+fn wrong_of_import(alloc: Global, words: &[&str]) -> Result<&'static str, AllocError> {
     let others = others_of(alloc, words)?;
     wrong_of(alloc, IMPORT_USAGE, others.as_slice(), &IMPORT_FORMS)
 }
@@ -141,10 +132,7 @@ fn push_other<'t>(others: &mut Vec<&'t str>, word: &'t str) -> Result<(), AllocE
 }
 
 /// The first word of `send` that isn't of its form, or how they are to be.
-fn wrong_of_send(alloc: Global, words: &[&str]) -> Result<&'static str, AllocError>
-    ensures { IfOk result (λ text. text.now ≡ wrong_of_send (map
-        (λ word. word.now) words.entry.now)) }
-{
+fn wrong_of_send(alloc: Global, words: &[&str]) -> Result<&'static str, AllocError> {
     if is_wrong_option(alloc, words, "--id", Form::Id)? {
         return Ok(WRONG_ID);
     }
@@ -156,12 +144,9 @@ fn wrong_of_send(alloc: Global, words: &[&str]) -> Result<&'static str, AllocErr
 }
 
 /// The same of the words behind the options.
-fn wrong_of_sent(alloc: Global, words: &[&str]) -> Result<&'static str, AllocError>
-    ensures { IfOk result (λ text. text.now ≡ wrong_of_sent (map
-        (λ word. word.now) words.entry.now)) }
-{
+fn wrong_of_sent(alloc: Global, words: &[&str]) -> Result<&'static str, AllocError> {
     match words {
-        [server, member, key, _, ..] => first_wrong(
+        [server, member, key, _, ..] => wrong_of(
             alloc,
             SEND_USAGE,
             &[*server, *member, *key],
@@ -177,10 +162,7 @@ fn is_wrong_option(
     words: &[&str],
     name: &str,
     form: Form,
-) -> Result<bool, AllocError>
-    ensures { IfOk result (λ is. is ≡ is_wrong_option (map
-        (λ word. word.now) words.entry.now) name.now form) }
-{
+) -> Result<bool, AllocError> {
     match words {
         [first, value, ..] if *first == name => Ok(!is_of(alloc, value, form)?),
         _ => Ok(false),
@@ -204,37 +186,16 @@ fn wrong_of(
     usage: &'static str,
     words: &[&str],
     forms: &[Form],
-) -> Result<&'static str, AllocError>
-    ensures { IfOk result (λ text. text.now ≡ wrong_of usage.now (map
-        (λ word. word.now) words.entry.now) forms.now) }
-{
+) -> Result<&'static str, AllocError> {
     if words.len() != forms.len() {
         return Ok(usage);
     }
-    first_wrong(alloc, usage, words, forms)
-}
-
-/// What is told of the first word that isn't of its form, or else how the words are to be.
-fn first_wrong(
-    alloc: Global,
-    usage: &'static str,
-    words: &[&str],
-    forms: &[Form],
-) -> Result<&'static str, AllocError>
-    ensures { IfOk result (λ text. text.now ≡ first_wrong usage.now (map
-        (λ word. word.now) words.entry.now) forms.now) }
-{
-    let Some((word, words)) = words.split_first() else {
-        return Ok(usage);
-    };
-    let Some((form, forms)) = forms.split_first() else {
-        return Ok(usage);
-    };
-    if is_of(alloc, word, *form)? {
-        first_wrong(alloc, usage, words, forms)
-    } else {
-        Ok(form_text(*form))
+    for (word, form) in words.iter().zip(forms.iter()) {
+        if !is_of(alloc, word, *form)? {
+            return Ok(form_text(*form));
+        }
     }
+    Ok(usage)
 }
 
 fn is_of(alloc: Global, word: &str, form: Form) -> Result<bool, AllocError>
