@@ -15,8 +15,7 @@ use Rattle.lru.proofs.Pairs.{lookup-lookup_entry}
 use Rattle.tb_board.specs.declared.board.Board.{Board}
 use Rattle.tb_board.specs.declared.change.Change.{Change}
 use Rattle.tb_board.specs.Changes.{changed_on}
-use Rattle.tb_cache.specs.Cached.{touched}
-use Rattle.tb_cache.specs.Followed.{changed_at, followed, followed_by}
+use Rattle.tb_cache.specs.Followed.{touched, changed_at, followed, followed_by}
 
 apart_tests : (n m : ℕ) → Some n ≢ Some m → nat_eq m n ≡ false
 apart_tests n m apart = elim (cases_Bool (nat_eq m n)) [

@@ -5,7 +5,17 @@ use Rattle.std.specs.Option.{option_map_or}
 use Rattle.tb_board.specs.declared.board.Board.{Board}
 use Rattle.tb_board.specs.declared.change.Change.{Change}
 use Rattle.tb_board.specs.Changes.{changed_on}
-use Rattle.tb_cache.specs.Cached.{touched}
+use Rattle.tb_board.specs.declared.change.Change.TheVariants.{PutTask, AddPerson, AddBoard, SetRole, SetGone, TakeGone, SetAhead}
+
+-- the board that a change touches: its tasks, its gone places, or how far ahead it looks
+abbrev pub touched : Change → Option ℕ
+touched (PutTask m place t) = Some m
+touched (AddPerson name key) = None
+touched (AddBoard m title) = None
+touched (SetRole m person role) = None
+touched (SetGone m g) = Some m
+touched (TakeGone m id k) = Some m
+touched (SetAhead m ahead) = Some m
 
 -- none of the changes touches this board
 abbrev pub TouchesNone : ℕ → List Change → Type 0

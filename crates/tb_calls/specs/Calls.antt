@@ -1,16 +1,16 @@
 -- What calls lead to: plainly, once each, and their replies.
-use Rattle.std.specs.Prelude.{ℕ, ◌==◌, Bool, true, false, not, ◌&&◌, if◌then◌else◌, List, [], ◌∷◌, ◌++◌, Option, Some, None, Err, is_some}
+use Rattle.std.specs.Prelude.{ℕ, ◌==◌, Bool, false, not, ◌&&◌, if◌then◌else◌, List, [], ◌∷◌, ◌++◌, Option, Some, None, Err, is_some}
 use Rattle.std.specs.List.{list_any}
 use Rattle.std.specs.Str.{bytes_eq}
 use Rattle.std.specs.Ordering.{ordering_then, nat_cmp}
 use Rattle.std.specs.Cmp.Lexicographic.{slice_cmp}
 use Rattle.std.specs.declared.cmp.Ordering.{Ordering}
-use Rattle.std.specs.FinMap.{FinMap, get, insert}
+use Rattle.std.specs.FinMap.{FinMap, get, insert, empty}
 use Rattle.tb_core.specs.declared.refusal.Refusal.TheVariants.{UnknownCaller, IdReused}
 use Rattle.tb_board.specs.declared.world.World.{World}
 use Rattle.tb_core.specs.Apply.{apply}
 use Rattle.tb_core.specs.Outcomes.{Outcome}
-use Rattle.tb_board.specs.World.{key_of}
+use Rattle.tb_board.specs.World.{key_of, opening as opening_world}
 use Rattle.tb_calls.specs.declared.call.Call.{Call}
 use Rattle.tb_calls.specs.declared.call.KeptReply.{KeptReply}
 use Rattle.tb_reply.specs.declared.reply.Reply.{Reply}
@@ -103,3 +103,7 @@ replies_after s before (c ∷ cs) = reply s before c ∷ replies_after s (before
 
 abbrev pub replies_to : State → List Call → List Reply
 replies_to s cs = replies_after s [] cs
+
+-- one person, who owns the one board, and no kept reply
+abbrev pub opening : List ℕ → List ℕ → State
+opening name key = record { world = opening_world name key; kept = empty }

@@ -1,5 +1,5 @@
 -- What a keeper's calls leave, and what a stop leaves.
-use Rattle.std.specs.Prelude.{◌≡◌, ◌⊎◌, ℕ, ◌+◌, ◌≤◌, Bool, true, false, List, [], ◌∷◌, take, None, Result, Ok, Err, IsSome}
+use Rattle.std.specs.Prelude.{◌≡◌, ◌⊎◌, Bool, true, false, List, [], ◌∷◌, None, Result, Ok, Err, IsSome}
 use Rattle.std.specs.FinMap.{insert}
 use Rattle.tb_board.specs.declared.change.Change.{Change}
 use Rattle.tb_board.specs.Changes.{changed}
@@ -11,17 +11,13 @@ use Rattle.tb_calls.specs.declared.call.Call.{Call}
 use Rattle.tb_reply.specs.declared.reply.Reply.{Reply}
 use Rattle.tb_calls.specs.declared.fault.KeepFault.{KeepFault}
 use Rattle.tb_calls.specs.declared.fault.KeepFault.TheVariants.{Memory, Store}
-use Rattle.tb_calls.specs.Calls.{State, name_of, kept_for, is_known, plain, once, reply}
+use Rattle.tb_calls.specs.Calls.{State, name_of, kept_for, is_known, once, reply}
 
 -- the answer is that the store has failed
 abbrev pub is_store : {T : Type 0} → Result T KeepFault → Bool
 is_store (Ok x) = false
 is_store (Err Memory) = false
 is_store (Err Store) = true
-
--- a stop leaves this state and no other
-abbrev pub Only : State → (State → Type 0) → Type 0
-Only s stops = (t : State) → stops t → t ≡ s
 
 -- each state that was held is held, and a stop leaves nothing else than before
 pub record IsStill (old : State → Type 0) (old_stops : State → Type 0) (new : State → Type 0) (new_stops : State → Type 0) : Type 0 where
@@ -55,12 +51,3 @@ pub record IsNew (s : State) (c : Call) : Type 0 where
 pub record IsSettled (s : State) (c : Call) (r : Reply) : Type 0 where
   pub told : r ≡ reply s [] c
   pub acts_not : once s (c ∷ []) ≡ []
-
--- a state after some of the calls, each acting once: all that were answered, and one more at most
-abbrev pub IsAfterSome : State → List Call → ℕ → State → Type 0
-IsAfterSome s calls answered t = (j : ℕ) × (answered ≤ j) × (j ≤ answered + 1) × (t ≡ plain s (once s (take j calls)))
-
--- a state that is held, and each that a stop may leave, are such states
-pub record StandsAfter (s : State) (calls : List Call) (answered : ℕ) (now : State → Type 0) (may_leave : State → Type 0) : Type 0 where
-  pub held : (t : State) × now t × IsAfterSome s calls answered t
-  pub stops : (t : State) → may_leave t → IsAfterSome s calls answered t

@@ -134,7 +134,7 @@ role_call (a ∷ b ∷ c ∷ d ∷ more) = None
 abbrev pub ahead_data : ℕ → Data
 ahead_data n = object (member (codes "ahead") (number (unsigned n)) no_members)
 
--- a board that looks so far
+-- sets how many instances of each recurring task stand on the board ahead of their dates
 abbrev pub ahead_request : Text → ℕ → Option Request
 ahead_request board n = option_map (call_at (compact_text (ahead_data n))) (board_target board (codes "/ahead"))
 

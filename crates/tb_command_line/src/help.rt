@@ -100,7 +100,7 @@ prints the answer's body. However often it is sent, a call acts once.
                     modify B TASK JSON, done, delete, reopen, start, stop, each B TASK, annotate,
                     denotate, each B TASK TEXT, depend, undepend, each B TASK TASK, sweep B,
                     import B JSON, import-todo B LINE .., person NAME KEY, board TITLE,
-                    role B NAME owner|member|none
+                    role B NAME owner|member|reader|none, ahead B N (1 to 12)
     TASK            a uuid, or the place of a task on the board as it is exported, from 1: the
                     server is first asked which task that is, and it is told on standard error
     WORDS           a line of todo.txt, as Buy milk due:2026-03-01 +Home @phone

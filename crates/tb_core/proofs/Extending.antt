@@ -35,7 +35,7 @@ use Rattle.tb_core.specs.Allowed.{allows}
 use Rattle.tb_core.specs.Apply.{answered, applied, board_for, decided, if_allowed, judged, outcome, role_answer, role_given, role_refusals, seen_of, seen_with, with_role}
 use Rattle.tb_core.specs.Depends.{depend_refusals, depends_on, linked, undepend_refusals, unlinked}
 use Rattle.tb_core.specs.Edits.{modified}
-use Rattle.tb_core.specs.GoodWorld.{AlwaysExtends}
+use Rattle.tb_core.specs.GoodLaws.{AlwaysExtends}
 use Rattle.tb_core.specs.ImportJson.{told_of}
 use Rattle.tb_core.specs.ImportTodo.{import_todo_refusals, imported, new_tasks}
 use Rattle.tb_core.specs.Modify.{modify_refusals}

@@ -8,7 +8,7 @@ use Rattle.std.proofs.lemmas.Map.Keys.{IsDistinct-cons}
 use Rattle.std.proofs.lemmas.Map.Made.{IsDistinct-from_count}
 use Rattle.tb_board.proofs.Goodness.{good-empty}
 use Rattle.std.specs.Prelude.{codes}
-use Rattle.tb_core.specs.GoodWorld.{OpensGood}
+use Rattle.tb_core.specs.GoodLaws.{OpensGood}
 
 pub none_distinct : {K : Type 0} {eq : K → K → Bool} → IsEquivalence eq → IsDistinct eq []
 none_distinct laws = IsDistinct-from_count laws [] refl

@@ -32,15 +32,15 @@ use Rattle.tb_core.specs.ImportTodo.{first_bad, import_todo_refusals, imported, 
 use Rattle.tb_core.proofs.GoodImports.{good-new, plain_all}
 use Rattle.tb_core.proofs.GoodLinks.{good-linked, good-unlinked}
 use Rattle.tb_core.specs.Add.{add_fault, add_refusals, entered, entered_id, first_fault, is_full, is_linked, is_misread}
-use Rattle.tb_board.specs.Board.{lacks_depends}
+use Rattle.tb_board.specs.Board.{lacks_depends, has_id, is_on, wake, with_task}
 use Rattle.tb_core.specs.Allowed.{allows}
 use Rattle.tb_core.specs.Apply.{answered, applied, board_for, decided, if_allowed, outcome, person_for, role_answer, role_given, role_refusals, seen_of, seen_with, with_role}
-use Rattle.tb_board.specs.Board.{has_id, is_on, wake, with_task}
 use Rattle.tb_board.specs.Changes.{with_ahead}
 use Rattle.tb_board.specs.First.{change_first}
 use Rattle.tb_board.specs.Statuses.{is_open}
 use Rattle.tb_board.specs.Good.{has_template_form, IsGood, IsSound}
-use Rattle.tb_core.specs.GoodWorld.{HasOwner, IsGoodWorld, KeepsGood, KeepsPeople}
+use Rattle.tb_core.specs.GoodWorld.{HasOwner, IsGoodWorld}
+use Rattle.tb_core.specs.GoodLaws.{KeepsGood, KeepsPeople}
 use Rattle.tb_board.specs.Numbers.{free_id}
 use Rattle.tb_core.specs.Refusals.{bad_task, least, unless_refused, where_holds}
 use Rattle.tb_core.specs.Outcomes.{given}

@@ -1,17 +1,14 @@
 -- What each world keeps.
-use Rattle.std.specs.Prelude.{ℕ, ◌≡◌, ◌≤◌, true, List, Some, map, length}
+use Rattle.std.specs.Prelude.{ℕ, ◌≡◌, ◌≤◌, true, List, map, length}
 use Rattle.std.specs.List.{IsDistinct, AllByRecursion, list_any, range_with_len}
 use Rattle.std.specs.List.Sorted.{IsStrictlySortedBy}
 use Rattle.std.specs.Str.{bytes_eq}
 use Rattle.tb_board.specs.declared.board.Board.{Board}
-use Rattle.tb_core.specs.declared.command.Command.{Command}
 use Rattle.tb_board.specs.declared.world.Person.{Person}
 use Rattle.tb_board.specs.declared.world.RoleOn.{RoleOn}
 use Rattle.tb_board.specs.declared.world.World.{World}
-use Rattle.tb_core.specs.Apply.{apply}
-use Rattle.tb_board.specs.Extends.{Extends}
 use Rattle.tb_board.specs.Roles.{role_order}
-use Rattle.tb_board.specs.World.{key_of, opening, owns}
+use Rattle.tb_board.specs.World.{owns}
 use Rattle.tb_board.specs.Good.{IsGood}
 
 abbrev pub names : World → List (List ℕ)
@@ -41,19 +38,3 @@ pub record IsGoodWorld (w : World) : Type 0 where
   pub owned : AllByRecursion (HasOwner w) w.boards
   pub roles : AllByRecursion (IsRoleIn w) w.roles
   pub ordered : IsStrictlySortedBy role_order w.roles
-
--- each command leaves a good world good
-abbrev pub KeepsGood : Type 0
-KeepsGood = (w : World) (name : List ℕ) (c : Command) (m : ℕ) → IsGoodWorld w → IsGoodWorld (apply w name c m).world
-
--- each command leaves the people who are known, with their keys
-abbrev pub KeepsPeople : Type 0
-KeepsPeople = (w : World) (name : List ℕ) (c : Command) (m : ℕ) (person key : List ℕ)
-    → key_of w person ≡ Some key → key_of (apply w name c m).world person ≡ Some key
-
--- each command leaves people, boards and the identifiers of tasks at their places
-abbrev pub AlwaysExtends : Type 0
-AlwaysExtends = (w : World) (name : List ℕ) (c : Command) (m : ℕ) → Extends w (apply w name c m).world
-
-abbrev pub OpensGood : Type 0
-OpensGood = (name key : List ℕ) → IsGoodWorld (opening name key)

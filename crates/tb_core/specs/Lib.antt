@@ -11,6 +11,7 @@ pub mod Depends
 pub mod Edits
 pub mod Effects
 pub mod Giving
+pub mod GoodLaws
 pub mod GoodWorld
 pub mod ImportAgain
 pub mod ImportJson

@@ -3,7 +3,7 @@
 ghost use Rattle.tb_core.specs.AheadOne.{AheadOne};
 ghost use Rattle.tb_core.specs.Cycles.{AreCyclesRefused};
 ghost use Rattle.tb_core.specs.ImportAgain.{ImportTodoAgain};
-ghost use Rattle.tb_core.specs.GoodWorld.{AlwaysExtends, KeepsGood, KeepsPeople, OpensGood};
+ghost use Rattle.tb_core.specs.GoodLaws.{AlwaysExtends, KeepsGood, KeepsPeople, OpensGood};
 
 /// Each command leaves a good world good.
 pub fn keeps_good()

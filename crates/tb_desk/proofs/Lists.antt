@@ -16,10 +16,9 @@ use Rattle.tb_calls.specs.declared.call.KeptReply.{KeptReply}
 use Rattle.tb_desk.specs.contracts.list_keep.KeptUnderOrd.TheImpl as kept_under_ord
 use Rattle.tb_desk.specs.declared.list_keep.KeptUnder.{KeptUnder}
 use Rattle.tb_reply.specs.declared.reply.Reply.{Reply}
-use Rattle.tb_calls.specs.Calls.{CallName, State, name_cmp, name_of}
+use Rattle.tb_calls.specs.Calls.{CallName, State, name_cmp, name_of, opening}
 use Rattle.tb_calls.specs.Keeping.{HoldsEither, MayCommit, with_reply}
 use Rattle.tb_desk.specs.Listed.{IsListed, call_name, listed, named}
-use Rattle.tb_calls.specs.Opening.{opening}
 use Rattle.tb_calls.proofs.Names.{names_exact, names_total, tied}
 
 -- the order of the keys is that of the names

@@ -1,3 +1,4 @@
 pub mod Listed
+pub mod Resuming
 pub mod Sessions
 pub mod Views

@@ -3,7 +3,8 @@ ghost use Rattle.std.specs.Prelude.{◌≡◌, ◌⊎◌, ◌∷◌, [], true, I
 ghost use Rattle.tb_calls.specs.declared.fault.KeepFault.TheVariants.{Memory, Store};
 ghost use Rattle.tb_calls.specs.Calls.{State, after_call, once, outcome, plain, reply};
 ghost use Rattle.tb_reply.specs.Replies.{reply_of};
-ghost use Rattle.tb_calls.specs.Keeping.{HoldsEither, IsNew, IsSettled, IsStill, Only, is_store};
+ghost use Rattle.tb_calls.specs.Keeping.{HoldsEither, IsNew, IsSettled, IsStill, is_store};
+ghost use Rattle.tb_calls.specs.Leaving.{Only};
 
 use std::alloc::Global;
 use tb_calls::{Call, Keep, KeepFault};

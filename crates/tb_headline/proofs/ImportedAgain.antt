@@ -20,7 +20,7 @@ use Rattle.tb_sweep.proofs.Adding.{number-sweep}
 use Rattle.tb_sweep.proofs.Settled.{adds_last, sweep_ends, wake_swept}
 use Rattle.tb_import.specs.declared.imported.ImportCounts.{ImportCounts}
 use Rattle.tb_import.specs.declared.refusal.ImportRefusal.{ImportRefusal}
-use Rattle.tb_import.specs.Again.{AreKnown}
+use Rattle.tb_import.proofs.Known.{AreKnown}
 use Rattle.tb_import.specs.Import.{board_after, counts_after, with_masks}
 use Rattle.tb_import.specs.New.{new_tasks}
 use Rattle.tb_import.specs.Refusals.{bad_task, import_refusals, is_cyclic, is_too_full, least, unless_refused}

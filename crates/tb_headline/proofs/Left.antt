@@ -6,7 +6,7 @@ use Rattle.sqlite_trees.proofs.Doubt.{clean_of, no_doubt}
 use Rattle.tb_board.specs.declared.board.Board.{Board}
 use Rattle.tb_calls.specs.declared.call.Call.{Call}
 use Rattle.tb_calls.specs.Calls.{State, replies_to}
-use Rattle.tb_calls.specs.Keeping.{StandsAfter}
+use Rattle.tb_calls.specs.Leaving.{StandsAfter}
 use Rattle.tb_core.specs.GoodWorld.{IsGoodWorld}
 use Rattle.tb_keeper.specs.Holds.{Holds, Kept}
 use Rattle.tb_keeper.specs.Laws.{alone}

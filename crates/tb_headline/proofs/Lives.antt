@@ -2,7 +2,8 @@
 use Rattle.std.proofs.Common.{◌≡◌, List, [], ◌∷◌, refl, sym, ap₂, ◌∙◌, subst}
 use Rattle.tb_calls.specs.Calls.{State, once, plain}
 use Rattle.tb_core.specs.GoodWorld.{IsGoodWorld}
-use Rattle.tb_desk.specs.Sessions.{Sending, led_to, sessions_of, told}
+use Rattle.tb_desk.specs.Sessions.{Sending}
+use Rattle.tb_desk.specs.Resuming.{led_to, sessions_of, told}
 use Rattle.tb_desk.proofs.Repeats.{good_all}
 use Rattle.tb_desk.proofs.Resumed.{resumed}
 use Rattle.tb_reply.specs.declared.reply.Reply.{Reply}

@@ -5,7 +5,7 @@ use Rattle.sqlite.specs.State.{HasCleanDisk, State as Database}
 use Rattle.tb_board.specs.declared.board.Board.{Board}
 use Rattle.tb_calls.specs.declared.call.Call.{Call}
 use Rattle.tb_calls.specs.Calls.{State}
-use Rattle.tb_calls.specs.Keeping.{StandsAfter}
+use Rattle.tb_calls.specs.Leaving.{StandsAfter}
 use Rattle.tb_desk.proofs.Resumed.{take_whole}
 use Rattle.tb_headline.proofs.Left.{leaves}
 use Rattle.tb_headline.specs.Sessions.{IsCut, IsPlayed, calls_handled}

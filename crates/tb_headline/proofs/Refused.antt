@@ -14,9 +14,10 @@ use Rattle.tb_sql.specs.declared.opening.OpenFault.TheVariants.{NotOurs, WrongVe
 use Rattle.tb_sql.specs.declared.opening.Version.{Version}
 use Rattle.tb_sql.specs.declared.opening.Version.TheVariants.{First, Second}
 use Rattle.tb_sql.specs.Opening.{IsAnswered, are_old, are_ours, are_tables, has_key_indexes, has_meta, has_tables, is_meta, is_person, is_board, is_role, is_task, is_link, is_instance, is_gone, is_kept, is_horizon}
-use Rattle.tb_sql_tables.specs.Content.{AreOldRows, AreRows, Content, StandsEmpty}
+use Rattle.tb_sql_tables.specs.Content.{AreOldRows, AreRows, Content}
+use Rattle.tb_sql_tables.specs.Standing.{StandsEmpty}
 use Rattle.tb_sql_tables.specs.Failing.{FailsByFault}
-use Rattle.tb_stored.specs.Stored.{IsEmptyOrStored}
+use Rattle.tb_stored.specs.Migrating.{IsEmptyOrStored}
 use Rattle.tb_headline.specs.Refusals.{HasMeta, IsFilled, IsRefused, IsUnmade, Says}
 use Rattle.tb_headline.specs.Sessions.{IsFileOf}
 

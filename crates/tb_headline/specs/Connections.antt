@@ -3,7 +3,7 @@
 use Rattle.std.specs.Prelude.{◌≡◌, ℕ, ◌+◌, ◌≤◌, List, [], ◌∷◌, ◌++◌, Option, length, take}
 use Rattle.tb_calls.specs.declared.call.Call.{Call}
 use Rattle.tb_calls.specs.Calls.{State, replies_to, reply}
-use Rattle.tb_calls.specs.Keeping.{IsAfterSome}
+use Rattle.tb_calls.specs.Leaving.{IsAfterSome}
 use Rattle.tb_core.specs.GoodWorld.{IsGoodWorld}
 use Rattle.tb_desk.specs.Sessions.{Sending, Sent, calls_of}
 use Rattle.tb_headline.specs.Headline.{IsAsUnstopped, SendsAll, WereKnown, all_standing, as_came}

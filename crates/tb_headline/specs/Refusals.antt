@@ -11,10 +11,11 @@ use Rattle.tb_sql.specs.declared.opening.OpenFault.TheVariants.{NotOurs, WrongVe
 use Rattle.tb_sql.specs.declared.opening.Version.{Version}
 use Rattle.tb_sql.specs.Opening.{AreShownFrom, has_meta, taken}
 use Rattle.tb_sql_tables.specs.declared.rows.MetaRow.{MetaRow}
-use Rattle.tb_sql_tables.specs.Content.{StandsEmpty}
+use Rattle.tb_sql_tables.specs.Standing.{StandsEmpty}
 use Rattle.tb_sql_tables.specs.Failing.{HasFaulted, IsReady}
 use Rattle.tb_sql_tables.specs.Tables.{no_schema}
-use Rattle.tb_stored.specs.Stored.{AreTreesOf, IsEmptyOrStored}
+use Rattle.tb_stored.specs.Stored.{AreTreesOf}
+use Rattle.tb_stored.specs.Migrating.{IsEmptyOrStored}
 use Rattle.tb_headline.specs.Sessions.{IsFileOf, WhileHonest}
 
 -- ---- a database that should be a store

@@ -4,7 +4,7 @@ use Rattle.sqlite.specs.State.{HasCleanDisk, State as Database}
 use Rattle.sqlite_trees.specs.Tree.{Trees}
 use Rattle.tb_calls.specs.declared.call.Call.{Call}
 use Rattle.tb_calls.specs.Calls.{State, replies_to}
-use Rattle.tb_calls.specs.Keeping.{IsAfterSome, Only}
+use Rattle.tb_calls.specs.Leaving.{IsAfterSome, Only}
 use Rattle.tb_stored.specs.Stored.{AreOldTreesOf, AreTreesOf}
 use Rattle.tb_peers.specs.Happening.{Stops}
 use Rattle.tb_peers.specs.Server.{Timed, calls_among, calls_at, server}

@@ -4,8 +4,7 @@ ghost use Rattle.std.specs.Prelude.{◌≡◌, ◌≢◌, ◌⊎◌, false, leng
 ghost use Rattle.sqlite.specs.Held.{state};
 ghost use Rattle.sqlite.specs.State.{HasCleanDisk, IsLive, Opens};
 ghost use Rattle.tb_calls.specs.declared.fault.KeepFault.TheVariants.{Store};
-ghost use Rattle.tb_calls.specs.Calls.{State, once, plain};
-ghost use Rattle.tb_calls.specs.Opening.{opening};
+ghost use Rattle.tb_calls.specs.Calls.{State, once, plain, opening};
 ghost use Rattle.tb_headline.specs.Refusals.{IsFilled, IsRefused, IsUnmade, Says};
 ghost use Rattle.tb_headline.specs.Sessions.{IsAt, IsCut, IsFileOf, IsPlayed, IsSession, StopLeaves, WhileHonest};
 ghost use Rattle.tb_keeper.specs.Versions.{version_taken};

@@ -2,6 +2,7 @@ pub mod Again
 pub mod Counting
 pub mod Extending
 pub mod Keeping
+pub mod Known
 pub mod Marking
 pub mod Moving
 pub mod Numbering

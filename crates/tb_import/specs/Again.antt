@@ -1,16 +1,10 @@
 -- Imports that come again, and the walks for which one is refused.
-use Rattle.std.specs.Prelude.{◌≡◌, ◌↔◌, ℕ, true, false, List, Ok, length}
-use Rattle.std.specs.List.{AllByRecursion}
+use Rattle.std.specs.Prelude.{◌≡◌, ◌↔◌, ℕ, false, List, Ok, length}
 use Rattle.tb_task.specs.declared.incoming.Incoming.{Incoming}
 use Rattle.tb_board.specs.declared.board.Board.{Board}
-use Rattle.tb_board.specs.Board.{is_on}
 use Rattle.tb_board.specs.Walks.{DependsOn}
 use Rattle.tb_import.specs.declared.imported.ImportCounts.{ImportCounts}
 use Rattle.tb_import.specs.Refusals.{is_cyclic, judged_import}
-
--- each task of the list is on the board
-abbrev pub AreKnown : Board → List Incoming → Type 0
-AreKnown b is = AllByRecursion (λ (i : Incoming). is_on b i.task.id ≡ true) is
 
 -- an accepted import that comes again finds all tasks known, and changes nothing
 abbrev pub ImportAgainChangesNothing : Type 0

@@ -29,9 +29,9 @@ use Rattle.tb_sql_tables.specs.declared.rows.KeptRow.{KeptRow}
 use Rattle.tb_sql_tables.specs.Content.{Content, Stands, StandsAsEither}
 use Rattle.tb_lookup.specs.declared.people.StoredPerson.{StoredPerson}
 use Rattle.tb_lookup.specs.People.{IsPersonFound}
-use Rattle.tb_stored.specs.KeptRows.{with_reply_known, with_reply_rows}
+use Rattle.tb_stored.proofs.KeptRows.{with_reply_known, with_reply_rows}
 use Rattle.tb_stored.specs.Reopening.{OfState}
-use Rattle.tb_stored.specs.States.{either_alone, stored_alone}
+use Rattle.tb_stored.proofs.States.{either_alone, stored_alone}
 use Rattle.tb_stored.specs.Stored.{kept_row, state_rows, AreRowsOf, IsStored, IsStoredAsEither, MayLeave}
 use Rattle.tb_stored.proofs.Standing.{stored_again}
 use Rattle.tb_keeper.specs.Forms.{HasChangeForm}

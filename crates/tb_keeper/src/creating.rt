@@ -1,11 +1,12 @@
 ghost use Rattle.std.specs.Prelude.{◌≡◌, [], false, IfErr, IfOk, MatchResult};
 ghost use Rattle.sqlite.specs.Held.{state};
 ghost use Rattle.sqlite.specs.State.{Opens};
-ghost use Rattle.tb_calls.specs.Opening.{opening};
+ghost use Rattle.tb_calls.specs.Calls.{opening};
 ghost use Rattle.tb_sql.specs.Writing.{opening as content_of};
-ghost use Rattle.tb_sql_tables.specs.Content.{StandsEmpty};
+ghost use Rattle.tb_sql_tables.specs.Standing.{StandsEmpty};
 ghost use Rattle.tb_sql_tables.specs.Tables.{no_schema};
-ghost use Rattle.tb_stored.specs.Stored.{AreRowsOf, IsEmptyOrStored};
+ghost use Rattle.tb_stored.specs.Stored.{AreRowsOf};
+ghost use Rattle.tb_stored.specs.Migrating.{IsEmptyOrStored};
 ghost use Rattle.tb_keeper.specs.Holds.{Holds};
 
 use crate::forms::{is_key_read, is_name_read};

@@ -3,11 +3,12 @@
 ghost use Rattle.std.specs.Prelude.{◌≡◌, false, IfErr, IfOk, MatchResult};
 ghost use Rattle.sqlite.specs.Held.{state};
 ghost use Rattle.sqlite.specs.State.{Opens};
-ghost use Rattle.tb_calls.specs.Opening.{opening};
+ghost use Rattle.tb_calls.specs.Calls.{opening};
 ghost use Rattle.tb_sql.specs.FirstVersion.{first_content};
-ghost use Rattle.tb_sql_tables.specs.Content.{StandsEmpty};
+ghost use Rattle.tb_sql_tables.specs.Standing.{StandsEmpty};
 ghost use Rattle.tb_sql_tables.specs.Tables.{no_schema};
-ghost use Rattle.tb_stored.specs.Stored.{AreOldRowsOf, IsEmptyOrStoredOld, IsStoredOld};
+ghost use Rattle.tb_stored.specs.Stored.{AreOldRowsOf};
+ghost use Rattle.tb_stored.specs.Migrating.{IsEmptyOrStoredOld, IsStoredOld};
 
 use crate::creating::CreateFault;
 use crate::forms::{is_key_read, is_name_read};

@@ -9,7 +9,7 @@ use Rattle.tb_calls.specs.Calls.{State}
 use Rattle.tb_sql.specs.Opening.{IsAsBefore}
 use Rattle.tb_stored.specs.Reopening.{OfState}
 use Rattle.tb_stored.proofs.Standing.{stored_again}
-use Rattle.tb_lookup.specs.Counting.{IsWithin}
+use Rattle.tb_lookup.proofs.Within.{IsWithin}
 
 module _ (count : State → ℕ) where
   -- so many at least, and fewer than so many

@@ -7,3 +7,4 @@ pub mod OwnBoards
 pub mod PeopleOn
 pub mod StoredBoards
 pub mod StoredRoles
+pub mod Within

@@ -21,7 +21,7 @@ use Rattle.tb_stored.specs.Reopening.{OfBoard, OfContent, OfState}
 use Rattle.tb_stored.specs.Stored.{AreRowsOf}
 use Rattle.tb_stored.proofs.Reopened.{world_is_read}
 use Rattle.tb_stored.proofs.Standing.{stood}
-use Rattle.tb_lookup.specs.Counting.{IsWithin}
+use Rattle.tb_lookup.proofs.Within.{IsWithin}
 use Rattle.tb_lookup.proofs.Counting.{AreNumbered, within_any}
 use Rattle.tb_reopen.proofs.OneOf.{none_found, one_found}
 

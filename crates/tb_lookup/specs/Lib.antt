@@ -1,4 +1,3 @@
-pub mod Counting
 pub mod Named
 pub mod People
 pub mod Replies

@@ -6,7 +6,7 @@ use Rattle.tb_asking.specs.declared.asked.Asked.{Asked}
 use Rattle.tb_asking.specs.declared.asked.Asked.TheVariants as asked
 use Rattle.tb_asking.specs.declared.rejection.Rejection.{Rejection}
 use Rattle.tb_calls.specs.Calls.{State, once, plain, reply}
-use Rattle.tb_calls.specs.Keeping.{Only, StandsAfter}
+use Rattle.tb_calls.specs.Leaving.{Only, StandsAfter}
 use Rattle.tb_calls.specs.declared.call.Call.{Call}
 use Rattle.tb_command_line.specs.declared.order.ImportOrder.{ImportOrder}
 use Rattle.tb_http.specs.declared.message.Message.{Message}

@@ -3,7 +3,7 @@ use Rattle.std.proofs.Common.{◌≡◌, ◌≢◌, ◌⊎◌, ◌∙◌, ◌+�
 use Rattle.std.proofs.lemmas.List.{append-nil}
 use Rattle.std.specs.Io.KnownBytes.{Appends}
 use Rattle.tb_calls.specs.Calls.{State, replies_after, replies_to, reply, told_in}
-use Rattle.tb_calls.specs.Keeping.{IsAfterSome, Only, StandsAfter}
+use Rattle.tb_calls.specs.Leaving.{IsAfterSome, Only, StandsAfter}
 use Rattle.tb_calls.specs.declared.call.Call.{Call}
 use Rattle.tb_command_line.specs.declared.order.ImportOrder.{ImportOrder}
 use Rattle.tb_desk.proofs.Runs.{after_all, after_all-append}

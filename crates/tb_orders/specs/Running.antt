@@ -2,7 +2,7 @@
 use Rattle.std.specs.Prelude.{◌≡◌, ◌⊎◌, ℕ, ◌+◌, ◌==◌, Bool, true, false, List, [], ◌∷◌, ◌++◌, length, Option, Some, IfSome, Result, Ok, IfOk, OnOk, IsErr, decimal, if◌then◌else◌}
 use Rattle.std.specs.Io.KnownBytes.{Appends}
 use Rattle.tb_calls.specs.Calls.{State, replies_to}
-use Rattle.tb_calls.specs.Keeping.{StandsAfter}
+use Rattle.tb_calls.specs.Leaving.{StandsAfter}
 use Rattle.tb_calls.specs.declared.call.Call.{Call}
 use Rattle.tb_command_line.specs.declared.order.ImportOrder.{ImportOrder}
 use Rattle.tb_http.specs.declared.message.Message.{Message}

@@ -1,7 +1,7 @@
 //! The import of an input, whole.
 ghost use Rattle.std.specs.Prelude.{◌≡◌, ℕ, List, IfErr, IfOk, IfSome, IsErrOf, true};
 ghost use Rattle.tb_calls.specs.Calls.{State};
-ghost use Rattle.tb_calls.specs.Keeping.{Only, StandsAfter};
+ghost use Rattle.tb_calls.specs.Leaving.{Only, StandsAfter};
 ghost use Rattle.tb_calls.specs.declared.call.Call.{Call};
 ghost use Rattle.tb_orders.specs.Inputs.{AreAskedBy, IsMade};
 ghost use Rattle.tb_orders.specs.Items.{IsBadIn, end_of};

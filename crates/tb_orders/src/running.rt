@@ -2,7 +2,7 @@
 ghost use Rattle.std.specs.Prelude.{◌≡◌, ◌+◌, ◌∷◌, ◌<◌, ◌^◌, [], IfErr, IfOk, IfSome, IsErrOf, Some, length, true};
 ghost use Rattle.tb_asking.specs.Asking.{asked_of};
 ghost use Rattle.tb_calls.specs.Calls.{State};
-ghost use Rattle.tb_calls.specs.Keeping.{Only};
+ghost use Rattle.tb_calls.specs.Leaving.{Only};
 ghost use Rattle.tb_orders.specs.Items.{IsBadBehind, end_of, item_in};
 ghost use Rattle.tb_orders.specs.Running.{IsRun, messages_behind, part_id, part_message};
 ghost use Rattle.tb_orders.specs.Telling.{is_of_imports};

@@ -2,7 +2,7 @@
 use Rattle.std.specs.Prelude.{ℕ, ◌+◌, ◌≤◌, Bool, true, false, List, length, Result, Ok, Err}
 use Rattle.tb_calls.specs.declared.call.Call.{Call}
 use Rattle.tb_calls.specs.Calls.{State}
-use Rattle.tb_calls.specs.Keeping.{Only, StandsAfter}
+use Rattle.tb_calls.specs.Leaving.{Only, StandsAfter}
 use Rattle.tb_serve.specs.declared.serving.ServeFault.{ServeFault}
 use Rattle.tb_serve.specs.declared.serving.ServeFault.TheVariants.{ReadFailed, WriteFailed, Store, Memory}
 use Rattle.tb_serve.specs.Telling.{StandsAt, after}

@@ -1,7 +1,7 @@
 //! The next message of a connection, handled and answered.
 ghost use Rattle.std.specs.Prelude.{◌≡◌, ◌≤◌, ◌+◌, ◌++◌, ◌∷◌, [], List, ℕ, length, take, drop, if◌then◌else◌, IfNone, IfSome, Some, false, true};
 ghost use Rattle.tb_calls.specs.Calls.{State};
-ghost use Rattle.tb_calls.specs.Keeping.{Only};
+ghost use Rattle.tb_calls.specs.Leaving.{Only};
 ghost use Rattle.tb_http.specs.Inbox.{HasFault, IsUnfinished};
 ghost use Rattle.tb_http.specs.declared.fault.WireFault.{WireFault};
 ghost use Rattle.tb_peers.specs.Exchanging as exchanging;

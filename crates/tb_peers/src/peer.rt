@@ -1,12 +1,12 @@
 //! A connection as a value: what came and was not taken yet, and what it is still to be sent.
 ghost use Rattle.std.specs.Prelude.{◌≡◌, ◌≤◌, ◌++◌, [], drop, length, OnErr, OnOk, Err, false, true};
 ghost use Rattle.tb_calls.specs.Calls.{State};
-ghost use Rattle.tb_calls.specs.Keeping.{Only};
+ghost use Rattle.tb_calls.specs.Leaving.{Only};
 ghost use Rattle.tb_http.specs.declared.begun.Begun.{Begun};
 ghost use Rattle.tb_http.specs.Inbox.{IsBegun};
 ghost use Rattle.tb_peers.specs.Following.{Follows, has_stopped};
 ghost use Rattle.tb_peers.specs.Happening.{HappensTo};
-ghost use Rattle.tb_turns.specs.Turns.{silent, turns};
+ghost use Rattle.tb_turns.specs.Turns.{silent, turns, Talk};
 
 use crate::exchanging::{answer_whole, outcome, takes_no_more};
 use crate::tools::Tools;
@@ -32,8 +32,6 @@ pub struct Peer {
 }
 
 impl Model for Peer {
-    ghost use Rattle.std.specs.Prelude.{◌≡◌, ◌≤◌, drop, false, length};
-    ghost use Rattle.tb_turns.specs.Turns.{Talk};
 
     ghost Value = { Talk };
 

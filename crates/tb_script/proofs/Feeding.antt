@@ -11,7 +11,8 @@ use Rattle.tb_script.specs.declared.asked.Asked.TheVariants as asks
 use Rattle.tb_script.specs.declared.line_fault.Unreadable.{Unreadable}
 use Rattle.tb_script.specs.declared.line_fault.Unreadable.TheVariants.{BadLine}
 use Rattle.tb_script.specs.Answer.{answer, answered, calls_of, call_asked, carried_out, is_readable, request_of}
-use Rattle.tb_script.specs.Lines.{answers, is_one_line, left_by, lines_of}
+use Rattle.tb_script.specs.Lines.{answers, lines_of}
+use Rattle.tb_script.proofs.OneLine.{is_one_line, left_by}
 use Rattle.tb_script.specs.Reading.{asked_in}
 use Rattle.tb_script.specs.Runs.{Progress, after_lines, fed, fed_byte, from}
 use Rattle.tb_script.proofs.LineLaws.{Alike, last_line, line_ends, one_line_push, skipped}

@@ -6,7 +6,8 @@ use Rattle.tb_values.specs.Appends.{AppendsFront}
 use Rattle.tb_values.proofs.Appends.{Appends-nil, Appends-then, AppendsFront-more}
 use Rattle.tb_calls.specs.Calls.{State}
 use Rattle.tb_script.specs.Answer.{answer}
-use Rattle.tb_script.specs.Lines.{answers, answers_from, left_by, lines_of}
+use Rattle.tb_script.specs.Lines.{answers, answers_from, lines_of}
+use Rattle.tb_script.proofs.OneLine.{left_by}
 use Rattle.tb_script.specs.Runs.{LeavesSome, Progress, after_lines, fed, from}
 use Rattle.tb_script.proofs.Feeding.{behind, ends, fed-append, fed-behind, fronts, left_calls}
 

@@ -5,8 +5,7 @@ use Rattle.std.specs.Str.{is_utf8}
 use Rattle.tb_calls.specs.declared.call.Call.{Call}
 use Rattle.tb_calls.specs.declared.view.View.{View}
 use Rattle.tb_calls.specs.declared.view.View.TheVariants.{Listing, Export, Todo, One, People, Me}
-use Rattle.tb_calls.specs.Calls.{State, once, plain, reply}
-use Rattle.tb_calls.specs.Opening.{opening}
+use Rattle.tb_calls.specs.Calls.{State, once, plain, reply, opening}
 use Rattle.tb_desk.specs.Views.{shown_in}
 use Rattle.tb_reply.specs.declared.reply.Reply.{Reply}
 use Rattle.tb_script.specs.declared.asked.Asked.{Asked}

@@ -1,14 +1,10 @@
 -- A text as lines, and the answers to them.
-use Rattle.std.specs.Prelude.{ℕ, Bool, List, [], ◌∷◌, ◌++◌, ◌==◌, not}
-use Rattle.std.specs.List.{slice_split, list_all}
+use Rattle.std.specs.Prelude.{ℕ, List, [], ◌∷◌, ◌++◌, ◌==◌}
+use Rattle.std.specs.List.{slice_split}
 
 -- the lines of a text: a line feed ends one, and the last is what follows the last line feed
 abbrev pub lines_of : List ℕ → List (List ℕ)
 lines_of text = slice_split (λ b. b == 10) text
-
--- no line feed is in the text
-abbrev pub is_one_line : List ℕ → Bool
-is_one_line text = list_all (λ b. not (b == 10)) text
 
 -- what a line is answered, and the state that it leaves
 pub record Answered (S : Type 0) : Type 0 where
@@ -19,11 +15,6 @@ pub record Answered (S : Type 0) : Type 0 where
 abbrev pub answers : {S : Type 0} → (S → List ℕ → Answered S) → S → List (List ℕ) → List ℕ
 answers answer s [] = []
 answers answer s (line ∷ lines) = (answer s line).text ++ answers answer (answer s line).state lines
-
--- the state that lines leave
-abbrev pub left_by : {S : Type 0} → (S → List ℕ → Answered S) → S → List (List ℕ) → S
-left_by answer s [] = s
-left_by answer s (line ∷ lines) = left_by answer (answer s line).state lines
 
 -- the answers to the lines of a text
 abbrev pub answers_from : {S : Type 0} → (S → List ℕ → Answered S) → S → List ℕ → List ℕ

@@ -2,7 +2,7 @@
 use Rattle.std.proofs.Common.{◌≡◌, ℕ, Bool, List, [], Option, Some, None, refl, sym, ap, ◌∙◌, subst}
 use Rattle.tb_calls.specs.declared.call.Call.{Call}
 use Rattle.tb_calls.specs.Calls.{State}
-use Rattle.tb_calls.specs.Keeping.{Only}
+use Rattle.tb_calls.specs.Leaving.{Only}
 use Rattle.tb_asking.specs.Asking.{asked_of, asked_on}
 use Rattle.tb_http.specs.declared.message.Message.{Message}
 use Rattle.tb_http.specs.Answer.{answer_text}

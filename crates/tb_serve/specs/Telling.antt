@@ -7,7 +7,7 @@ use Rattle.tb_calls.specs.declared.fault.KeepFault.TheVariants as keep
 use Rattle.tb_calls.specs.declared.view.View.{View}
 use Rattle.tb_calls.specs.declared.view.View.TheVariants as view
 use Rattle.tb_calls.specs.Calls.{State, plain, once, reply, unknown_caller}
-use Rattle.tb_calls.specs.Keeping.{Only, StandsAfter}
+use Rattle.tb_calls.specs.Leaving.{Only, StandsAfter}
 use Rattle.tb_desk.specs.Views.{shown_in}
 use Rattle.tb_http.specs.declared.answer.Answer.{Answer}
 use Rattle.tb_http.specs.declared.answer.ContentType.{ContentType}

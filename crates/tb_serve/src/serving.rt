@@ -1,7 +1,7 @@
 //! A connection's messages, answered in turn.
 ghost use Rattle.std.specs.Prelude.{◌≡◌, ◌+◌, ◌≤◌, ◌<◌, [], IfSome, Some, drop, false, true};
 ghost use Rattle.tb_calls.specs.Calls.{State};
-ghost use Rattle.tb_calls.specs.Keeping.{Only};
+ghost use Rattle.tb_calls.specs.Leaving.{Only};
 ghost use Rattle.tb_http.specs.Answer.{answer_text};
 ghost use Rattle.tb_http.specs.Closing.{message_limit};
 ghost use Rattle.tb_serve.specs.Serving.{Exchanges, HandlesMessage, IsServed, Sends, Settles, answers_one, ended_by, exchange_fault, goes_on, owes_one, reads_one, turn_fault, unread_text};

@@ -1,7 +1,7 @@
 //! What a message that was read is told: the desk handles its call, or shows its view.
 ghost use Rattle.std.specs.Prelude.{◌≡◌, ◌∷◌, [], IfOk, IsErrOf, None, Ok, true};
 ghost use Rattle.tb_calls.specs.Calls.{State, reply, unknown_caller};
-ghost use Rattle.tb_calls.specs.Keeping.{Only};
+ghost use Rattle.tb_calls.specs.Leaving.{Only};
 ghost use Rattle.tb_desk.specs.Views.{shown_in};
 ghost use Rattle.tb_http.specs.declared.message.Message.{Message};
 ghost use Rattle.tb_asking.specs.Asking.{asked_of};

@@ -21,7 +21,7 @@ use Rattle.tb_sql_tables.specs.declared.rows.GoneRow.{GoneRow}
 use Rattle.tb_sql_tables.specs.Tables.{gone_plain, gone_table, gone_tree, store_schema}
 use Rattle.tb_sql_tables.specs.Rows.{gone_row}
 use Rattle.tb_sql_tables.specs.Reading.{gone_of}
-use Rattle.tb_sql_tables.specs.Content.{Changes, Finds, Ran}
+use Rattle.tb_sql_tables.specs.Statements.{Changes, Finds, Ran}
 use Rattle.tb_sql_tables.specs.Found.{AreFound}
 use Rattle.tb_sql_tables.proofs.Contents.{gone_changed}
 use Rattle.tb_sql_tables.proofs.Effects.{each, cells_deleted, cells_shown, found}

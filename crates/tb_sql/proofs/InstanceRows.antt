@@ -21,7 +21,7 @@ use Rattle.tb_sql_tables.specs.declared.rows.InstanceRow.{InstanceRow}
 use Rattle.tb_sql_tables.specs.Tables.{instance_plain, instance_table, instance_tree, store_schema}
 use Rattle.tb_sql_tables.specs.Rows.{instance_row}
 use Rattle.tb_sql_tables.specs.Reading.{instance_of}
-use Rattle.tb_sql_tables.specs.Content.{Changes, Finds, Ran}
+use Rattle.tb_sql_tables.specs.Statements.{Changes, Finds, Ran}
 use Rattle.tb_sql_tables.specs.Found.{AreFound}
 use Rattle.tb_sql_tables.proofs.Contents.{instances_changed}
 use Rattle.tb_sql_tables.proofs.Effects.{each, cells_shown, found}

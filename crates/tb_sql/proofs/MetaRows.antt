@@ -21,7 +21,9 @@ use Rattle.tb_sql_tables.specs.declared.rows.MetaRow.{MetaRow}
 use Rattle.tb_sql_tables.specs.Tables.{meta_plain, meta_tree, old_schema}
 use Rattle.tb_sql_tables.specs.Rows.{version_row}
 use Rattle.tb_sql_tables.specs.Reading.{meta_of, IsMetaRow}
-use Rattle.tb_sql_tables.specs.Content.{Content, AreTables, Finds, HasKeyed, IsContent, IsHalfway, Ran, Turns}
+use Rattle.tb_sql_tables.specs.Content.{Content, AreTables, HasKeyed, IsContent}
+use Rattle.tb_sql_tables.specs.Statements.{Finds, Ran, Turns}
+use Rattle.tb_sql_tables.specs.Standing.{IsHalfway}
 use Rattle.tb_sql_tables.specs.Failing.{IsExcused}
 use Rattle.tb_sql_tables.proofs.Effects.{each, all_left, keyed_shown, keyed_shown_in, keyed_updated, found_in_order, found_same}
 use Rattle.tb_sql_tables.proofs.Failing.{Suits, fails_so}

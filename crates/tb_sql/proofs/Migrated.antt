@@ -7,7 +7,9 @@ use Rattle.sqlite.specs.State.{KeepsCommit, State}
 use Rattle.tb_sql_tables.specs.declared.rows.BoardRow.{BoardRow}
 use Rattle.tb_sql_tables.specs.declared.rows.HorizonRow.{HorizonRow}
 use Rattle.tb_sql_tables.specs.declared.rows.PersonRow.{PersonRow}
-use Rattle.tb_sql_tables.specs.Content.{Changes, Content, Finds, IsContent, IsOldContent, Turns}
+use Rattle.tb_sql_tables.specs.Content.{Content, IsContent}
+use Rattle.tb_sql_tables.specs.Statements.{Changes, Finds, Turns}
+use Rattle.tb_sql_tables.specs.Standing.{IsOldContent}
 use Rattle.tb_sql_tables.specs.Found.{AreFound}
 use Rattle.tb_sql_tables.proofs.Changing.{changes_then}
 use Rattle.tb_sql_tables.proofs.Reordered.{reordered, AreReordered}

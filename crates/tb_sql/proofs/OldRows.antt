@@ -14,7 +14,9 @@ use Rattle.tb_sql_tables.specs.declared.rows.BoardRow.{BoardRow}
 use Rattle.tb_sql_tables.specs.declared.rows.RoleRow.{RoleRow}
 use Rattle.tb_sql_tables.specs.Tables.{board_plain, board_table, board_tree, old_schema, person_plain, person_table, person_tree, role_plain, role_table, role_tree}
 use Rattle.tb_sql_tables.specs.Rows.{board_row, person_row, role_row}
-use Rattle.tb_sql_tables.specs.Content.{AreOldTables, Content, HasKeyed, HasRows, IsOldContent, Ran, Turns}
+use Rattle.tb_sql_tables.specs.Content.{AreOldTables, Content, HasKeyed, HasRows}
+use Rattle.tb_sql_tables.specs.Standing.{IsOldContent}
+use Rattle.tb_sql_tables.specs.Statements.{Ran, Turns}
 use Rattle.tb_sql_tables.proofs.Inserts.{cast_integer, cast_null, row_put}
 use Rattle.tb_sql_tables.proofs.Keyed.{keyed_put}
 use Rattle.tb_sql_tables.proofs.Statements.{EditedIn, MeansIn, row_inserted_in}

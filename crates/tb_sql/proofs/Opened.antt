@@ -10,7 +10,8 @@ use Rattle.sqlite.specs.Effect.{Database}
 use Rattle.sqlite.proofs.Callers.{one_permutation}
 use Rattle.sqlite.specs.State.{State, HasCleanDisk, Opens, IsLive, KeepsCommit, IsRolledBack, Survives}
 use Rattle.tb_sql_tables.specs.Tables.{no_schema, old_schema, store_schema}
-use Rattle.tb_sql_tables.specs.Content.{Content, AreOldRows, AreRows, IsContent, IsOldContent, Stands, StandsBy, StandsEmpty, StandsOld}
+use Rattle.tb_sql_tables.specs.Content.{Content, AreOldRows, AreRows, IsContent, Stands, StandsBy}
+use Rattle.tb_sql_tables.specs.Standing.{IsOldContent, StandsEmpty, StandsOld}
 use Rattle.tb_sql_tables.proofs.Once.{schema_once}
 use Rattle.tb_sql_tables.specs.declared.rows.MetaRow.{MetaRow}
 use Rattle.tb_sql.specs.declared.opening.OpenFault.{OpenFault}

@@ -20,7 +20,7 @@ use Rattle.tb_sql_tables.specs.declared.rows.RoleRow.{RoleRow}
 use Rattle.tb_sql_tables.specs.Tables.{role_tree}
 use Rattle.tb_sql_tables.specs.Rows.{role_row}
 use Rattle.tb_sql_tables.specs.Reading.{role_of}
-use Rattle.tb_sql_tables.specs.Content.{Finds}
+use Rattle.tb_sql_tables.specs.Statements.{Finds}
 use Rattle.tb_sql_tables.specs.Found.{AreFound}
 use Rattle.tb_sql_tables.proofs.Effects.{each, cells_shown, found}
 use Rattle.tb_sql_tables.proofs.Inside.{shown_open}

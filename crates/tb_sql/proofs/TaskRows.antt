@@ -25,7 +25,8 @@ use Rattle.tb_sql_tables.specs.declared.rows.TaskRow.{TaskRow}
 use Rattle.tb_sql_tables.specs.Tables.{task_plain, task_table, task_tree, store_schema}
 use Rattle.tb_sql_tables.specs.Rows.{task_row}
 use Rattle.tb_sql_tables.specs.Reading.{task_of}
-use Rattle.tb_sql_tables.specs.Content.{Changes, Finds, Ran, HaveIdentifiers}
+use Rattle.tb_sql_tables.specs.Content.{HaveIdentifiers}
+use Rattle.tb_sql_tables.specs.Statements.{Changes, Finds, Ran}
 use Rattle.tb_sql_tables.specs.Found.{AreFound, IsOneOf}
 use Rattle.tb_sql_tables.proofs.Contents.{tasks_changed}
 use Rattle.tb_sql_tables.proofs.Effects.{each, each_of, each_left, cells_updated, cells_shown, found, found_one}

@@ -3,7 +3,7 @@
 ghost use Rattle.std.specs.Prelude.{◌≡◌, IsTrue, OnOk, OnErr};
 ghost use Rattle.sqlite.specs.Held.{state};
 ghost use Rattle.sqlite.specs.State.{HasCleanDisk, KeepsCommit, Survives};
-ghost use Rattle.tb_sql_tables.specs.Content.{Changes};
+ghost use Rattle.tb_sql_tables.specs.Statements.{Changes};
 ghost use Rattle.tb_sql.specs.Writing.{changed_by, changed_by_all};
 
 use crate::boards::{insert_board, update_low};

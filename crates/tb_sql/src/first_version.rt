@@ -3,7 +3,9 @@
 ghost use Rattle.std.specs.Prelude.{◌≡◌, false, IsTrue, OnErr, OnOk, Err};
 ghost use Rattle.sqlite.specs.Held.{state};
 ghost use Rattle.sqlite.specs.State.{HasCleanDisk, KeepsCommit, Survives};
-ghost use Rattle.tb_sql_tables.specs.Content.{Content, HasNoTables, IsOldContent, StandsEmpty, StandsEmptyOrOld, StandsOld, Turns};
+ghost use Rattle.tb_sql_tables.specs.Content.{Content};
+ghost use Rattle.tb_sql_tables.specs.Standing.{HasNoTables, IsOldContent, StandsEmpty, StandsEmptyOrOld, StandsOld};
+ghost use Rattle.tb_sql_tables.specs.Statements.{Turns};
 ghost use Rattle.tb_sql.specs.Changes.{with_board, with_person, with_role};
 ghost use Rattle.tb_sql.specs.FirstVersion.{first_content};
 

@@ -3,7 +3,9 @@
 ghost use Rattle.std.specs.Prelude.{◌≡◌, [], ◌∷◌, IsTrue, IfErr, IfOk, OnErr, OnOk};
 ghost use Rattle.sqlite.specs.Held.{state};
 ghost use Rattle.sqlite.specs.State.{HasCleanDisk, KeepsCommit, Survives};
-ghost use Rattle.tb_sql_tables.specs.Content.{Content, Finds, IsContent, IsHalfway, Turns};
+ghost use Rattle.tb_sql_tables.specs.Content.{Content, IsContent};
+ghost use Rattle.tb_sql_tables.specs.Statements.{Finds, Turns};
+ghost use Rattle.tb_sql_tables.specs.Standing.{IsHalfway};
 ghost use Rattle.tb_sql_tables.specs.Failing.{IsExcused};
 ghost use Rattle.tb_sql.specs.Opening.{our_meta, AreMetas, AreShown};
 ghost use Rattle.tb_sql.specs.Migrating.{without_horizon};

@@ -3,7 +3,9 @@
 ghost use Rattle.std.specs.Prelude.{◌≡◌, false, map, IsTrue, IfErr, IfOk, OnErr, OnOk, Err};
 ghost use Rattle.sqlite.specs.Held.{state};
 ghost use Rattle.sqlite.specs.State.{HasCleanDisk, KeepsCommit, Survives};
-ghost use Rattle.tb_sql_tables.specs.Content.{AreRows, Content, IsContent, IsOldContent, StandsBy, StandsOld, StandsOldOr, Turns};
+ghost use Rattle.tb_sql_tables.specs.Content.{AreRows, Content, IsContent, StandsBy};
+ghost use Rattle.tb_sql_tables.specs.Standing.{IsOldContent, StandsOld, StandsOldOr};
+ghost use Rattle.tb_sql_tables.specs.Statements.{Turns};
 ghost use Rattle.tb_sql.specs.Opening.{IsAsBefore};
 ghost use Rattle.tb_sql.specs.Migrating.{horizon_changes, migrated, without_horizon, IsMigrated};
 

@@ -5,7 +5,8 @@ ghost use Rattle.sqlite.specs.Held.{state};
 ghost use Rattle.sqlite.specs.State.{HasCleanDisk, Opens};
 ghost use Rattle.tb_sql_tables.specs.Tables.{meta_tree, no_schema};
 ghost use Rattle.tb_sql_tables.specs.declared.rows.MetaRow.{MetaRow as Meta};
-ghost use Rattle.tb_sql_tables.specs.Content.{Content, AreOldRows, AreRows, HasKeyed, IsContent, Stands, StandsEmpty, StandsOld};
+ghost use Rattle.tb_sql_tables.specs.Content.{Content, AreOldRows, AreRows, HasKeyed, IsContent, Stands};
+ghost use Rattle.tb_sql_tables.specs.Standing.{StandsEmpty, StandsOld};
 ghost use Rattle.tb_sql_tables.specs.Failing.{FailsByFault, KeepsFaults};
 ghost use Rattle.tb_sql.specs.Opening.{by_version, has_meta, has_tables, judged, our_meta, row_of_meta, taken, version_of, Answers, AreMetas, AreShownFrom, IsAnswered, IsAsBefore, IsOfStore};
 

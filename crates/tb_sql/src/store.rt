@@ -3,7 +3,9 @@
 ghost use Rattle.std.specs.Prelude.{◌≡◌, ◌↔◌, false, IsTrue, OnOk, OnErr, Err};
 ghost use Rattle.sqlite.specs.Held.{state};
 ghost use Rattle.sqlite.specs.State.{HasCleanDisk, KeepsCommit, Survives};
-ghost use Rattle.tb_sql_tables.specs.Content.{Content, Changes, HasNoTables, IsContent, Stands, StandsAsEither, StandsEmpty, StandsEmptyOr, Turns};
+ghost use Rattle.tb_sql_tables.specs.Content.{Content, IsContent, Stands, StandsAsEither};
+ghost use Rattle.tb_sql_tables.specs.Statements.{Changes, Turns};
+ghost use Rattle.tb_sql_tables.specs.Standing.{HasNoTables, StandsEmpty, StandsEmptyOr};
 ghost use Rattle.tb_sql.specs.Writing.{written, opening};
 
 use crate::changes::{RowChange, apply_changes};

@@ -4,7 +4,8 @@ use Rattle.sqlite_trees.specs.declared.store.Store.{Ghosts}
 use Rattle.sqlite.specs.Held.{Held, state}
 use Rattle.sqlite.specs.State.{State, KeepsCommit}
 use Rattle.sqlite.specs.Effect.{Database}
-use Rattle.tb_sql_tables.specs.Content.{Content, Changes, IsContent, Turns}
+use Rattle.tb_sql_tables.specs.Content.{Content, IsContent}
+use Rattle.tb_sql_tables.specs.Statements.{Changes, Turns}
 
 pub no_change : (a : State) → IsTrue a.in_transaction → IsTrue a.is_open → Changes (λ content. content) a a
 no_change a inside is_open = record {

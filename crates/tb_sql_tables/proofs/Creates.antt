@@ -22,7 +22,9 @@ use Rattle.sqlite.specs.Given.{IsPlain}
 use Rattle.sqlite.proofs.Callers.{command_of, statement_of, runs_as}
 use Rattle.tb_sql_tables.specs.Tables.{meta_plain, horizon_tree, meta_tree, create_meta_text, create_person_text, create_board_text, create_role_text, create_task_text, create_link_text, create_instance_text, create_gone_text, create_kept_text, create_horizon_text, meta_table, person_table, board_table, role_table, task_table, link_table, instance_table, gone_table, kept_table, horizon_table, no_schema, meta_schema, person_schema, board_schema, role_schema, task_schema, link_schema, instance_schema, gone_schema, old_schema, store_schema}
 use Rattle.tb_sql_tables.specs.Rows.{meta_row, version_row}
-use Rattle.tb_sql_tables.specs.Content.{nothing, Content, AreEmpty, AreTables, AreOldTables, IsContent, IsHalfway, IsOldContent, HasRows, HasKeyed, Ran, Turns}
+use Rattle.tb_sql_tables.specs.Content.{nothing, Content, AreTables, AreOldTables, IsContent, HasRows, HasKeyed}
+use Rattle.tb_sql_tables.specs.Statements.{AreEmpty, Ran, Turns}
+use Rattle.tb_sql_tables.specs.Standing.{IsHalfway, IsOldContent}
 use Rattle.tb_sql_tables.proofs.Inserts.{went, same_value, cast_integer, cast_null}
 use Rattle.tb_sql_tables.proofs.Keyed.{keyed_put}
 use Rattle.tb_sql_tables.proofs.Statements.{Means, MeansIn, row_inserted, row_inserted_in}

@@ -22,7 +22,8 @@ use Rattle.sqlite_schema.specs.declared.command.Command.TheVariants.{Update, Del
 use Rattle.sqlite_rules.specs.Cast.{cast_row}
 use Rattle.sqlite.specs.State.{State, Shown}
 use Rattle.tb_sql_tables.specs.Tables.{Plain, table_of, store_schema}
-use Rattle.tb_sql_tables.specs.Content.{HasRows, HasKeyed, Ran}
+use Rattle.tb_sql_tables.specs.Content.{HasRows, HasKeyed}
+use Rattle.tb_sql_tables.specs.Statements.{Ran}
 use Rattle.tb_sql_tables.specs.Found.{AreFound, IsOneOf}
 use Rattle.tb_sql_tables.proofs.Deletes.{rows_left}
 use Rattle.tb_sql_tables.proofs.Updates.{cells_changed}

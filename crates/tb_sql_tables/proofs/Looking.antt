@@ -8,7 +8,8 @@ use Rattle.sqlite.specs.Clock.{timed}
 use Rattle.sqlite.specs.Given.{IsPlain}
 use Rattle.sqlite.specs.Listing.{understood}
 use Rattle.sqlite.specs.State.{State, Shown, Shows, ShowsRows}
-use Rattle.tb_sql_tables.specs.Content.{Content, Changes, IsContent}
+use Rattle.tb_sql_tables.specs.Content.{Content, IsContent}
+use Rattle.tb_sql_tables.specs.Statements.{Changes}
 use Rattle.tb_sql_tables.proofs.Statements.{Asks}
 
 pub looks_on : (text : List ℕ) (tree : ℕ) (test project : List Term) (order : List (Term × Key)) → Asks text tree test project order → (old new : State) (params : Row) (rows : List Row)

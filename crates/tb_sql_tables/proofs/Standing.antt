@@ -5,7 +5,8 @@ use Rattle.sqlite.specs.declared.error.Error.{Error}
 use Rattle.sqlite.specs.Effect.{Database}
 use Rattle.sqlite.specs.State.{State, HasCleanDisk, Shows, Survives, IsRolledBack, KeepsCommit}
 use Rattle.sqlite.specs.Steps.{FailsToCommit}
-use Rattle.tb_sql_tables.specs.Content.{Turns, StandsBy}
+use Rattle.tb_sql_tables.specs.Content.{StandsBy}
+use Rattle.tb_sql_tables.specs.Statements.{Turns}
 
 module _ (Seen : Database → Type 0) (Left : Trees → Type 0) (old mid new : State) (stands : StandsBy Seen Left old) (inside : Survives old mid (λ _. ⊥)) where
   -- a transaction that is undone leaves what stood

@@ -1,14 +1,13 @@
 -- What the tables hold, and when a connection stands for it.
-use Rattle.std.specs.Prelude.{◌≡◌, ◌⊎◌, ◌<◌, ◌^◌, List, [], ◌∷◌, map, drop, ℕ, true, IsTrue, IsPermutation, Ok}
+use Rattle.std.specs.Prelude.{◌≡◌, ◌⊎◌, ◌<◌, ◌^◌, List, [], ◌∷◌, map, drop, IsTrue, IsPermutation}
 use Rattle.std.specs.List.{AllByRecursion}
 use Rattle.sqlite_value.specs.Order.{Row}
 use Rattle.sqlite_trees.specs.declared.store.Shape.TheVariants.{Table}
 use Rattle.sqlite_trees.specs.Tree.{Trees}
 use Rattle.sqlite_trees.specs.View.{IsShaped}
-use Rattle.sqlite_schema.specs.declared.schema.Schema.{Schema}
 use Rattle.sqlite_catalog.specs.Listing.{IsSound}
 use Rattle.sqlite.specs.Effect.{Database}
-use Rattle.sqlite.specs.State.{State, Shows, HasCleanDisk, ExecutesInside}
+use Rattle.sqlite.specs.State.{State, HasCleanDisk}
 use Rattle.tb_sql_tables.specs.declared.rows.PersonRow.{PersonRow}
 use Rattle.tb_sql_tables.specs.declared.rows.BoardRow.{BoardRow}
 use Rattle.tb_sql_tables.specs.declared.rows.RoleRow.{RoleRow}
@@ -18,7 +17,7 @@ use Rattle.tb_sql_tables.specs.declared.rows.InstanceRow.{InstanceRow}
 use Rattle.tb_sql_tables.specs.declared.rows.GoneRow.{GoneRow}
 use Rattle.tb_sql_tables.specs.declared.rows.KeptRow.{KeptRow}
 use Rattle.tb_sql_tables.specs.declared.rows.HorizonRow.{HorizonRow}
-use Rattle.tb_sql_tables.specs.Tables.{meta_tree, person_tree, board_tree, role_tree, task_tree, link_tree, instance_tree, gone_tree, kept_tree, horizon_tree, no_schema, old_schema, store_schema}
+use Rattle.tb_sql_tables.specs.Tables.{meta_tree, person_tree, board_tree, role_tree, task_tree, link_tree, instance_tree, gone_tree, kept_tree, horizon_tree, old_schema, store_schema}
 use Rattle.tb_sql_tables.specs.Rows.{meta_row, old_meta_row, person_row, board_row, role_row, task_row, link_row, instance_row, gone_row, kept_row, horizon_row}
 
 -- ---- the content
@@ -102,43 +101,6 @@ pub record AreOldRows (content : Content) (db : Trees) : Type 0 where
   pub sound : IsSound old_schema db
   pub tables : AreOldTables content db
 
-pub record IsOldContent (content : Content) (db : Database) : Type 0 where
-  pub schema : db.schema ≡ old_schema
-  pub rows : AreOldRows content db.trees
-
--- the tables are those of a store, but hold what those of the first version held, and nothing beside
-pub record IsHalfway (content : Content) (db : Database) : Type 0 where
-  pub schema : db.schema ≡ store_schema
-  pub sound : IsSound store_schema db.trees
-  pub tables : AreOldTables content db.trees
-  pub empty : db.trees horizon_tree ≡ []
-
--- ---- what a statement does inside a transaction
-
--- The transaction goes on, the last commit stands, and the content that the transaction sees is changed.
-pub record Changes (change : Content → Content) (old new : State) : Type 0 where
-  pub shown : Shows old new new.now old.committed true
-  pub content : (content : Content) → IsContent content old.now → IsContent (change content) new.now
-
--- the database has this schema, and each table is empty
-pub record AreEmpty (schema : Schema) (db : Database) : Type 0 where
-  pub schema_is : db.schema ≡ schema
-  pub empty : AllByRecursion (λ table. db.trees table.tree ≡ []) schema.tables
-
--- The transaction goes on, and of a database where `Was` holds it makes one where `Becomes` holds.
-pub record Turns (Was Becomes : Database → Type 0) (old new : State) : Type 0 where
-  pub shown : Shows old new new.now old.committed true
-  pub made : Was old.now → Becomes new.now
-
--- the text ran, with these parameters
-abbrev pub Ran : List ℕ → Row → State → State → Type 0
-Ran text params old new = (count : ℕ) × ExecutesInside 0 text params old new (Ok count)
-
--- what a query finds in the content that the transaction sees
-pub record Finds (P : Content → Type 0) (old : State) : Type 0 where
-  pub was_open : IsTrue old.is_open
-  pub found : (content : Content) → IsContent content old.now → P content
-
 -- ---- between transactions
 
 -- While the disk returns what was written: an open connection sees such a database, all of it committed, and a stop leaves such trees.
@@ -153,26 +115,3 @@ Stands content = StandsBy (IsContent content) (AreRows content)
 -- one of two contents stands
 abbrev pub StandsAsEither : Content → Content → State → Type 0
 StandsAsEither before after = StandsBy (λ db. IsContent before db ⊎ IsContent after db) (λ db. AreRows before db ⊎ AreRows after db)
-
--- the content stands in the tables of the first version
-abbrev pub StandsOld : Content → State → Type 0
-StandsOld content = StandsBy (IsOldContent content) (AreOldRows content)
-
--- the content of the first version stands, or another one in the tables of a store
-abbrev pub StandsOldOr : Content → Content → State → Type 0
-StandsOldOr before after = StandsBy (λ db. IsOldContent before db ⊎ IsContent after db) (λ db. AreOldRows before db ⊎ AreRows after db)
-
-abbrev pub HasNoTables : Database → Type 0
-HasNoTables db = db.schema ≡ no_schema
-
--- there is no table
-abbrev pub StandsEmpty : State → Type 0
-StandsEmpty = StandsBy HasNoTables (IsSound no_schema)
-
--- there is no table, or the content stands
-abbrev pub StandsEmptyOr : Content → State → Type 0
-StandsEmptyOr content = StandsBy (λ db. HasNoTables db ⊎ IsContent content db) (λ db. IsSound no_schema db ⊎ AreRows content db)
-
--- there is no table, or the content stands in those of the first version
-abbrev pub StandsEmptyOrOld : Content → State → Type 0
-StandsEmptyOrOld content = StandsBy (λ db. HasNoTables db ⊎ IsOldContent content db) (λ db. IsSound no_schema db ⊎ AreOldRows content db)

@@ -3,4 +3,6 @@ pub mod Failing
 pub mod Found
 pub mod Reading
 pub mod Rows
+pub mod Standing
+pub mod Statements
 pub mod Tables

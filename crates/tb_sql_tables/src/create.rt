@@ -4,7 +4,9 @@ ghost use Rattle.std.specs.Prelude.{◌≡◌, IsTrue, OnOk, OnErr};
 ghost use Rattle.sqlite.specs.Held.{state};
 ghost use Rattle.sqlite.specs.State.{HasCleanDisk, KeepsCommit, Survives};
 ghost use Rattle.tb_sql_tables.specs.Tables.{no_schema, meta_schema, person_schema, board_schema, role_schema, task_schema, link_schema, instance_schema, gone_schema, old_schema, store_schema};
-ghost use Rattle.tb_sql_tables.specs.Content.{nothing, AreEmpty, Content, HasNoTables, IsContent, IsHalfway, IsOldContent, Turns};
+ghost use Rattle.tb_sql_tables.specs.Content.{nothing, Content, IsContent};
+ghost use Rattle.tb_sql_tables.specs.Statements.{AreEmpty, Turns};
+ghost use Rattle.tb_sql_tables.specs.Standing.{HasNoTables, IsHalfway, IsOldContent};
 
 use crate::run::run;
 use sqlite::{Alter, Error, Transaction};

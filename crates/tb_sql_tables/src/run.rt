@@ -4,7 +4,7 @@ ghost use Rattle.std.specs.Prelude.{◌≡◌, ◌⊎◌, IsTrue, IfErr, IfOk, O
 ghost use Rattle.sqlite.specs.Held.{state};
 ghost use Rattle.sqlite.specs.State.{FailsToQuery, HasCleanDisk, IsTooLate, KeepsCommit, Shown, Survives};
 ghost use Rattle.sqlite.specs.Values.{bound};
-ghost use Rattle.tb_sql_tables.specs.Content.{Ran};
+ghost use Rattle.tb_sql_tables.specs.Statements.{Ran};
 
 use sqlite::types::ValueRef;
 use sqlite::{Alter, Error, Row, Transaction};

@@ -1,4 +1,11 @@
+pub mod Contents
+pub mod Entries
+pub mod KeptRows
 pub mod Migrating
+pub mod Numbers
+pub mod OfWorlds
 pub mod Reopened
+pub mod SameTables
 pub mod Standing
+pub mod States
 pub mod WorldRead

@@ -6,10 +6,11 @@ use Rattle.sqlite.specs.State.{HasCleanDisk, Opens, State as Database}
 use Rattle.tb_calls.specs.Calls.{State}
 use Rattle.tb_sql.specs.Opening.{IsAsBefore}
 use Rattle.tb_sql.proofs.Opened.{stands_again}
-use Rattle.tb_sql_tables.specs.Content.{AreRows, Content, Finds, IsContent, Stands}
+use Rattle.tb_sql_tables.specs.Content.{AreRows, Content, IsContent, Stands}
+use Rattle.tb_sql_tables.specs.Statements.{Finds}
 use Rattle.tb_sql_tables.specs.Failing.{FailsByFault, KeepsFaults}
 use Rattle.tb_sql_tables.proofs.Failing.{fault_before, fault_behind, still_ready}
-use Rattle.tb_stored.specs.Contents.{IsThere}
+use Rattle.tb_stored.proofs.Contents.{IsThere}
 use Rattle.tb_stored.specs.Stored.{IsStored}
 
 module _ {S : Type 0} (g : Ghosts S) where

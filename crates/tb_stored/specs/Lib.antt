@@ -1,8 +1,3 @@
-pub mod Contents
-pub mod Entries
-pub mod KeptRows
-pub mod Numbers
+pub mod Migrating
 pub mod Reopening
-pub mod SameTables
-pub mod States
 pub mod Stored

@@ -3,17 +3,13 @@ use Rattle.sqlite.specs.State.{HasCleanDisk, State as Database}
 use Rattle.tb_board.specs.declared.board.Board.{Board}
 use Rattle.tb_board.specs.declared.world.World.{World}
 use Rattle.tb_calls.specs.Calls.{State}
-use Rattle.tb_reopen.specs.Laws.{IsBoardRead, IsWorldRead}
+use Rattle.tb_reopen.specs.Laws.{IsBoardRead}
 use Rattle.tb_sql_tables.specs.Content.{Content, Stands}
 use Rattle.tb_stored.specs.Stored.{IsStored}
 
 -- this holds of each content that stood
 abbrev pub OfContent : Database → Database → (Content → Type 0) → Type 0
 OfContent old new P = HasCleanDisk new → (content : Content) → Stands content old → P content
-
--- this holds of each world that is read in the content that stands
-abbrev pub OfWorld : Database → Database → (World → Type 0) → Type 0
-OfWorld old new P = HasCleanDisk new → (w : World) (content : Content) → IsWorldRead w content → Stands content old → P w
 
 -- this holds of each board of a world that is read there
 abbrev pub OfBoard : Database → Database → (World → Board → Type 0) → Type 0

@@ -1,12 +1,11 @@
 -- When the tables are the rows of a state, and what a stop may leave.
-use Rattle.std.specs.Prelude.{◌≡◌, ℕ, ◌-◌, false, List, [], map, IsSome, slice_index_or}
+use Rattle.std.specs.Prelude.{◌≡◌, ◌-◌, false, List, map, IsSome}
 use Rattle.std.specs.List.{AllByRecursion}
 use Rattle.std.specs.Option.{unwrap_or}
 use Rattle.std.specs.FinMap.{entries}
 use Rattle.sqlite_trees.specs.Tree.{Trees}
 use Rattle.sqlite.specs.State.{HasCleanDisk, State as Database}
 use Rattle.tb_board.specs.declared.board.Board.{Board}
-use Rattle.tb_board.specs.declared.world.Person.{Person}
 use Rattle.tb_board.specs.declared.world.World.{World}
 use Rattle.tb_board.specs.World.{key_of, number_of}
 use Rattle.tb_core.specs.GoodWorld.{IsGoodWorld}
@@ -17,7 +16,7 @@ use Rattle.tb_reopen.specs.Laws.{AreApart}
 use Rattle.tb_rows.specs.Rows.{world_rows, IsSameContent}
 use Rattle.tb_sql_tables.specs.declared.rows.HorizonRow.{HorizonRow}
 use Rattle.tb_sql_tables.specs.declared.rows.KeptRow.{KeptRow}
-use Rattle.tb_sql_tables.specs.Content.{AreOldRows, AreRows, Content, Stands, StandsAsEither, StandsEmptyOr, StandsEmptyOrOld, StandsOld, StandsOldOr}
+use Rattle.tb_sql_tables.specs.Content.{AreOldRows, AreRows, Content, Stands, StandsAsEither}
 
 -- ---- the rows of a state
 
@@ -32,17 +31,9 @@ kept_row w e = record {
   body = e.1.reply.body;
 }
 
--- the name of the person of a number
-abbrev pub name_at : List Person → ℕ → List ℕ
-name_at people n = slice_index_or (map (λ (p : Person). p.name) people) (n - 1) []
-
 -- what is kept by a row
 abbrev pub reply_in : KeptRow → KeptReply
 reply_in row = record { content = row.content; reply = record { number = row.number; status = row.status; body = row.body } }
-
--- that, and its name
-abbrev pub entry_of : List Person → KeptRow → CallName × KeptReply
-entry_of people row = ((name_at people row.person, row.id), reply_in row)
 
 abbrev pub state_rows : State → Content
 state_rows s = record (world_rows s.world) { kept = map (kept_row s.world) (entries s.kept) }
@@ -86,12 +77,6 @@ pub record IsStoredAsEither (s t : State) (d : Database) : Type 0 where
   pub rows_after : AreRowsOf t after
   pub stands : StandsAsEither before after d
 
--- there is no table, or it holds the rows of the state
-pub record IsEmptyOrStored (s : State) (d : Database) : Type 0 where
-  pub content : Content
-  pub rows : AreRowsOf s content
-  pub stands : StandsEmptyOr content d
-
 -- while its disk returns what was written, a stop may leave the rows of the state
 pub record MayLeave (d : Database) (t : State) : Type 0 where
   pub clean : HasCleanDisk d
@@ -115,24 +100,3 @@ pub record AreOldTreesOf (s : State) (db : Trees) : Type 0 where
   pub content : Content
   pub rows : AreOldRowsOf s content
   pub stored : AreOldRows content db
-
--- the database holds the rows of the state in the tables of the first version, and a stop leaves them
-pub record IsStoredOld (s : State) (d : Database) : Type 0 where
-  pub content : Content
-  pub rows : AreOldRowsOf s content
-  pub stands : StandsOld content d
-  pub idle : d.in_transaction ≡ false
-
--- it holds the rows of the state, and a stop leaves them, all of them in the tables of one of the versions
-pub record IsStoredInEither (s : State) (d : Database) : Type 0 where
-  pub before : Content
-  pub after : Content
-  pub rows_before : AreOldRowsOf s before
-  pub rows_after : AreRowsOf s after
-  pub stands : StandsOldOr before after d
-
--- there is no table, or it holds the rows of the state in those of the first version
-pub record IsEmptyOrStoredOld (s : State) (d : Database) : Type 0 where
-  pub content : Content
-  pub rows : AreOldRowsOf s content
-  pub stands : StandsEmptyOrOld content d

@@ -7,7 +7,7 @@ use Rattle.tb_sql_tables.specs.Content.{IsContent, Stands}
 use Rattle.tb_sql_tables.proofs.Failing.{faults_then}
 use Rattle.tb_stored.specs.Reopening.{OfState}
 use Rattle.tb_stored.proofs.Standing.{before_then, fails_then, stood}
-use Rattle.tb_lookup.specs.Counting.{IsWithin}
+use Rattle.tb_lookup.proofs.Within.{IsWithin}
 use Rattle.tb_lookup.proofs.Counting.{higher, lower}
 use Rattle.tb_lookup.proofs.NumberedPeople.{person_within}
 use Rattle.tb_lookup.proofs.people.count_people.Goals as goal

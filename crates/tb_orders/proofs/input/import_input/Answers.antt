@@ -1,7 +1,7 @@
 use Rattle.std.proofs.Common.{◌≡◌, [], IfErr, IfSome, IsErrOf, Some, subst, sym}
 use Rattle.std.proofs.lemmas.Result.{IfErr-weaker}
 use Rattle.tb_asking.specs.Asking.{asked_of}
-use Rattle.tb_calls.specs.Keeping.{StandsAfter}
+use Rattle.tb_calls.specs.Leaving.{StandsAfter}
 use Rattle.tb_orders.specs.Items.{item_in}
 use Rattle.tb_orders.proofs.Inputs.{made_by, none_made, of_import, stood_by, unread_made}
 use Rattle.tb_orders.proofs.Items.{bad_in}

@@ -1,6 +1,6 @@
 use Rattle.std.proofs.Common.{◌≡◌, ◌<◌, ◌-◌, false, true, drop, IfSome, Some}
 use Rattle.tb_calls.specs.Calls.{State}
-use Rattle.tb_calls.specs.Keeping.{Only}
+use Rattle.tb_calls.specs.Leaving.{Only}
 use Rattle.tb_serve.proofs.Connection.{Runs}
 use Rattle.tb_serve.proofs.serving.serve_all.Given as goal
 

@@ -2,7 +2,8 @@ use Rattle.std.proofs.Common.{◌≡◌, ◌∙◌, ℕ, ◌+◌, ◌<◌, List,
 use Rattle.std.proofs.lemmas.List.Sums.{fold_more}
 use Rattle.sqlite.specs.Held.{state}
 use Rattle.sqlite.proofs.StateLemmas.{survives_then}
-use Rattle.tb_sql_tables.specs.Content.{Content, Changes}
+use Rattle.tb_sql_tables.specs.Content.{Content}
+use Rattle.tb_sql_tables.specs.Statements.{Changes}
 use Rattle.tb_sql_tables.proofs.Changing.{changes_then}
 use Rattle.tb_sql.specs.declared.changes.RowChange.{RowChange}
 use Rattle.tb_sql.specs.Writing.{changed_by, changed_by_all}

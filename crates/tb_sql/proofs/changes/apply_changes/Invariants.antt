@@ -1,7 +1,7 @@
 use Rattle.std.proofs.Common.{◌≡◌, IsTrue, take}
 use Rattle.sqlite.specs.Held.{state}
 use Rattle.sqlite.specs.State.{HasCleanDisk, Survives}
-use Rattle.tb_sql_tables.specs.Content.{Changes}
+use Rattle.tb_sql_tables.specs.Statements.{Changes}
 use Rattle.tb_sql.specs.Writing.{changed_by_all}
 use Rattle.tb_sql.proofs.changes.apply_changes.Given as goal
 

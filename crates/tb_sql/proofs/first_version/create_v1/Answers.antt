@@ -4,7 +4,9 @@ use Rattle.sqlite.specs.State.{HasCleanDisk, Survives}
 use Rattle.sqlite.proofs.Callers.{survives_begin}
 use Rattle.sqlite_catalog.specs.Listing.{IsSound}
 use Rattle.tb_sql_tables.specs.Tables.{no_schema}
-use Rattle.tb_sql_tables.specs.Content.{AreOldRows, IsOldContent, StandsOld, StandsEmptyOrOld, HasNoTables, Turns}
+use Rattle.tb_sql_tables.specs.Content.{AreOldRows}
+use Rattle.tb_sql_tables.specs.Standing.{IsOldContent, StandsOld, StandsEmptyOrOld, HasNoTables}
+use Rattle.tb_sql_tables.specs.Statements.{Turns}
 use Rattle.tb_sql_tables.proofs.Changing.{turns_begun}
 use Rattle.tb_sql_tables.proofs.Standing.{committed_stands, failed_stands}
 use Rattle.tb_sql.specs.FirstVersion.{first_content}

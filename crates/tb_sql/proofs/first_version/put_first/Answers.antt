@@ -1,7 +1,9 @@
 use Rattle.std.proofs.Common.{arith}
 use Rattle.sqlite.specs.Held.{state}
 use Rattle.sqlite.specs.State.{HasCleanDisk}
-use Rattle.tb_sql_tables.specs.Content.{nothing, HasNoTables, IsOldContent, Turns}
+use Rattle.tb_sql_tables.specs.Content.{nothing}
+use Rattle.tb_sql_tables.specs.Standing.{HasNoTables, IsOldContent}
+use Rattle.tb_sql_tables.specs.Statements.{Turns}
 use Rattle.tb_sql_tables.proofs.Changing.{commit_kept_then, turns_then, where_ok}
 use Rattle.tb_sql.specs.Changes.{with_board, with_person, with_role}
 use Rattle.tb_sql.proofs.Migrated.{at_err, turned_kept, where_err}

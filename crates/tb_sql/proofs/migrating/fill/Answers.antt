@@ -1,7 +1,7 @@
 use Rattle.std.proofs.Common.{◌∙◌, ap, arith, subst}
 use Rattle.sqlite.specs.Held.{state}
 use Rattle.sqlite.specs.State.{HasCleanDisk}
-use Rattle.tb_sql_tables.specs.Content.{Changes}
+use Rattle.tb_sql_tables.specs.Statements.{Changes}
 use Rattle.tb_sql.specs.Migrating.{horizon_changes}
 use Rattle.tb_sql.specs.Writing.{changed_by_all}
 use Rattle.tb_sql.proofs.Migrated.{filled}

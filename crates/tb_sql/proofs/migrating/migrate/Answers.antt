@@ -2,7 +2,9 @@ use Rattle.std.proofs.Common.{rules, ◌≡◌, IsTrue, refl, subst}
 use Rattle.sqlite.specs.Held.{state}
 use Rattle.sqlite.specs.State.{HasCleanDisk, Survives}
 use Rattle.sqlite.proofs.Callers.{survives_begin}
-use Rattle.tb_sql_tables.specs.Content.{AreOldRows, AreRows, IsContent, IsOldContent, StandsBy, StandsOldOr, Turns}
+use Rattle.tb_sql_tables.specs.Content.{AreOldRows, AreRows, IsContent, StandsBy}
+use Rattle.tb_sql_tables.specs.Standing.{IsOldContent, StandsOldOr}
+use Rattle.tb_sql_tables.specs.Statements.{Turns}
 use Rattle.tb_sql_tables.proofs.Changing.{turns_begun}
 use Rattle.tb_sql_tables.proofs.Standing.{committed_stands, failed_stands}
 use Rattle.tb_sql.specs.Migrating.{migrated, IsMigrated}

@@ -2,7 +2,9 @@ use Rattle.std.proofs.Common.{arith}
 use Rattle.std.proofs.lemmas.Result.{IfOk-weaker}
 use Rattle.sqlite.specs.Held.{state}
 use Rattle.sqlite.specs.State.{HasCleanDisk}
-use Rattle.tb_sql_tables.specs.Content.{nothing, Content, IsContent, IsOldContent, Turns}
+use Rattle.tb_sql_tables.specs.Content.{nothing, Content, IsContent}
+use Rattle.tb_sql_tables.specs.Standing.{IsOldContent}
+use Rattle.tb_sql_tables.specs.Statements.{Turns}
 use Rattle.tb_sql_tables.proofs.Changing.{commit_kept_then, turns_then}
 use Rattle.tb_sql.specs.Migrating.{without_horizon, IsMigrated}
 use Rattle.tb_sql.proofs.Migrated.{turned_kept, where_err}

@@ -1,7 +1,9 @@
 use Rattle.std.proofs.Common.{arith}
 use Rattle.sqlite.specs.Held.{state}
 use Rattle.sqlite.specs.State.{HasCleanDisk}
-use Rattle.tb_sql_tables.specs.Content.{nothing, Content, IsContent, IsHalfway, IsOldContent, Turns}
+use Rattle.tb_sql_tables.specs.Content.{nothing, Content, IsContent}
+use Rattle.tb_sql_tables.specs.Standing.{IsHalfway, IsOldContent}
+use Rattle.tb_sql_tables.specs.Statements.{Turns}
 use Rattle.tb_sql_tables.proofs.Changing.{turns_then, where_ok}
 use Rattle.tb_sql.specs.Migrating.{without_horizon}
 use Rattle.tb_sql.proofs.migrating.widen.Goals as goal

@@ -1,6 +1,7 @@
 use Rattle.std.proofs.Common.{◌≡◌, ◌∙◌, Err, true, false, sym, ap, ap₂, inl}
 use Rattle.sqlite.specs.Held.{state}
-use Rattle.tb_sql_tables.specs.Content.{AreOldRows, AreRows, IsContent, IsOldContent}
+use Rattle.tb_sql_tables.specs.Content.{AreOldRows, AreRows, IsContent}
+use Rattle.tb_sql_tables.specs.Standing.{IsOldContent}
 use Rattle.tb_sql.specs.Opening.{by_version, has_meta, is_old, is_ours, judged, taken}
 use Rattle.tb_sql.proofs.Opened.{first_refused, never_judged, never_refused, taken_same, told_so, there_taken, others_taken, refused_taken, rows_first, rows_second, opened_content, opened_stands, opened_stands_old, same_before, stands_again, store_has_meta}
 use Rattle.tb_sql.proofs.opening.accept.Goals as goal

@@ -1,7 +1,7 @@
 use Rattle.std.proofs.Common.{arith}
 use Rattle.sqlite.specs.Held.{state}
 use Rattle.sqlite.specs.State.{HasCleanDisk}
-use Rattle.tb_sql_tables.specs.Content.{Changes}
+use Rattle.tb_sql_tables.specs.Statements.{Changes}
 use Rattle.tb_sql_tables.proofs.Changing.{changes_then, where_ok}
 use Rattle.tb_sql.specs.Changes.{with_kept}
 use Rattle.tb_sql.specs.Writing.{changed_by_all}

@@ -1,7 +1,9 @@
 use Rattle.std.proofs.Common.{arith}
 use Rattle.sqlite.specs.Held.{state}
 use Rattle.sqlite.specs.State.{HasCleanDisk}
-use Rattle.tb_sql_tables.specs.Content.{nothing, HasNoTables, IsContent, Turns}
+use Rattle.tb_sql_tables.specs.Content.{nothing, IsContent}
+use Rattle.tb_sql_tables.specs.Standing.{HasNoTables}
+use Rattle.tb_sql_tables.specs.Statements.{Turns}
 use Rattle.tb_sql_tables.proofs.Changing.{turns_of, turns_then, where_ok}
 use Rattle.tb_sql.specs.Writing.{changed_by_all, opening}
 use Rattle.tb_sql.proofs.store.put_tables.Goals as goal

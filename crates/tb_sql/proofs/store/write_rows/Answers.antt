@@ -2,7 +2,8 @@ use Rattle.std.proofs.Common.{rules, ◌≡◌, refl, subst}
 use Rattle.sqlite.specs.Held.{state}
 use Rattle.sqlite.specs.State.{HasCleanDisk, Survives}
 use Rattle.sqlite.proofs.Callers.{survives_begin}
-use Rattle.tb_sql_tables.specs.Content.{AreRows, IsContent, Stands, StandsAsEither, Turns}
+use Rattle.tb_sql_tables.specs.Content.{AreRows, IsContent, Stands, StandsAsEither}
+use Rattle.tb_sql_tables.specs.Statements.{Turns}
 use Rattle.tb_sql_tables.proofs.Changing.{turns_begun, turns_of}
 use Rattle.tb_sql_tables.proofs.Standing.{committed_stands, failed_stands}
 use Rattle.tb_sql.specs.Writing.{written}

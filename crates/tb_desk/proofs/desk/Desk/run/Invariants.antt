@@ -1,6 +1,6 @@
 use Rattle.std.proofs.Common.{◌≡◌, true, take, length}
 use Rattle.tb_calls.specs.Calls.{State, plain, once, replies_to}
-use Rattle.tb_calls.specs.Keeping.{Only}
+use Rattle.tb_calls.specs.Leaving.{Only}
 use Rattle.tb_desk.proofs.desk.Desk.run.Given as goal
 
 -- so far: a reply to each call handled, and the state after these calls

@@ -1,7 +1,8 @@
 use Rattle.std.proofs.Common.{◌∙◌, Err, true≢false, sym, ap, inl, inr, refl}
 use Rattle.sqlite.specs.Held.{state}
 use Rattle.tb_sql_tables.specs.Content.{AreRows, Stands}
-use Rattle.tb_stored.specs.Stored.{IsStored, IsStoredOld}
+use Rattle.tb_stored.specs.Stored.{IsStored}
+use Rattle.tb_stored.specs.Migrating.{IsStoredOld}
 use Rattle.tb_stored.proofs.Standing.{before_then, fails_then, stored_again}
 use Rattle.tb_keeper.proofs.Holding.{first_held}
 use Rattle.tb_keeper.proofs.Taken.{in_first, never_both, stood_old}

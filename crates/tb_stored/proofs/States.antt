@@ -9,8 +9,8 @@ use Rattle.tb_calls.specs.Calls.{State}
 use Rattle.tb_rows.specs.Rows.{world_rows, HaveSameRows}
 use Rattle.tb_sql_tables.specs.Content.{AreRows, Content}
 use Rattle.tb_stored.specs.Stored.{kept_row, state_rows, AreRowsOf, IsKnown, IsStored, IsStoredAsEither, MayLeave}
-use Rattle.tb_stored.specs.KeptRows.{same_replies}
-use Rattle.tb_stored.specs.SameTables.{same_contents}
+use Rattle.tb_stored.proofs.KeptRows.{same_replies}
+use Rattle.tb_stored.proofs.SameTables.{same_contents}
 
 meet : (a b c d : Content) → HaveSameRows a c → HaveSameRows b d → HaveSameRows a b → HaveSameRows c d
 meet a b c d ac bd ab = record {

@@ -1,6 +1,6 @@
 -- People by their numbers.
 use Rattle.std.proofs.Common.{◌≡◌, ◌∙◌, ◌<◌, ◌≤◌, ◌+◌, ◌-◌, ℕ, suc, Bool, true, false, not, cond, List, [], ◌∷◌, ◌++◌, map, length, get_or, Some, None, true≢false, refl, sym, ap, subst, arith, option_map}
-use Rattle.std.specs.Prelude.{IsSome, is_some, find, position, nat_lt}
+use Rattle.std.specs.Prelude.{IsSome, is_some, find, position, nat_lt, ℕ, ◌-◌, List, [], map, slice_index_or}
 use Rattle.std.specs.List.{prefix_len, position_or_len}
 use Rattle.std.specs.Option.{unwrap_or}
 use Rattle.std.proofs.lemmas.Bool.Decides.{nat_tests}
@@ -8,7 +8,10 @@ use Rattle.std.proofs.lemmas.Slice.Eq.{bytes_eq-Decides}
 use Rattle.tb_board.specs.declared.world.Person.{Person}
 use Rattle.tb_board.specs.declared.world.World.{World}
 use Rattle.tb_board.specs.World.{has_name, key_of, number_of}
-use Rattle.tb_stored.specs.Stored.{name_at}
+
+-- the name of the person of a number
+abbrev pub name_at : List Person → ℕ → List ℕ
+name_at people n = slice_index_or (map (λ (p : Person). p.name) people) (n - 1) []
 
 module _ (name : List ℕ) where
   someone : (people : List Person) → is_some (option_map (λ (p : Person). p.key) (find (has_name name) people)) ≡ true → prefix_len (λ p. not (has_name name p)) people < length people

@@ -1,6 +1,6 @@
 -- The rows of the kept replies of a state.
 use Rattle.std.proofs.Common.{◌≡◌, List, [], ◌∷◌, ◌++◌, map, None, refl, ap₂, subst, IsPermutation}
-use Rattle.std.specs.Prelude.{IsSome}
+use Rattle.std.specs.Prelude.{IsSome, ◌-◌, List}
 use Rattle.std.specs.List.{AllByRecursion}
 use Rattle.std.specs.FinMap.{FinMap, entries, get, insert}
 use Rattle.std.proofs.lemmas.List.Sorted.{IsPermutation-cons, IsPermutation-map, IsPermutation-sym, IsPermutation-trans, All-permutation}
@@ -12,9 +12,13 @@ use Rattle.tb_calls.specs.declared.call.KeptReply.{KeptReply}
 use Rattle.tb_calls.specs.Calls.{CallName, name_cmp}
 use Rattle.tb_calls.proofs.Names.{names_exact, names_total}
 use Rattle.tb_sql_tables.specs.declared.rows.KeptRow.{KeptRow}
-use Rattle.tb_stored.specs.Stored.{entry_of, kept_row, IsKnown}
-use Rattle.tb_stored.specs.Entries.{insert_permutes, same_entries}
-use Rattle.tb_stored.specs.Numbers.{known_stays, name_of_number, number_stays}
+use Rattle.tb_stored.specs.Stored.{kept_row, IsKnown, reply_in}
+use Rattle.tb_stored.proofs.Entries.{insert_permutes, same_entries}
+use Rattle.tb_stored.proofs.Numbers.{known_stays, name_of_number, number_stays, name_at}
+
+-- that, and its name
+abbrev pub entry_of : List Person → KeptRow → CallName × KeptReply
+entry_of people row = ((name_at people row.person, row.id), reply_in row)
 
 -- an entry is read back from its row
 entry_back : (w : World) (e : CallName × KeptReply) → IsKnown w e → entry_of w.people (kept_row w e) ≡ e
