@@ -51,12 +51,12 @@ pub fn compare(alloc: Global, wanted: &[u8], told: &[u8]) -> io::Result<()> {
 
 /// Steps, and behind each its answers.
 #[derive(Drop)]
-pub struct Told {
+pub struct Transcript {
     pub alloc: Global,
     pub text: String,
 }
 
-impl Told {
+impl Transcript {
     pub fn line(&mut self, front: &str, line: &str) -> Result<(), AllocError> {
         self.text.push_str(front)?;
         self.text.push_str(line)?;

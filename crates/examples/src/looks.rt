@@ -1,6 +1,6 @@
 //! Looks at an open store, and at the rows of its tables, which another hand may change: those of board 1 where rows are of a board.
 
-use crate::lines::Told;
+use crate::lines::Transcript;
 use sqlite::{Alter, Connection, Error, Transaction};
 use std::alloc::{AllocError, Global};
 use tb_board::Name;
@@ -21,7 +21,10 @@ use tb_task::TaskId;
 /// A board has no more tasks.
 const MOST_TASKS: usize = 10_000;
 
-pub fn tell_audit<S: Alter>(keep: &mut SqlKeep<S>, told: &mut Told) -> Result<(), AllocError> {
+pub fn tell_audit<S: Alter>(
+    keep: &mut SqlKeep<S>,
+    told: &mut Transcript,
+) -> Result<(), AllocError> {
     let Ok(found) = keep.audit(told.alloc) else {
         return told.answer("NotAudited");
     };
@@ -30,7 +33,7 @@ pub fn tell_audit<S: Alter>(keep: &mut SqlKeep<S>, told: &mut Told) -> Result<()
 }
 
 /// Whether the store was of the first version before it was opened.
-pub fn tell_migrated<S: Alter>(keep: &SqlKeep<S>, told: &mut Told) -> Result<(), AllocError> {
+pub fn tell_migrated<S: Alter>(keep: &SqlKeep<S>, told: &mut Transcript) -> Result<(), AllocError> {
     told.answer(if keep.has_migrated() { "yes" } else { "no" })
 }
 
@@ -38,7 +41,7 @@ pub fn tell_migrated<S: Alter>(keep: &SqlKeep<S>, told: &mut Told) -> Result<(),
 pub fn count_kept<K: Keep>(
     keep: &mut K,
     lines: &[&str],
-    told: &mut Told,
+    told: &mut Transcript,
 ) -> Result<(), AllocError> {
     let mut count = 0usize;
     for line in lines {
@@ -59,7 +62,7 @@ fn is_kept<K: Keep>(alloc: Global, keep: &mut K, line: &str) -> Option<bool> {
 }
 
 /// A line for each row, and how many tasks are lent.
-pub fn tell_tables<S: Alter>(conn: &mut Connection<S>, told: &mut Told) -> Result<(), Error> {
+pub fn tell_tables<S: Alter>(conn: &mut Connection<S>, told: &mut Transcript) -> Result<(), Error> {
     if conn.is_autocommit() {
         let mut tx = conn.transaction();
         tell_people(&mut tx, told)?;
@@ -78,7 +81,7 @@ pub fn tell_tables<S: Alter>(conn: &mut Connection<S>, told: &mut Told) -> Resul
 }
 
 /// The number, name and key of each person, who is found again by the name.
-fn tell_people<S: Alter>(tx: &mut Transaction<'_, S>, told: &mut Told) -> Result<(), Error> {
+fn tell_people<S: Alter>(tx: &mut Transaction<'_, S>, told: &mut Transcript) -> Result<(), Error> {
     for person in select_people(tx)?.as_slice() {
         let (id, name) = (person.id, person.name.as_str());
         let found = find_person(tx, name)?;
@@ -92,7 +95,7 @@ fn tell_people<S: Alter>(tx: &mut Transaction<'_, S>, told: &mut Told) -> Result
 }
 
 /// The number, title and least free number of each board, which is found again by its number.
-fn tell_boards<S: Alter>(tx: &mut Transaction<'_, S>, told: &mut Told) -> Result<(), Error> {
+fn tell_boards<S: Alter>(tx: &mut Transaction<'_, S>, told: &mut Transcript) -> Result<(), Error> {
     for board in select_boards(tx)?.as_slice() {
         let (id, title) = (board.id, board.title.as_str());
         let low = find_board(tx, id)?.map_or(0, |found| found.low);
@@ -102,7 +105,10 @@ fn tell_boards<S: Alter>(tx: &mut Transaction<'_, S>, told: &mut Told) -> Result
 }
 
 /// The number of each board, and how far ahead it looks.
-fn tell_horizons<S: Alter>(tx: &mut Transaction<'_, S>, told: &mut Told) -> Result<(), Error> {
+fn tell_horizons<S: Alter>(
+    tx: &mut Transaction<'_, S>,
+    told: &mut Transcript,
+) -> Result<(), Error> {
     for board in select_boards(tx)?.as_slice() {
         if let Some(horizon) = find_horizon(tx, board.id)? {
             let (board, ahead) = (horizon.board, horizon.ahead);
@@ -113,7 +119,7 @@ fn tell_horizons<S: Alter>(tx: &mut Transaction<'_, S>, told: &mut Told) -> Resu
 }
 
 /// The person and kind of each role, which is found again by the person.
-fn tell_roles<S: Alter>(tx: &mut Transaction<'_, S>, told: &mut Told) -> Result<(), Error> {
+fn tell_roles<S: Alter>(tx: &mut Transaction<'_, S>, told: &mut Transcript) -> Result<(), Error> {
     for role in select_roles(tx, 1)?.as_slice() {
         let person = role.person;
         let kind = find_role(tx, 1, person)?.map_or(0, |found| found.kind);
@@ -123,7 +129,7 @@ fn tell_roles<S: Alter>(tx: &mut Transaction<'_, S>, told: &mut Told) -> Result<
 }
 
 /// The place, identifier, mask and text of each task, which is found again by its place.
-fn tell_tasks<S: Alter>(tx: &mut Transaction<'_, S>, told: &mut Told) -> Result<(), Error> {
+fn tell_tasks<S: Alter>(tx: &mut Transaction<'_, S>, told: &mut Transcript) -> Result<(), Error> {
     for task in select_tasks(tx, 1)?.as_slice() {
         let place = task.place;
         let Some(found) = find_task(tx, 1, place)? else {
@@ -140,14 +146,17 @@ fn tell_tasks<S: Alter>(tx: &mut Transaction<'_, S>, told: &mut Told) -> Result<
     Ok(())
 }
 
-fn tell_links<S: Alter>(tx: &mut Transaction<'_, S>, told: &mut Told) -> Result<(), Error> {
+fn tell_links<S: Alter>(tx: &mut Transaction<'_, S>, told: &mut Transcript) -> Result<(), Error> {
     for link in select_links(tx, 1)?.as_slice() {
         told.answer(&format!(in told.alloc; "link {} {}", link.place, link.target)?)?;
     }
     Ok(())
 }
 
-fn tell_instances<S: Alter>(tx: &mut Transaction<'_, S>, told: &mut Told) -> Result<(), Error> {
+fn tell_instances<S: Alter>(
+    tx: &mut Transaction<'_, S>,
+    told: &mut Transcript,
+) -> Result<(), Error> {
     for row in select_instances(tx, 1)?.as_slice() {
         let (template, imask, place) = (row.template, row.imask, row.place);
         told.answer(&format!(in told.alloc; "instance {template} {imask} {place}")?)?;
@@ -155,7 +164,7 @@ fn tell_instances<S: Alter>(tx: &mut Transaction<'_, S>, told: &mut Told) -> Res
     Ok(())
 }
 
-fn tell_gone<S: Alter>(tx: &mut Transaction<'_, S>, told: &mut Told) -> Result<(), Error> {
+fn tell_gone<S: Alter>(tx: &mut Transaction<'_, S>, told: &mut Transcript) -> Result<(), Error> {
     for row in select_gone(tx, 1)?.as_slice() {
         let (template, imask, mark) = (row.template, row.imask, row.mark.as_str());
         told.answer(&format!(in told.alloc; "gone {template} {imask} {mark}")?)?;
@@ -164,7 +173,7 @@ fn tell_gone<S: Alter>(tx: &mut Transaction<'_, S>, told: &mut Told) -> Result<(
 }
 
 /// The person, identifier, number, status and body of each reply, which is found again by the first two.
-fn tell_kept<S: Alter>(tx: &mut Transaction<'_, S>, told: &mut Told) -> Result<(), Error> {
+fn tell_kept<S: Alter>(tx: &mut Transaction<'_, S>, told: &mut Transcript) -> Result<(), Error> {
     for row in select_kept(tx)?.as_slice() {
         let id = row.id.text(told.alloc)?;
         let found = find_kept(tx, row.person, row.id)?;
@@ -179,7 +188,7 @@ fn tell_kept<S: Alter>(tx: &mut Transaction<'_, S>, told: &mut Told) -> Result<(
 }
 
 /// How many tasks are lent, one after the other in the order of their places.
-fn tell_lent<S: Alter>(conn: &mut Connection<S>, told: &mut Told) -> Result<(), Error> {
+fn tell_lent<S: Alter>(conn: &mut Connection<S>, told: &mut Transcript) -> Result<(), Error> {
     let mut rows = task_rows(conn, 1)?;
     let mut count = 0u32;
     for _ in 0..MOST_TASKS {

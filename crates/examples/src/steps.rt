@@ -1,6 +1,6 @@
 //! Steps over boards in two files, as they are read from a file of steps.
 
-use crate::lines::{Told, compare, unreadable};
+use crate::lines::{Transcript, compare, unreadable};
 use crate::looks::{count_kept, tell_audit, tell_migrated, tell_tables};
 use crate::openings::open_each;
 use crate::stops::{Frail, read_files, stop_each};
@@ -107,7 +107,7 @@ fn change(mut conn: Database, statements: &str) -> (Stage, &'static str) {
 pub struct Steps<'o, 't> {
     owner: &'o Owner,
     pub sent: Vec<&'t str>,
-    pub told: Told,
+    pub told: Transcript,
 }
 
 /// Takes the steps of a file. What is told of them, with the lines for readers, has to be the file.
@@ -136,7 +136,7 @@ impl<'o, 't> Steps<'o, 't> {
         let alloc = owner.alloc;
         let sent = Vec::new(alloc);
         let text = String::new(alloc);
-        let told = Told { alloc, text };
+        let told = Transcript { alloc, text };
         Steps { owner, sent, told }
     }
 

@@ -1,7 +1,7 @@
 //! Lines that are sent over files that stop, or fail once, at one of their calls after the other, compared with what lists answer.
 
 use crate::hiccup::Hiccup;
-use crate::lines::{Told, read_count, unreadable};
+use crate::lines::{Transcript, read_count, unreadable};
 use crate::looks::{count_kept, tell_audit};
 use crate::steps::{Stage, Steps, close};
 use crate::store::Owner;
@@ -164,7 +164,7 @@ fn send_line<K: Keep>(
 fn kept_among<K: Keep>(owner: &Owner, keep: &mut K, lines: &[&str]) -> Result<String, AllocError> {
     let alloc = owner.alloc;
     let text = String::new(alloc);
-    let mut told = Told { alloc, text };
+    let mut told = Transcript { alloc, text };
     count_kept(keep, lines, &mut told)?;
     Ok(told.text)
 }
@@ -300,7 +300,7 @@ impl<'t> Trial<'t> {
     fn audited(&self, mut keep: SqlKeep<FileStore<Frail>>) -> io::Result<Files<Frail>> {
         let alloc = self.owner.alloc;
         let text = String::new(alloc);
-        let mut told = Told { alloc, text };
+        let mut told = Transcript { alloc, text };
         tell_audit(&mut keep, &mut told)?;
         if told.text.ends_with(", faults 0\n") {
             Ok(Stage::Store(keep).stop().into_files())

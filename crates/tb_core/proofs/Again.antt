@@ -21,8 +21,8 @@ use Rattle.tb_core.specs.declared.command.Answer.{Answer}
 use Rattle.tb_core.specs.declared.command.Answer.TheVariants.{OnBoard, NewPerson, NewBoard}
 use Rattle.tb_core.specs.declared.command.BoardAnswer.{BoardAnswer}
 use Rattle.tb_core.specs.declared.command.Command.TheVariants.{ImportTodo}
-use Rattle.tb_core.specs.declared.command.Told.{Told}
-use Rattle.tb_core.specs.declared.command.Told.TheVariants.{TodoImported}
+use Rattle.tb_core.specs.declared.command.AnswerDetail.{AnswerDetail}
+use Rattle.tb_core.specs.declared.command.AnswerDetail.TheVariants.{TodoImported}
 use Rattle.tb_core.specs.declared.refusal.Refusal.{Refusal}
 use Rattle.tb_core.specs.declared.refusal.Refusal.TheVariants.{Full}
 use Rattle.tb_core.specs.Apply.{answered, applied, apply, board_answer, board_for, decided, if_allowed, outcome, seen_with}
@@ -91,13 +91,13 @@ abbrev answer_in : BoardAnswer → Result (Board × BoardAnswer) Refusal → Boa
 answer_in a (Ok r) = r.1
 answer_in a (Err refusal) = a
 
-record IsTaken (o : Option Refusal) (full : Bool) (v : Board) (told : Told) (m : ℕ) (y : Board) (a : BoardAnswer) : Type 0 where
+record IsTaken (o : Option Refusal) (full : Bool) (v : Board) (told : AnswerDetail) (m : ℕ) (y : Board) (a : BoardAnswer) : Type 0 where
   good : o ≡ None
   room : full ≡ false
   board : sweep v m ≡ y
   answer : board_answer v m told ≡ a
 
-taken : (o : Option Refusal) (full : Bool) (v : Board) (told : Told) (m : ℕ) (y : Board) (a : BoardAnswer)
+taken : (o : Option Refusal) (full : Bool) (v : Board) (told : AnswerDetail) (m : ℕ) (y : Board) (a : BoardAnswer)
     → answered m (unless_refused (least (o ∷ where_holds Full full ∷ [])) v told) ≡ Ok (y, a) → IsTaken o full v told m y a
 taken (Some r) full v told m y a h = absurd (cc)
 taken None true v told m y a h = absurd (cc)

@@ -27,8 +27,8 @@ use Rattle.tb_core.specs.declared.command.Answer.TheVariants as Answers
 use Rattle.tb_core.specs.declared.command.BoardAnswer.{BoardAnswer}
 use Rattle.tb_core.specs.declared.command.Command.{Command}
 use Rattle.tb_core.specs.declared.command.Command.TheVariants.{Add, OnTask, Modify, ImportJson, ImportTodo, Sweep, SetRole, NewPerson, NewBoard, Depend, Undepend, SetAhead}
-use Rattle.tb_core.specs.declared.command.Told.{Told}
-use Rattle.tb_core.specs.declared.command.Told.TheVariants.{Swept}
+use Rattle.tb_core.specs.declared.command.AnswerDetail.{AnswerDetail}
+use Rattle.tb_core.specs.declared.command.AnswerDetail.TheVariants.{Swept}
 use Rattle.tb_core.specs.declared.look.Seen.{Seen}
 use Rattle.tb_core.specs.declared.refusal.Refusal.{Refusal}
 use Rattle.tb_core.specs.Actions.{action_refusals}
@@ -50,7 +50,7 @@ use Rattle.tb_core.proofs.GoodWorlds.{all-changed, all-found}
 
 -- ---- how far a board looks stays
 
-looks_unless : (b c : Board) (o : Option Refusal) (told : Told) → c.ahead ≡ b.ahead → IfOk (unless_refused o c told) (λ after. after.0.ahead ≡ b.ahead)
+looks_unless : (b c : Board) (o : Option Refusal) (told : AnswerDetail) → c.ahead ≡ b.ahead → IfOk (unless_refused o c told) (λ after. after.0.ahead ≡ b.ahead)
 looks_unless b c None told same = same
 looks_unless b c (Some refusal) told same = tt
 
@@ -77,14 +77,14 @@ looks_judged b (NewPerson name key) m command = refl
 looks_judged b (NewBoard title) m command = refl
 looks_judged b (SetAhead n ahead) m command = absurd (true≢false (sym command))
 
-one_if_same : (n : ℕ) (r : Result (Board × Told) Refusal) → IfOk r (λ after. after.0.ahead ≡ n) → n ≡ 1 → IfOk r (λ after. LooksOne after.0)
+one_if_same : (n : ℕ) (r : Result (Board × AnswerDetail) Refusal) → IfOk r (λ after. after.0.ahead ≡ n) → n ≡ 1 → IfOk r (λ after. LooksOne after.0)
 one_if_same n (Ok after) same one = same ∙ one
 one_if_same n (Err refusal) same one = tt
 
 one_judged : (b : Board) (c : Command) (m : ℕ) → is_first_command c ≡ true → LooksOne b → IfOk (judged (wake b m) c m) (λ after. LooksOne after.0)
 one_judged b c m command one = one_if_same b.ahead (judged (wake b m) c m) (looks_judged (wake b m) c m command) one
 
-one_answered : (m : ℕ) (r : Result (Board × Told) Refusal) → IfOk r (λ after. LooksOne after.0) → IfOk (answered m r) (λ after. LooksOne after.0)
+one_answered : (m : ℕ) (r : Result (Board × AnswerDetail) Refusal) → IfOk r (λ after. LooksOne after.0) → IfOk (answered m r) (λ after. LooksOne after.0)
 one_answered m (Ok after) one = ahead-sweep after.0 m ∙ one
 one_answered m (Err refusal) one = tt
 
@@ -93,14 +93,14 @@ one_answered m (Err refusal) one = tt
 abbrev taken : Board → BoardAnswer → Result (Board × BoardAnswer) Refusal
 taken b a = Ok (b, a)
 
-abbrev answer_with : Board → Board → Bool → Told → BoardAnswer
+abbrev answer_with : Board → Board → Bool → AnswerDetail → BoardAnswer
 answer_with b swept more told = record { board = b.number; added = length swept.tasks - length b.tasks; more = more; told = told }
 
-answer_same : (b : Board) (m : ℕ) (told : Told) → LooksOne b → board_answer b m told ≡ answer_at_once b m told
+answer_same : (b : Board) (m : ℕ) (told : AnswerDetail) → LooksOne b → board_answer b m told ≡ answer_at_once b m told
 answer_same b m told one =
     ap (λ (s : Board). answer_with b s (more (sweep b m) m) told) (sweep_same b m one) ∙ ap (λ q. answer_with b (sweep_at_once b m) q told) (more_same b m one)
 
-answered_same : (m : ℕ) (r : Result (Board × Told) Refusal) → IfOk r (λ after. LooksOne after.0) → answered m r ≡ answered_at_once m r
+answered_same : (m : ℕ) (r : Result (Board × AnswerDetail) Refusal) → IfOk r (λ after. LooksOne after.0) → answered m r ≡ answered_at_once m r
 answered_same m (Ok after) one =
     ap (λ (s : Board). taken s (board_answer after.0 m after.1)) (sweep_same after.0 m one)
     ∙ ap (taken (sweep_at_once after.0 m)) (answer_same after.0 m after.1 one)

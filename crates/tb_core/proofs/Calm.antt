@@ -13,7 +13,7 @@ use Rattle.tb_sweep.specs.Sweep.{added, more, sweep}
 use Rattle.tb_sweep.proofs.Adding.{sweep_none, added_none, more_none}
 use Rattle.tb_core.specs.declared.command.BoardAnswer.{BoardAnswer}
 use Rattle.tb_core.specs.declared.command.Command.{Command}
-use Rattle.tb_core.specs.declared.command.Told.{Told}
+use Rattle.tb_core.specs.declared.command.AnswerDetail.{AnswerDetail}
 use Rattle.tb_core.specs.declared.effect.Step.{Step}
 use Rattle.tb_core.specs.declared.effect.Step.TheVariants.{Set, Push, Stay, LookAhead}
 use Rattle.tb_core.specs.declared.judged.Stop.{Stop}
@@ -99,13 +99,13 @@ same_number b (LookAhead ahead) = refl
 
 -- ---- what a command makes of a calm board
 
-abbrev answer_of : ℕ → ℕ → Bool → Told → BoardAnswer
+abbrev answer_of : ℕ → ℕ → Bool → AnswerDetail → BoardAnswer
 answer_of n k more told = record { board = n; added = k; more = more; told = told }
 
 abbrev told_of : Board → BoardAnswer → Result (Board × BoardAnswer) Refusal
 told_of b a = Ok (b, a)
 
-swept_calm : (b : Board) (m : ℕ) (s : Step) (told : Told) → list_any (stirs m) b.tasks ≡ false → step_stirs m s ≡ false
+swept_calm : (b : Board) (m : ℕ) (s : Step) (told : AnswerDetail) → list_any (stirs m) b.tasks ≡ false → step_stirs m s ≡ false
     → answered m (Ok (after b s, told)) ≡ told_of (after b s) (answer_of b.number 0 false told)
 swept_calm b m s told calm here =
     let later = after b s in
@@ -117,7 +117,7 @@ swept_calm b m s told calm here =
     ∙ ap (λ q. told_of later (answer_of later.number 0 q told)) (sym (more_none later later m awake plain))
     ∙ ap (λ n. told_of later (answer_of n 0 false told)) (same_number b s)
 
-pub calm_accepts : (b : Board) (c : Command) (m : ℕ) (s : Step) (told : Told) → list_any (stirs m) b.tasks ≡ false → step_stirs m s ≡ false → Fits b s
+pub calm_accepts : (b : Board) (c : Command) (m : ℕ) (s : Step) (told : AnswerDetail) → list_any (stirs m) b.tasks ≡ false → step_stirs m s ≡ false → Fits b s
     → judged b c m ≡ Ok (after b s, told)
     → IsAccepted b c m (record { changes = step_changes b s; answer = record { board = b.number; added = 0; more = false; told = told } })
 calm_accepts b c m s told calm here fits judges =
@@ -127,7 +127,7 @@ calm_accepts b c m s told calm here fits judges =
           ∙ ap (λ x. told_of x (answer_of b.number 0 false told)) (sym (made_by b s fits));
     }
 
-fails_answered : (m : ℕ) (stop : Stop) (expected : Result (Board × Told) Refusal) → Fails stop expected → Fails stop (answered m expected)
+fails_answered : (m : ℕ) (stop : Stop) (expected : Result (Board × AnswerDetail) Refusal) → Fails stop expected → Fails stop (answered m expected)
 fails_answered m Memory expected h = tt
 fails_answered m (Refused refusal) expected h = ap (answered m) h
 

@@ -8,7 +8,7 @@ use Rattle.tb_board.specs.Board.{has_id}
 use Rattle.tb_board.specs.Links.{leads_on}
 use Rattle.tb_board.specs.Walks.{DependsOn, IsTaskWalk}
 use Rattle.tb_board.proofs.Walking.{leads_by_walks}
-use Rattle.tb_core.specs.declared.command.Told.{Told}
+use Rattle.tb_core.specs.declared.command.AnswerDetail.{AnswerDetail}
 use Rattle.tb_core.specs.declared.refusal.Refusal.TheVariants.{Cycle, NoTask, WrongStatus}
 use Rattle.tb_core.specs.Actions.{of_task}
 use Rattle.tb_core.specs.Cycles.{AreCyclesRefused}
@@ -16,7 +16,7 @@ use Rattle.tb_core.specs.Depends.{closes_walk, depends_on, is_open_task, lacks_e
 use Rattle.tb_core.specs.Refusals.{least, unless_refused, where_holds}
 
 -- the last of three refusals is answered exactly where it alone holds
-last_alone : (lacks wrong closes : Bool) (b : Board) (told : Told)
+last_alone : (lacks wrong closes : Bool) (b : Board) (told : AnswerDetail)
     → (unless_refused (least (where_holds NoTask lacks ∷ where_holds WrongStatus wrong ∷ where_holds Cycle closes ∷ [])) b told ≡ Err Cycle)
     ↔ ((least (where_holds NoTask lacks ∷ where_holds WrongStatus wrong ∷ None ∷ []) ≡ None) × (closes ≡ true))
 last_alone true wrong closes b told = (λ h. absurd (cc), λ h. absurd (cc))

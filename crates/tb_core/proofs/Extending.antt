@@ -26,7 +26,7 @@ use Rattle.tb_core.specs.declared.command.Answer.TheVariants as Answers
 use Rattle.tb_core.specs.declared.command.BoardAnswer.{BoardAnswer}
 use Rattle.tb_core.specs.declared.command.Command.{Command}
 use Rattle.tb_core.specs.declared.command.Command.TheVariants.{Add, OnTask, Modify, ImportJson, ImportTodo, Sweep, SetRole, NewPerson, NewBoard, Depend, Undepend, SetAhead}
-use Rattle.tb_core.specs.declared.command.Told.{Told}
+use Rattle.tb_core.specs.declared.command.AnswerDetail.{AnswerDetail}
 use Rattle.tb_core.specs.declared.look.Seen.{Seen}
 use Rattle.tb_core.specs.declared.refusal.Refusal.{Refusal}
 use Rattle.tb_core.specs.Actions.{acted, action_refusals}
@@ -66,7 +66,7 @@ linked_task m on t =
       | inr new ↦ rw new (record { id = refl; parent = refl; imask = refl })
     ]
 
-unless : (b c : Board) (o : Option Refusal) (told : Told) → ExtendsBoard b c → IfOk (unless_refused o c told) (λ after. ExtendsBoard b after.0)
+unless : (b c : Board) (o : Option Refusal) (told : AnswerDetail) → ExtendsBoard b c → IfOk (unless_refused o c told) (λ after. ExtendsBoard b after.0)
 unless b c None told extends = extends
 unless b c (Some refusal) told extends = tt
 
@@ -89,7 +89,7 @@ extends_judged b (NewPerson name key) m = board-refl b
 extends_judged b (NewBoard title) m = board-refl b
 extends_judged b (SetAhead n ahead) m = record { number = refl; title = refl; tasks = (board-refl b).tasks }
 
-extends_answered : (b : Board) (m : ℕ) (r : Result (Board × Told) Refusal) → IfOk r (λ after. ExtendsBoard b after.0) → IfOk (answered m r) (λ after. ExtendsBoard b after.0)
+extends_answered : (b : Board) (m : ℕ) (r : Result (Board × AnswerDetail) Refusal) → IfOk r (λ after. ExtendsBoard b after.0) → IfOk (answered m r) (λ after. ExtendsBoard b after.0)
 extends_answered b m (Ok after) extends = board-trans b after.0 (sweep after.0 m) extends (extends-sweep after.0 m)
 extends_answered b m (Err refusal) extends = tt
 

@@ -4,7 +4,7 @@ use Rattle.tb_board.specs.declared.board.Board.{Board}
 use Rattle.tb_board.specs.Board.{has_id, is_on}
 use Rattle.tb_board.specs.First.{change_first}
 use Rattle.tb_board.specs.Statuses.{is_open}
-use Rattle.tb_core.specs.declared.command.Told.TheVariants.{Changed}
+use Rattle.tb_core.specs.declared.command.AnswerDetail.TheVariants.{Changed}
 use Rattle.tb_core.specs.Edits.{modified}
 use Rattle.tb_core.specs.Modify.{is_fixed, is_misplaced, judged_modify}
 use Rattle.tb_task.specs.declared.checks.Field.{Field}

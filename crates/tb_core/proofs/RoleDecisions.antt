@@ -7,7 +7,7 @@ use Rattle.tb_board.specs.declared.draft.Draft.{Draft}
 use Rattle.tb_board.specs.declared.world.Role.{Role}
 use Rattle.tb_board.specs.Changes.{IsDraft}
 use Rattle.tb_core.specs.declared.command.Answer.TheVariants.{OnBoard}
-use Rattle.tb_core.specs.declared.command.Told.TheVariants.{Swept}
+use Rattle.tb_core.specs.declared.command.AnswerDetail.TheVariants.{Swept}
 use Rattle.tb_core.specs.Giving.{IsRoleDecision}
 use Rattle.tb_sweep.specs.Sweep.{added, more, sweep}
 

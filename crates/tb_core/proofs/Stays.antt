@@ -16,8 +16,8 @@ use Rattle.tb_core.specs.declared.look.SeenBoard.{SeenBoard}
 use Rattle.tb_board.specs.declared.world.Person.{Person}
 use Rattle.tb_core.specs.declared.command.Command.{Command}
 use Rattle.tb_core.specs.declared.command.Command.TheVariants.{Add, OnTask, Modify, ImportJson, ImportTodo, Sweep, SetRole, NewPerson, NewBoard, Depend, Undepend, SetAhead}
-use Rattle.tb_core.specs.declared.command.Told.{Told}
-use Rattle.tb_core.specs.declared.command.Told.TheVariants.{Added, Changed, TodoImported, Swept}
+use Rattle.tb_core.specs.declared.command.AnswerDetail.{AnswerDetail}
+use Rattle.tb_core.specs.declared.command.AnswerDetail.TheVariants.{Added, Changed, TodoImported, Swept}
 use Rattle.tb_core.specs.declared.refusal.Refusal.{Refusal}
 use Rattle.tb_core.specs.declared.refusal.Refusal.TheVariants.{NoTask, UuidTaken, Full, WrongStatus, TemplateFixed, NotAllowed, NoPerson, LastOwner, NameTaken, Cycle}
 use Rattle.tb_board.specs.declared.world.Role.{Role}
@@ -229,7 +229,7 @@ record Follows (x b : Board) : Type 0 where
   good : IsGood b
 
 -- where a world is good unless the command is refused
-kept : (m : ℕ) (w : World) (x : Board) (o : Option Refusal) (b : Board) (told : Told) → IsGoodWorld w → find (has_number x.number) w.boards ≡ Some x → (o ≡ None → Follows x b)
+kept : (m : ℕ) (w : World) (x : Board) (o : Option Refusal) (b : Board) (told : AnswerDetail) → IsGoodWorld w → find (has_number x.number) w.boards ≡ Some x → (o ≡ None → Follows x b)
     → IsGoodWorld (applied w (answered m (unless_refused o b told))).world
 kept m w x (Some r) b told good found later = good
 kept m w x None b told good found later =

@@ -5,8 +5,8 @@ use Rattle.tb_task.specs.declared.checks.Field.{Field}
 use Rattle.tb_core.specs.declared.action.Action.{Action}
 use Rattle.tb_core.specs.declared.action.Action.TheVariants.{Done, Delete, Reopen, Start, Stop, Annotate, Denotate}
 use Rattle.tb_board.specs.declared.board.Board.{Board}
-use Rattle.tb_core.specs.declared.command.Told.{Told}
-use Rattle.tb_core.specs.declared.command.Told.TheVariants.{Changed}
+use Rattle.tb_core.specs.declared.command.AnswerDetail.{AnswerDetail}
+use Rattle.tb_core.specs.declared.command.AnswerDetail.TheVariants.{Changed}
 use Rattle.tb_core.specs.declared.refusal.Refusal.{Refusal}
 use Rattle.tb_core.specs.declared.refusal.Refusal.TheVariants.{NoTask, WrongStatus, NoLink}
 use Rattle.tb_board.specs.Board.{has_id, is_on}
@@ -70,6 +70,6 @@ action_refusals b id a =
     ∷ []
 
 -- the task is changed at its place
-abbrev pub judged_action : Board → ℕ → Action → ℕ → Result (Board × Told) Refusal
+abbrev pub judged_action : Board → ℕ → Action → ℕ → Result (Board × AnswerDetail) Refusal
 judged_action b id a m =
     unless_refused (least (action_refusals b id a)) (record b { tasks = change_first (has_id id) (acted m a) b.tasks }) (Changed id)

@@ -5,8 +5,8 @@ use Rattle.tb_task.specs.declared.checks.Field.{Field}
 use Rattle.tb_task.specs.declared.checks.Field.TheVariants.{BadPair}
 use Rattle.tb_task.specs.Check.{fault_of}
 use Rattle.tb_board.specs.declared.board.Board.{Board}
-use Rattle.tb_core.specs.declared.command.Told.{Told}
-use Rattle.tb_core.specs.declared.command.Told.TheVariants.{Added}
+use Rattle.tb_core.specs.declared.command.AnswerDetail.{AnswerDetail}
+use Rattle.tb_core.specs.declared.command.AnswerDetail.TheVariants.{Added}
 use Rattle.tb_task.specs.declared.incoming.Incoming.{Incoming}
 use Rattle.tb_core.specs.declared.refusal.Refusal.{Refusal}
 use Rattle.tb_core.specs.declared.refusal.Refusal.TheVariants.{NoTask, UuidTaken, Full}
@@ -52,5 +52,5 @@ abbrev pub entered : Board → Incoming → ℕ → Task
 entered b i m = record i.task { id = entered_id b i; modified = Some m }
 
 -- the task goes last
-abbrev pub judged_add : Board → Incoming → ℕ → Result (Board × Told) Refusal
+abbrev pub judged_add : Board → Incoming → ℕ → Result (Board × AnswerDetail) Refusal
 judged_add b i m = unless_refused (least (add_refusals b i)) (with_task b (entered b i m)) (Added (entered_id b i) i.dropped)

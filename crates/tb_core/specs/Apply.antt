@@ -6,8 +6,8 @@ use Rattle.tb_core.specs.declared.command.Answer.TheVariants.{OnBoard}
 use Rattle.tb_core.specs.declared.command.BoardAnswer.{BoardAnswer}
 use Rattle.tb_core.specs.declared.command.Command.{Command}
 use Rattle.tb_core.specs.declared.command.Command.TheVariants.{Add, OnTask, Modify, ImportJson, ImportTodo, Sweep, SetRole, NewPerson, NewBoard, Depend, Undepend, SetAhead}
-use Rattle.tb_core.specs.declared.command.Told.{Told}
-use Rattle.tb_core.specs.declared.command.Told.TheVariants.{Swept}
+use Rattle.tb_core.specs.declared.command.AnswerDetail.{AnswerDetail}
+use Rattle.tb_core.specs.declared.command.AnswerDetail.TheVariants.{Swept}
 use Rattle.tb_core.specs.declared.deciding.Decision.{Decision}
 use Rattle.tb_core.specs.declared.look.Seen.{Seen}
 use Rattle.tb_core.specs.declared.look.SeenBoard.{SeenBoard}
@@ -104,7 +104,7 @@ seen_of w name c = record {
 }
 
 -- what a command makes of a board that is awake; those that aren't on a board's tasks leave it
-abbrev pub judged : Board → Command → ℕ → Result (Board × Told) Refusal
+abbrev pub judged : Board → Command → ℕ → Result (Board × AnswerDetail) Refusal
 judged b (Add n i) m = judged_add b i m
 judged b (OnTask n id a) m = judged_action b id a m
 judged b (Modify n id edits) m = judged_modify b id edits m
@@ -119,11 +119,11 @@ judged b (NewBoard title) m = Ok (b, Swept)
 judged b (SetAhead n ahead) m = Ok (with_ahead ahead b, Swept)
 
 -- the answer about a board that the sweep follows
-abbrev pub board_answer : Board → ℕ → Told → BoardAnswer
+abbrev pub board_answer : Board → ℕ → AnswerDetail → BoardAnswer
 board_answer b m told = record { board = b.number; added = added b m; more = more (sweep b m) m; told = told }
 
 -- the sweep follows a command that is accepted
-abbrev pub answered : ℕ → Result (Board × Told) Refusal → Result (Board × BoardAnswer) Refusal
+abbrev pub answered : ℕ → Result (Board × AnswerDetail) Refusal → Result (Board × BoardAnswer) Refusal
 answered m (Ok r) = Ok (sweep r.0 m, board_answer r.0 m r.1)
 answered m (Err refusal) = Err refusal
 

@@ -10,8 +10,8 @@ use Rattle.tb_core.specs.declared.command.Answer.TheVariants.{OnBoard}
 use Rattle.tb_core.specs.declared.command.BoardAnswer.{BoardAnswer}
 use Rattle.tb_core.specs.declared.command.Command.{Command}
 use Rattle.tb_core.specs.declared.command.Command.TheVariants.{Add, OnTask, Modify, ImportJson, ImportTodo, Sweep, SetRole, NewPerson, NewBoard, Depend, Undepend, SetAhead}
-use Rattle.tb_core.specs.declared.command.Told.{Told}
-use Rattle.tb_core.specs.declared.command.Told.TheVariants.{Swept}
+use Rattle.tb_core.specs.declared.command.AnswerDetail.{AnswerDetail}
+use Rattle.tb_core.specs.declared.command.AnswerDetail.TheVariants.{Swept}
 use Rattle.tb_core.specs.declared.look.Seen.{Seen}
 use Rattle.tb_core.specs.declared.look.SeenBoard.{SeenBoard}
 use Rattle.tb_core.specs.declared.refusal.Refusal.{Refusal}
@@ -23,11 +23,11 @@ use Rattle.tb_core.specs.People.{new_board, new_person}
 use Rattle.tb_core.specs.Refusals.{least}
 
 -- the answer about a board that the sweep follows
-abbrev pub answer_at_once : Board → ℕ → Told → BoardAnswer
+abbrev pub answer_at_once : Board → ℕ → AnswerDetail → BoardAnswer
 answer_at_once b m told = record { board = b.number; added = added_at_once b m; more = more_at_once (sweep_at_once b m) m; told = told }
 
 -- the sweep follows a command that is accepted
-abbrev pub answered_at_once : ℕ → Result (Board × Told) Refusal → Result (Board × BoardAnswer) Refusal
+abbrev pub answered_at_once : ℕ → Result (Board × AnswerDetail) Refusal → Result (Board × BoardAnswer) Refusal
 answered_at_once m (Ok r) = Ok (sweep_at_once r.0 m, answer_at_once r.0 m r.1)
 answered_at_once m (Err refusal) = Err refusal
 

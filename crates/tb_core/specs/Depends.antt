@@ -10,8 +10,8 @@ use Rattle.tb_board.specs.Board.{has_id, is_on}
 use Rattle.tb_board.specs.First.{change_first, IsFirst}
 use Rattle.tb_board.specs.Links.{leads_on}
 use Rattle.tb_board.specs.Statuses.{is_open}
-use Rattle.tb_core.specs.declared.command.Told.{Told}
-use Rattle.tb_core.specs.declared.command.Told.TheVariants.{Changed}
+use Rattle.tb_core.specs.declared.command.AnswerDetail.{AnswerDetail}
+use Rattle.tb_core.specs.declared.command.AnswerDetail.TheVariants.{Changed}
 use Rattle.tb_core.specs.declared.refusal.Refusal.{Refusal}
 use Rattle.tb_core.specs.declared.refusal.Refusal.TheVariants.{NoTask, WrongStatus, NoLink, Cycle}
 use Rattle.tb_core.specs.Actions.{of_task}
@@ -59,10 +59,10 @@ pub record IsPlaceToLink (b : Board) (id on place : ℕ) : Type 0 where
   pub there : is_on b on ≡ true
   pub standing : of_task is_open_task (find (has_id id) b.tasks) ≡ true
 
-abbrev pub judged_depend : Board → ℕ → ℕ → ℕ → Result (Board × Told) Refusal
+abbrev pub judged_depend : Board → ℕ → ℕ → ℕ → Result (Board × AnswerDetail) Refusal
 judged_depend b id on m =
     unless_refused (least (depend_refusals b id on)) (record b { tasks = change_first (has_id id) (linked m on) b.tasks }) (Changed id)
 
-abbrev pub judged_undepend : Board → ℕ → ℕ → ℕ → Result (Board × Told) Refusal
+abbrev pub judged_undepend : Board → ℕ → ℕ → ℕ → Result (Board × AnswerDetail) Refusal
 judged_undepend b id on m =
     unless_refused (least (undepend_refusals b id on)) (record b { tasks = change_first (has_id id) (unlinked m on) b.tasks }) (Changed id)

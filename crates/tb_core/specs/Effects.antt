@@ -5,7 +5,7 @@ use Rattle.tb_board.specs.declared.change.Change.{Change}
 use Rattle.tb_board.specs.declared.change.Change.TheVariants.{PutTask, SetAhead}
 use Rattle.tb_board.specs.Board.{with_task}
 use Rattle.tb_board.specs.Changes.{with_ahead}
-use Rattle.tb_core.specs.declared.command.Told.{Told}
+use Rattle.tb_core.specs.declared.command.AnswerDetail.{AnswerDetail}
 use Rattle.tb_core.specs.declared.effect.Effect.{Effect}
 use Rattle.tb_core.specs.declared.effect.Step.{Step}
 use Rattle.tb_core.specs.declared.effect.Step.TheVariants.{Set, Push, Stay, LookAhead}
@@ -35,6 +35,6 @@ step_changes b Stay = []
 step_changes b (LookAhead ahead) = SetAhead b.number ahead ∷ []
 
 -- what a command makes of a board is what is expected
-abbrev pub GivesEffect : Board → Result Effect Stop → Result (Board × Told) Refusal → Type 0
+abbrev pub GivesEffect : Board → Result Effect Stop → Result (Board × AnswerDetail) Refusal → Type 0
 GivesEffect b (Ok e) expected = expected ≡ Ok (after b e.step, e.told)
 GivesEffect b (Err stop) expected = Fails stop expected

@@ -5,7 +5,7 @@ use Rattle.tb_task.specs.declared.task.Task.{Task}
 use Rattle.tb_core.specs.declared.command.Answer.TheVariants.{OnBoard}
 use Rattle.tb_core.specs.declared.command.BoardAnswer.{BoardAnswer}
 use Rattle.tb_core.specs.declared.command.Command.TheVariants.{ImportTodo}
-use Rattle.tb_core.specs.declared.command.Told.TheVariants.{TodoImported}
+use Rattle.tb_core.specs.declared.command.AnswerDetail.TheVariants.{TodoImported}
 use Rattle.tb_core.specs.Apply.{apply}
 
 -- each task is known, and no instance came

@@ -6,8 +6,8 @@ use Rattle.tb_import.specs.declared.imported.ImportCounts.{ImportCounts}
 use Rattle.tb_import.specs.declared.refusal.ImportRefusal.{ImportRefusal}
 use Rattle.tb_import.specs.declared.refusal.ImportRefusal.TheVariants as import
 use Rattle.tb_import.specs.Refusals.{judged_import}
-use Rattle.tb_core.specs.declared.command.Told.{Told}
-use Rattle.tb_core.specs.declared.command.Told.TheVariants.{Imported}
+use Rattle.tb_core.specs.declared.command.AnswerDetail.{AnswerDetail}
+use Rattle.tb_core.specs.declared.command.AnswerDetail.TheVariants.{Imported}
 use Rattle.tb_core.specs.declared.refusal.Refusal.{Refusal}
 use Rattle.tb_core.specs.declared.refusal.Refusal.TheVariants.{BadTaskAt, Cycle, Full}
 
@@ -17,9 +17,9 @@ refusal_of import.Cycle = Cycle
 refusal_of import.Full = Full
 
 -- the board after the import, and its counts
-abbrev pub told_of : Result (Board × ImportCounts) ImportRefusal → Result (Board × Told) Refusal
+abbrev pub told_of : Result (Board × ImportCounts) ImportRefusal → Result (Board × AnswerDetail) Refusal
 told_of (Ok r) = Ok (r.0, Imported r.1)
 told_of (Err refusal) = Err (refusal_of refusal)
 
-abbrev pub judged_import_json : Board → List Incoming → Result (Board × Told) Refusal
+abbrev pub judged_import_json : Board → List Incoming → Result (Board × AnswerDetail) Refusal
 judged_import_json b is = told_of (judged_import b is)

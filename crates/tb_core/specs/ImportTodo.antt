@@ -10,8 +10,8 @@ use Rattle.tb_task.specs.declared.checks.Field.{Field}
 use Rattle.tb_task.specs.Check.{fault_of}
 use Rattle.tb_board.specs.declared.board.Board.{Board}
 use Rattle.tb_board.specs.Board.{has_id}
-use Rattle.tb_core.specs.declared.command.Told.{Told}
-use Rattle.tb_core.specs.declared.command.Told.TheVariants.{TodoImported}
+use Rattle.tb_core.specs.declared.command.AnswerDetail.{AnswerDetail}
+use Rattle.tb_core.specs.declared.command.AnswerDetail.TheVariants.{TodoImported}
 use Rattle.tb_core.specs.declared.refusal.Refusal.{Refusal}
 use Rattle.tb_core.specs.declared.refusal.Refusal.TheVariants.{BadTaskAt, Full}
 use Rattle.tb_core.specs.Add.{first_fault}
@@ -64,7 +64,7 @@ import_todo_refusals b ts =
     ∷ where_holds Full (nat_lt 10000 (length b.tasks + length (new_tasks b ts)))
     ∷ []
 
-abbrev pub judged_import_todo : Board → List Task → Result (Board × Told) Refusal
+abbrev pub judged_import_todo : Board → List Task → Result (Board × AnswerDetail) Refusal
 judged_import_todo b ts =
     unless_refused (least (import_todo_refusals b ts)) (imported b ts) (TodoImported (length ts - length (new_tasks b ts)) (length (new_tasks b ts)))
 

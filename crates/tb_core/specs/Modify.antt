@@ -4,8 +4,8 @@ use Rattle.tb_board.specs.declared.board.Board.{Board}
 use Rattle.tb_board.specs.Board.{has_id, is_on}
 use Rattle.tb_board.specs.First.{change_first}
 use Rattle.tb_board.specs.Statuses.{is_open, is_template}
-use Rattle.tb_core.specs.declared.command.Told.{Told}
-use Rattle.tb_core.specs.declared.command.Told.TheVariants.{Changed}
+use Rattle.tb_core.specs.declared.command.AnswerDetail.{AnswerDetail}
+use Rattle.tb_core.specs.declared.command.AnswerDetail.TheVariants.{Changed}
 use Rattle.tb_core.specs.declared.refusal.Refusal.{Refusal}
 use Rattle.tb_core.specs.declared.refusal.Refusal.TheVariants.{NoTask, WrongStatus, TemplateFixed}
 use Rattle.tb_core.specs.Actions.{of_task}
@@ -39,6 +39,6 @@ modify_refusals b id edits m =
     ∷ []
 
 -- the task is changed at its place
-abbrev pub judged_modify : Board → ℕ → List Edit → ℕ → Result (Board × Told) Refusal
+abbrev pub judged_modify : Board → ℕ → List Edit → ℕ → Result (Board × AnswerDetail) Refusal
 judged_modify b id edits m =
     unless_refused (least (modify_refusals b id edits m)) (record b { tasks = change_first (has_id id) (modified m edits) b.tasks }) (Changed id)

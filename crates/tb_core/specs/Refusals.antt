@@ -2,7 +2,7 @@
 use Rattle.std.specs.Prelude.{◌≡◌, Bool, if◌then◌else◌, List, [], ◌∷◌, Option, Some, None, Result, Ok, Err}
 use Rattle.tb_task.specs.declared.checks.Field.{Field}
 use Rattle.tb_board.specs.declared.board.Board.{Board}
-use Rattle.tb_core.specs.declared.command.Told.{Told}
+use Rattle.tb_core.specs.declared.command.AnswerDetail.{AnswerDetail}
 use Rattle.tb_core.specs.declared.judged.Judged.{Judged}
 use Rattle.tb_core.specs.declared.judged.Stop.{Stop}
 use Rattle.tb_core.specs.declared.judged.Stop.TheVariants.{Memory, Refused}
@@ -23,7 +23,7 @@ least [] = None
 least (None ∷ rs) = least rs
 least (Some r ∷ rs) = Some r
 
-abbrev pub unless_refused : Option Refusal → Board → Told → Result (Board × Told) Refusal
+abbrev pub unless_refused : Option Refusal → Board → AnswerDetail → Result (Board × AnswerDetail) Refusal
 unless_refused None b told = Ok (b, told)
 unless_refused (Some r) b told = Err r
 
@@ -33,6 +33,6 @@ Fails Memory expected = Unit {0}
 Fails (Refused r) expected = expected ≡ Err r
 
 -- what a command made of a draft is what is expected of its board
-abbrev pub Gives : Result Judged Stop → Result (Board × Told) Refusal → Type 0
+abbrev pub Gives : Result Judged Stop → Result (Board × AnswerDetail) Refusal → Type 0
 Gives (Ok j) expected = expected ≡ Ok (j.draft.board, j.told)
 Gives (Err e) expected = Fails e expected

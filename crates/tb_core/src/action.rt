@@ -2,7 +2,7 @@ ghost use Rattle.std.specs.Prelude.{◌≡◌, IfOk};
 ghost use Rattle.tb_core.specs.Actions.{acted, action_fault, judged_action, lacks, takes};
 ghost use Rattle.tb_core.specs.Effects.{Fits, GivesEffect};
 
-use crate::command::Told;
+use crate::command::AnswerDetail;
 use crate::effect::{Effect, Step};
 use crate::judged::Stop;
 use crate::notes::{annotated_task, denotated_task, fault_in_note, has_note_of};
@@ -48,7 +48,7 @@ pub fn act(board: &Board, id: TaskId, action: &Action, at: Moment) -> Result<Eff
     let task = acted_task(task, action, at)?;
     Ok(Effect {
         step: Step::Set { place, task },
-        told: Told::Changed { id },
+        told: AnswerDetail::Changed { id },
     })
 }
 

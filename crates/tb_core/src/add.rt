@@ -5,7 +5,7 @@ ghost use Rattle.tb_board.specs.Board.{lacks_depends};
 ghost use Rattle.tb_core.specs.Effects.{Fits, GivesEffect};
 ghost use Rattle.tb_core.specs.Refusals.{least};
 
-use crate::command::Told;
+use crate::command::AnswerDetail;
 use crate::effect::{Effect, Step};
 use crate::judged::Stop;
 use crate::refusal::Refusal;
@@ -44,7 +44,7 @@ pub fn add(alloc: Global, board: &Board, incoming: &Incoming, at: Moment) -> Res
 {
     let id = id_for(alloc, board, incoming)?;
     let task = entered_task(&incoming.task, id, at)?;
-    let told = Told::Added {
+    let told = AnswerDetail::Added {
         id,
         dropped: incoming.dropped,
     };

@@ -88,12 +88,12 @@ pub struct BoardAnswer {
     pub board: u32,
     pub added: usize,
     pub more: bool,
-    pub told: Told,
+    pub told: AnswerDetail,
 }
 
 /// What an accepted command on a board tells besides.
 #[derive(Clone, Copy, Debug, PartialEq, Eq)]
-pub enum Told {
+pub enum AnswerDetail {
     /// The identifier of the task that was added, and how many of its members were dropped.
     Added { id: TaskId, dropped: u32 },
     /// The identifier of the one task that the command is about.

@@ -13,7 +13,7 @@ ghost use Rattle.tb_board.specs.declared.world.World.{World};
 use crate::action::act;
 use crate::add::{add, add_refusal};
 use crate::allowed::{allows, is_owner_role};
-use crate::command::{Answer, BoardAnswer, Command, Told};
+use crate::command::{Answer, AnswerDetail, BoardAnswer, Command};
 use crate::effect::{Effect, Step, is_stirred};
 use crate::giving::{is_last_owner, role_decision};
 use crate::import_json::import_json;
@@ -288,11 +288,11 @@ fn effect_of(alloc: Global, board: &Board, command: &Command, at: Moment) -> Res
         | Command::NewPerson { .. }
         | Command::NewBoard { .. } => Ok(Effect {
             step: Step::Stay,
-            told: Told::Swept,
+            told: AnswerDetail::Swept,
         }),
         Command::SetAhead { ahead, .. } => Ok(Effect {
             step: Step::LookAhead { ahead: *ahead },
-            told: Told::Swept,
+            told: AnswerDetail::Swept,
         }),
         Command::ImportJson { .. } => unreachable!(),
         Command::ImportTodo { .. } => unreachable!(),

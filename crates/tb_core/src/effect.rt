@@ -5,7 +5,7 @@ ghost use Rattle.tb_board.specs.declared.change.Change.TheVariants.{PutTask, Set
 ghost use Rattle.tb_core.specs.Calm.{step_stirs, stirs};
 ghost use Rattle.tb_core.specs.Effects.{after, Fits, step_changes};
 
-use crate::command::Told;
+use crate::command::AnswerDetail;
 use crate::judged::Judged;
 use std::alloc::{AllocError, Global};
 use tb_board::{Ahead, Board, Change, Draft, has_waited};
@@ -29,7 +29,7 @@ pub enum Step {
 #[derive(Drop)]
 pub struct Effect {
     pub step: Step,
-    pub told: Told,
+    pub told: AnswerDetail,
 }
 
 impl Effect {

@@ -4,7 +4,7 @@ ghost use Rattle.tb_core.specs.Giving.{IsRoleDecision};
 ghost use Rattle.tb_core.specs.Owners.{is_owners, leaves_none};
 
 use crate::allowed::is_owner_role;
-use crate::command::{Answer, BoardAnswer, Told};
+use crate::command::{Answer, AnswerDetail, BoardAnswer};
 use crate::deciding::Decision;
 use crate::look::SeenPerson;
 use std::alloc::{AllocError, Global};
@@ -44,7 +44,7 @@ pub fn role_decision(
         board: board.number,
         added,
         more,
-        told: Told::Swept,
+        told: AnswerDetail::Swept,
     };
     let mut changes = draft.into_changes();
     changes.push(Change::SetRole {

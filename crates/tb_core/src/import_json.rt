@@ -3,7 +3,7 @@ ghost use Rattle.tb_board.specs.Changes.{Follows};
 ghost use Rattle.tb_core.specs.ImportJson.{judged_import_json, refusal_of};
 ghost use Rattle.tb_core.specs.Refusals.{Gives};
 
-use crate::command::Told;
+use crate::command::AnswerDetail;
 use crate::judged::{Judged, Stop};
 use crate::refusal::Refusal;
 use std::alloc::Global;
@@ -19,7 +19,7 @@ pub fn import_json(alloc: Global, draft: Draft, tasks: &[Incoming]) -> Result<Ju
     match import_tasks(alloc, draft, tasks) {
         Ok(Imported { draft, counts }) => Ok(Judged {
             draft,
-            told: Told::Imported(counts),
+            told: AnswerDetail::Imported(counts),
         }),
         Err(ImportStop::Refused(refusal)) => Err(Stop::Refused(refusal_from(refusal))),
         Err(ImportStop::Memory) => Err(Stop::Memory),

@@ -7,7 +7,7 @@ ghost use Rattle.tb_core.specs.Refusals.{Gives};
 ghost use Rattle.tb_task.specs.declared.task.Task.{Task};
 
 use crate::add::MOST_TASKS;
-use crate::command::Told;
+use crate::command::AnswerDetail;
 use crate::judged::{Judged, Stop};
 use crate::refusal::Refusal;
 use std::alloc::{AllocError, Global};
@@ -28,7 +28,7 @@ pub fn import_todo(alloc: Global, draft: Draft, tasks: &[Task]) -> Result<Judged
     if draft.board.tasks.len().saturating_add(new.len()) > MOST_TASKS {
         return Err(Stop::Refused(Refusal::Full));
     }
-    let told = Told::TodoImported {
+    let told = AnswerDetail::TodoImported {
         known: tasks.len().saturating_sub(new.len()),
         new: new.len(),
     };

@@ -1,4 +1,4 @@
-use crate::command::Told;
+use crate::command::AnswerDetail;
 use crate::refusal::Refusal;
 use std::alloc::AllocError;
 use tb_board::Draft;
@@ -7,7 +7,7 @@ use tb_board::Draft;
 #[derive(Drop)]
 pub struct Judged {
     pub draft: Draft,
-    pub told: Told,
+    pub told: AnswerDetail,
 }
 
 /// Why a command stopped before its end.

@@ -25,7 +25,7 @@ mod refusal;
 mod transitions;
 
 pub use action::Action;
-pub use command::{Answer, BoardAnswer, Command, Told};
+pub use command::{Answer, AnswerDetail, BoardAnswer, Command};
 pub use deciding::{Decision, decide};
 pub use look::{Seen, SeenBoard, SeenPerson, look_for};
 pub use refusal::Refusal;

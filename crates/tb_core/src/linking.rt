@@ -6,11 +6,11 @@ ghost use Rattle.tb_board.specs.Links.{leads_on};
 ghost use Rattle.tb_core.specs.Depends.{closes_walk, depends_on, IsPlaceToLink, judged_depend, judged_undepend, link_refusals, unlinked};
 ghost use Rattle.tb_core.specs.Effects.{Fits, GivesEffect};
 ghost use Rattle.tb_core.specs.Refusals.{Fails, least, unless_refused};
-ghost use Rattle.tb_core.specs.declared.command.Told.{Told};
+ghost use Rattle.tb_core.specs.declared.command.AnswerDetail.{AnswerDetail};
 ghost use Rattle.tb_core.specs.declared.refusal.Refusal.{Refusal};
 ghost use Rattle.tb_board.specs.declared.board.Board.{Board};
 
-use crate::command::Told;
+use crate::command::AnswerDetail;
 use crate::effect::{Effect, Step};
 use crate::judged::Stop;
 use crate::refusal::Refusal;
@@ -38,13 +38,13 @@ pub fn depend(
     if is_linked_to(task, on) {
         return Ok(Effect {
             step: Step::Stay,
-            told: Told::Changed { id },
+            told: AnswerDetail::Changed { id },
         });
     }
     let task = linked_task(task, on, at)?;
     Ok(Effect {
         step: Step::Set { place, task },
-        told: Told::Changed { id },
+        told: AnswerDetail::Changed { id },
     })
 }
 
@@ -61,14 +61,14 @@ pub fn undepend(board: &Board, id: TaskId, on: TaskId, at: Moment) -> Result<Eff
     let task = unlinked_task(task, on, at)?;
     Ok(Effect {
         step: Step::Set { place, task },
-        told: Told::Changed { id },
+        told: AnswerDetail::Changed { id },
     })
 }
 
 /// The place of a task that is open, where the other task is on the board too.
 fn place_to_link(board: &Board, id: TaskId, on: TaskId) -> Result<usize, Stop>
     ensures place { IfOk result (IsPlaceToLink board.now id on) }
-    ensures refused { IfErr result (λ stop. (last : Option Refusal) (later : Board) (told : Told) → Fails stop (unless_refused (least (link_refusals board.now id on last)) later told)) }
+    ensures refused { IfErr result (λ stop. (last : Option Refusal) (later : Board) (told : AnswerDetail) → Fails stop (unless_refused (least (link_refusals board.now id on last)) later told)) }
 {
     let Some(place) = place_of_task(board.tasks.as_slice(), id) else {
         return Err(Stop::Refused(Refusal::NoTask));

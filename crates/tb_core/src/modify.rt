@@ -2,7 +2,7 @@ ghost use Rattle.std.specs.Prelude.{◌≡◌, IfOk};
 ghost use Rattle.tb_core.specs.Effects.{Fits, GivesEffect};
 ghost use Rattle.tb_core.specs.Modify.{is_fixed, is_misplaced, judged_modify};
 
-use crate::command::Told;
+use crate::command::AnswerDetail;
 use crate::edits::{is_named, modified_task};
 use crate::effect::{Effect, Step};
 use crate::judged::Stop;
@@ -41,7 +41,7 @@ pub fn modify(
     }
     Ok(Effect {
         step: Step::Set { place, task: later },
-        told: Told::Changed { id },
+        told: AnswerDetail::Changed { id },
     })
 }
 

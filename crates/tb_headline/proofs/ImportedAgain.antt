@@ -30,7 +30,7 @@ use Rattle.tb_core.specs.declared.command.Answer.{Answer}
 use Rattle.tb_core.specs.declared.command.Answer.TheVariants.{OnBoard, NewPerson, NewBoard}
 use Rattle.tb_core.specs.declared.command.BoardAnswer.{BoardAnswer}
 use Rattle.tb_core.specs.declared.command.Command.TheVariants.{ImportJson}
-use Rattle.tb_core.specs.declared.command.Told.TheVariants.{Imported}
+use Rattle.tb_core.specs.declared.command.AnswerDetail.TheVariants.{Imported}
 use Rattle.tb_core.specs.declared.refusal.Refusal.{Refusal}
 use Rattle.tb_core.specs.Apply.{answered, applied, apply, board_answer, board_for, decided, if_allowed, outcome, seen_with}
 use Rattle.tb_core.specs.GoodWorld.{IsGoodWorld}

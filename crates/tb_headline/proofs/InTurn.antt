@@ -12,7 +12,7 @@ use Rattle.tb_headline.specs.Sessions.{calls_handled}
 use Rattle.tb_peers.proofs.Serving.{any_turns}
 use Rattle.tb_reply.specs.declared.reply.Reply.{Reply}
 use Rattle.tb_serve.specs.Telling.{after}
-use Rattle.tb_turns.specs.Told.{handled}
+use Rattle.tb_turns.specs.Served.{handled}
 
 -- what connections are told are the replies to the calls that were answered
 told_are : (s : State) (x : Service) (r : List Reply) → Serves s x r

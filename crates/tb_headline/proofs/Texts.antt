@@ -11,7 +11,7 @@ use Rattle.tb_http.specs.declared.answer.ContentType.TheVariants.{Json}
 use Rattle.tb_http.specs.declared.message.Message.{Message}
 use Rattle.tb_http.specs.Message.{takes_body}
 use Rattle.tb_http.specs.Wire.{is_last}
-use Rattle.tb_serve.specs.declared.told.Told.{Told}
+use Rattle.tb_serve.specs.declared.response.Response.{Response}
 use Rattle.tb_serve.proofs.Pages.{no_calls}
 use Rattle.tb_serve.specs.Telling.{called_by, calls_in, file_or, told_at, told_by, told_reply, told_text}
 use Rattle.tb_site.specs.declared.site.Site.{Site}
@@ -45,5 +45,5 @@ told_with_reply site s message at call (Some file) is same = absurd (no_call cal
 
 pub tells_replies : TellsReplies
 tells_replies site s before m call is =
-    ap (λ (told : Told). told_text told (is_last m.received.closes before) (takes_body m.received.message))
+    ap (λ (told : Response). told_text told (is_last m.received.closes before) (takes_body m.received.message))
     (told_with_reply site s m.received.message m.at call (file_for site m.received.message) is refl)

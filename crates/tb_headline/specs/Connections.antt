@@ -14,7 +14,7 @@ use Rattle.tb_http.specs.Wire.{is_last}
 use Rattle.tb_peers.specs.Server.{Timed, calls_at, server}
 use Rattle.tb_reply.specs.declared.reply.Reply.{Reply}
 use Rattle.tb_serve.specs.Telling.{after, told_reply, told_text}
-use Rattle.tb_turns.specs.Told.{handled}
+use Rattle.tb_turns.specs.Served.{handled}
 use Rattle.tb_turns.specs.Turns.{Run, Step, Talk}
 use Rattle.tb_site.specs.declared.site.Site.{Site}
 

@@ -5,7 +5,7 @@ use Rattle.tb_board.specs.declared.world.World.{World}
 use Rattle.tb_core.specs.declared.command.Answer.TheVariants.{OnBoard}
 use Rattle.tb_core.specs.declared.command.BoardAnswer.{BoardAnswer}
 use Rattle.tb_core.specs.declared.command.Command.TheVariants.{ImportJson}
-use Rattle.tb_core.specs.declared.command.Told.TheVariants.{Imported}
+use Rattle.tb_core.specs.declared.command.AnswerDetail.TheVariants.{Imported}
 use Rattle.tb_core.specs.Apply.{apply}
 use Rattle.tb_core.specs.GoodWorld.{IsGoodWorld}
 

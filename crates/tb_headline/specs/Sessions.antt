@@ -10,7 +10,7 @@ use Rattle.tb_peers.specs.Happening.{Stops}
 use Rattle.tb_peers.specs.Server.{Timed, calls_among, calls_at, server}
 use Rattle.tb_reply.specs.declared.reply.Reply.{Reply}
 use Rattle.tb_serve.specs.Telling.{after}
-use Rattle.tb_turns.specs.Told.{IsSame, IsServed, handled}
+use Rattle.tb_turns.specs.Served.{IsSame, IsServed, handled}
 use Rattle.tb_turns.specs.Turns.{Happening, Run, Step, Talk, done_in}
 use Rattle.tb_site.specs.declared.site.Site.{Site}
 

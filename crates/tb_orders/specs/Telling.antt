@@ -44,5 +44,5 @@ Tells Memory expected = Unit {0}
 Tells _ expected = ⊥
 
 -- the order is the one that is expected, or its fault is told
-abbrev pub Told : {X : Type 0} → Result X Fault → Result X WordsFault → Type 0
-Told read expected = Gives Tells read expected
+abbrev pub ReadsAs : {X : Type 0} → Result X Fault → Result X WordsFault → Type 0
+ReadsAs read expected = Gives Tells read expected

@@ -7,7 +7,7 @@ ghost use Rattle.tb_command_line.specs.Orders.{Request, is_plain, order_of, text
 ghost use Rattle.tb_command_line.specs.Pages.{page_in, with_page, without_page};
 ghost use Rattle.tb_command_line.specs.Sending.{send_of, told_of};
 ghost use Rattle.tb_command_line.specs.declared.order.Order.{Order};
-ghost use Rattle.tb_orders.specs.Telling.{Told, is_of_words};
+ghost use Rattle.tb_orders.specs.Telling.{ReadsAs, is_of_words};
 
 use std::alloc::{AllocError, Global};
 use std::env::{self, Args};
@@ -30,10 +30,10 @@ pub fn read_order(rt: &HostRuntime) -> Result<Order, Fault>
 fn order_after_name(alloc: Global, words: Args) -> Result<Order, Fault>
     ensures order { (request : Request) → without_page (map string_bytes (drop 1 (into_iter_items words))) ≡ words_of request
         → list_all is_plain (texts_of request) ≡ true
-        → Told result (with_page (page_in (map string_bytes (drop 1 (into_iter_items words)))) (order_of request)) }
+        → ReadsAs result (with_page (page_in (map string_bytes (drop 1 (into_iter_items words)))) (order_of request)) }
     ensures told { (order : Order) → told_of (map string_bytes (drop 1 (into_iter_items words))) ≡ Some order → OnOk result (result ≡ Ok order) }
     ensures sent { (rest : List (List ℕ)) → map string_bytes (drop 1 (into_iter_items words)) ≡ codes "send" ∷ rest
-        → told_of (codes "send" ∷ rest) ≡ None → Told result (send_of rest) }
+        → told_of (codes "send" ∷ rest) ≡ None → ReadsAs result (send_of rest) }
     ensures fault { IfErr result (λ fault. is_of_words fault ≡ true) }
 {
     let words = after_first(alloc, words)?;
@@ -45,10 +45,10 @@ fn order_after_name(alloc: Global, words: Args) -> Result<Order, Fault>
 pub fn order_of(alloc: Global, words: &[&str]) -> Result<Order, Fault>
     ensures order { (request : Request) → without_page (map (λ word. word.now) words.entry.now) ≡ words_of request
         → list_all is_plain (texts_of request) ≡ true
-        → Told result (with_page (page_in (map (λ word. word.now) words.entry.now)) (order_of request)) }
+        → ReadsAs result (with_page (page_in (map (λ word. word.now) words.entry.now)) (order_of request)) }
     ensures told { (order : Order) → told_of (map (λ word. word.now) words.entry.now) ≡ Some order → result ≡ Ok order }
     ensures sent { (rest : List (List ℕ)) → map (λ word. word.now) words.entry.now ≡ codes "send" ∷ rest
-        → told_of (codes "send" ∷ rest) ≡ None → Told result (send_of rest) }
+        → told_of (codes "send" ∷ rest) ≡ None → ReadsAs result (send_of rest) }
     ensures fault { IfErr result (λ fault. is_of_words fault ≡ true) }
 {
     match command_of(alloc, words) {

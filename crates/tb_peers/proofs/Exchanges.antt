@@ -14,7 +14,7 @@ use Rattle.tb_serve.specs.declared.serving.ServeFault.{ServeFault}
 use Rattle.tb_serve.specs.declared.serving.ServeFault.TheVariants as fault
 use Rattle.tb_serve.specs.Serving.{Sends, Turns, reads_one}
 use Rattle.tb_serve.specs.declared.serving.Turn.{Turn}
-use Rattle.tb_serve.specs.declared.serving.Turn.TheVariants.{Told, Failed, Unread}
+use Rattle.tb_serve.specs.declared.serving.Turn.TheVariants.{Replied, Failed, Unread}
 use Rattle.tb_turns.specs.Turns.{Talk, silent, opens, comes, turns, goes, opened, came, gone, took, failed, refused, rested, went, sent_of}
 use Rattle.tb_site.specs.declared.site.Site.{Site}
 
@@ -55,9 +55,9 @@ Refused old turn bytes is_closing =
 
 told_happens : (site : Site) (s : State) (at : Option ℕ) (old : Talk) (bytes : List ℕ) (messages : ℕ) (is_closing : Bool) (out : List ℕ) (is_whole : Bool) (text : List ℕ) (now stops : State → Type 0)
     → old.is_closing ≡ false → out ≡ old.out ++ sent_of is_whole text
-    → Turns site s (at ∷ []) old.messages old.bytes Told text now stops (Some bytes) is_closing → messages ≡ old.messages + 1
-    → HappensTo site (outcome Told is_whole) s (turns at) old
-    (talk_of bytes messages (takes_no_more is_closing Told is_whole) out) now stops
+    → Turns site s (at ∷ []) old.messages old.bytes Replied text now stops (Some bytes) is_closing → messages ≡ old.messages + 1
+    → HappensTo site (outcome Replied is_whole) s (turns at) old
+    (talk_of bytes messages (takes_no_more is_closing Replied is_whole) out) now stops
 told_happens site s at old bytes messages is_closing out true text now stops unclosed sent turned counted =
     let m : Timed = record { received = turned.0; at = at } in (
       took m true,
@@ -170,7 +170,7 @@ turn_happens : (site : Site) (s : State) (at : Option ℕ) (old : Talk) (bytes :
     → Refused old turn bytes is_closing → messages ≡ old.messages + reads_one turn
     → HappensTo site (outcome turn is_whole) s (turns at) old
     (talk_of bytes messages (takes_no_more is_closing turn is_whole) out) now stops
-turn_happens site s at old bytes messages is_closing out Told is_whole text now stops unclosed sent turned refuses counted =
+turn_happens site s at old bytes messages is_closing out Replied is_whole text now stops unclosed sent turned refuses counted =
     told_happens site s at old bytes messages is_closing out is_whole text now stops unclosed sent turned counted
 turn_happens site s at old bytes messages is_closing out (Failed keep.Memory) is_whole text now stops unclosed sent turned refuses counted =
     failed_happens site s at old bytes messages is_closing out is_whole text now stops unclosed sent turned counted

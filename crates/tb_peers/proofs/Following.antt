@@ -18,7 +18,7 @@ use Rattle.tb_peers.specs.Following.{Follows, has_stopped}
 use Rattle.tb_serve.specs.declared.serving.ServeFault.{ServeFault}
 use Rattle.tb_serve.specs.declared.serving.ServeFault.TheVariants.{ReadFailed, WriteFailed, Store, Memory}
 use Rattle.tb_serve.specs.declared.serving.Turn.{Turn}
-use Rattle.tb_serve.specs.declared.serving.Turn.TheVariants.{Told, Failed, Unread}
+use Rattle.tb_serve.specs.declared.serving.Turn.TheVariants.{Replied, Failed, Unread}
 use Rattle.tb_serve.specs.Serving.{Settles}
 use Rattle.tb_serve.specs.Telling.{StandsAt, after, called_by, calls_in}
 
@@ -74,8 +74,8 @@ calls_few message (Some at) = called_few (asked_of message at)
 -- a message that was read, whatever it was told
 pub settles_follows : (turn : Turn) (is_whole : Bool) (at : Option ℕ) (message : Message) (old old_stops now stops : State → Type 0)
     → ((s : State) → old s → Only s old_stops → Settles s at message turn now stops) → Follows (has_stopped (outcome turn is_whole)) old old_stops now stops
-settles_follows Told true at message old old_stops now stops settles = λ s held only. (calls_in message at, settles s held only)
-settles_follows Told false at message old old_stops now stops settles = λ s held only. (calls_in message at, settles s held only)
+settles_follows Replied true at message old old_stops now stops settles = λ s held only. (calls_in message at, settles s held only)
+settles_follows Replied false at message old old_stops now stops settles = λ s held only. (calls_in message at, settles s held only)
 settles_follows (Failed keep.Memory) true at message old old_stops now stops settles = λ s held only. ([], settles s held only)
 settles_follows (Failed keep.Memory) false at message old old_stops now stops settles = λ s held only. ([], settles s held only)
 settles_follows (Failed keep.Store) is_whole at message old old_stops now stops settles = λ s held only.

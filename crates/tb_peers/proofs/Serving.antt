@@ -7,7 +7,7 @@ use Rattle.tb_peers.specs.Laws.{AnyTurns, OneAlone, moments_of, received_of}
 use Rattle.tb_peers.specs.Server.{Timed, calls_among, calls_at, server}
 use Rattle.tb_serve.specs.Serving.{answer_to, answers}
 use Rattle.tb_serve.specs.Telling.{after}
-use Rattle.tb_turns.specs.Told.{IsSteady, handled, led_to, taken_on, texts}
+use Rattle.tb_turns.specs.Served.{IsSteady, handled, led_to, taken_on, texts}
 use Rattle.tb_turns.proofs.Interleaved.{served, state_is}
 use Rattle.tb_turns.proofs.Alone.{alone}
 use Rattle.tb_site.specs.declared.site.Site.{Site}

@@ -118,7 +118,7 @@ pub(crate) fn takes_no_more(is_closing: bool, exchange: Exchange) -> bool
     ensures { result ≡ exchanging.takes_no_more is_closing exchange.turn exchange.is_whole }
 {
     match exchange.turn {
-        Turn::Told => is_closing || !exchange.is_whole,
+        Turn::Replied => is_closing || !exchange.is_whole,
         _ => true,
     }
 }

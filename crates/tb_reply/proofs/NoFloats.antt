@@ -6,8 +6,8 @@ use Rattle.tb_core.specs.declared.command.Answer.{Answer}
 use Rattle.tb_core.specs.declared.command.Answer.TheVariants.{OnBoard, NewPerson, NewBoard}
 use Rattle.tb_core.specs.declared.command.BoardAnswer.{BoardAnswer}
 use Rattle.tb_import.specs.declared.imported.ImportCounts.{ImportCounts}
-use Rattle.tb_core.specs.declared.command.Told.{Told}
-use Rattle.tb_core.specs.declared.command.Told.TheVariants.{Added, Changed, Imported, TodoImported, Swept}
+use Rattle.tb_core.specs.declared.command.AnswerDetail.{AnswerDetail}
+use Rattle.tb_core.specs.declared.command.AnswerDetail.TheVariants.{Added, Changed, Imported, TodoImported, Swept}
 use Rattle.tb_reply.specs.Bodies.{added_body, answer_body, changed_body, swept_body, imported_body, todo_imported_body, told_body}
 
 added_without_float : (a : BoardAnswer) (uuid : List ℕ) (dropped : ℕ) → has_float (added_body a uuid dropped) ≡ false
@@ -30,7 +30,7 @@ swept_without_float : (a : BoardAnswer) → has_float (swept_body a) ≡ false
 unfolding swept_body
 swept_without_float a = refl
 
-told_without_float : (a : BoardAnswer) (told : Told) → has_float (told_body a told) ≡ false
+told_without_float : (a : BoardAnswer) (told : AnswerDetail) → has_float (told_body a told) ≡ false
 told_without_float a (Added id dropped) = added_without_float a (id_text id) dropped
 told_without_float a (Changed id) = changed_without_float a (id_text id)
 told_without_float a (Imported counts) = imported_without_float a counts

@@ -9,8 +9,8 @@ use Rattle.tb_core.specs.declared.command.Answer.{Answer}
 use Rattle.tb_core.specs.declared.command.Answer.TheVariants.{OnBoard, NewPerson, NewBoard}
 use Rattle.tb_core.specs.declared.command.BoardAnswer.{BoardAnswer}
 use Rattle.tb_import.specs.declared.imported.ImportCounts.{ImportCounts}
-use Rattle.tb_core.specs.declared.command.Told.{Told}
-use Rattle.tb_core.specs.declared.command.Told.TheVariants.{Added, Changed, Imported, TodoImported, Swept}
+use Rattle.tb_core.specs.declared.command.AnswerDetail.{AnswerDetail}
+use Rattle.tb_core.specs.declared.command.AnswerDetail.TheVariants.{Added, Changed, Imported, TodoImported, Swept}
 use Rattle.tb_core.specs.declared.refusal.Refusal.{Refusal}
 use Rattle.tb_core.specs.declared.refusal.Refusal.TheVariants.{UnknownCaller, IdReused, NoBoard, NotAllowed, NoTask, WrongStatus, UuidTaken, BadTask, BadTaskAt, TemplateFixed, NoLink, Cycle, Full, NoPerson, LastOwner, NameTaken}
 
@@ -131,7 +131,7 @@ swept_body a = object
     (member (codes "board") (number (unsigned a.board))
     (member (codes "more") (boolean a.more) no_members)))
 
-abbrev pub told_body : BoardAnswer → Told → Data
+abbrev pub told_body : BoardAnswer → AnswerDetail → Data
 told_body a (Added id dropped) = added_body a (id_text id) dropped
 told_body a (Changed id) = changed_body a (id_text id)
 told_body a (Imported counts) = imported_body a counts

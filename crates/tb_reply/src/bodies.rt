@@ -8,7 +8,7 @@ ghost use Rattle.tb_reply.specs.Bodies.{added_body, answer_body, board_body, cha
 use serde_json::{Value, json};
 use std::alloc::{AllocError, Global};
 use tb_board::Name;
-use tb_core::{Answer, BoardAnswer, Refusal, Told};
+use tb_core::{Answer, AnswerDetail, BoardAnswer, Refusal};
 use tb_import::ImportCounts;
 use tb_task::{Field, TaskId};
 
@@ -49,15 +49,21 @@ fn body_of_board(alloc: Global, board: u32) -> Result<Value, AllocError>
     json!(in alloc; {"board": board})
 }
 
-fn body_on_board(alloc: Global, answer: &BoardAnswer, told: &Told) -> Result<Value, AllocError>
+fn body_on_board(
+    alloc: Global,
+    answer: &BoardAnswer,
+    told: &AnswerDetail,
+) -> Result<Value, AllocError>
     ensures { IfOk result (λ body. view body ≡ told_body answer.now told.now) }
 {
     match told {
-        Told::Added { id, dropped } => body_of_added(alloc, answer, *id, *dropped),
-        Told::Changed { id } => body_of_changed(alloc, answer, *id),
-        Told::Imported(counts) => body_of_import(alloc, answer, *counts),
-        Told::TodoImported { known, new } => body_of_todo_import(alloc, answer, *known, *new),
-        Told::Swept => body_of_sweep(alloc, answer),
+        AnswerDetail::Added { id, dropped } => body_of_added(alloc, answer, *id, *dropped),
+        AnswerDetail::Changed { id } => body_of_changed(alloc, answer, *id),
+        AnswerDetail::Imported(counts) => body_of_import(alloc, answer, *counts),
+        AnswerDetail::TodoImported { known, new } => body_of_todo_import(
+            alloc, answer, *known, *new,
+        ),
+        AnswerDetail::Swept => body_of_sweep(alloc, answer),
     }
 }
 

@@ -14,7 +14,7 @@ use Rattle.tb_http.specs.Wire.{BeginsWithMessage, is_last}
 use Rattle.tb_serve.specs.declared.serving.Exchange.{Exchange}
 use Rattle.tb_serve.specs.declared.serving.ServeEnd.{ServeEnd}
 use Rattle.tb_serve.specs.declared.serving.Turn.{Turn}
-use Rattle.tb_serve.specs.declared.serving.Turn.TheVariants.{Told, Failed, Unread}
+use Rattle.tb_serve.specs.declared.serving.Turn.TheVariants.{Replied, Failed, Unread}
 use Rattle.tb_serve.specs.Serving.{Exchanges, Handles, HandlesMessage, IsServed, Sends, Turns, answer_to, answers, calls_of, ended_by, ended_well, ends_last, goes_on, later, left_by, next, no_start, none_closes}
 use Rattle.tb_serve.specs.Telling.{StandsAt, after, calls_in}
 use Rattle.tb_serve.proofs.Lists.{answers-push, brings-push, calls-push, ends-push, left-push, none-push, reached, reached-after}
@@ -25,8 +25,8 @@ use Rattle.tb_site.specs.declared.site.Site.{Site}
 turned : (site : Site) (s : State) (clock : List (Option ℕ)) (before : ℕ) (bytes rest : List ℕ) (message : Message) (closes is_closing flag : Bool) (at : Option ℕ) (turn : Turn) (text : List ℕ) (now stops : State → Type 0)
     → BeginsWithMessage bytes message closes rest → is_closing ≡ is_last closes before → flag ≡ is_last closes before → at ≡ next clock
     → Handles site s at flag message turn text now stops → Turns site s clock before bytes turn text now stops (Some rest) is_closing
-turned site s clock before bytes rest message closes is_closing flag at Told text now stops begins last same is handles =
-    let P : Bool → Option ℕ → Type 0 = λ c a. Handles site s a c message Told text now stops in
+turned site s clock before bytes rest message closes is_closing flag at Replied text now stops begins last same is handles =
+    let P : Bool → Option ℕ → Type 0 = λ c a. Handles site s a c message Replied text now stops in
     let m : Received = record { message = message; closes = closes } in
     (m, rest, begins, refl, last, subst (λ (a : Option ℕ). P (is_last closes before) a) is (subst (λ (c : Bool). P c at) same handles))
 turned site s clock before bytes rest message closes is_closing flag at (Failed fault) text now stops begins last same is handles =
@@ -106,7 +106,7 @@ here site s all bytes known clock old new newer now stops next_now next_stops co
 more : (site : Site) (s : State) (all : List (Option ℕ)) (bytes : List ℕ) (known : Option (List ℕ)) (clock later_clock : Option (List (Option ℕ))) (old new newer : Option (List ℕ)) (now stops next_now next_stops : State → Type 0) (count : ℕ) (is_closing closing : Bool) (left : Option (List ℕ)) (text : List ℕ)
     → (r : SoFar site s all bytes known clock old new now stops count is_closing)
     → Appends new newer text
-    → Turns site (after s (calls_of all r.told)) (left_by all r.told) count r.left Told text next_now next_stops left closing
+    → Turns site (after s (calls_of all r.told)) (left_by all r.told) count r.left Replied text next_now next_stops left closing
     → is_closing ≡ false
     → later_clock ≡ Some (later (left_by all r.told))
     → SoFar site s all bytes left later_clock old newer next_now next_stops (count + 1) closing
@@ -137,8 +137,8 @@ more site s all bytes known clock later_clock old new newer now stops next_now n
       closing = λ closed. ends-push 0 told m (r.unclosed unclosed) ∙ sym last ∙ closed;
     }
 
-pub told_on : (turn : Turn) (is_whole : Bool) → goes_on turn is_whole ≡ true → (turn ≡ Told) × (is_whole ≡ true)
-told_on Told is_whole on = (refl, on)
+pub told_on : (turn : Turn) (is_whole : Bool) → goes_on turn is_whole ≡ true → (turn ≡ Replied) × (is_whole ≡ true)
+told_on Replied is_whole on = (refl, on)
 told_on (Failed fault) is_whole on = absurd (cc)
 told_on (Unread fault) is_whole on = absurd (cc)
 

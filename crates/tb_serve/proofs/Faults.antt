@@ -5,7 +5,7 @@ use Rattle.tb_http.specs.declared.fault.WireFault.{WireFault}
 use Rattle.tb_http.specs.declared.fault.WireFault.TheVariants as wire
 use Rattle.tb_serve.specs.declared.serving.ServeFault.TheVariants as fault
 use Rattle.tb_serve.specs.declared.serving.Turn.{Turn}
-use Rattle.tb_serve.specs.declared.serving.Turn.TheVariants.{Told, Failed, Unread}
+use Rattle.tb_serve.specs.declared.serving.Turn.TheVariants.{Replied, Failed, Unread}
 use Rattle.tb_serve.specs.Serving.{turn_fault, unread_fault}
 
 -- what can't be read is no failure of the store
@@ -28,7 +28,7 @@ unread_apart wire.NoClock is = cc
 -- it is told of a call or a view that failed so
 pub store_failed : (turn : Turn) (is_whole : Bool) → (if is_whole then turn_fault turn else Some fault.WriteFailed) ≡ Some fault.Store → turn ≡ Failed keep.Store
 store_failed turn false is = absurd (cc)
-store_failed Told true is = absurd (cc)
+store_failed Replied true is = absurd (cc)
 store_failed (Failed keep.Memory) true is = absurd (cc)
 store_failed (Failed keep.Store) true is = refl
 store_failed (Unread fault) true is = absurd (unread_apart fault is)

@@ -11,7 +11,7 @@ use Rattle.tb_site.specs.declared.site.Site.{Site}
 use Rattle.tb_site.specs.declared.site.SiteFile.{SiteFile}
 use Rattle.tb_site.specs.Site.{file_answer, file_for}
 use Rattle.tb_site.proofs.Files.{files_behind_routes}
-use Rattle.tb_serve.specs.declared.serving.Turn.TheVariants.{Told}
+use Rattle.tb_serve.specs.declared.serving.Turn.TheVariants.{Replied}
 use Rattle.tb_serve.specs.Serving.{HandlesMessage, Sends, Settles}
 use Rattle.tb_serve.specs.Telling.{StandsAt, after, called_by, calls_in, file_or, told_at, told_text, told_with}
 
@@ -22,14 +22,14 @@ no_calls site message None file is = refl
 no_calls site message (Some at) file is = ap (λ r. called_by (asked_on r message at)) (files_behind_routes site message file is)
 
 pub file_settles : (site : Site) (s : State) (message : Message) (at : Option ℕ) (file : SiteFile) (now stops : State → Type 0)
-    → Some file ≡ file_for site message → now s → Only s stops → Settles s at message Told now stops
+    → Some file ≡ file_for site message → now s → Only s stops → Settles s at message Replied now stops
 file_settles site s message at file now stops is held only =
     subst (λ (cs : List Call). StandsAt (after s cs) now stops) (sym (no_calls site message at file (sym is))) (record { held = held; stops = only })
 
 pub file_handled : (site : Site) (s : State) (message : Message) (at : Option ℕ) (closes : Bool) (file : SiteFile) (old new : Option (List ℕ)) (is_whole : Bool) (now stops : State → Type 0)
     → Some file ≡ file_for site message
     → Sends old new [] (answer_text (file_answer file closes (takes_body message)) file.body) is_whole
-    → now s → Only s stops → HandlesMessage site s at closes message old new Told is_whole now stops
+    → now s → Only s stops → HandlesMessage site s at closes message old new Replied is_whole now stops
 file_handled site s message at closes file old new is_whole now stops is sends held only = (
   answer_text (file_answer file closes (takes_body message)) file.body,
   sends,

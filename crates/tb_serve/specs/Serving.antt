@@ -19,7 +19,7 @@ use Rattle.tb_serve.specs.declared.serving.ServeEnd.{ServeEnd}
 use Rattle.tb_serve.specs.declared.serving.ServeFault.{ServeFault}
 use Rattle.tb_serve.specs.declared.serving.ServeFault.TheVariants as fault
 use Rattle.tb_serve.specs.declared.serving.Turn.{Turn}
-use Rattle.tb_serve.specs.declared.serving.Turn.TheVariants.{Told, Failed, Unread}
+use Rattle.tb_serve.specs.declared.serving.Turn.TheVariants.{Replied, Failed, Unread}
 use Rattle.tb_serve.specs.Telling.{FailedAt, StandsAt, after, calls_in, failed_text, told_text, told_with}
 use Rattle.tb_site.specs.declared.site.Site.{Site}
 
@@ -85,7 +85,7 @@ Sends old new front text false = (count : ℕ) × (count < length text) × Appen
 
 -- What came of a message that was read, which closes the connection or not, the text that answers it, and what stands then.
 abbrev pub Handles : Site → State → Option ℕ → Bool → Message → Turn → List ℕ → (State → Type 0) → (State → Type 0) → Type 0
-Handles site s at closes message Told text now may_leave =
+Handles site s at closes message Replied text now may_leave =
     (text ≡ told_text (told_with site s message at) closes (takes_body message)) × StandsAt (after s (calls_in message at)) now may_leave
 Handles site s at closes message (Failed fault) text now may_leave =
     (text ≡ failed_text fault (takes_body message)) × FailedAt fault s (calls_in message at) now may_leave
@@ -93,7 +93,7 @@ Handles site s at closes message (Unread fault) text now may_leave = ⊥
 
 -- what stands behind a message that was read, whatever it was told
 abbrev pub Settles : State → Option ℕ → Message → Turn → (State → Type 0) → (State → Type 0) → Type 0
-Settles s at message Told now may_leave = StandsAt (after s (calls_in message at)) now may_leave
+Settles s at message Replied now may_leave = StandsAt (after s (calls_in message at)) now may_leave
 Settles s at message (Failed fault) now may_leave = FailedAt fault s (calls_in message at) now may_leave
 Settles s at message (Unread fault) now may_leave = ⊥
 
@@ -107,9 +107,9 @@ HandlesMessage site s at closes message old new turn is_whole now may_leave =
 abbrev pub Turns : Site → State → List (Option ℕ) → ℕ → List ℕ → Turn → List ℕ → (State → Type 0) → (State → Type 0) → Option (List ℕ) → Bool → Type 0
 Turns site s clock before bytes (Unread fault) text now may_leave left is_closing =
     Faults bytes fault × (text ≡ unread_text fault) × StandsAt s now may_leave
-Turns site s clock before bytes Told text now may_leave left is_closing =
+Turns site s clock before bytes Replied text now may_leave left is_closing =
     (m : Received) × (rest : List ℕ) × BeginsWithMessage bytes m.message m.closes rest × (left ≡ Some rest)
-    × (is_closing ≡ is_last m.closes before) × Handles site s (next clock) (is_last m.closes before) m.message Told text now may_leave
+    × (is_closing ≡ is_last m.closes before) × Handles site s (next clock) (is_last m.closes before) m.message Replied text now may_leave
 Turns site s clock before bytes (Failed fault) text now may_leave left is_closing =
     (m : Received) × (rest : List ℕ) × BeginsWithMessage bytes m.message m.closes rest × (left ≡ Some rest)
     × (is_closing ≡ is_last m.closes before) × Handles site s (next clock) (is_last m.closes before) m.message (Failed fault) text now may_leave
@@ -142,7 +142,7 @@ keep_fault keep.Memory = fault.Memory
 keep_fault keep.Store = fault.Store
 
 abbrev pub turn_fault : Turn → Option ServeFault
-turn_fault Told = None
+turn_fault Replied = None
 turn_fault (Failed fault) = Some (keep_fault fault)
 turn_fault (Unread fault) = unread_fault fault
 
@@ -151,18 +151,18 @@ exchange_fault exchange = if exchange.is_whole then turn_fault exchange.turn els
 
 -- a message was told what it asked for, and its answer written whole
 abbrev pub goes_on : Turn → Bool → Bool
-goes_on Told is_whole = is_whole
+goes_on Replied is_whole = is_whole
 goes_on (Failed fault) is_whole = false
 goes_on (Unread fault) is_whole = false
 
 -- a message was read, and an answer is owed
 abbrev pub reads_one : Turn → ℕ
-reads_one Told = 1
+reads_one Replied = 1
 reads_one (Failed fault) = 1
 reads_one (Unread fault) = 0
 
 abbrev pub owes_one : Turn → ℕ
-owes_one Told = 1
+owes_one Replied = 1
 owes_one (Failed fault) = 1
 owes_one (Unread fault) = if is_some (status_of fault) then 1 else 0
 

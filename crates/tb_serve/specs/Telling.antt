@@ -21,7 +21,7 @@ use Rattle.tb_http.specs.Fault.{status_of, body_of as fault_body}
 use Rattle.tb_asking.specs.declared.asked.Asked.{Asked}
 use Rattle.tb_asking.specs.declared.asked.Asked.TheVariants as asked
 use Rattle.tb_asking.specs.declared.rejection.Rejection.{Rejection}
-use Rattle.tb_serve.specs.declared.told.Told.{Told}
+use Rattle.tb_serve.specs.declared.response.Response.{Response}
 use Rattle.tb_asking.specs.Asking.{asked_of}
 use Rattle.tb_asking.specs.Rejections.{allowed_by, body_of, fault_of}
 use Rattle.tb_site.specs.declared.site.Site.{Site}
@@ -30,7 +30,7 @@ use Rattle.tb_site.specs.Site.{file_for}
 
 -- ---- what is told
 
-abbrev pub told_reply : ContentType → Reply → Told
+abbrev pub told_reply : ContentType → Reply → Response
 told_reply type reply = record { status = reply.status; content_type = type; allow = None; body = reply.body }
 
 -- a listing and lines of todo.txt are plain text, where they aren't refused
@@ -42,43 +42,43 @@ view_type (view.One board id) number = Json
 view_type (view.People board) number = Json
 view_type view.Me number = Json
 
-abbrev pub told_view : View → Reply → Told
+abbrev pub told_view : View → Reply → Response
 told_view view reply = told_reply (view_type view reply.number) reply
 
 -- each of these faults has a status
-abbrev pub told_fault : WireFault → Option Verb → List ℕ → Told
+abbrev pub told_fault : WireFault → Option Verb → List ℕ → Response
 told_fault fault allow body = record { status = unwrap_or (status_of fault) 500; content_type = Json; allow = allow; body = body }
 
-abbrev pub told_rejection : Rejection → Told
+abbrev pub told_rejection : Rejection → Response
 told_rejection rejection = told_fault (fault_of rejection) (allowed_by rejection) (body_of rejection)
 
-abbrev pub told_asked : State → ℕ → Asked → Told
+abbrev pub told_asked : State → ℕ → Asked → Response
 told_asked s at (asked.Call call) = told_reply Json (reply s [] call)
 told_asked s at (asked.View sender view) = told_view view (shown_in s sender.name sender.key view at)
 told_asked s at asked.Unknown = told_reply Json unknown_caller
 
-abbrev pub told_by : State → ℕ → Result Asked Rejection → Told
+abbrev pub told_by : State → ℕ → Result Asked Rejection → Response
 told_by s at (Ok asked) = told_asked s at asked
 told_by s at (Err rejection) = told_rejection rejection
 
 -- what the boards tell a message that the clock gave a moment, or none
-abbrev pub told_at : State → Message → Option ℕ → Told
+abbrev pub told_at : State → Message → Option ℕ → Response
 told_at s message None = told_fault wire.NoClock None (fault_body wire.NoClock)
 told_at s message (Some at) = told_by s at (asked_of message at)
 
 -- a file of the page
-abbrev pub told_file : SiteFile → Told
+abbrev pub told_file : SiteFile → Response
 told_file file = record { status = 200; content_type = File file.media; allow = None; body = file.body }
 
-abbrev pub file_or : Option SiteFile → Told → Told
+abbrev pub file_or : Option SiteFile → Response → Response
 file_or None told = told
 file_or (Some file) told = told_file file
 
 -- What a message is told: a file of the page, where it is told one, whatever the state and the moment are, and else what the boards tell.
-abbrev pub told_with : Site → State → Message → Option ℕ → Told
+abbrev pub told_with : Site → State → Message → Option ℕ → Response
 told_with site s message at = file_or (file_for site message) (told_at s message at)
 
-abbrev pub answer_of : Told → Bool → Bool → Answer
+abbrev pub answer_of : Response → Bool → Bool → Answer
 answer_of told is_last sends_body = record {
   status = told.status;
   content_type = told.content_type;
@@ -88,7 +88,7 @@ answer_of told is_last sends_body = record {
 }
 
 -- the whole text of an answer
-abbrev pub told_text : Told → Bool → Bool → List ℕ
+abbrev pub told_text : Response → Bool → Bool → List ℕ
 told_text told is_last sends_body = answer_text (answer_of told is_last sends_body) told.body
 
 -- ---- what is told where the keeper gives no reply; the connection is closed then

@@ -5,9 +5,9 @@
 
 mod clock;
 mod list_clock;
+mod response;
 mod serving;
 mod telling;
-mod told;
 
 pub use clock::Clock;
 pub use list_clock::ListClock;

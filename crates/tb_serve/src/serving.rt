@@ -42,7 +42,7 @@ pub struct ServeEnd {
 #[derive(Clone, Copy)]
 pub enum Turn {
     /// It was read, and is told what it asked for, or that it asked for nothing.
-    Told,
+    Replied,
     /// It was read, and its call or view got no reply.
     Failed(KeepFault),
     /// It couldn't be read.
@@ -74,7 +74,7 @@ impl Exchange {
         ensures { result ≡ goes_on self.turn self.is_whole }
     {
         match self.turn {
-            Turn::Told => self.is_whole,
+            Turn::Replied => self.is_whole,
             _ => false,
         }
     }
@@ -109,7 +109,7 @@ impl Turn {
         ensures small { result ≤ 1 }
     {
         match self {
-            Turn::Told | Turn::Failed(_) => 1,
+            Turn::Replied | Turn::Failed(_) => 1,
             Turn::Unread(_) => 0,
         }
     }
@@ -120,7 +120,7 @@ impl Turn {
         ensures small { result ≤ 1 }
     {
         match self {
-            Turn::Told | Turn::Failed(_) => 1,
+            Turn::Replied | Turn::Failed(_) => 1,
             Turn::Unread(fault) if fault.status().is_some() => 1,
             Turn::Unread(_) => 0,
         }
@@ -130,7 +130,7 @@ impl Turn {
         ensures { result ≡ turn_fault self }
     {
         match self {
-            Turn::Told => None,
+            Turn::Replied => None,
             Turn::Failed(KeepFault::Memory) => Some(ServeFault::Memory),
             Turn::Failed(KeepFault::Store) => Some(ServeFault::Store),
             Turn::Unread(WireFault::ReadFailed) => Some(ServeFault::ReadFailed),
@@ -221,7 +221,7 @@ pub fn handle_message<W: Write, K: Keep>(
     if let Some(file) = paths.file(message) {
         let answer = file.answer(is_last, message.takes_body());
         return Exchange {
-            turn: Turn::Told,
+            turn: Turn::Replied,
             is_whole: send(room, writer, answer, file.body.as_slice()),
         };
     }
@@ -229,7 +229,7 @@ pub fn handle_message<W: Write, K: Keep>(
         Ok(told) => {
             let answer = told.answer(is_last, message.takes_body());
             Exchange {
-                turn: Turn::Told,
+                turn: Turn::Replied,
                 is_whole: send(room, writer, answer, told.body.as_bytes()),
             }
         }
@@ -259,8 +259,8 @@ fn serve_message<R: Read + Drop, W: Write, K: Keep, C: Clock>(
     ensures honest { K.is_honest desk.new ≡ true → K.is_honest desk.old ≡ true }
     ensures failed { result.turn ≡ Turn.Failed KeepFault.Store → K.has_failed desk.new ≡ true }
     ensures clock { IfSome (C.answers clock.old) (λ moments. C.answers clock.new ≡ Some (drop (reads_one result.turn) moments)) }
-    ensures counted { result.turn ≡ Turn.Told → reader.new.messages ≡ reader.old.messages + 1 }
-    ensures limit { result.turn ≡ Turn.Told → message_limit ≤ reader.new.messages → reader.new.is_closing ≡ true }
+    ensures counted { result.turn ≡ Turn.Replied → reader.new.messages ≡ reader.old.messages + 1 }
+    ensures limit { result.turn ≡ Turn.Replied → message_limit ≤ reader.new.messages → reader.new.is_closing ≡ true }
 {
     match reader.read_message(alloc) {
         Ok(message) => {

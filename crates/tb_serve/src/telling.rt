@@ -7,7 +7,7 @@ ghost use Rattle.tb_http.specs.declared.message.Message.{Message};
 ghost use Rattle.tb_asking.specs.Asking.{asked_of};
 ghost use Rattle.tb_serve.specs.Telling.{ReachesAt, called_by, calls_in, told_asked, told_at, told_by, told_reply, told_view};
 
-use crate::told::Told;
+use crate::response::Response;
 use std::alloc::{AllocError, Global};
 use tb_asking::{Asked, CallFault, Sender, ask};
 use tb_calls::{Call, Keep, KeepFault, View};
@@ -25,7 +25,7 @@ pub(crate) fn tell<K: Keep>(
     desk: &mut Desk<K>,
     message: &Message,
     at: Option<Moment>,
-) -> Result<Told, KeepFault>
+) -> Result<Response, KeepFault>
     ensures told { K.is_honest desk.new ≡ true → (s : State) → K.holds desk.old s
         → IfOk result (λ told. told ≡ told_at s message.now at) }
     ensures stands { (s : State) → K.holds desk.old s → Only s (K.after_stop desk.old)
@@ -39,11 +39,11 @@ pub(crate) fn tell<K: Keep>(
     }
 }
 
-fn without_clock(alloc: Global) -> Result<Told, AllocError>
+fn without_clock(alloc: Global) -> Result<Response, AllocError>
     ensures { IfOk result (λ told. (s : State) → (message : Message) → told ≡ told_at s message None) }
 {
     let body = Text::from_str(alloc, WireFault::NoClock.body())?;
-    Ok(Told::fault(WireFault::NoClock, None, body))
+    Ok(Response::fault(WireFault::NoClock, None, body))
 }
 
 fn tell_at<K: Keep>(
@@ -52,7 +52,7 @@ fn tell_at<K: Keep>(
     desk: &mut Desk<K>,
     message: &Message,
     at: Moment,
-) -> Result<Told, KeepFault>
+) -> Result<Response, KeepFault>
     ensures told { K.is_honest desk.new ≡ true → (s : State) → K.holds desk.old s
         → IfOk result (λ told. told ≡ told_by s at (asked_of message.now at)) }
     ensures stands { (s : State) → K.holds desk.old s → Only s (K.after_stop desk.old)
@@ -62,7 +62,7 @@ fn tell_at<K: Keep>(
 {
     match ask(alloc, routes, message, at) {
         Ok(asked) => tell_asked(alloc, desk, &asked, at),
-        Err(CallFault::Rejected(rejection)) => Ok(Told::rejection(alloc, &rejection)?),
+        Err(CallFault::Rejected(rejection)) => Ok(Response::rejection(alloc, &rejection)?),
         Err(CallFault::Memory) => Err(KeepFault::Memory),
     }
 }
@@ -72,7 +72,7 @@ fn tell_asked<K: Keep>(
     desk: &mut Desk<K>,
     asked: &Asked,
     at: Moment,
-) -> Result<Told, KeepFault>
+) -> Result<Response, KeepFault>
     ensures told { K.is_honest desk.new ≡ true → (s : State) → K.holds desk.old s
         → IfOk result (λ told. told ≡ told_asked s at asked.now) }
     ensures stands { (s : State) → K.holds desk.old s → Only s (K.after_stop desk.old)
@@ -87,14 +87,14 @@ fn tell_asked<K: Keep>(
     }
 }
 
-fn unknown_sender(alloc: Global) -> Result<Told, AllocError>
+fn unknown_sender(alloc: Global) -> Result<Response, AllocError>
     ensures { IfOk result (λ told. told ≡ told_reply ContentType.Json unknown_caller) }
 {
     let reply = reply_to_refused(alloc, Refusal::UnknownCaller)?;
-    Ok(Told::reply(ContentType::Json, reply))
+    Ok(Response::reply(ContentType::Json, reply))
 }
 
-fn tell_call<K: Keep>(alloc: Global, desk: &mut Desk<K>, call: &Call) -> Result<Told, KeepFault>
+fn tell_call<K: Keep>(alloc: Global, desk: &mut Desk<K>, call: &Call) -> Result<Response, KeepFault>
     ensures told { K.is_honest desk.new ≡ true → (s : State) → K.holds desk.old s
         → IfOk result (λ told. told ≡ told_reply ContentType.Json (reply s [] call.now)) }
     ensures stands { (s : State) → K.holds desk.old s → Only s (K.after_stop desk.old)
@@ -103,7 +103,7 @@ fn tell_call<K: Keep>(alloc: Global, desk: &mut Desk<K>, call: &Call) -> Result<
     ensures failed { IsErrOf result KeepFault.Store → K.has_failed desk.new ≡ true }
 {
     let reply = desk.handle(alloc, call)?;
-    Ok(Told::reply(ContentType::Json, reply))
+    Ok(Response::reply(ContentType::Json, reply))
 }
 
 fn tell_view<K: Keep>(
@@ -112,7 +112,7 @@ fn tell_view<K: Keep>(
     sender: &Sender,
     view: &View,
     at: Moment,
-) -> Result<Told, KeepFault>
+) -> Result<Response, KeepFault>
     ensures told { K.is_honest desk.new ≡ true → (s : State) → K.holds desk.old s
         → IfOk result (λ told. told ≡ told_view view.now (shown_in s sender.now.name sender.now.key view.now at)) }
     ensures stands { (s : State) → K.holds desk.old s → Only s (K.after_stop desk.old)
@@ -121,7 +121,7 @@ fn tell_view<K: Keep>(
     ensures failed { IsErrOf result KeepFault.Store → K.has_failed desk.new ≡ true }
 {
     match desk.view(alloc, &sender.name, &sender.key, view, at) {
-        Ok(reply) => Ok(Told::view(view, reply)),
+        Ok(reply) => Ok(Response::view(view, reply)),
         Err(fault) => Err(fault),
     }
 }

@@ -7,7 +7,7 @@ use Rattle.tb_peers.specs.Happening.{talk_at}
 use Rattle.tb_peers.specs.Server.{Timed, calls_among, server}
 use Rattle.tb_serve.specs.Telling.{StandsAt, after}
 use Rattle.tb_server.specs.Serves.{Serves, at_places}
-use Rattle.tb_turns.specs.Told.{IsSame, IsServed, handled}
+use Rattle.tb_turns.specs.Served.{IsSame, IsServed, handled}
 use Rattle.tb_turns.specs.Turns.{Step, Talk, done_in}
 use Rattle.tb_site.specs.declared.site.Site.{Site}
 

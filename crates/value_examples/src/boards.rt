@@ -1,8 +1,8 @@
 //! Boards and worlds, whose tasks are given as the JSON texts that store them, with tabs between them.
 
+use crate::finding::{Finding, missing, show};
 use crate::given::{halves, moment_at, person, read_count};
 use crate::tasks::read;
-use crate::told::{Told, missing, show};
 use std::alloc::Global;
 use std::io;
 use tb_board::{Board, Person, Role, RoleOn, Title, World};
@@ -10,7 +10,7 @@ use tb_good::is_good_world;
 use tb_report::urgency;
 use tb_values::{Items, Shared};
 
-pub(crate) fn answer(alloc: Global, word: &str, given: &str) -> Option<Told> {
+pub(crate) fn answer(alloc: Global, word: &str, given: &str) -> Option<Finding> {
     Some(match word {
         "urgency" => urgency_in(alloc, given),
         "good" => is_good(alloc, given),
@@ -38,7 +38,7 @@ fn board_with(alloc: Global, tasks: &str) -> io::Result<Board> {
 }
 
 /// The urgency at a moment of the task at a place.
-fn urgency_in(alloc: Global, given: &str) -> Told {
+fn urgency_in(alloc: Global, given: &str) -> Finding {
     let (at, rest) = halves(given);
     let (place, tasks) = halves(rest);
     let (at, place) = (moment_at(at)?, read_count(place));
@@ -60,7 +60,7 @@ pub(crate) fn opened(alloc: Global) -> io::Result<World> {
 }
 
 /// Whether the world is good that a person begins with, with these tasks on its board.
-fn is_good(alloc: Global, tasks: &str) -> Told {
+fn is_good(alloc: Global, tasks: &str) -> Finding {
     let mut boards = Items::new(alloc);
     boards.push(Shared::new(alloc, board_with(alloc, tasks)?)?)?;
     let mut world = opened(alloc)?;
@@ -69,7 +69,7 @@ fn is_good(alloc: Global, tasks: &str) -> Told {
 }
 
 /// Whether it is good with its person twice, as a reader, or without a role.
-fn is_good_otherwise(alloc: Global, word: &str) -> Told {
+fn is_good_otherwise(alloc: Global, word: &str) -> Finding {
     let mut world = opened(alloc)?;
     match word {
         "good_with_twin" => world.people.push(ann(alloc)?)?,

@@ -1,9 +1,9 @@
 //! Boards at hand, and boards after changes.
 
 use crate::boards::empty_board;
+use crate::finding::{Finding, missing};
 use crate::given::{halves, read_count, read_place};
 use crate::tasks::read;
-use crate::told::{Told, missing};
 use std::alloc::Global;
 use std::io;
 use tb_board::{Ahead, Board, Change};
@@ -17,7 +17,7 @@ const LAST: u32 = 20;
 const TASK: &str =
     r#"{"description":"Milk","entry":"20260101T000000Z","status":"pending","uuid":"00000001-0000-8000-8000-000000000001"}"#;
 
-pub(crate) fn answer(alloc: Global, word: &str, given: &str) -> Option<Told> {
+pub(crate) fn answer(alloc: Global, word: &str, given: &str) -> Option<Finding> {
     Some(match word {
         "at_hand" => at_hand(alloc, given),
         "replayed" => replay(alloc, given),
@@ -26,7 +26,7 @@ pub(crate) fn answer(alloc: Global, word: &str, given: &str) -> Option<Told> {
 }
 
 /// The boards that are at hand after steps.
-fn at_hand(alloc: Global, steps: &str) -> Told {
+fn at_hand(alloc: Global, steps: &str) -> Finding {
     let mut cache = BoardCache::new(alloc)?;
     for step in steps.split_whitespace() {
         take_step(alloc, &mut cache, step)?;
@@ -105,7 +105,7 @@ fn task_put(alloc: Global, board: u32, place: usize, json: &str) -> io::Result<C
 }
 
 /// How many tasks a board has before and after changes, which put each of these tasks at the place of its number.
-fn replay(alloc: Global, given: &str) -> Told {
+fn replay(alloc: Global, given: &str) -> Finding {
     let board = empty_board(alloc)?;
     let mut changes = Items::new(alloc);
     for part in given.split('\t') {

@@ -1,7 +1,7 @@
 //! A case: each line that isn't an answer is a question, and is told again with its answer. What is told has to be the text of the case.
 
+use crate::finding::{Finding, say};
 use crate::given::halves;
-use crate::told::{Told, say};
 use crate::{
     boards, caches, changes, clients, graphs, identifiers, imports, json, lists, machine, messages,
     moments, orders, outcomes, recurrences, rows, scripts, statuses, tasks, texts, todo_lines,
@@ -44,7 +44,7 @@ fn tell_answer(alloc: Global, told: &mut String, line: &str) -> io::Result<()> {
     Ok(())
 }
 
-fn answer_or_none(alloc: Global, word: &str, given: &str) -> Told {
+fn answer_or_none(alloc: Global, word: &str, given: &str) -> Finding {
     match answer(alloc, word, given) {
         Err(error) if error.kind() == io::ErrorKind::NotFound => say(alloc, "none"),
         told => told,
@@ -52,7 +52,7 @@ fn answer_or_none(alloc: Global, word: &str, given: &str) -> Told {
 }
 
 /// What the function that the word names answers.
-fn answer(alloc: Global, word: &str, given: &str) -> Told {
+fn answer(alloc: Global, word: &str, given: &str) -> Finding {
     value_answer(alloc, word, given)
         .or_else(|| todo_lines::answer(alloc, word, given))
         .or_else(|| json::answer(alloc, word, given))
@@ -67,7 +67,7 @@ fn answer(alloc: Global, word: &str, given: &str) -> Told {
 }
 
 /// The same, where the function is one over values.
-fn value_answer(alloc: Global, word: &str, given: &str) -> Option<Told> {
+fn value_answer(alloc: Global, word: &str, given: &str) -> Option<Finding> {
     boards::answer(alloc, word, given)
         .or_else(|| caches::answer(alloc, word, given))
         .or_else(|| changes::answer(alloc, word, given))
@@ -82,7 +82,7 @@ fn value_answer(alloc: Global, word: &str, given: &str) -> Option<Told> {
         .or_else(|| texts::answer(alloc, word, given))
 }
 
-fn first_difference(alloc: Global, text: &str, told: &str) -> Told {
+fn first_difference(alloc: Global, text: &str, told: &str) -> Finding {
     let mut others = told.lines();
     let mut number = 1u32;
     for line in text.lines() {

@@ -1,16 +1,16 @@
 //! The changes that commands list.
 
 use crate::boards::{ann, opened};
+use crate::finding::Finding;
 use crate::given::{halves, id_of, moment_at};
 use crate::tasks::read;
-use crate::told::Told;
 use std::alloc::{AllocError, Global};
 use std::io;
 use tb_board::{Change, World};
 use tb_core::{Action, Command, Decision, decide, look_for};
 use tb_task::{Incoming, Moment, Task, TaskId};
 
-pub(crate) fn answer(alloc: Global, word: &str, given: &str) -> Option<Told> {
+pub(crate) fn answer(alloc: Global, word: &str, given: &str) -> Option<Finding> {
     match word {
         "done" => Some(done(alloc, given)),
         _ => None,
@@ -18,7 +18,7 @@ pub(crate) fn answer(alloc: Global, word: &str, given: &str) -> Option<Told> {
 }
 
 /// What the completion of a task lists in a world to which a template was added: the moment, the task, and the template.
-fn done(alloc: Global, given: &str) -> Told {
+fn done(alloc: Global, given: &str) -> Finding {
     let (at, rest) = halves(given);
     let (id, json) = halves(rest);
     let (add, complete) = (add(read(alloc, json)?), complete(id_of(id)?));
@@ -47,7 +47,7 @@ fn complete(id: TaskId) -> Command {
 }
 
 /// The changes of one command, and of another one after it.
-fn both(alloc: Global, one: &Command, other: &Command, at: Moment) -> Told {
+fn both(alloc: Global, one: &Command, other: &Command, at: Moment) -> Finding {
     let mut told = String::new(alloc);
     let world = opened(alloc)?;
     let decision = decided(alloc, &world, one, at)?;

@@ -1,13 +1,13 @@
 //! A client: what words ask a server for, and the tasks that their places are.
 
+use crate::finding::{Finding, missing, show};
 use crate::given::text_of;
 use crate::lists::words_of;
-use crate::told::{Told, missing, show};
 use std::alloc::{AllocError, Global};
 use tb_client::{named_words, places_of, read_tasks, request_of};
 use tb_values::Text;
 
-pub(crate) fn answer(alloc: Global, word: &str, given: &str) -> Option<Told> {
+pub(crate) fn answer(alloc: Global, word: &str, given: &str) -> Option<Finding> {
     Some(match word {
         "request" => request(alloc, given),
         "places" => places(alloc, given),
@@ -28,7 +28,7 @@ fn parts_of(alloc: Global, given: &str) -> Result<Vec<Text>, AllocError> {
 }
 
 /// What words ask for: a view, or a call with its body.
-fn request(alloc: Global, given: &str) -> Told {
+fn request(alloc: Global, given: &str) -> Finding {
     let words = parts_of(alloc, given)?;
     let request = request_of(alloc, &words)?.ok_or(missing())?;
     let target = request.target.as_str();
@@ -38,13 +38,13 @@ fn request(alloc: Global, given: &str) -> Told {
     })
 }
 
-fn places(alloc: Global, given: &str) -> Told {
+fn places(alloc: Global, given: &str) -> Finding {
     let words = parts_of(alloc, given)?;
     show(alloc, &places_of(alloc, &words)?)
 }
 
 /// How many tasks an export has, and each of them.
-fn exported(alloc: Global, given: &str) -> Told {
+fn exported(alloc: Global, given: &str) -> Finding {
     let text = text_of(alloc, given)?;
     let tasks = read_tasks(alloc, text.as_bytes())?.ok_or(missing())?;
     let mut told = format!(in alloc; "{} tasks\n", tasks.len())?;
@@ -56,7 +56,7 @@ fn exported(alloc: Global, given: &str) -> Told {
 }
 
 /// Words behind an export, with its identifiers in place of their places.
-fn named(alloc: Global, given: &str) -> Told {
+fn named(alloc: Global, given: &str) -> Finding {
     let parts = parts_of(alloc, given)?;
     let (body, words) = parts.split_first().ok_or(missing())?;
     let tasks = read_tasks(alloc, body.as_bytes())?.ok_or(missing())?;

@@ -1,5 +1,5 @@
 //! What stands behind the word of a question: its parts, numbers, texts, bytes, moments and people.
-use crate::told::missing;
+use crate::finding::missing;
 use bstr::ByteVec;
 use std::alloc::{AllocError, Global};
 use std::io;

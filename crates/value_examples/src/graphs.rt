@@ -1,12 +1,12 @@
 //! Links between nodes, and the circles in them.
 
+use crate::finding::{Finding, missing, show};
 use crate::given::{halves, read_count, read_place};
-use crate::told::{Told, missing, show};
 use std::alloc::{AllocError, Global};
 use std::io;
 use tb_graph::Links;
 
-pub(crate) fn answer(alloc: Global, word: &str, given: &str) -> Option<Told> {
+pub(crate) fn answer(alloc: Global, word: &str, given: &str) -> Option<Finding> {
     Some(match word {
         "chain" => chain(alloc, given),
         "nodes" | "acyclic" | "reaches" | "blocked" | "blocking" => graph(alloc, word, given),
@@ -15,7 +15,7 @@ pub(crate) fn answer(alloc: Global, word: &str, given: &str) -> Option<Told> {
 }
 
 /// Asks a graph of so many nodes with the links `FROM>TO`, or `-` for none.
-fn graph(alloc: Global, word: &str, given: &str) -> Told {
+fn graph(alloc: Global, word: &str, given: &str) -> Finding {
     let (nodes, rest) = halves(given);
     let (pairs, rest) = halves(rest);
     let mut links = Links::new(alloc, read_count(nodes))?;
@@ -43,7 +43,7 @@ fn add(links: &mut Links, pair: &str) -> io::Result<()> {
     Ok(())
 }
 
-fn reaches(alloc: Global, links: &Links, rest: &str) -> Told {
+fn reaches(alloc: Global, links: &Links, rest: &str) -> Finding {
     let (from, to) = halves(rest);
     let (from, to) = (read_place(from), read_place(to));
     if from >= links.nodes() || to >= links.nodes() {
@@ -53,7 +53,7 @@ fn reaches(alloc: Global, links: &Links, rest: &str) -> Told {
 }
 
 /// Which of the nodes that are open, with a `+`, are blocked or blocking.
-fn waiting(alloc: Global, links: &Links, word: &str, rest: &str) -> Told {
+fn waiting(alloc: Global, links: &Links, word: &str, rest: &str) -> Finding {
     let mut open = Vec::new(alloc);
     for mark in rest.as_bytes() {
         open.push(*mark == b'+')?;
@@ -76,7 +76,7 @@ fn link_on(links: &mut Links, from: usize) -> Result<(), AllocError> {
 }
 
 /// Whether a long chain is acyclic, whether its first node reaches the last, and whether it is acyclic with a link back.
-fn chain(alloc: Global, given: &str) -> Told {
+fn chain(alloc: Global, given: &str) -> Finding {
     let nodes = read_count(given);
     let mut links = Links::new(alloc, nodes)?;
     for from in 0..nodes {

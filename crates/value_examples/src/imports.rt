@@ -1,21 +1,21 @@
 //! Imports onto an empty board, and what they change when they come again.
 use crate::boards::empty_board;
+use crate::finding::{Finding, missing, show};
 use crate::given::now;
-use crate::told::{Told, missing, show};
 use std::alloc::{AllocError, Global};
 use tb_board::Draft;
 use tb_import::{ImportStop, Imported, import_tasks};
 use tb_json::{read_import, write_stored};
 use tb_task::Incoming;
 
-pub(crate) fn answer(alloc: Global, word: &str, given: &str) -> Option<Told> {
+pub(crate) fn answer(alloc: Global, word: &str, given: &str) -> Option<Finding> {
     match word {
         "import_tasks" => Some(imported(alloc, given)),
         _ => None,
     }
 }
 
-fn imported(alloc: Global, text: &str) -> Told {
+fn imported(alloc: Global, text: &str) -> Finding {
     let list = read_import(alloc, text.as_bytes(), now()?)
         .ok()
         .ok_or(missing())?;

@@ -1,7 +1,7 @@
 //! Tasks as JSON: as they come in, as they are stored, and the edits of them.
+use crate::finding::{Finding, say, show};
 use crate::given::{halves, now, read_count, text_of};
 use crate::tasks::read;
-use crate::told::{Told, say, show};
 use std::alloc::{AllocError, Global};
 use tb_json::{
     ImportFault, JsonFault, parse, read_import, read_modify, read_stored, read_task, write_stored,
@@ -10,7 +10,7 @@ use tb_json::{
 use tb_task::{Incoming, Shown, TaskId, check};
 use tb_values::Shared;
 
-pub(crate) fn answer(alloc: Global, word: &str, given: &str) -> Option<Told> {
+pub(crate) fn answer(alloc: Global, word: &str, given: &str) -> Option<Finding> {
     Some(match word {
         "task" => task(alloc, given),
         "many_tags" => many_tags(alloc, given),
@@ -22,7 +22,7 @@ pub(crate) fn answer(alloc: Global, word: &str, given: &str) -> Option<Told> {
     })
 }
 
-fn told(alloc: Global, fault: &JsonFault) -> Told {
+fn told(alloc: Global, fault: &JsonFault) -> Finding {
     match fault {
         JsonFault::NotObject => say(alloc, "NotObject"),
         JsonFault::BadField(name) => Ok(format!(in alloc; "BadField {}", name.as_str())?),
@@ -31,7 +31,7 @@ fn told(alloc: Global, fault: &JsonFault) -> Told {
 }
 
 /// The task that comes in, or its fault.
-fn task(alloc: Global, text: &str) -> Told {
+fn task(alloc: Global, text: &str) -> Finding {
     let Some(value) = parse(alloc, text)? else {
         return say(alloc, "no JSON");
     };
@@ -42,7 +42,7 @@ fn task(alloc: Global, text: &str) -> Told {
 }
 
 /// How many members were dropped, and what is written of the task when it comes to board 1 as its first.
-fn first_of_board(alloc: Global, incoming: Incoming) -> Told {
+fn first_of_board(alloc: Global, incoming: Incoming) -> Finding {
     let dropped = incoming.dropped;
     let mut task = incoming.task;
     task.modified = Some(now()?);
@@ -56,7 +56,7 @@ fn first_of_board(alloc: Global, incoming: Incoming) -> Told {
 }
 
 /// How long the answer is of a task with so many tags in falling order, each of which goes before all that are there.
-fn many_tags(alloc: Global, count: &str) -> Told {
+fn many_tags(alloc: Global, count: &str) -> Finding {
     let mut text = String::from_str(alloc, r#"{"description":"a","tags":["a""#)?;
     for number in 0..read_count(count) {
         write!(text, ",\"{}\"", 999_999usize.saturating_sub(number))?;
@@ -67,7 +67,7 @@ fn many_tags(alloc: Global, count: &str) -> Told {
 }
 
 /// The names of the attributes that are set or removed.
-fn edits(alloc: Global, text: &str) -> Told {
+fn edits(alloc: Global, text: &str) -> Finding {
     let Some(value) = parse(alloc, text)? else {
         return say(alloc, "no JSON");
     };
@@ -85,7 +85,7 @@ fn edits(alloc: Global, text: &str) -> Told {
 }
 
 /// How many tasks an import has, or its fault.
-fn import(alloc: Global, given: &str) -> Told {
+fn import(alloc: Global, given: &str) -> Finding {
     let text = text_of(alloc, given)?;
     match read_import(alloc, text.as_bytes(), now()?) {
         Ok(tasks) => Ok(format!(in alloc; "{} tasks", tasks.len())?),
@@ -99,7 +99,7 @@ fn import(alloc: Global, given: &str) -> Told {
 }
 
 /// A stored task as it is stored again.
-fn stored(alloc: Global, text: &str) -> Told {
+fn stored(alloc: Global, text: &str) -> Finding {
     match read_stored(alloc, text) {
         Ok(task) => match check(&task) {
             Ok(()) => Ok(write_stored(alloc, &task)?.into_string()),
@@ -110,7 +110,7 @@ fn stored(alloc: Global, text: &str) -> Told {
 }
 
 /// The list of a stored task a number of times.
-fn stored_list(alloc: Global, given: &str) -> Told {
+fn stored_list(alloc: Global, given: &str) -> Finding {
     let (count, text) = halves(given);
     let mut tasks = Vec::new(alloc);
     for _ in 0..read_count(count) {

@@ -1,13 +1,13 @@
 //! Lists, and lists that are kept in order.
 
+use crate::finding::{Finding, missing, say, show};
 use crate::given::{halves, read_count, read_place};
-use crate::told::{Told, missing, say, show};
 use std::alloc::{AllocError, Global};
 use std::io;
 use tb_task::{Extra, ExtraValue};
 use tb_values::{Duplicate, Items, NonEmptyText, Ordered, Same, Text};
 
-pub(crate) fn answer(alloc: Global, word: &str, given: &str) -> Option<Told> {
+pub(crate) fn answer(alloc: Global, word: &str, given: &str) -> Option<Finding> {
     let (first, words) = halves(given);
     Some(match word {
         "ordered" => ordered(alloc, given),
@@ -41,7 +41,7 @@ pub(crate) fn ordered_of(alloc: Global, words: &str) -> Result<Ordered<Text>, Al
 }
 
 /// How many items there are, and each of them.
-pub(crate) fn words_of(alloc: Global, items: &[Text]) -> Told {
+pub(crate) fn words_of(alloc: Global, items: &[Text]) -> Finding {
     let mut told = format!(in alloc; "{}", items.len())?;
     for item in items {
         told.push(' ')?;
@@ -50,7 +50,7 @@ pub(crate) fn words_of(alloc: Global, items: &[Text]) -> Told {
     Ok(told)
 }
 
-fn ordered(alloc: Global, words: &str) -> Told {
+fn ordered(alloc: Global, words: &str) -> Finding {
     let texts = ordered_of(alloc, words)?;
     let items = texts.duplicate()?.into_items();
     if texts.len() != items.len() || texts.is_empty() != items.is_empty() {
@@ -59,12 +59,12 @@ fn ordered(alloc: Global, words: &str) -> Told {
     words_of(alloc, items.as_slice())
 }
 
-fn ordered_has(alloc: Global, word: &str, words: &str) -> Told {
+fn ordered_has(alloc: Global, word: &str, words: &str) -> Finding {
     let word = Text::from_str(alloc, word)?;
     show(alloc, &ordered_of(alloc, words)?.contains(&word))
 }
 
-fn ordered_same(alloc: Global, given: &str) -> Told {
+fn ordered_same(alloc: Global, given: &str) -> Finding {
     let (words, others) = given.split_once('|').unwrap_or((given, ""));
     let texts = ordered_of(alloc, words)?.duplicate()?;
     show(alloc, &texts.same(&ordered_of(alloc, others)?))
@@ -94,7 +94,7 @@ fn value_of(extra: Option<&Extra>) -> Option<i64> {
 }
 
 /// What is found under a name, what is taken, what is taken then, and how many are left.
-fn extra_taken(alloc: Global, name: &str, words: &str) -> Told {
+fn extra_taken(alloc: Global, name: &str, words: &str) -> Finding {
     let mut extras = extras_of(alloc, words)?;
     let count = extras.len();
     let key = extra(alloc, name)?;
@@ -105,7 +105,7 @@ fn extra_taken(alloc: Global, name: &str, words: &str) -> Told {
     Ok(format!(in alloc; "of {count} found {found:?} taken {first:?} then {second:?} left {left}")?)
 }
 
-fn item(alloc: Global, place: &str, words: &str) -> Told {
+fn item(alloc: Global, place: &str, words: &str) -> Finding {
     let items = Items::from_slice(alloc, items_of(alloc, words)?.as_slice())?;
     say(
         alloc,
@@ -114,7 +114,7 @@ fn item(alloc: Global, place: &str, words: &str) -> Told {
 }
 
 /// Puts the first of the words at a place among the others.
-fn item_set(alloc: Global, place: &str, words: &str) -> Told {
+fn item_set(alloc: Global, place: &str, words: &str) -> Finding {
     let (word, words) = halves(words);
     let mut items = items_of(alloc, words)?;
     let place = read_place(place);
@@ -125,7 +125,7 @@ fn item_set(alloc: Global, place: &str, words: &str) -> Told {
     words_of(alloc, items.as_slice())
 }
 
-fn item_removed(alloc: Global, place: &str, words: &str) -> Told {
+fn item_removed(alloc: Global, place: &str, words: &str) -> Finding {
     let mut items = items_of(alloc, words)?;
     let place = read_place(place);
     if place >= items.len() {
@@ -136,20 +136,20 @@ fn item_removed(alloc: Global, place: &str, words: &str) -> Told {
     Ok(format!(in alloc; "{} of {left}", gone.as_str())?)
 }
 
-fn items_same(alloc: Global, given: &str) -> Told {
+fn items_same(alloc: Global, given: &str) -> Finding {
     let (words, others) = given.split_once('|').unwrap_or((given, ""));
     let items = items_of(alloc, words)?.duplicate()?;
     show(alloc, &items.same(&items_of(alloc, others)?))
 }
 
-fn bytes_same(alloc: Global, one: &str, other: &str) -> Told {
+fn bytes_same(alloc: Global, one: &str, other: &str) -> Finding {
     let one = Items::from_slice(alloc, one.as_bytes())?;
     let other = Items::from_slice(alloc, other.as_bytes())?;
     show(alloc, &one.is(&other.duplicate()?))
 }
 
 /// Whether a list with room for so many numbers has none.
-fn room(alloc: Global, count: &str) -> Told {
+fn room(alloc: Global, count: &str) -> Finding {
     let items = Items::<u64>::with_capacity(alloc, read_count(count).min(100))?;
     show(alloc, &items.is_empty())
 }

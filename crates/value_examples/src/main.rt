@@ -9,6 +9,7 @@ mod case;
 mod changes;
 mod clients;
 mod ends;
+mod finding;
 mod given;
 mod graphs;
 mod identifiers;
@@ -27,7 +28,6 @@ mod statuses;
 mod tasks;
 mod texts;
 mod todo_lines;
-mod told;
 
 use std::{fs, io};
 

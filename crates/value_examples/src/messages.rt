@@ -1,7 +1,7 @@
 //! Messages of HTTP: what is read of bytes, the resources that paths name, and answers.
 use crate::ends::{Narrow, Pieces};
+use crate::finding::{Finding, missing, push_other, say, show};
 use crate::given::{bytes_of, halves, read_count};
-use crate::told::{Told, missing, push_other, say, show};
 use bstr::ByteVec;
 use http::Method;
 use std::alloc::{AllocError, Global};
@@ -14,7 +14,7 @@ type Read = Result<Message, WireFault>;
 /// The names of what is read first and next, and whether the connection was closed between them.
 type Names = (&'static str, &'static str, bool);
 
-pub(crate) fn answer(alloc: Global, word: &str, given: &str) -> Option<Told> {
+pub(crate) fn answer(alloc: Global, word: &str, given: &str) -> Option<Finding> {
     let (first, rest) = halves(given);
     match word {
         "resource" => Some(resource(alloc, first, rest)),
@@ -24,7 +24,7 @@ pub(crate) fn answer(alloc: Global, word: &str, given: &str) -> Option<Told> {
 }
 
 /// What is asked of bytes.
-fn asked(alloc: Global, word: &str, first: &str, rest: &str) -> Told {
+fn asked(alloc: Global, word: &str, first: &str, rest: &str) -> Finding {
     let bytes = bytes_of(alloc, rest)?;
     match word {
         "message" => message(alloc, first, bytes.as_slice()),
@@ -35,7 +35,7 @@ fn asked(alloc: Global, word: &str, first: &str, rest: &str) -> Told {
 }
 
 /// What is read first of bytes in pieces of each of the sizes, told once where it is the same.
-fn message(alloc: Global, sizes: &str, bytes: &[u8]) -> Told {
+fn message(alloc: Global, sizes: &str, bytes: &[u8]) -> Finding {
     let mut told = String::new(alloc);
     for size in sizes.split(',') {
         let one = match first_of(alloc, bytes, read_count(size))? {
@@ -82,7 +82,7 @@ fn push_named(told: &mut String, name: &str, value: Option<&str>) -> Result<(), 
 }
 
 /// The first value of a name in a message's head.
-fn field(alloc: Global, name: &str, bytes: &[u8]) -> Told {
+fn field(alloc: Global, name: &str, bytes: &[u8]) -> Finding {
     let message = message_of(alloc, bytes)?;
     let field = find_field(message.fields.as_slice(), name).ok_or(missing())?;
     Ok(Vec::from_slice(alloc, field.value.as_slice())?.into_string_lossy()?)
@@ -123,7 +123,7 @@ fn name_of(read: &Read) -> &'static str {
     }
 }
 
-fn resource(alloc: Global, method: &str, path: &str) -> Told {
+fn resource(alloc: Global, method: &str, path: &str) -> Finding {
     let routes = Routes::new(alloc)?;
     match Method::from_bytes(alloc, method.as_bytes()) {
         Ok(method) => show(alloc, &routes.resource(&method, path)),

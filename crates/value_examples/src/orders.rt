@@ -1,9 +1,9 @@
 //! Orders of the command line: the words that ask for them, and what comes of imports and views on the boards of root.
 
 use crate::ends::Narrow;
+use crate::finding::{Finding, ended, missing, show};
 use crate::given::{bytes_of, halves, now, person, read_place};
 use crate::messages::message_of;
-use crate::told::{Told, ended, missing, show};
 use std::alloc::{AllocError, Global};
 use std::io;
 use tb_command_line::{Order, command_of};
@@ -16,7 +16,7 @@ use tb_values::Items;
 /// How an order ended, if it is one of those that are carried out here.
 type End = io::Result<Result<Ending, Fault>>;
 
-pub(crate) fn answer(alloc: Global, word: &str, given: &str) -> Option<Told> {
+pub(crate) fn answer(alloc: Global, word: &str, given: &str) -> Option<Finding> {
     Some(match word {
         "words" => words(alloc, given),
         "order" => order(alloc, given),
@@ -33,18 +33,18 @@ fn words_of(alloc: Global, text: &str) -> Result<Vec<&str>, AllocError> {
     text.split(' ').collect(alloc)
 }
 
-fn words(alloc: Global, given: &str) -> Told {
+fn words(alloc: Global, given: &str) -> Finding {
     let words = words_of(alloc, given)?;
     show(alloc, &command_of(alloc, words.as_slice()))
 }
 
-fn order(alloc: Global, given: &str) -> Told {
+fn order(alloc: Global, given: &str) -> Finding {
     let words = words_of(alloc, given)?;
     show(alloc, &order_of(alloc, words.as_slice()))
 }
 
 /// How each of several steps ends, and what it writes where there is so much room.
-fn desk(alloc: Global, given: &str) -> Told {
+fn desk(alloc: Global, given: &str) -> Finding {
     let (room, steps) = halves(given);
     let root = person(alloc, "root", "root-key-1")?;
     let mut desk = Desk::new(ListKeep::new(alloc, &root.name, &root.key)?);

@@ -1,7 +1,7 @@
 //! Lines on standard output and standard error, and the status at the end.
 
+use crate::finding::{Finding, ended, show};
 use crate::given::halves;
-use crate::told::{Told, ended, show};
 use std::alloc::Global;
 use tb_keeper::{Audit, CreateFault};
 use tb_orders::Ending;
@@ -12,7 +12,7 @@ use tb_program::Fault;
 use tb_script::LinesFault;
 use tb_sql::opening::OpenFault;
 
-pub(crate) fn answer(alloc: Global, word: &str, given: &str) -> Option<Told> {
+pub(crate) fn answer(alloc: Global, word: &str, given: &str) -> Option<Finding> {
     Some(match word {
         "audit" => audit(alloc, given),
         "faults" => faults(alloc),
@@ -23,7 +23,7 @@ pub(crate) fn answer(alloc: Global, word: &str, given: &str) -> Option<Told> {
 }
 
 /// The line of an audit: how many boards, tasks, and faults.
-fn audit(alloc: Global, given: &str) -> Told {
+fn audit(alloc: Global, given: &str) -> Finding {
     let (boards, rest) = halves(given);
     let (tasks, faults) = halves(rest);
     let audit = Audit {
@@ -37,7 +37,7 @@ fn audit(alloc: Global, given: &str) -> Told {
 }
 
 /// Some faults by their names, their statuses, and the lines that tell them.
-fn faults(alloc: Global) -> Told {
+fn faults(alloc: Global) -> Finding {
     let mut told = String::new(alloc);
     for fault in [Fault::Bad, Fault::NotOurs, Fault::Store] {
         let mut out = Vec::new(alloc);
@@ -49,7 +49,7 @@ fn faults(alloc: Global) -> Told {
 }
 
 /// The status of orders that are accepted, refused, no order, and that a store fails.
-fn statuses(alloc: Global) -> Told {
+fn statuses(alloc: Global) -> Finding {
     let ends = [
         status_of(Ok(Ending::Accepted)),
         status_of(Ok(Ending::Refused)),
@@ -60,7 +60,7 @@ fn statuses(alloc: Global) -> Told {
 }
 
 /// What faults of a script, of opening and of making a store are told as.
-fn told_as(alloc: Global) -> Told {
+fn told_as(alloc: Global) -> Finding {
     let faults = [
         fault_of_script(LinesFault::ReadFailed),
         fault_of_opening(OpenFault::WrongVersion),

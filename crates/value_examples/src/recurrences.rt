@@ -1,13 +1,13 @@
 //! Recurrence: dues, instances, and what a template wants.
 
+use crate::finding::{Finding, missing, show};
 use crate::given::{halves, id_of, moment_at, step_of};
 use crate::tasks::{read, tell_task};
-use crate::told::{Told, missing, show};
 use std::alloc::Global;
 use std::io;
 use tb_recur::{due, instance, plan_of, wanted};
 
-pub(crate) fn answer(alloc: Global, word: &str, given: &str) -> Option<Told> {
+pub(crate) fn answer(alloc: Global, word: &str, given: &str) -> Option<Finding> {
     Some(match word {
         "due" => due_in(alloc, given),
         "wanted" => is_wanted(alloc, given),
@@ -28,7 +28,7 @@ fn small_number(text: &str) -> io::Result<u8> {
 }
 
 /// The due of an instance: the first due, the step, and the instance's number.
-fn due_in(alloc: Global, given: &str) -> Told {
+fn due_in(alloc: Global, given: &str) -> Finding {
     let (first, rest) = halves(given);
     let (step, k) = halves(rest);
     let due = due(moment_at(first)?, step_of(step)?, number(k)?).ok_or(missing())?;
@@ -36,7 +36,7 @@ fn due_in(alloc: Global, given: &str) -> Told {
 }
 
 /// Whether an instance is wanted: the first due, the step, until when or `-`, how far ahead, the instance's number, and the moment.
-fn is_wanted(alloc: Global, given: &str) -> Told {
+fn is_wanted(alloc: Global, given: &str) -> Finding {
     let (first, rest) = halves(given);
     let (step, rest) = halves(rest);
     let (until, rest) = halves(rest);
@@ -51,7 +51,7 @@ fn is_wanted(alloc: Global, given: &str) -> Told {
 }
 
 /// Whether an instance of a template is wanted, and by which plan: how far ahead, the instance's number, the moment, and the template.
-fn plan_wants(alloc: Global, given: &str) -> Told {
+fn plan_wants(alloc: Global, given: &str) -> Finding {
     let (ahead, rest) = halves(given);
     let (k, rest) = halves(rest);
     let (at, json) = halves(rest);
@@ -62,7 +62,7 @@ fn plan_wants(alloc: Global, given: &str) -> Told {
 }
 
 /// An instance of a template: the instance's number, its identifier, the moment, and the template.
-fn instance_in(alloc: Global, given: &str) -> Told {
+fn instance_in(alloc: Global, given: &str) -> Finding {
     let (k, rest) = halves(given);
     let (id, rest) = halves(rest);
     let (at, json) = halves(rest);

@@ -1,7 +1,7 @@
 //! Rows of a store that are read back, or refused.
 
+use crate::finding::{Finding, missing, show};
 use crate::given::halves;
-use crate::told::{Told, missing, show};
 use std::alloc::{AllocError, Global};
 use std::io;
 use tb_board::{Board, Person};
@@ -10,7 +10,7 @@ use tb_sql_tables::rows::{BoardRow, GoneRow, HorizonRow, PersonRow, RoleRow, Tas
 use tb_task::TaskId;
 use tb_values::{Items, Text};
 
-pub(crate) fn answer(alloc: Global, word: &str, given: &str) -> Option<Told> {
+pub(crate) fn answer(alloc: Global, word: &str, given: &str) -> Option<Finding> {
     Some(match word {
         "people" => people(alloc, given),
         "roles" => roles(alloc, given),
@@ -29,7 +29,7 @@ fn person_row(alloc: Global, text: &str) -> Result<PersonRow, AllocError> {
 }
 
 /// The people of the rows `NUMBER:NAME`, with their keys.
-fn people(alloc: Global, given: &str) -> Told {
+fn people(alloc: Global, given: &str) -> Finding {
     let mut rows = Vec::new(alloc);
     for text in given.split(' ') {
         rows.push(person_row(alloc, text)?)?;
@@ -40,7 +40,7 @@ fn people(alloc: Global, given: &str) -> Told {
     }
 }
 
-fn tell_people(alloc: Global, people: &[Person]) -> Told {
+fn tell_people(alloc: Global, people: &[Person]) -> Finding {
     let mut told = String::new(alloc);
     for person in people {
         writeln!(told, "{} {}", person.name.as_str(), person.key.as_str())?;
@@ -49,7 +49,7 @@ fn tell_people(alloc: Global, people: &[Person]) -> Told {
 }
 
 /// The roles of rows of these kinds, all of person 2 on board 1.
-fn roles(alloc: Global, given: &str) -> Told {
+fn roles(alloc: Global, given: &str) -> Finding {
     let mut rows = Vec::new(alloc);
     for kind in given.split(' ') {
         rows.push(RoleRow {
@@ -94,7 +94,7 @@ fn horizon_row(ahead: &str) -> Option<HorizonRow> {
 }
 
 /// The board of one task and one place that is gone, `AHEAD PLACE NUMBER/TEMPLATE MARK/JSON`.
-fn board(alloc: Global, given: &str) -> Told {
+fn board(alloc: Global, given: &str) -> Finding {
     let (ahead, given) = halves(given);
     let (task, rest) = given.split_once('/').unwrap_or((given, ""));
     let (gone, json) = rest.split_once('/').unwrap_or((rest, ""));
@@ -112,7 +112,7 @@ fn board(alloc: Global, given: &str) -> Told {
 }
 
 /// The first task of a board, how far ahead it looks, whether its first gone place is that task's, and that place's mark.
-fn tell_board(alloc: Global, board: &Board) -> Told {
+fn tell_board(alloc: Global, board: &Board) -> Finding {
     let task = board.tasks.get(0).ok_or(missing())?.get();
     let place = board.gone.get(0).ok_or(missing())?;
     let is_its = place.template == task.id;

@@ -1,19 +1,19 @@
 //! Scripts that come in pieces, aren't text, or fail, and answers that find no room.
 use crate::ends::{Narrow, Pieces};
+use crate::finding::{Finding, push_other};
 use crate::given::{bytes_of, halves, read_count};
-use crate::told::{Told, push_other};
 use bstr::ByteVec;
 use std::alloc::Global;
 use tb_script::run_lines;
 
-pub(crate) fn answer(alloc: Global, word: &str, given: &str) -> Option<Told> {
+pub(crate) fn answer(alloc: Global, word: &str, given: &str) -> Option<Finding> {
     match word {
         "script" | "script_fails" | "script_room" => Some(script(alloc, word, given)),
         _ => None,
     }
 }
 
-fn script(alloc: Global, word: &str, given: &str) -> Told {
+fn script(alloc: Global, word: &str, given: &str) -> Finding {
     let (first, rest) = halves(given);
     let bytes = bytes_of(alloc, rest)?;
     match word {
@@ -24,7 +24,7 @@ fn script(alloc: Global, word: &str, given: &str) -> Told {
 }
 
 /// How a script in pieces of each of the sizes ends, and what was answered until then, told once where it is the same.
-fn played(alloc: Global, bytes: &[u8], sizes: &str, fails: bool, room: usize) -> Told {
+fn played(alloc: Global, bytes: &[u8], sizes: &str, fails: bool, room: usize) -> Finding {
     let mut told = String::new(alloc);
     for size in sizes.split(',') {
         let size = read_count(size);

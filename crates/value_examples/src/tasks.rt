@@ -1,15 +1,15 @@
 //! Tasks, which are given as the JSON texts that store them.
 
+use crate::finding::{Finding, missing, say, show};
 use crate::given::{halves, read_count};
 use crate::lists::ordered_of;
-use crate::told::{Told, missing, say, show};
 use std::alloc::Global;
 use std::io;
 use tb_json::{read_stored, write_stored};
 use tb_task::{Edit, Extra, ExtraValue, Given, Task, check};
 use tb_values::{Duplicate, NonEmptyText, Same, Text};
 
-pub(crate) fn answer(alloc: Global, word: &str, given: &str) -> Option<Told> {
+pub(crate) fn answer(alloc: Global, word: &str, given: &str) -> Option<Finding> {
     Some(match word {
         "check" => checked(alloc, given),
         "check_extra" => checked_with_extra(alloc, given),
@@ -24,24 +24,24 @@ pub(crate) fn read(alloc: Global, json: &str) -> io::Result<Task> {
     read_stored(alloc, json).ok().ok_or(missing())
 }
 
-pub(crate) fn tell_task(alloc: Global, task: &Task) -> Told {
+pub(crate) fn tell_task(alloc: Global, task: &Task) -> Finding {
     Ok(write_stored(alloc, task)?.into_string())
 }
 
 /// What is wrong with a task, or `good`.
-fn tell_verdict(alloc: Global, task: &Task) -> Told {
+fn tell_verdict(alloc: Global, task: &Task) -> Finding {
     match check(task) {
         Ok(()) => say(alloc, "good"),
         Err(field) => show(alloc, &field),
     }
 }
 
-fn checked(alloc: Global, given: &str) -> Told {
+fn checked(alloc: Global, given: &str) -> Finding {
     tell_verdict(alloc, &read(alloc, given)?)
 }
 
 /// Checks a task with one more extra attribute, of any name.
-fn checked_with_extra(alloc: Global, given: &str) -> Told {
+fn checked_with_extra(alloc: Global, given: &str) -> Finding {
     let (name, json) = halves(given);
     let name = NonEmptyText::from_str(alloc, name)?.ok_or(missing())?;
     let mut task = read(alloc, json)?;
@@ -51,7 +51,7 @@ fn checked_with_extra(alloc: Global, given: &str) -> Told {
 }
 
 /// Checks a task with a description of so many letters.
-fn checked_with_length(alloc: Global, given: &str) -> Told {
+fn checked_with_length(alloc: Global, given: &str) -> Finding {
     let (length, json) = halves(given);
     let mut task = read(alloc, json)?;
     task.description = Text::from_string("a".repeat(alloc, read_count(length))?);
@@ -59,7 +59,7 @@ fn checked_with_length(alloc: Global, given: &str) -> Told {
 }
 
 /// A copy of a task, which has to be the same until it is changed.
-fn copied(alloc: Global, given: &str) -> Told {
+fn copied(alloc: Global, given: &str) -> Finding {
     let task = read(alloc, given)?;
     let mut changed = task.copy()?;
     changed.imask = Some(0);
@@ -71,7 +71,7 @@ fn copied(alloc: Global, given: &str) -> Told {
 }
 
 /// Whether an edit that sets tags under a name is the same as its copy.
-fn edit(alloc: Global, given: &str) -> Told {
+fn edit(alloc: Global, given: &str) -> Finding {
     let (name, tags) = halves(given);
     let name = NonEmptyText::from_str(alloc, name)?.ok_or(missing())?;
     let value = Some(Given::Tags(ordered_of(alloc, tags)?));

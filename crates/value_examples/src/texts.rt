@@ -1,13 +1,13 @@
 //! Texts, numbers, shared values, and writing to a known point.
 
 use crate::ends::Narrow;
+use crate::finding::{Finding, missing, show};
 use crate::given::{halves, read_count, text_of};
-use crate::told::{Told, missing, show};
 use std::alloc::Global;
 use std::io;
 use tb_values::{Duplicate, Keyed, NonEmptyText, Same, Shared, Text, read_number, write_whole};
 
-pub(crate) fn answer(alloc: Global, word: &str, given: &str) -> Option<Told> {
+pub(crate) fn answer(alloc: Global, word: &str, given: &str) -> Option<Finding> {
     Some(match word {
         "text" => text(alloc, given),
         "shared" => shared(alloc, given),
@@ -26,7 +26,7 @@ fn joined(alloc: Global, given: &str) -> io::Result<Text> {
 }
 
 /// A text that is pushed together of words, its length, its order against an equal one, and whether its copy is the same.
-fn text(alloc: Global, given: &str) -> Told {
+fn text(alloc: Global, given: &str) -> Finding {
     let text = match NonEmptyText::from_text(joined(alloc, given)?) {
         Some(text) => text,
         None => NonEmptyText::from_str(alloc, given)?.ok_or(missing())?,
@@ -39,7 +39,7 @@ fn text(alloc: Global, given: &str) -> Told {
 }
 
 /// What two owners of a value take, one after the other.
-fn shared(alloc: Global, given: &str) -> Told {
+fn shared(alloc: Global, given: &str) -> Finding {
     let first = Shared::new(alloc, Text::from_str(alloc, given)?)?;
     let second = first.share()?;
     let same = first.same(&second);
@@ -50,7 +50,7 @@ fn shared(alloc: Global, given: &str) -> Told {
 }
 
 /// The number of a text, unless it is above a limit.
-fn number(alloc: Global, given: &str) -> Told {
+fn number(alloc: Global, given: &str) -> Finding {
     let (limit, text) = halves(given);
     let text = text_of(alloc, text)?;
     let number = read_number(text.as_str(), limit.parse().unwrap_or(0));
@@ -58,7 +58,7 @@ fn number(alloc: Global, given: &str) -> Told {
 }
 
 /// How far the fault says that the writing of a text came, a byte at a time, and how many bytes were taken.
-fn written(alloc: Global, given: &str) -> Told {
+fn written(alloc: Global, given: &str) -> Finding {
     let (room, text) = halves(given);
     let mut narrow = Narrow::of(alloc, read_count(room));
     narrow.size = 1;

@@ -2,13 +2,13 @@
 ghost use Rattle.std.specs.Prelude.{◌≡◌};
 ghost use Rattle.tb_todotxt.specs.Lines.{is_free_of};
 
+use crate::finding::{Finding, say, show};
 use crate::given::{now, text_of};
-use crate::told::{Told, say, show};
 use std::alloc::{AllocError, Global};
 use tb_json::write_stored;
 use tb_todotxt::{Day, LineParts, read_file, read_line, write_line};
 
-pub(crate) fn answer(alloc: Global, word: &str, given: &str) -> Option<Told> {
+pub(crate) fn answer(alloc: Global, word: &str, given: &str) -> Option<Finding> {
     Some(match word {
         "todo_line" => line(alloc, given),
         "todo_tasks" => tasks(alloc, given),
@@ -27,7 +27,7 @@ fn is_one_line(bytes: &[u8]) -> bool
 }
 
 /// What a line says, or its fault.
-fn line(alloc: Global, given: &str) -> Told {
+fn line(alloc: Global, given: &str) -> Finding {
     let text = text_of(alloc, given)?;
     if !is_one_line(text.as_bytes()) {
         return say(alloc, "more than one line");
@@ -66,7 +66,7 @@ fn push_day(told: &mut String, what: &str, day: Option<Day>) -> Result<(), Alloc
 }
 
 /// The tasks of a text's lines on board 1, as they are stored.
-fn tasks(alloc: Global, given: &str) -> Told {
+fn tasks(alloc: Global, given: &str) -> Finding {
     let text = text_of(alloc, given)?;
     let tasks = match read_file(alloc, text.as_str(), now()?, 1) {
         Ok(tasks) => tasks,

@@ -3,7 +3,7 @@ use Rattle.tb_http.specs.declared.answer.Answer.{Answer}
 use Rattle.tb_http.specs.Answer.{answer_text}
 use Rattle.tb_http.specs.Message.{takes_body}
 use Rattle.tb_site.specs.Site.{file_answer}
-use Rattle.tb_serve.specs.declared.told.Told.{Told}
+use Rattle.tb_serve.specs.declared.response.Response.{Response}
 use Rattle.tb_serve.specs.Serving.{Sends}
 use Rattle.tb_serve.specs.Telling.{answer_of, told_text}
 use Rattle.tb_serve.proofs.Pages.{boards_tell, file_handled, file_settles}
@@ -32,7 +32,7 @@ returns-in-Some-clause-stands g c s held only =
 pub returns-in-Ok-clause-handles : goal.returns-in-Ok-clause-handles
 returns-in-Ok-clause-handles g c y s held only =
     let message = c.args.message.now in
-    let told : Told = c.in-Ok.told in
+    let told : Response = c.in-Ok.told in
     let last = c.args.is_last in
     let sends_body = takes_body message in
     let answer_is : c.answer-answer-in-Ok.result ≡ answer_of told last sends_body =
@@ -42,7 +42,7 @@ returns-in-Ok-clause-handles g c y s held only =
       (
         ap (λ (a : Answer). answer_text a c.as_bytes.result.now) answer_is
             ∙ ap (λ (body : List ℕ). answer_text (answer_of told last sends_body) body) c.as_bytes.ensures
-            ∙ ap (λ (t : Told). told_text t last sends_body)
+            ∙ ap (λ (t : Response). told_text t last sends_body)
             (c.in-Ok.ensures.told y s held ∙ boards_tell c.args.paths.now.site s message c.args.at c.in_default.ensures),
         c.in-Ok.ensures.stands s held only,
       ),

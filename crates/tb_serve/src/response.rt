@@ -1,4 +1,4 @@
-//! What a message that was read is told.
+//! What answers a message that was read.
 ghost use Rattle.std.specs.Prelude.{◌≡◌, IfOk};
 ghost use Rattle.tb_serve.specs.Telling.{answer_of, told_fault, told_rejection, told_reply, told_view};
 
@@ -11,7 +11,7 @@ use tb_values::Text;
 
 /// An answer, but for what the connection adds to it.
 #[derive(Drop)]
-pub struct Told {
+pub struct Response {
     pub status: u16,
     pub content_type: ContentType,
     /// The method that the path has, where it was asked for another.
@@ -19,11 +19,11 @@ pub struct Told {
     pub body: Text,
 }
 
-impl Told {
-    pub(crate) fn reply(content_type: ContentType, reply: Reply) -> Told
+impl Response {
+    pub(crate) fn reply(content_type: ContentType, reply: Reply) -> Response
         ensures { result ≡ told_reply content_type reply }
     {
-        Told {
+        Response {
             status: reply.status,
             content_type,
             allow: None,
@@ -32,22 +32,22 @@ impl Told {
     }
 
     /// A listing and lines of todo.txt are plain text, where they aren't refused.
-    pub(crate) fn view(view: &View, reply: Reply) -> Told
+    pub(crate) fn view(view: &View, reply: Reply) -> Response
         ensures { result ≡ told_view view.now reply }
     {
         match view {
-            View::Listing(_) | View::Todo(_) if reply.number == 0 => Told::reply(
+            View::Listing(_) | View::Todo(_) if reply.number == 0 => Response::reply(
                 ContentType::PlainText,
                 reply,
             ),
-            _ => Told::reply(ContentType::Json, reply),
+            _ => Response::reply(ContentType::Json, reply),
         }
     }
 
-    pub(crate) fn fault(fault: WireFault, allow: Option<Verb>, body: Text) -> Told
+    pub(crate) fn fault(fault: WireFault, allow: Option<Verb>, body: Text) -> Response
         ensures { result ≡ told_fault fault allow body }
     {
-        Told {
+        Response {
             status: fault.status().unwrap_or(500),
             content_type: ContentType::Json,
             allow,
@@ -55,11 +55,11 @@ impl Told {
         }
     }
 
-    pub(crate) fn rejection(alloc: Global, rejection: &Rejection) -> Result<Told, AllocError>
+    pub(crate) fn rejection(alloc: Global, rejection: &Rejection) -> Result<Response, AllocError>
         ensures { IfOk result (λ told. told ≡ told_rejection rejection.now) }
     {
         let body = rejection.body(alloc)?;
-        Ok(Told::fault(rejection.fault(), rejection.allow(), body))
+        Ok(Response::fault(rejection.fault(), rejection.allow(), body))
     }
 
     pub(crate) fn answer(&self, is_last: bool, sends_body: bool) -> Answer

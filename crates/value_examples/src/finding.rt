@@ -6,25 +6,25 @@ use std::fmt::Debug;
 use std::io;
 
 /// The answer to a question. One whose parts can't be read, or that asks for what there isn't, is answered by `missing`.
-pub(crate) type Told = io::Result<String>;
+pub(crate) type Finding = io::Result<String>;
 
-/// Told as `none`.
+/// Finding as `none`.
 pub(crate) fn missing() -> io::Error {
     io::Error::from(io::ErrorKind::NotFound)
 }
 
 /// A text as it is.
-pub(crate) fn say(alloc: Global, text: &str) -> Told {
+pub(crate) fn say(alloc: Global, text: &str) -> Finding {
     Ok(String::from_str(alloc, text)?)
 }
 
 /// A value as it is shown.
-pub(crate) fn show<T: Debug>(alloc: Global, value: &T) -> Told {
+pub(crate) fn show<T: Debug>(alloc: Global, value: &T) -> Finding {
     Ok(format!(in alloc; "{value:?}")?)
 }
 
 /// How something ended, and what was written until then.
-pub(crate) fn ended<T: Debug>(alloc: Global, end: &T, written: Vec<u8>) -> Told {
+pub(crate) fn ended<T: Debug>(alloc: Global, end: &T, written: Vec<u8>) -> Finding {
     let text = written.into_string_lossy()?;
     Ok(format!(in alloc; "{end:?} {text:?}")?)
 }
