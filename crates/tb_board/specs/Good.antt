@@ -12,6 +12,7 @@ use Rattle.tb_board.specs.Board.{ids}
 use Rattle.tb_board.specs.Links.{IsAcyclic}
 use Rattle.tb_board.specs.Statuses.{is_template}
 use Rattle.tb_board.specs.Instances.{by_template, HasRuns, HasTemplateOn, IsGoneOn}
+use Rattle.tb_task.specs.Limits.{most_tasks}
 
 abbrev pub is_deleted : Status → Bool
 is_deleted Pending = false
@@ -38,7 +39,7 @@ IsLinkedOn b t = lacks_depends b t.depends ≡ false
 -- template's instances are 0 up to their number; parents and gone places are of templates of the board
 pub record IsGood (b : Board) : Type 0 where
   pub distinct : IsDistinct nat_eq (ids b.tasks)
-  pub few : length b.tasks ≤ 10000
+  pub few : length b.tasks ≤ most_tasks
   pub sound : AllByRecursion IsSound b.tasks
   pub linked : AllByRecursion (IsLinkedOn b) b.tasks
   pub acyclic : IsAcyclic b

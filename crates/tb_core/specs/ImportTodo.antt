@@ -16,6 +16,7 @@ use Rattle.tb_core.specs.declared.refusal.Refusal.{Refusal}
 use Rattle.tb_core.specs.declared.refusal.Refusal.TheVariants.{BadTaskAt, Full}
 use Rattle.tb_core.specs.Add.{first_fault}
 use Rattle.tb_core.specs.Refusals.{least, unless_refused, where_holds}
+use Rattle.tb_task.specs.Limits.{most_tasks}
 
 abbrev pub is_pending_or_completed : Status → Bool
 is_pending_or_completed Pending = true
@@ -61,7 +62,7 @@ imported b ts = record b { tasks = b.tasks ++ new_tasks b ts }
 abbrev pub import_todo_refusals : Board → List Task → List (Option Refusal)
 import_todo_refusals b ts =
     first_bad 0 ts
-    ∷ where_holds Full (nat_lt 10000 (length b.tasks + length (new_tasks b ts)))
+    ∷ where_holds Full (nat_lt most_tasks (length b.tasks + length (new_tasks b ts)))
     ∷ []
 
 abbrev pub judged_import_todo : Board → List Task → Result (Board × Told) Refusal

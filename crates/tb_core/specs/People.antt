@@ -11,12 +11,13 @@ use Rattle.tb_board.specs.declared.world.World.{World}
 use Rattle.tb_core.specs.Outcomes.{Outcome, decision_of, given}
 use Rattle.tb_core.specs.Refusals.{least, where_holds}
 use Rattle.tb_board.specs.Roles.{set_role}
+use Rattle.tb_task.specs.Limits.{most_boards, most_people}
 
 -- the first person alone lets others in
 abbrev pub person_refusals : Seen → ℕ → List (Option Refusal)
 person_refusals seen caller =
     where_holds NotAllowed (not (caller == 1))
-    ∷ where_holds Full (nat_le 10000 seen.people)
+    ∷ where_holds Full (nat_le most_people seen.people)
     ∷ where_holds NameTaken (is_some seen.other)
     ∷ []
 
@@ -28,7 +29,7 @@ new_person w seen None name key = record { world = w; answer = Err UnknownCaller
 new_person w seen (Some caller) name key = given (least (person_refusals seen caller)) w (with_person w name key) (NewPerson name)
 
 abbrev pub board_refusals : Seen → List (Option Refusal)
-board_refusals seen = where_holds Full (nat_le 10000 seen.boards) ∷ []
+board_refusals seen = where_holds Full (nat_le most_boards seen.boards) ∷ []
 
 -- the next number, and the caller owns the board
 abbrev pub with_new_board : World → ℕ → ℕ → List ℕ → World

@@ -6,14 +6,13 @@ ghost use Rattle.tb_core.specs.ImportTodo.{first_bad, judged_import_todo, line_f
 ghost use Rattle.tb_core.specs.Refusals.{Gives};
 ghost use Rattle.tb_task.specs.declared.task.Task.{Task};
 
-use crate::add::MOST_TASKS;
 use crate::command::Told;
 use crate::judged::{Judged, Stop};
 use crate::refusal::Refusal;
 use std::alloc::{AllocError, Global};
 use std::collections::BTreeSet;
 use tb_board::Draft;
-use tb_task::{Field, Status, Task, TaskId, check};
+use tb_task::{Field, MOST_TASKS, Status, Task, TaskId, check};
 use tb_values::{Duplicate, Shared};
 
 /// Adds the tasks to a board that is awake whose identifiers are new to it.

@@ -7,11 +7,8 @@ use crate::look::Seen;
 use crate::refusal::Refusal;
 use std::alloc::{AllocError, Global};
 use tb_board::{Change, Key, Name, Role, Title};
+use tb_task::{MOST_BOARDS, MOST_PEOPLE};
 use tb_values::{Duplicate, Items};
-
-const MOST_PEOPLE: usize = 10000;
-
-const MOST_BOARDS: usize = 10000;
 
 /// Lets a person in.
 pub fn decide_person(

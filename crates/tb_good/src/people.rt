@@ -6,8 +6,7 @@ ghost use Rattle.tb_good.specs.Parts.{HasGoodPeople};
 use crate::distinct::are_distinct;
 use std::alloc::{AllocError, Global};
 use tb_board::{Person, World};
-
-const MOST_PEOPLE: usize = 10000;
+use tb_task::MOST_PEOPLE;
 
 /// Whether no two people have one name, and there aren't too many.
 pub(crate) fn has_good_people(alloc: Global, world: &World) -> Result<bool, AllocError>

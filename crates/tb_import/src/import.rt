@@ -18,9 +18,7 @@ use crate::places::Places;
 use crate::refusal::{ImportRefusal, ImportStop};
 use std::alloc::{AllocError, Global};
 use tb_board::{Board, Draft, is_acyclic_board};
-use tb_task::{Incoming, TaskId};
-
-const MOST_TASKS: usize = 10000;
+use tb_task::{Incoming, MOST_TASKS, TaskId};
 
 /// Puts the new tasks of a list on a board that is awake, in time that grows little faster than the board and the list but for
 /// one pass over the gone places for each instance.

@@ -12,6 +12,7 @@ use Rattle.tb_task.specs.declared.status.Status.{Status}
 use Rattle.tb_values.specs.Outcome.{◌>>=◌}
 use Rattle.tb_json.specs.declared.fault.JsonFault.{JsonFault}
 use Rattle.tb_json.specs.declared.fault.JsonFault.TheVariants.{BadField}
+use Rattle.tb_task.specs.Limits.{longest_text}
 
 -- null and the empty text mean that an attribute is absent
 abbrev pub unless_blank : Data → Option Data
@@ -64,7 +65,7 @@ status_form d = option_and_then status_of (as_str d)
 
 -- at most 16,384 characters
 abbrev pub mask_form : Data → Option (List ℕ)
-mask_form d = option_and_then (λ text. if nat_le (length text) 16384 then mask_in text else None) (as_str d)
+mask_form d = option_and_then (λ text. if nat_le (length text) longest_text then mask_in text else None) (as_str d)
 
 -- a text that names no priority is dropped
 abbrev pub priority_form : Data → Option (Option Priority)

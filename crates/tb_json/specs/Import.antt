@@ -10,6 +10,7 @@ use Rattle.tb_json.specs.declared.fault.JsonFault.{JsonFault}
 use Rattle.tb_json.specs.declared.fault.JsonFault.TheVariants.{NotObject, BadField, Memory as NoMemory}
 use Rattle.tb_json.specs.declared.import_fault.ImportFault.{ImportFault}
 use Rattle.tb_json.specs.declared.import_fault.ImportFault.TheVariants.{NotJson, TooMany, BadTask}
+use Rattle.tb_task.specs.Limits.{most_items}
 
 -- ---- the items
 
@@ -62,7 +63,7 @@ tasks_of m found (d ∷ ds) = named_task (length found) (task_of m d) >>= λ i. 
 -- at most 1,000 items
 abbrev pub tasks_within : ℕ → Option (List Data) → Result (List Incoming) ImportFault
 tasks_within m None = Err NotJson
-tasks_within m (Some ds) = if nat_lt 1000 (length ds) then Err TooMany else tasks_of m [] ds
+tasks_within m (Some ds) = if nat_lt most_items (length ds) then Err TooMany else tasks_of m [] ds
 
 -- the tasks of a text at a moment, or its first fault
 abbrev pub import_of : ℕ → List ℕ → Result (List Incoming) ImportFault

@@ -14,11 +14,8 @@ use crate::parsing::parse_bytes;
 use crate::reading::read_task;
 use serde_json::Value;
 use std::alloc::{AllocError, Global};
-use tb_task::{Incoming, Moment};
+use tb_task::{Incoming, MOST_ITEMS, Moment};
 use tb_values::{Items, Text};
-
-/// The most items of an import.
-const MAX_ITEMS: usize = 1000;
 
 /// Adds the item of a line, and says whether it was JSON.
 fn add_line(alloc: Global, items: &mut Vec<Value>, line: &[u8]) -> Result<bool, AllocError>
@@ -108,7 +105,7 @@ pub fn read_import(
     ensures { ReadsImport result (import_of moment text.now) }
 {
     let items = items_of(alloc, text)?.ok_or(ImportFault::NotJson)?;
-    if items.len() > MAX_ITEMS {
+    if items.len() > MOST_ITEMS {
         return Err(ImportFault::TooMany);
     }
     tasks_of(alloc, &items, moment)

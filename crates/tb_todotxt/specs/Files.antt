@@ -9,6 +9,7 @@ use Rattle.tb_todotxt.specs.Reading.{line_of}
 use Rattle.tb_todotxt.specs.Tasks.{task_of}
 use Rattle.tb_todotxt.specs.declared.fault.FileFault.{FileFault}
 use Rattle.tb_todotxt.specs.declared.fault.FileFault.TheVariants.{TooMany, Memory}
+use Rattle.tb_task.specs.Limits.{most_items}
 
 -- The lines that aren't skipped, which are those of spaces and tabs alone. A carriage return before a line feed isn't the line's.
 abbrev pub kept_lines : List ℕ → List (List ℕ)
@@ -29,7 +30,7 @@ tasks_of m board lines = tasks_after m board [] lines
 
 -- at most 1,000 lines
 abbrev pub tasks_within : ℕ → ℕ → List (List ℕ) → Result (List Task) FileFault
-tasks_within m board lines = if nat_lt 1000 (length lines) then Err TooMany else Ok (tasks_of m board lines)
+tasks_within m board lines = if nat_lt most_items (length lines) then Err TooMany else Ok (tasks_of m board lines)
 
 -- the tasks of a text on a board at a moment
 abbrev pub file_of : ℕ → ℕ → List ℕ → Result (List Task) FileFault
