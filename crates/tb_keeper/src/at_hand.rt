@@ -14,6 +14,7 @@ ghost use Rattle.tb_sql.specs.Opening.{IsAsBefore};
 ghost use Rattle.tb_stored.specs.Reopening.{OfState};
 ghost use Rattle.tb_keeper.specs.Counts.{is_new_board, is_new_person, one_if};
 ghost use Rattle.tb_keeper.specs.Holds.{IsAtHand};
+ghost use Rattle.tb_task.specs.Limits.{most_boards, most_people};
 
 use crate::sql_keep::SqlKeep;
 use sqlite::{Alter, Connection};
@@ -83,9 +84,9 @@ impl<S: Alter> SqlKeep<S> {
     }
 }
 
-/// So many people, and those who come in. A good world has no more than 10,000.
+/// So many people, and those who come in. A good world has no more than its limit.
 fn people_with(people: usize, changes: &[Change]) -> usize
-    ensures { people + count_by is_new_person changes.now ≤ 10000 → result ≡ people + count_by is_new_person changes.now }
+    ensures { people + count_by is_new_person changes.now ≤ most_people → result ≡ people + count_by is_new_person changes.now }
 {
     let mut count = people;
     for change in changes {
@@ -94,9 +95,9 @@ fn people_with(people: usize, changes: &[Change]) -> usize
     count
 }
 
-/// So many boards, and those that begin. A good world has no more than 10,000.
+/// So many boards, and those that begin. A good world has no more than its limit.
 fn boards_with(boards: usize, changes: &[Change]) -> usize
-    ensures { boards + count_by is_new_board changes.now ≤ 10000 → result ≡ boards + count_by is_new_board changes.now }
+    ensures { boards + count_by is_new_board changes.now ≤ most_boards → result ≡ boards + count_by is_new_board changes.now }
 {
     let mut count = boards;
     for change in changes {

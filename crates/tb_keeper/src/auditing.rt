@@ -20,6 +20,7 @@ ghost use Rattle.tb_keeper.specs.Auditing.{is_instance_on, is_link_on, known_hor
 ghost use Rattle.tb_keeper.specs.Holds.{Holds};
 ghost use Rattle.tb_stored.specs.Reopening.{OfContent};
 ghost use Rattle.tb_stored.specs.Stored.{IsStored, MayLeave};
+ghost use Rattle.tb_task.specs.Limits.{most_boards, most_tasks};
 
 use crate::sound_rows::{are_numbered, hold_board, hold_people, hold_roles};
 use crate::sql_keep::SqlKeep;
@@ -35,11 +36,8 @@ use tb_sql_tables::rows::{BoardRow, GoneRow, HorizonRow, InstanceRow, LinkRow, T
 use tb_stored::by_key::horizon_row_at;
 use tb_stored::faults::fault_of;
 use tb_stored::reading::{board_rows, gone_rows, task_rows};
-use tb_task::ids_are_read;
+use tb_task::{MOST_BOARDS, ids_are_read};
 use tb_values::Items;
-
-/// A good world has no more boards.
-const MOST: usize = 10000;
 
 /// How many boards and tasks are stored, and how many of the boards have a least free number, a mask, a link or an instance that isn't
 /// theirs, or lack the row of how far ahead they look.
@@ -156,7 +154,7 @@ fn audit_boards<S: Alter>(
 {
     ids_are_read();
     let rows = board_rows(conn)?;
-    if rows.len() > MOST || !are_numbered(rows.as_slice()) {
+    if rows.len() > MOST_BOARDS || !are_numbered(rows.as_slice()) {
         return Err(StoreFault::Store);
     }
     audit_rows(alloc, conn, people, rows.as_slice())
@@ -170,7 +168,7 @@ fn audit_rows<S: Alter>(
     rows: &[BoardRow],
 ) -> Result<Audit, StoreFault>
     requires idle { conn.old.in_transaction ≡ false }
-    requires few { length rows.now ≤ 10000 }
+    requires few { length rows.now ≤ most_boards }
     ensures idle { conn.new.in_transaction ≡ false }
     ensures counted { IfOk result (λ audit. OfContent (state S.Store conn.old) (state S.Store conn.new) (λ c. (bs : List Board) → StandFor c rows.now bs → Tells c bs audit)) }
     ensures whole { IfOk result (λ audit. OfContent (state S.Store conn.old) (state S.Store conn.new) (λ c. CountsRows c rows.now audit)) }
@@ -190,10 +188,10 @@ fn audit_rows<S: Alter>(
 
 /// The counts with one board more.
 fn with_board(audit: Audit, checked: Checked) -> Audit
-    requires boards { audit.boards ≤ 10000 }
+    requires boards { audit.boards ≤ most_boards }
     requires tasks { audit.tasks ≤ 100000000 }
-    requires faults { audit.faults ≤ 10000 }
-    requires few { checked.tasks ≤ 10000 }
+    requires faults { audit.faults ≤ most_boards }
+    requires few { checked.tasks ≤ most_tasks }
     ensures boards { result.boards ≡ audit.boards + 1 }
     ensures tasks { result.tasks ≡ audit.tasks + checked.tasks }
     ensures faults { result.faults ≡ (if checked.as_stored then audit.faults else audit.faults + 1) }
@@ -221,7 +219,7 @@ fn check_row<S: Alter>(
     ensures idle { conn.new.in_transaction ≡ false }
     ensures checked { IfOk result (λ checked. OfContent (state S.Store conn.old) (state S.Store conn.new) (λ c. (b : Board) → StandsFor c row.now b → IsCheckOf c b checked)) }
     ensures whole { IfOk result (λ checked. OfContent (state S.Store conn.old) (state S.Store conn.new) (λ c. IsRowCheck c row.now checked)) }
-    ensures few { IfOk result (λ checked. checked.tasks ≤ 10000) }
+    ensures few { IfOk result (λ checked. checked.tasks ≤ most_tasks) }
     ensures same { IsAsBefore (state S.Store conn.old) (state S.Store conn.new) }
 {
     hold_roles(conn, row.id, people)?;
@@ -238,7 +236,7 @@ fn check_board<S: Alter>(
     ensures idle { conn.new.in_transaction ≡ false }
     ensures checked { IfOk result (λ checked. OfContent (state S.Store conn.old) (state S.Store conn.new) (λ c. (b : Board) → StandsFor c row.now b → IsCheckOf c b checked)) }
     ensures whole { IfOk result (λ checked. OfContent (state S.Store conn.old) (state S.Store conn.new) (λ c. IsCheckOfRow c row.now checked)) }
-    ensures few { IfOk result (λ checked. checked.tasks ≤ 10000) }
+    ensures few { IfOk result (λ checked. checked.tasks ≤ most_tasks) }
     ensures same { IsAsBefore (state S.Store conn.old) (state S.Store conn.new) }
 {
     let horizon = horizon_row_at(conn, row.id)?;
@@ -258,7 +256,7 @@ fn check_tables<S: Alter>(
         (λ c. (b : Board) → StandsFor c row.now b → IsOneOf (filter (is_horizon b.number) c.horizon) horizon → IsCheckOf c b checked)) }
     ensures whole { IfOk result (λ checked. OfContent (state S.Store conn.old) (state S.Store conn.new)
         (λ c. IsOneOf (filter (is_horizon row.now.id) c.horizon) horizon → IsCheckOfRow c row.now checked)) }
-    ensures few { IfOk result (λ checked. checked.tasks ≤ 10000) }
+    ensures few { IfOk result (λ checked. checked.tasks ≤ most_tasks) }
     ensures same { IsAsBefore (state S.Store conn.old) (state S.Store conn.new) }
 {
     let tasks = task_rows(conn, row.id)?;
@@ -291,7 +289,7 @@ fn compare(
     ensures tells { IfOk result (λ checked. (b : Board) → board_of row.now (Some (horizon_row b)) tasks.now gone.now ≡ Ok b → (horizon ≡ None) ⊎ (horizon ≡ Some (horizon_row b))
         → IsTrue checked.as_stored ↔ AreAsStored b row.now horizon tasks.now links.now instances.now) }
     ensures whole { IfOk result (λ checked. IsCheckBy row.now horizon tasks.now gone.now links.now instances.now checked) }
-    ensures few { IfOk result (λ checked. checked.tasks ≤ 10000) }
+    ensures few { IfOk result (λ checked. checked.tasks ≤ most_tasks) }
 {
     let known = known_horizon(row.id, horizon);
     let board = match read_board(alloc, row, Some(known), tasks, gone) {

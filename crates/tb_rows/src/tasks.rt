@@ -5,6 +5,7 @@ ghost use Rattle.tb_sql.specs.declared.changes.RowChange.TheVariants.{AddInstanc
 ghost use Rattle.tb_rows.specs.Rows.{instance_rows, link_rows, mask_cell, rows_from, task_row};
 ghost use Rattle.tb_rows.specs.Steps.{new_mask, new_task, put_task, task_changes};
 ghost use Rattle.tb_rows.specs.Sought.{AreFor};
+ghost use Rattle.tb_task.specs.Limits.{most_tasks};
 
 use crate::concerned::PlaceList;
 use crate::linking::{instance_row, link_row};
@@ -61,7 +62,7 @@ pub(crate) fn push_tasks(
     concerned: &Concerned,
 ) -> Result<(), AllocError>
     requires places { AreFor board.now places.now }
-    requires few { length board.now.tasks ≤ 10000 }
+    requires few { length board.now.tasks ≤ most_tasks }
     ensures { OnOk result (rows.new ≡ rows.old ++ rows_from (task_changes board.now concerned.now.old concerned.now.put concerned.now.templates) 0 board.now.tasks) }
 {
     for (place, task) in board.tasks.as_slice().iter().enumerate() {
@@ -80,7 +81,7 @@ fn push_task(
     task: &Task,
 ) -> Result<(), AllocError>
     requires places { AreFor board.now places.now }
-    requires few { length board.now.tasks ≤ 10000 }
+    requires few { length board.now.tasks ≤ most_tasks }
     requires within { place < length board.now.tasks }
     ensures { OnOk result (rows.new ≡ rows.old ++ task_changes board.now concerned.now.old concerned.now.put concerned.now.templates place task.now) }
 {
@@ -107,7 +108,7 @@ fn push_new_task(
     task: &Task,
 ) -> Result<(), AllocError>
     requires places { AreFor board.now places.now }
-    requires few { length board.now.tasks ≤ 10000 }
+    requires few { length board.now.tasks ≤ most_tasks }
     ensures { OnOk result (rows.new ≡ rows.old ++ new_task board.now place task.now) }
 {
     let row = task_row(alloc, board, place, task)?;
@@ -126,7 +127,7 @@ fn push_put_task(
     task: &Task,
 ) -> Result<(), AllocError>
     requires places { AreFor board.now places.now }
-    requires few { length board.now.tasks ≤ 10000 }
+    requires few { length board.now.tasks ≤ most_tasks }
     ensures { OnOk result (rows.new ≡ rows.old ++ put_task board.now place task.now) }
 {
     let body = write_stored(alloc, task)?;
@@ -171,7 +172,7 @@ fn push_links(
     task: &Task,
 ) -> Result<(), AllocError>
     requires places { AreFor board.now places.now }
-    requires few { length board.now.tasks ≤ 10000 }
+    requires few { length board.now.tasks ≤ most_tasks }
     ensures { OnOk result (rows.new ≡ rows.old ++ map AddLink (link_rows board.now place task.now)) }
 {
     for id in task.depends.as_slice() {
@@ -190,7 +191,7 @@ fn push_instance(
     task: &Task,
 ) -> Result<(), AllocError>
     requires places { AreFor board.now places.now }
-    requires few { length board.now.tasks ≤ 10000 }
+    requires few { length board.now.tasks ≤ most_tasks }
     ensures { OnOk result (rows.new ≡ rows.old ++ map AddInstance (instance_rows board.now place task.now)) }
 {
     if let Some(row) = instance_row(board, places, place, task) {
