@@ -9,13 +9,14 @@ use Rattle.tb_http.specs.declared.message.Field.{Field}
 use Rattle.tb_http.specs.declared.message.Head.{Head}
 use Rattle.tb_http.specs.Numerals.{is_number, same_number}
 use Rattle.tb_http.specs.Message.{is_named, count_named}
+use Rattle.tb_task.specs.Limits.{longest_body}
 
 -- the most fields, and the longest body
 abbrev pub field_limit : ℕ
 field_limit = 64
 
 abbrev pub body_limit : ℕ
-body_limit = 1048576
+body_limit = longest_body
 
 -- a Content-Length line, if it is one, has the number of the first
 unfoldable pub agrees : List ℕ → Field → Bool

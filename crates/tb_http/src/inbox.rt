@@ -124,6 +124,7 @@ pub struct Inbox {
 
 impl Model for Inbox {
     ghost use Rattle.std.specs.Prelude.{◌≡◌, ◌<◌, IfSome, false};
+    ghost use Rattle.tb_http.specs.Closing.{message_limit};
     ghost use Rattle.tb_http.specs.Inbox.{Held, IsBegun};
     ghost use Rattle.tb_http.specs.OpenHead.{IsOpenHead};
 
@@ -132,7 +133,7 @@ impl Model for Inbox {
     ghost view = { λ i. record { bytes = i.held.items; messages = i.messages; is_closing = i.is_closing } };
 
     ghost invariant = { λ i. IsOpenHead i.held.items i.so_far × IfSome i.begun (λ b. IsBegun i.held.items b)
-        × (i.is_closing ≡ false → i.messages < 1000) };
+        × (i.is_closing ≡ false → i.messages < message_limit) };
 }
 
 impl Inbox {

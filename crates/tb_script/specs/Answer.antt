@@ -16,6 +16,7 @@ use Rattle.tb_script.specs.declared.line_fault.Unreadable.TheVariants.{BadLine}
 use Rattle.tb_script.specs.Lines.{Answered}
 use Rattle.tb_script.specs.Reading.{asked}
 use Rattle.tb_script.specs.Replies.{reply_text, unreadable_text}
+use Rattle.tb_task.specs.Limits.{longest_body}
 
 -- the state in which a script begins
 abbrev pub first_state : State
@@ -23,7 +24,7 @@ first_state = opening (codes "root") (codes "root-key-1")
 
 -- a line is text of at most 1,048,576 bytes
 abbrev pub is_readable : List ℕ → Bool
-is_readable line = nat_le (length line) 1048576 && is_utf8 line
+is_readable line = nat_le (length line) longest_body && is_utf8 line
 
 -- what a line asks, if it can be read
 unfoldable pub request_of : List ℕ → Result Asked Unreadable

@@ -4,6 +4,7 @@ use Rattle.tb_calls.specs.Calls.{State, once, plain}
 use Rattle.tb_values.specs.Appends.{AppendsFront}
 use Rattle.tb_script.specs.Answer.{answer, calls_of}
 use Rattle.tb_script.specs.Lines.{answers}
+use Rattle.tb_task.specs.Limits.{longest_body}
 
 -- the state after the calls of lines, each once
 abbrev pub after_lines : State → List (List ℕ) → State
@@ -26,7 +27,7 @@ from s line told = record { state = s; line = line; told = told }
 abbrev pub fed_byte : Progress → ℕ → Progress
 fed_byte p b =
     if b == 10 then record { state = (answer p.state p.line).state; line = []; told = p.told ++ (answer p.state p.line).text }
-    else if nat_le (length p.line) 1048576 then record { state = p.state; line = p.line ++ b ∷ []; told = p.told }
+    else if nat_le (length p.line) longest_body then record { state = p.state; line = p.line ++ b ∷ []; told = p.told }
     else p
 
 -- after bytes, one after the other

@@ -16,10 +16,8 @@ use std::alloc::{AllocError, Global};
 use tb_calls::{Call, Keep, View};
 use tb_desk::Desk;
 use tb_reply::Reply;
+use tb_task::LONGEST_BODY;
 use tb_values::Text;
-
-/// The longest line that is read.
-pub(crate) const LINE_LIMIT: usize = 1_048_576;
 
 /// Answers a line that isn't empty.
 pub(crate) fn answer_line<K: Keep>(
@@ -55,7 +53,7 @@ fn read_request(alloc: Global, line: &[u8]) -> Result<Asked, LineFault>
 fn readable(line: &[u8]) -> Option<&str>
     ensures { MatchOption result (is_readable line.now ≡ false) (λ text. (text.now ≡ line.now) × (is_readable line.now ≡ true)) }
 {
-    if line.len() > LINE_LIMIT {
+    if line.len() > LONGEST_BODY {
         return None;
     }
     match str::from_utf8(line) {

@@ -5,11 +5,12 @@ ghost use Rattle.tb_script.specs.Answer.{answer};
 ghost use Rattle.tb_script.specs.Faults.{is_store};
 ghost use Rattle.tb_script.specs.Runs.{fed, fed_byte, from};
 
-use crate::answering::{LINE_LIMIT, answer_line};
+use crate::answering::answer_line;
 use crate::fault::LinesFault;
 use std::alloc::Global;
 use tb_calls::Keep;
 use tb_desk::Desk;
+use tb_task::LONGEST_BODY;
 
 const LINE_FEED: u8 = b'\n';
 
@@ -67,7 +68,7 @@ impl Session {
         if byte == LINE_FEED {
             self.end_line(desk, output)?;
             self.line.clear();
-        } else if self.line.len() <= LINE_LIMIT {
+        } else if self.line.len() <= LONGEST_BODY {
             self.line.push(byte)?;
         }
         Ok(())

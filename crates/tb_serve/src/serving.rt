@@ -59,7 +59,7 @@ pub struct Exchange {
 impl Exchange {
     /// The end behind so many messages that were read and answered, and this exchange.
     pub(crate) fn ends(self, before: usize) -> ServeEnd
-        requires { before < 1000 }
+        requires { before < message_limit }
         ensures { result ≡ ended_by before self }
     {
         ServeEnd {
