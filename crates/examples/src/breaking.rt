@@ -59,7 +59,8 @@ impl<K: Keep> Keep for Breaking<K> {
 
     ghost leaves = { λ b s left. K.leaves b.keep s left };
 
-    ghost alone = { λ b s held fine. K.alone b.keep s held (or_parts b.has_failed (K.has_failed b.keep) fine).1 };
+    ghost alone = { λ b s held fine. K.alone b.keep s held
+        (or_parts b.has_failed (K.has_failed b.keep) fine).1 };
 
     ghost good = { λ b s held. K.good b.keep s held };
 

@@ -17,11 +17,8 @@ use tb_client::{
 use tb_command_line::SendOrder;
 use tb_orders::Ending;
 use tb_program::Fault;
-use tb_task::TaskId;
+use tb_task::{LONGEST_BODY, TaskId};
 use tb_values::{Duplicate, Items, Text, write_whole};
-
-/// The longest body that a server takes.
-const LONGEST_BODY: usize = 1_048_576;
 
 const ACCEPTED: u16 = 200;
 

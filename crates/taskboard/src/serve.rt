@@ -39,7 +39,8 @@ pub(crate) fn serve_file(rt: &HostRuntime, order: &ServeOrder) -> Result<Ending,
 
 fn listen(rt: &HostRuntime, order: &ServeOrder) -> Result<EventLoop, Fault>
     ensures fault { IfErr result (λ fault. is_of_serving fault ≡ true) }
-    ensures limit { IfOk result (λ event_loop. still_to_end event_loop ≡ limit_of order.now.connections) }
+    ensures limit { IfOk result
+        (λ event_loop. still_to_end event_loop ≡ limit_of order.now.connections) }
 {
     match EventLoop::listen(
         rt,

@@ -82,7 +82,8 @@ fn make_call(
     at: Moment,
     command: Command,
 ) -> Result<Asked, AllocError>
-    ensures { IfOk result (λ asked. asked ≡ call_from message.now id at command (sender_of message.now)) }
+    ensures { IfOk result
+        (λ asked. asked ≡ call_from message.now id at command (sender_of message.now)) }
 {
     let Some(sender) = read_sender(alloc, message)? else {
         return Ok(Asked::Unknown);

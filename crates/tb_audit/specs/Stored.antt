@@ -12,7 +12,8 @@ abbrev pub masks_of : List TaskRow → List (Option (List ℕ))
 masks_of rows = map (λ (row : TaskRow). row.mask) rows
 
 -- the board has this row, and this for how far ahead it looks, its tasks in order of place these masks, and it has these links and these instances, in any order
-pub record AreAsStored (b : Board) (row : BoardRow) (horizon : Option HorizonRow) (tasks : List TaskRow) (links : List LinkRow) (instances : List InstanceRow) : Type 0 where
+pub record AreAsStored (b : Board) (row : BoardRow) (horizon : Option HorizonRow)
+    (tasks : List TaskRow) (links : List LinkRow) (instances : List InstanceRow) : Type 0 where
   pub row_is : row ≡ board_row b
   pub horizon_is : horizon ≡ Some (horizon_row b)
   pub masks : masks_of tasks ≡ masks_of (board_tasks b)

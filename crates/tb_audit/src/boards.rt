@@ -3,6 +3,7 @@
 ghost use Rattle.std.specs.Prelude.{◌≡◌, ◌≤◌, ◌↔◌, IsTrue, IfOk, Some, length};
 ghost use Rattle.tb_audit.specs.Stored.{AreAsStored};
 ghost use Rattle.tb_rows.specs.Rows.{board_row, horizon_row};
+ghost use Rattle.tb_task.specs.Limits.{most_tasks};
 
 use crate::instances::have_instances;
 use crate::links::have_links;
@@ -23,8 +24,10 @@ pub fn is_as_stored(
     links: &[LinkRow],
     instances: &[InstanceRow],
 ) -> Result<bool, AllocError>
-    requires { length board.now.tasks ≤ 10000 }
-    ensures { IfOk result (λ same. IsTrue same ↔ AreAsStored board.now row.now horizon tasks.now links.now instances.now) }
+    requires { length board.now.tasks ≤ most_tasks }
+    ensures { IfOk result
+        (λ same. IsTrue same
+        ↔ AreAsStored board.now row.now horizon tasks.now links.now instances.now) }
 {
     if !has_row(alloc, board, row)? {
         return Ok(false);
@@ -43,7 +46,7 @@ pub fn is_as_stored(
 }
 
 fn has_row(alloc: Global, board: &Board, row: &BoardRow) -> Result<bool, AllocError>
-    requires { length board.now.tasks ≤ 10000 }
+    requires { length board.now.tasks ≤ most_tasks }
     ensures { IfOk result (λ same. IsTrue same ↔ (row.now ≡ board_row board.now)) }
 {
     let low = least_number(alloc, board)?;

@@ -4,6 +4,7 @@ ghost use Rattle.std.specs.Prelude.{◌≡◌, ◌≤◌, ◌↔◌, ◌++◌, I
 ghost use Rattle.tb_audit.specs.Orders.{instance_order};
 ghost use Rattle.tb_rows.specs.Rows.{board_instances, instance_rows};
 ghost use Rattle.tb_rows.specs.Sought.{AreFor};
+ghost use Rattle.tb_task.specs.Limits.{most_tasks};
 
 use std::alloc::{AllocError, Global};
 use tb_board::Board;
@@ -20,8 +21,9 @@ pub(crate) fn have_instances(
     rows: &[InstanceRow],
 ) -> Result<bool, AllocError>
     requires places { AreFor board.now places.now }
-    requires few { length board.now.tasks ≤ 10000 }
-    ensures { IfOk result (λ same. IsTrue same ↔ IsPermutation rows.now (board_instances board.now)) }
+    requires few { length board.now.tasks ≤ most_tasks }
+    ensures { IfOk result
+        (λ same. IsTrue same ↔ IsPermutation rows.now (board_instances board.now)) }
 {
     let wanted = in_order(board_instances(alloc, board, places)?.into_vec());
     let found = in_order(Vec::from_slice(alloc, rows)?);
@@ -51,7 +53,7 @@ fn board_instances(
     places: &TaskPlaces,
 ) -> Result<Items<InstanceRow>, AllocError>
     requires places { AreFor board.now places.now }
-    requires few { length board.now.tasks ≤ 10000 }
+    requires few { length board.now.tasks ≤ most_tasks }
     ensures { IfOk result (λ instances. instances ≡ board_instances board.now) }
 {
     let mut instances = Items::new(alloc);
@@ -70,8 +72,9 @@ fn push_instance(
     task: &Task,
 ) -> Result<(), AllocError>
     requires places { AreFor board.now places.now }
-    requires few { length board.now.tasks ≤ 10000 }
-    ensures { OnOk result (instances.new ≡ instances.old ++ instance_rows board.now place task.now) }
+    requires few { length board.now.tasks ≤ most_tasks }
+    ensures { OnOk result
+        (instances.new ≡ instances.old ++ instance_rows board.now place task.now) }
 {
     if let Some(row) = instance_row(board, places, place, task) {
         instances.push(row)?;

@@ -4,6 +4,7 @@ ghost use Rattle.std.specs.Prelude.{◌≡◌, ◌≤◌, ◌↔◌, ◌++◌, I
 ghost use Rattle.tb_audit.specs.Orders.{link_order};
 ghost use Rattle.tb_rows.specs.Rows.{board_links, link_rows};
 ghost use Rattle.tb_rows.specs.Sought.{AreFor};
+ghost use Rattle.tb_task.specs.Limits.{most_tasks};
 
 use std::alloc::{AllocError, Global};
 use tb_board::Board;
@@ -20,7 +21,7 @@ pub(crate) fn have_links(
     rows: &[LinkRow],
 ) -> Result<bool, AllocError>
     requires places { AreFor board.now places.now }
-    requires few { length board.now.tasks ≤ 10000 }
+    requires few { length board.now.tasks ≤ most_tasks }
     ensures { IfOk result (λ same. IsTrue same ↔ IsPermutation rows.now (board_links board.now)) }
 {
     let wanted = in_order(board_links(alloc, board, places)?.into_vec());
@@ -44,7 +45,7 @@ fn board_links(
     places: &TaskPlaces,
 ) -> Result<Items<LinkRow>, AllocError>
     requires places { AreFor board.now places.now }
-    requires few { length board.now.tasks ≤ 10000 }
+    requires few { length board.now.tasks ≤ most_tasks }
     ensures { IfOk result (λ links. links ≡ board_links board.now) }
 {
     let mut links = Items::new(alloc);
@@ -63,7 +64,7 @@ fn push_links(
     task: &Task,
 ) -> Result<(), AllocError>
     requires places { AreFor board.now places.now }
-    requires few { length board.now.tasks ≤ 10000 }
+    requires few { length board.now.tasks ≤ most_tasks }
     ensures { OnOk result (links.new ≡ links.old ++ link_rows board.now place task.now) }
 {
     for id in task.depends.as_slice() {

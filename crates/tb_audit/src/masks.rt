@@ -12,7 +12,8 @@ use tb_task::Task;
 
 /// Whether each task of a board has the mask of its row.
 pub(crate) fn have_masks(alloc: Global, board: &Board, rows: &[TaskRow]) -> Result<bool, AllocError>
-    ensures { IfOk result (λ same. IsTrue same ↔ (masks_of rows.now ≡ map (mask_cell board.now) board.now.tasks)) }
+    ensures { IfOk result
+        (λ same. IsTrue same ↔ (masks_of rows.now ≡ map (mask_cell board.now) board.now.tasks)) }
 {
     if rows.len() != board.tasks.len() {
         return Ok(false);

@@ -26,7 +26,8 @@ abbrev pub is_blocked_by : Graph → List Bool → ℕ → ℕ → Bool
 is_blocked_by g are_open w v = not (v == w) && (is_marked are_open v && has_link g v w)
 
 abbrev pub is_blocking : Graph → List Bool → ℕ → Bool
-is_blocking g are_open w = is_marked are_open w && list_any (is_blocked_by g are_open w) (range_with_len 0 (length g))
+is_blocking g are_open w =
+    is_marked are_open w && list_any (is_blocked_by g are_open w) (range_with_len 0 (length g))
 
 -- for each task whether it is blocking: it is open, and another open one depends on it
 abbrev pub blocking : Board → List Bool
@@ -53,7 +54,10 @@ is_open_on id t = is_open t.status && depends_on id t
 
 -- the task at another place than this one is open and depends on the identifier
 abbrev pub is_held : List Task → ℕ → ℕ → ℕ → Bool
-is_held ts id place other = not (other == place) && (is_marked (are_open ts) other && list_any (λ on. on == id) (slice_index_or (depends_of ts) other []))
+is_held ts id place other =
+    not (other == place)
+    && (is_marked (are_open ts) other
+    && list_any (λ on. on == id) (slice_index_or (depends_of ts) other []))
 
 -- the task is open, and depends on an open one among these
 abbrev pub is_blocked_among : List Task → Task → Bool
@@ -61,4 +65,6 @@ is_blocked_among ts t = is_open t.status && list_any (is_open_by_id ts) t.depend
 
 -- the task at this place is open and the first of its identifier, and an open one among these depends on that
 abbrev pub is_blocking_among : List Task → ℕ → Task → Bool
-is_blocking_among ts place t = is_open t.status && (is_first ts t.id place && list_any (is_held ts t.id place) (range_with_len 0 (length ts)))
+is_blocking_among ts place t =
+    is_open t.status
+    && (is_first ts t.id place && list_any (is_held ts t.id place) (range_with_len 0 (length ts)))

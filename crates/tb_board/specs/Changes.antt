@@ -40,9 +40,15 @@ abbrev pub change_board : ℕ → (Board → Board) → List Board → List Boar
 change_board n f bs = change_first (has_number n) f bs
 
 abbrev pub changed_by : World → Change → World
-changed_by w (PutTask n place t) = record w { boards = change_board n (with_task_at place t) w.boards }
-changed_by w (AddPerson name key) = record w { people = w.people ++ record { name = name; key = key } ∷ [] }
-changed_by w (AddBoard n title) = record w { boards = w.boards ++ record { number = n; title = title; tasks = []; gone = []; ahead = 1 } ∷ [] }
+changed_by w (PutTask n place t) =
+    record w { boards = change_board n (with_task_at place t) w.boards }
+changed_by w (AddPerson name key) =
+    record w { people = w.people ++ record { name = name; key = key } ∷ [] }
+changed_by w (AddBoard n title) =
+    record w {
+      boards = w.boards
+          ++ record { number = n; title = title; tasks = []; gone = []; ahead = 1 } ∷ [];
+    }
 changed_by w (SetRole n person role) = record w { roles = set_role w.roles n person role }
 changed_by w (SetGone n g) = record w { boards = change_board n (with_gone g) w.boards }
 changed_by w (TakeGone n id k) = record w { boards = change_board n (without_gone id k) w.boards }

@@ -14,7 +14,8 @@ pub record IsFirst {A : Type 0} (test : A → Bool) (xs : List A) (k : ℕ) : Ty
   pub found : (d : A) → find test xs ≡ Some (slice_index_or xs k d)
   pub passes : (d : A) → test (slice_index_or xs k d) ≡ true
   pub stands : list_any test xs ≡ true
-  pub changed : (f : A → A) (d : A) → change_first test f xs ≡ slice_set xs k (f (slice_index_or xs k d))
+  pub changed : (f : A → A) (d : A)
+      → change_first test f xs ≡ slice_set xs k (f (slice_index_or xs k d))
   pub removed : remove_key test xs ≡ remove xs k
 
 -- there is none

@@ -12,6 +12,7 @@ use Rattle.tb_board.specs.Board.{ids}
 use Rattle.tb_board.specs.Links.{IsAcyclic}
 use Rattle.tb_board.specs.Statuses.{is_template}
 use Rattle.tb_board.specs.Instances.{by_template, HasRuns, HasTemplateOn, IsGoneOn}
+use Rattle.tb_task.specs.Limits.{most_tasks}
 
 abbrev pub is_deleted : Status → Bool
 is_deleted Pending = false
@@ -23,7 +24,9 @@ is_deleted Deleted = true
 -- a template recurs or is deleted, and has a due date and a step that can be read; no other task recurs
 abbrev pub has_template_form : Task → Bool
 has_template_form t =
-    if is_template t then (is_recurring t.status || is_deleted t.status) && (is_some t.due && is_step t.recur) else not (is_recurring t.status)
+    if is_template t
+    then (is_recurring t.status || is_deleted t.status) && (is_some t.due && is_step t.recur)
+    else not (is_recurring t.status)
 
 -- a task that a board takes, and that has the form of a template or of a plain task
 pub record IsSound (t : Task) : Type 0 where
@@ -38,7 +41,7 @@ IsLinkedOn b t = lacks_depends b t.depends ≡ false
 -- template's instances are 0 up to their number; parents and gone places are of templates of the board
 pub record IsGood (b : Board) : Type 0 where
   pub distinct : IsDistinct nat_eq (ids b.tasks)
-  pub few : length b.tasks ≤ 10000
+  pub few : length b.tasks ≤ most_tasks
   pub sound : AllByRecursion IsSound b.tasks
   pub linked : AllByRecursion (IsLinkedOn b) b.tasks
   pub acyclic : IsAcyclic b

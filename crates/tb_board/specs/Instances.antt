@@ -35,4 +35,6 @@ place_among all id = position_or_len (λ i. i == id) all
 
 -- by the places of their templates among the board's identifiers, and then by their own
 abbrev pub by_template : List ℕ → Gone → Gone → Ordering
-by_template all g h = ordering_then (nat_cmp (place_among all g.template) (place_among all h.template)) (nat_cmp g.place h.place)
+by_template all g h =
+    ordering_then (nat_cmp (place_among all g.template) (place_among all h.template))
+    (nat_cmp g.place h.place)

@@ -40,7 +40,8 @@ leads_between g (Some from) (Some to) = leads g from to
 
 -- one task depends on another, directly or by other ones
 abbrev pub leads_on : Board → ℕ → ℕ → Bool
-leads_on b from to = leads_between (links b) (place_in (ids b.tasks) from) (place_in (ids b.tasks) to)
+leads_on b from to =
+    leads_between (links b) (place_in (ids b.tasks) from) (place_in (ids b.tasks) to)
 
 -- the map has the place of each identifier
 abbrev pub ArePlaces : List ℕ → BTreeMap ℕ ℕ → Type 0

@@ -26,4 +26,5 @@ pub record IsNextFree (marks : List Bool) (next number : ℕ) : Type 0 where
 -- the numbers of which the board makes these tasks' identifiers are marked as well
 pub record IsMarkedFor (tasks : List Task) (board : ℕ) (old new : List Bool) : Type 0 where
   pub size : length new ≡ length old
-  pub marks : (n : ℕ) → 1 ≤ n → n < length old → n < 2 ^ 48 → is_marked new n ≡ (is_marked old n || list_any (has_id (made board n)) tasks)
+  pub marks : (n : ℕ) → 1 ≤ n → n < length old → n < 2 ^ 48
+      → is_marked new n ≡ (is_marked old n || list_any (has_id (made board n)) tasks)

@@ -8,7 +8,8 @@ has_length first last text = nat_le first (length text) && nat_le (length text) 
 
 -- a to z, 0 to 9, '_' or '-'
 unfoldable pub is_name_byte : ℕ → Bool
-is_name_byte c = (nat_le 97 c && nat_le c 122) || (nat_le 48 c && nat_le c 57) || (c == 95) || (c == 45)
+is_name_byte c =
+    (nat_le 97 c && nat_le c 122) || (nat_le 48 c && nat_le c 57) || (c == 95) || (c == 45)
 
 -- 1 to 32 such bytes
 unfoldable pub is_name : List ℕ → Bool

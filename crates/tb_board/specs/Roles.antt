@@ -25,5 +25,6 @@ with_new_role (s ∷ ss) r = if comes_before r s then r ∷ s ∷ ss else s ∷ 
 abbrev pub set_role : List RoleOn → ℕ → ℕ → Option Role → List RoleOn
 set_role rs board person None = remove_key (is_role_of board person) rs
 set_role rs board person (Some role) =
-    if list_any (is_role_of board person) rs then change_first (is_role_of board person) (λ r. record r { role = role }) rs
+    if list_any (is_role_of board person) rs
+    then change_first (is_role_of board person) (λ r. record r { role = role }) rs
     else with_new_role rs (record { board = board; person = person; role = role })

@@ -26,7 +26,8 @@ instance_places id (t ∷ ts) = with_place (place_in id t) (instance_places id t
 -- the places of a template that are gone
 abbrev pub gone_places : ℕ → List Gone → List ℕ
 gone_places id [] = []
-gone_places id (g ∷ gs) = if g.template == id then g.place ∷ gone_places id gs else gone_places id gs
+gone_places id (g ∷ gs) = if g.template == id then g.place ∷ gone_places id gs
+    else gone_places id gs
 
 -- all places of a template: those that are gone, then those of its instances
 abbrev pub places : Board → ℕ → List ℕ

@@ -40,7 +40,8 @@ is_role_of board person r = (r.board == board) && (r.person == person)
 
 -- the role of a person on a board
 abbrev pub role_of : World → ℕ → ℕ → Option Role
-role_of w board person = option_map (λ (r : RoleOn). r.role) (find (is_role_of board person) w.roles)
+role_of w board person =
+    option_map (λ (r : RoleOn). r.role) (find (is_role_of board person) w.roles)
 
 abbrev pub is_owner : Role → Bool
 is_owner Owner = true

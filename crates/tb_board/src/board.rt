@@ -22,7 +22,8 @@ pub struct Board {
 impl Board {
     /// A board without tasks, which looks one ahead.
     pub fn new(alloc: Global, number: u32, title: Title) -> Board
-        ensures { result ≡ record { number = number; title = title; tasks = []; gone = []; ahead = 1 } }
+        ensures { result
+            ≡ record { number = number; title = title; tasks = []; gone = []; ahead = 1 } }
     {
         Board {
             number,

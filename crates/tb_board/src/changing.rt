@@ -51,7 +51,11 @@ fn changed_world(alloc: Global, world: World, change: &Change) -> Result<World, 
 }
 
 fn add_person(mut world: World, name: &Name, key: &Key) -> Result<World, AllocError>
-    ensures { IfOk result (λ later. later ≡ record world { people = world.people ++ record { name = name.now; key = key.now } ∷ [] }) }
+    ensures { IfOk result
+        (λ later. later ≡ record world {
+          people = world.people
+              ++ record { name = name.now; key = key.now } ∷ [];
+        }) }
 {
     let name = name.duplicate()?;
     let key = key.duplicate()?;
@@ -65,7 +69,12 @@ fn add_board(
     number: u32,
     title: &Title,
 ) -> Result<World, AllocError>
-    ensures { IfOk result (λ later. later ≡ record world { boards = world.boards ++ record { number = number; title = title.now; tasks = []; gone = []; ahead = 1 } ∷ [] }) }
+    ensures { IfOk result
+        (λ later. later ≡ record world {
+          boards = world.boards
+              ++ record { number = number; title = title.now; tasks = []; gone = [];
+        ahead = 1 } ∷ [];
+        }) }
 {
     let board = Board::new(alloc, number, title.duplicate()?);
     world.boards.push(Shared::new(alloc, board)?)?;
@@ -78,7 +87,8 @@ fn set_role(
     person: usize,
     role: Option<Role>,
 ) -> Result<World, AllocError>
-    ensures { IfOk result (λ later. later ≡ record world { roles = set_role world.roles board person role }) }
+    ensures { IfOk result
+        (λ later. later ≡ record world { roles = set_role world.roles board person role }) }
 {
     let World {
         people,
@@ -184,7 +194,11 @@ fn put_task(
     place: usize,
     task: &Shared<Task>,
 ) -> Result<World, AllocError>
-    ensures { IfOk result (λ later. later ≡ record world { boards = change_board number (with_task_at place task.now) world.boards }) }
+    ensures { IfOk result
+        (λ later. later ≡ record world {
+          boards = change_board number
+              (with_task_at place task.now) world.boards;
+        }) }
 {
     let World {
         people,
@@ -246,7 +260,11 @@ fn put_at(
 }
 
 fn set_gone(alloc: Global, world: World, number: u32, gone: Gone) -> Result<World, AllocError>
-    ensures { IfOk result (λ later. later ≡ record world { boards = change_board number (with_gone gone) world.boards }) }
+    ensures { IfOk result
+        (λ later. later ≡ record world {
+          boards = change_board number
+              (with_gone gone) world.boards;
+        }) }
 {
     let World {
         people,
@@ -297,7 +315,11 @@ fn take_gone(
     template: TaskId,
     place: u32,
 ) -> Result<World, AllocError>
-    ensures { IfOk result (λ later. later ≡ record world { boards = change_board number (without_gone template place) world.boards }) }
+    ensures { IfOk result
+        (λ later. later ≡ record world {
+          boards = change_board number
+              (without_gone template place) world.boards;
+        }) }
 {
     let World {
         people,
@@ -320,7 +342,8 @@ fn boards_without_gone(
     template: TaskId,
     place: u32,
 ) -> Result<Items<Shared<Board>>, AllocError>
-    ensures { IfOk result (λ later. later ≡ change_board number (without_gone template place) boards) }
+    ensures { IfOk result
+        (λ later. later ≡ change_board number (without_gone template place) boards) }
 {
     let Some(index) = place_of_board(boards.as_slice(), number) else {
         return Ok(boards);
@@ -348,7 +371,11 @@ fn board_without(
 }
 
 fn set_ahead(alloc: Global, world: World, number: u32, ahead: Ahead) -> Result<World, AllocError>
-    ensures { IfOk result (λ later. later ≡ record world { boards = change_board number (with_ahead ahead) world.boards }) }
+    ensures { IfOk result
+        (λ later. later ≡ record world {
+          boards = change_board number
+              (with_ahead ahead) world.boards;
+        }) }
 {
     let World {
         people,

@@ -33,7 +33,9 @@ impl Draft {
     /// Puts another task at a place.
     pub fn set(self, alloc: Global, place: usize, task: Task) -> Result<Draft, AllocError>
         requires { place < length self.board.tasks }
-        ensures board { IfOk result (λ draft. draft.board ≡ record self.board { tasks = slice_set self.board.tasks place task }) }
+        ensures board { IfOk result
+            (λ draft. draft.board
+            ≡ record self.board { tasks = slice_set self.board.tasks place task }) }
         ensures follows { IfOk result (Follows self) }
     {
         let Draft {
@@ -56,7 +58,8 @@ impl Draft {
 
     /// Puts a task last.
     pub fn push(self, alloc: Global, task: Task) -> Result<Draft, AllocError>
-        ensures board { IfOk result (λ draft. draft.board ≡ record self.board { tasks = self.board.tasks ++ task ∷ [] }) }
+        ensures board { IfOk result
+            (λ draft. draft.board ≡ record self.board { tasks = self.board.tasks ++ task ∷ [] }) }
         ensures follows { IfOk result (Follows self) }
     {
         let Draft {
@@ -88,7 +91,8 @@ impl Draft {
 
     /// Takes a place of a template's mask, which isn't gone any more.
     pub fn take_gone(self, alloc: Global, template: TaskId, place: u32) -> Result<Draft, AllocError>
-        ensures board { IfOk result (λ draft. draft.board ≡ without_gone template place self.board) }
+        ensures board { IfOk result
+            (λ draft. draft.board ≡ without_gone template place self.board) }
         ensures follows { IfOk result (Follows self) }
     {
         let Draft {

@@ -12,7 +12,8 @@ use tb_values::Shared;
 /// The place of the first person of that name.
 pub fn place_of_person(people: &[Person], name: &Name) -> Option<usize>
     ensures place { result ≡ position (has_name name.now) people.now }
-    ensures first { MatchOption result (IsNone (has_name name.now) people.now) (IsFirst (has_name name.now) people.now) }
+    ensures first { MatchOption result (IsNone (has_name name.now) people.now)
+        (IsFirst (has_name name.now) people.now) }
 {
     first_person(people, name)
 }
@@ -27,7 +28,8 @@ fn first_person(people: &[Person], name: &Name) -> Option<usize>
 
 /// The place of the first board of that number.
 pub fn place_of_board(boards: &[Shared<Board>], number: u32) -> Option<usize>
-    ensures { MatchOption result (IsNone (has_number number) boards.now) (IsFirst (has_number number) boards.now) }
+    ensures { MatchOption result (IsNone (has_number number) boards.now)
+        (IsFirst (has_number number) boards.now) }
 {
     first_board(boards, number)
 }
@@ -53,7 +55,8 @@ pub(crate) fn first_task(tasks: &[Shared<Task>], id: TaskId) -> Option<usize>
 
 /// The place of the first role of that person on that board.
 pub fn place_of_role(roles: &[RoleOn], board: u32, person: usize) -> Option<usize>
-    ensures { MatchOption result (IsNone (is_role_of board person) roles.now) (IsFirst (is_role_of board person) roles.now) }
+    ensures { MatchOption result (IsNone (is_role_of board person) roles.now)
+        (IsFirst (is_role_of board person) roles.now) }
 {
     first_role(roles, board, person)
 }

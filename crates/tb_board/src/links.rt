@@ -100,7 +100,10 @@ fn add_depends(
     requires places { ArePlaces (ids tasks.now) places.now }
     requires nodes { length links.old ≡ length tasks.now }
     requires from { from < length tasks.now }
-    ensures { OnOk result (links.new ≡ slice_set links.old from (slice_index_or links.old from [] ++ places_in (ids tasks.now) (slice_index_or (depends_of tasks.now) from []))) }
+    ensures { OnOk result
+        (links.new ≡ slice_set links.old from
+        (slice_index_or links.old from []
+        ++ places_in (ids tasks.now) (slice_index_or (depends_of tasks.now) from []))) }
 {
     for id in tasks[from].get().depends.as_slice() {
         add_link(links, places, tasks, from, *id)?;
@@ -119,7 +122,9 @@ fn add_link(
     requires places { ArePlaces (ids tasks.now) places.now }
     requires nodes { length links.old ≡ length tasks.now }
     requires from { from < length tasks.now }
-    ensures { OnOk result (links.new ≡ slice_set links.old from (slice_index_or links.old from [] ++ places_in (ids tasks.now) (id ∷ []))) }
+    ensures { OnOk result
+        (links.new ≡ slice_set links.old from
+        (slice_index_or links.old from [] ++ places_in (ids tasks.now) (id ∷ []))) }
 {
     match places.get(&id) {
         Some(to) => links.add(from, *to),

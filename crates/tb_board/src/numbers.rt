@@ -2,6 +2,7 @@ ghost use Rattle.std.specs.Prelude.{◌≡◌, ◌<◌, ◌≤◌, ℕ, length, 
 ghost use Rattle.tb_board.specs.declared.board.Board.{Board};
 ghost use Rattle.tb_board.specs.Numbers.{free};
 ghost use Rattle.tb_board.specs.Marks.{Knows, IsNextFree, IsMarkedFor};
+ghost use Rattle.tb_task.specs.Limits.{most_tasks};
 
 use crate::board::Board;
 use std::alloc::{AllocError, Global};
@@ -26,11 +27,11 @@ fn next_unmarked(marks: &[bool], next: usize) -> usize
 /// The least free number of a board, by its marks.
 pub fn next_number(board: &Board, marks: &[bool], next: usize) -> usize
     requires knows { Knows board.now marks.now next }
-    requires room { length board.now.tasks < 10000 }
+    requires room { length board.now.tasks < most_tasks }
     ensures free { result ≡ free board.now }
     ensures next { IsNextFree marks.now next result }
     ensures from { 1 ≤ result }
-    ensures small { result ≤ 10000 }
+    ensures small { result ≤ most_tasks }
 {
     next_unmarked(marks, next)
 }
@@ -60,7 +61,8 @@ fn marks_of(
     board: u32,
     size: usize,
 ) -> Result<Vec<bool>, AllocError>
-    ensures { IfOk result (λ marks. IsMarkedFor tasks.now board (replicate size false) marks.items) }
+    ensures { IfOk result
+        (λ marks. IsMarkedFor tasks.now board (replicate size false) marks.items) }
 {
     let mut marks = vec![in alloc; false; size]?;
     mark_tasks(&mut marks, tasks, board);
@@ -76,7 +78,7 @@ pub fn taken_numbers(alloc: Global, board: &Board) -> Result<Vec<bool>, AllocErr
 
 /// The least number from 1 whose identifier isn't on a board, full or not.
 pub fn least_number(alloc: Global, board: &Board) -> Result<u32, AllocError>
-    requires { length board.now.tasks ≤ 10000 }
+    requires { length board.now.tasks ≤ most_tasks }
     ensures { IfOk result (λ number. number ≡ free board.now) }
 {
     let marks = taken_numbers(alloc, board)?;

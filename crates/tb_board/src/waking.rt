@@ -23,7 +23,12 @@ pub fn wake_draft(alloc: Global, draft: Draft, at: Moment) -> Result<Draft, Allo
 
 fn wake_place(alloc: Global, draft: Draft, place: usize, at: Moment) -> Result<Draft, AllocError>
     requires { place < length draft.board.tasks }
-    ensures board { IfOk result (λ awake. (t : Task) → t ≡ slice_index_or draft.board.tasks place t → awake.board ≡ record draft.board { tasks = slice_set draft.board.tasks place (woken at t) }) }
+    ensures board { IfOk result
+        (λ awake. (t : Task) → t ≡ slice_index_or draft.board.tasks place t
+        → awake.board ≡ record draft.board {
+          tasks = slice_set draft.board.tasks place
+              (woken at t);
+        }) }
     ensures follows { IfOk result (Follows draft) }
 {
     let task = draft.board.task_at(place);

@@ -20,12 +20,16 @@ Reads read expected = Gives Fails read expected
 -- a task of an import is bad
 abbrev pub item_json : ℕ → List ℕ → Data
 item_json at field = object
-    (member (codes "at") (number (unsigned at)) (member (codes "field") (string field) (member (codes "name") (string (codes "BadBody")) no_members)))
+    (member (codes "at") (number (unsigned at))
+    (member (codes "field") (string field)
+    (member (codes "name") (string (codes "BadBody")) no_members)))
 
 -- what a sender is told, as JSON
 abbrev pub json_of : BadBody → Data
 json_of Whole = object (member (codes "name") (string (codes "BadBody")) no_members)
-json_of (Field field) = object (member (codes "field") (string field) (member (codes "name") (string (codes "BadBody")) no_members))
+json_of (Field field) =
+    object (member (codes "field") (string field)
+    (member (codes "name") (string (codes "BadBody")) no_members))
 json_of (Item at field) = item_json at field
 
 -- the same as compact text

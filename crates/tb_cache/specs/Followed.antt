@@ -24,7 +24,8 @@ TouchesNone n cs = (c : Change) → Contains cs c → touched c ≢ Some n
 -- a board that is at hand is changed, and is the last used one
 abbrev pub changed_at : List (ℕ × Board) → Change → Option ℕ → List (ℕ × Board)
 changed_at es c None = es
-changed_at es c (Some n) = option_map_or (λ b. (n, changed_on b c) ∷ remove_entry (nat_eq n) es) (lookup (nat_eq n) es) es
+changed_at es c (Some n) =
+    option_map_or (λ b. (n, changed_on b c) ∷ remove_entry (nat_eq n) es) (lookup (nat_eq n) es) es
 
 abbrev pub followed_by : List (ℕ × Board) → Change → List (ℕ × Board)
 followed_by es c = changed_at es c (touched c)

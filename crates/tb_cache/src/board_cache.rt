@@ -90,17 +90,20 @@ impl BoardCache {
 
     /// Puts a board at hand, as the last used one. Where it is one too many, the one that was used longest ago goes.
     pub fn put(&mut self, board: Shared<Board>) -> Result<(), AllocError>
-        ensures put { OnOk result (self.new.entries ≡ put_entries nat_eq self.old board.number board) }
+        ensures put { OnOk result
+            (self.new.entries ≡ put_entries nat_eq self.old board.number board) }
         ensures there { OnOk result (lookup (nat_eq board.number) self.new.entries ≡ Some board) }
         ensures same { OnErr result (self.new ≡ self.old) }
-        ensures of { (w : WorldValue) → AreOf w self.old.entries → find_board w board.number ≡ Some board → AreOf w self.new.entries }
+        ensures of { (w : WorldValue) → AreOf w self.old.entries
+            → find_board w board.number ≡ Some board → AreOf w self.new.entries }
     {
         let number = board.get().number;
         self.put_under(number, board)
     }
 
     fn put_under(&mut self, number: u32, board: Shared<Board>) -> Result<(), AllocError>
-        ensures put { OnOk result (self.new ≡ lru_cache (put_entries nat_eq self.old number board) self.old.cap) }
+        ensures put { OnOk result
+            (self.new ≡ lru_cache (put_entries nat_eq self.old number board) self.old.cap) }
         ensures same { OnErr result (self.new ≡ self.old) }
     {
         match self.boards.put(number, board) {
@@ -113,8 +116,10 @@ impl BoardCache {
     /// for one of them it goes, the others follow all the same, and the answer says so.
     pub fn follow(&mut self, alloc: Global, changes: &[Change]) -> Result<(), AllocError>
         ensures all { OnOk result (self.new.entries ≡ followed self.old.entries changes.now) }
-        ensures others { (n : ℕ) → TouchesNone n changes.now → lookup (nat_eq n) self.new.entries ≡ lookup (nat_eq n) self.old.entries }
-        ensures of { (w : WorldValue) → AreOf w self.old.entries → AreOf (changed w changes.now) self.new.entries }
+        ensures others { (n : ℕ) → TouchesNone n changes.now
+            → lookup (nat_eq n) self.new.entries ≡ lookup (nat_eq n) self.old.entries }
+        ensures of { (w : WorldValue) → AreOf w self.old.entries
+            → AreOf (changed w changes.now) self.new.entries }
     {
         let mut ended = Ok(());
         for change in changes {
@@ -126,8 +131,10 @@ impl BoardCache {
     /// The board that the change touches is taken out and put back.
     fn follow_one(&mut self, alloc: Global, change: &Change) -> Result<(), AllocError>
         ensures all { OnOk result (self.new.entries ≡ followed_by self.old.entries change.now) }
-        ensures others { (n : ℕ) → touched_by change.now ≢ Some n → lookup (nat_eq n) self.new.entries ≡ lookup (nat_eq n) self.old.entries }
-        ensures of { (w : WorldValue) → AreOf w self.old.entries → AreOf (changed_by w change.now) self.new.entries }
+        ensures others { (n : ℕ) → touched_by change.now ≢ Some n
+            → lookup (nat_eq n) self.new.entries ≡ lookup (nat_eq n) self.old.entries }
+        ensures of { (w : WorldValue) → AreOf w self.old.entries
+            → AreOf (changed_by w change.now) self.new.entries }
     {
         let Some(number) = touched(change) else {
             return Ok(());

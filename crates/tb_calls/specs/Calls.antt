@@ -62,7 +62,8 @@ outcome s c = apply s.world c.member c.command c.moment
 abbrev pub after_call : State → Call → State
 after_call s c = record {
   world = (outcome s c).world;
-  kept = insert s.kept (name_of c) (record { content = c.content; reply = reply_of (outcome s c).answer });
+  kept = insert s.kept (name_of c)
+      (record { content = c.content; reply = reply_of (outcome s c).answer });
 }
 
 -- a state after calls, each of which acts and is kept
@@ -72,12 +73,15 @@ plain s (c ∷ cs) = plain (after_call s c) cs
 
 -- a call counts where its caller is known and its name is new
 abbrev pub counts : State → List Call → Call → Bool
-counts s taken c = is_known (plain s taken) c && (not (is_some (kept_for s c)) && not (list_any (same_name c) taken))
+counts s taken c =
+    is_known (plain s taken) c
+    && (not (is_some (kept_for s c)) && not (list_any (same_name c) taken))
 
 -- the calls that count, after those already taken
 abbrev pub once_after : State → List Call → List Call → List Call
 once_after s taken [] = []
-once_after s taken (c ∷ cs) = if counts s taken c then c ∷ once_after s (taken ++ c ∷ []) cs else once_after s taken cs
+once_after s taken (c ∷ cs) = if counts s taken c then c ∷ once_after s (taken ++ c ∷ []) cs
+    else once_after s taken cs
 
 -- the calls that count: of each name the first whose caller is known
 abbrev pub once : State → List Call → List Call

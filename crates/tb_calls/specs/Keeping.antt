@@ -20,18 +20,24 @@ is_store (Err Memory) = false
 is_store (Err Store) = true
 
 -- each state that was held is held, and a stop leaves nothing else than before
-pub record IsStill (old : State → Type 0) (old_stops : State → Type 0) (new : State → Type 0) (new_stops : State → Type 0) : Type 0 where
+pub record IsStill (old : State → Type 0) (old_stops : State → Type 0) (new : State → Type 0)
+    (new_stops : State → Type 0) : Type 0 where
   pub held : (s : State) → old s → new s
   pub stops : (s t : State) → old s → new_stops t → old_stops t
 
 -- this state is held or that, and a stop leaves one of the two
-pub record HoldsEither (before after : State) (now : State → Type 0) (may_leave : State → Type 0) : Type 0 where
+pub record HoldsEither (before after : State) (now : State → Type 0)
+    (may_leave : State → Type 0) : Type 0 where
   pub held : now before ⊎ now after
   pub stops : (t : State) → may_leave t → (t ≡ before) ⊎ (t ≡ after)
 
 -- a state with changes made, and a reply kept for a call
 abbrev pub with_reply : State → List Change → Call → Reply → State
-with_reply s changes c r = record { world = changed s.world changes; kept = insert s.kept (name_of c) (record { content = c.content; reply = r }) }
+with_reply s changes c r =
+    record {
+      world = changed s.world changes;
+      kept = insert s.kept (name_of c) (record { content = c.content; reply = r });
+    }
 
 -- when a call's changes and reply may be put: its person is known, its name is new, the world stays good and keeps what it has, and the
 -- changes are of one board or of one person

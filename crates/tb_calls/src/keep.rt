@@ -40,8 +40,10 @@ pub trait Keep {
 
     /// The key of the person of that name.
     fn person(&mut self, alloc: Global, name: &Name) -> Result<Option<Key>, KeepFault>
-        ensures answer { is_honest self.new ≡ true → (s : State) → holds self.old s → IfOk result (λ key. key ≡ key_of s.world name.now) }
-        ensures same { IsStill (holds self.old) (after_stop self.old) (holds self.new) (after_stop self.new) }
+        ensures answer { is_honest self.new ≡ true → (s : State) → holds self.old s
+            → IfOk result (λ key. key ≡ key_of s.world name.now) }
+        ensures same { IsStill (holds self.old) (after_stop self.old) (holds self.new)
+            (after_stop self.new) }
         ensures failed { has_failed self.new ≡ is_store result }
         ensures honest { is_honest self.new ≡ true → is_honest self.old ≡ true }
         ensures closed { has_failed self.old ≡ true → IsErrOf result Store };
@@ -53,24 +55,31 @@ pub trait Keep {
         name: &Name,
         id: TaskId,
     ) -> Result<Option<KeptReply>, KeepFault>
-        ensures answer { is_honest self.new ≡ true → (s : State) → holds self.old s → IfOk result (λ kept. kept ≡ get s.kept (name.now, id)) }
-        ensures same { IsStill (holds self.old) (after_stop self.old) (holds self.new) (after_stop self.new) }
+        ensures answer { is_honest self.new ≡ true → (s : State) → holds self.old s
+            → IfOk result (λ kept. kept ≡ get s.kept (name.now, id)) }
+        ensures same { IsStill (holds self.old) (after_stop self.old) (holds self.new)
+            (after_stop self.new) }
         ensures failed { has_failed self.new ≡ is_store result }
         ensures honest { is_honest self.new ≡ true → is_honest self.old ≡ true }
         ensures closed { has_failed self.old ≡ true → IsErrOf result Store };
 
     /// What the command of a person who is known looks at.
     fn look(&mut self, alloc: Global, name: &Name, command: &Command) -> Result<Seen, KeepFault>
-        ensures answer { is_honest self.new ≡ true → (s : State) → holds self.old s → IsSome (key_of s.world name.now) → IfOk result (λ seen. seen ≡ seen_of s.world name.now command.now) }
-        ensures same { IsStill (holds self.old) (after_stop self.old) (holds self.new) (after_stop self.new) }
+        ensures answer { is_honest self.new ≡ true → (s : State) → holds self.old s
+            → IsSome (key_of s.world name.now)
+            → IfOk result (λ seen. seen ≡ seen_of s.world name.now command.now) }
+        ensures same { IsStill (holds self.old) (after_stop self.old) (holds self.new)
+            (after_stop self.new) }
         ensures failed { has_failed self.new ≡ is_store result }
         ensures honest { is_honest self.new ≡ true → is_honest self.old ≡ true }
         ensures closed { has_failed self.old ≡ true → IsErrOf result Store };
 
     /// The boards on which the person of that name has a role, by number.
     fn boards_of(&mut self, alloc: Global, name: &Name) -> Result<Items<BoardRole>, KeepFault>
-        ensures answer { is_honest self.new ≡ true → (s : State) → holds self.old s → IfOk result (λ boards. boards ≡ boards_of s.world name.now) }
-        ensures same { IsStill (holds self.old) (after_stop self.old) (holds self.new) (after_stop self.new) }
+        ensures answer { is_honest self.new ≡ true → (s : State) → holds self.old s
+            → IfOk result (λ boards. boards ≡ boards_of s.world name.now) }
+        ensures same { IsStill (holds self.old) (after_stop self.old) (holds self.new)
+            (after_stop self.new) }
         ensures failed { has_failed self.new ≡ is_store result }
         ensures honest { is_honest self.new ≡ true → is_honest self.old ≡ true }
         ensures closed { has_failed self.old ≡ true → IsErrOf result Store };
@@ -82,8 +91,10 @@ pub trait Keep {
         name: &Name,
         board: u32,
     ) -> Result<Option<Items<PersonRole>>, KeepFault>
-        ensures answer { is_honest self.new ≡ true → (s : State) → holds self.old s → IfOk result (λ people. people ≡ people_for s.world name.now board) }
-        ensures same { IsStill (holds self.old) (after_stop self.old) (holds self.new) (after_stop self.new) }
+        ensures answer { is_honest self.new ≡ true → (s : State) → holds self.old s
+            → IfOk result (λ people. people ≡ people_for s.world name.now board) }
+        ensures same { IsStill (holds self.old) (after_stop self.old) (holds self.new)
+            (after_stop self.new) }
         ensures failed { has_failed self.new ≡ is_store result }
         ensures honest { is_honest self.new ≡ true → is_honest self.old ≡ true }
         ensures closed { has_failed self.old ≡ true → IsErrOf result Store };
@@ -98,23 +109,30 @@ pub trait Keep {
     ) -> Result<(), KeepFault>
         ensures ok { (s : State) → holds self.old s → MayCommit s changes.now call.now
             → OnOk result (holds self.new (with_reply s changes.now call.now reply.now)) }
-        ensures memory { (s : State) → holds self.old s → MayCommit s changes.now call.now → IsErrOf result Memory → holds self.new s }
-        ensures store { (s : State) → holds self.old s → MayCommit s changes.now call.now → has_failed self.old ≡ false
-            → HoldsEither s (with_reply s changes.now call.now reply.now) (holds self.new) (after_stop self.new) }
-        ensures stays { (s : State) → holds self.old s → MayCommit s changes.now call.now → has_failed self.old ≡ true
-            → IsStill (holds self.old) (after_stop self.old) (holds self.new) (after_stop self.new) }
+        ensures memory { (s : State) → holds self.old s → MayCommit s changes.now call.now
+            → IsErrOf result Memory → holds self.new s }
+        ensures store { (s : State) → holds self.old s → MayCommit s changes.now call.now
+            → has_failed self.old ≡ false
+            → HoldsEither s (with_reply s changes.now call.now reply.now) (holds self.new)
+            (after_stop self.new) }
+        ensures stays { (s : State) → holds self.old s → MayCommit s changes.now call.now
+            → has_failed self.old ≡ true
+            → IsStill (holds self.old) (after_stop self.old) (holds self.new)
+            (after_stop self.new) }
         ensures failed { has_failed self.new ≡ is_store result }
         ensures honest { is_honest self.new ≡ true → is_honest self.old ≡ true }
         ensures closed { has_failed self.old ≡ true → IsErrOf result Store };
 
     /// What an honest store alone would hold is held.
-    ghost given: { (k : Self) (s : State) → IsGoodWorld s.world → (is_honest k ≡ true → holds k s) → holds k s };
+    ghost given: { (k : Self) (s : State) → IsGoodWorld s.world → (is_honest k ≡ true → holds k s)
+        → holds k s };
 
     /// A stop leaves something that can be said of an honest store alone.
     ghost leaves: { (k : Self) (s : State) → after_stop k s → is_honest k ≡ true };
 
     /// Until the store fails, a stop leaves what is held.
-    ghost alone: { (k : Self) (s : State) → holds k s → has_failed k ≡ false → Only s (after_stop k) };
+    ghost alone: { (k : Self) (s : State) → holds k s → has_failed k ≡ false
+        → Only s (after_stop k) };
 
     /// The world of a state that is held is good.
     ghost good: { (k : Self) (s : State) → holds k s → IsGoodWorld s.world };

@@ -25,7 +25,8 @@ pub fn key_in(world: &World, name: &Name) -> Result<Option<Key>, AllocError>
 
 /// What is kept of a call that was answered.
 pub fn kept_reply(call: &Call, reply: &Reply) -> Result<KeptReply, AllocError>
-    ensures { IfOk result (λ kept. kept ≡ record { content = call.now.content; reply = reply.now }) }
+    ensures { IfOk result
+        (λ kept. kept ≡ record { content = call.now.content; reply = reply.now }) }
 {
     let content = call.content.duplicate()?;
     let reply = reply.duplicate()?;

@@ -37,7 +37,8 @@ fn boards_for(
 
 /// Puts a role at the end, where its board is there.
 fn push_board(boards: &mut Items<BoardRole>, world: &World, role: &RoleOn) -> Result<(), AllocError>
-    ensures { OnOk result (boards.new ≡ boards.old ++ filter_map (board_role world.now) (role.now ∷ [])) }
+    ensures { OnOk result
+        (boards.new ≡ boards.old ++ filter_map (board_role world.now) (role.now ∷ [])) }
 {
     let Some(board) = world.board(role.board)? else {
         return Ok(());
@@ -106,7 +107,8 @@ fn push_person(
     world: &World,
     role: &RoleOn,
 ) -> Result<(), AllocError>
-    ensures { OnOk result (people.new ≡ people.old ++ filter_map (person_role world.now) (role.now ∷ [])) }
+    ensures { OnOk result
+        (people.new ≡ people.old ++ filter_map (person_role world.now) (role.now ∷ [])) }
 {
     let Some(person) = person_at(world, role.person) else {
         return Ok(());

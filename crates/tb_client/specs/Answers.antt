@@ -16,7 +16,8 @@ fields_of tree = map name_and_value tree.fields
 
 -- some values, and that of a field if it has this name, in any case of letters
 abbrev pub with_field : List (List ℕ) → List ℕ → List ℕ × List ℕ → List (List ℕ)
-with_field values name field = if str_eq_ignore_ascii_case field.0 name then values ++ field.1 ∷ [] else values
+with_field values name field = if str_eq_ignore_ascii_case field.0 name
+    then values ++ field.1 ∷ [] else values
 
 -- some values, and those of the fields of this name
 abbrev pub with_named : List (List ℕ) → List ℕ → List (List ℕ × List ℕ) → List (List ℕ)
@@ -48,7 +49,9 @@ size_without (coding ∷ more) lengths = None
 
 -- how long the body is: one Content-Length says it, and there is no Transfer-Encoding
 unfoldable pub size_of : List (List ℕ × List ℕ) → Option ℕ
-size_of fields = size_without (values_named (codes "transfer-encoding") fields) (values_named (codes "content-length") fields)
+size_of fields =
+    size_without (values_named (codes "transfer-encoding") fields)
+    (values_named (codes "content-length") fields)
 
 -- the bytes are a whole answer, with nothing behind it
 pub record IsWholeAnswer (bytes : List ℕ) (reply : Reply) : Type 0 where

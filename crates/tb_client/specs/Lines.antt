@@ -74,7 +74,8 @@ late_fields line task =
     ∷ []
 
 unfoldable pub line_members : LineParts → Task → Members
-line_members line task = with_fields (late_fields line task) (with_fields (early_fields line task) no_members)
+line_members line task =
+    with_fields (late_fields line task) (with_fields (early_fields line task) no_members)
 
 -- the task that an import makes of the line, without what comes of the moment and the board of the import
 abbrev pub line_data : LineParts → Data

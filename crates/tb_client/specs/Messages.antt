@@ -17,12 +17,14 @@ Text = List ℕ
 
 -- the path behind a board, whose number has no zero in front
 abbrev pub board_target : Text → Text → Option Text
-board_target board suffix = if is_some (number_to 4294967295 board) then Some (codes "/boards/" ++ (board ++ suffix)) else None
+board_target board suffix = if is_some (number_to 4294967295 board)
+    then Some (codes "/boards/" ++ (board ++ suffix)) else None
 
 -- the path behind a task of a board
 abbrev pub task_target : Text → Text → Text → Option Text
 task_target board uuid suffix =
-    if is_some (number_to 4294967295 board) && is_some (read_id uuid) then Some (codes "/boards/" ++ (board ++ (codes "/tasks/" ++ (uuid ++ suffix)))) else None
+    if is_some (number_to 4294967295 board) && is_some (read_id uuid)
+    then Some (codes "/boards/" ++ (board ++ (codes "/tasks/" ++ (uuid ++ suffix)))) else None
 
 -- ---- requests
 
@@ -64,11 +66,13 @@ board_call suffix (a ∷ b ∷ c ∷ more) = None
 abbrev pub add_call : List Text → Option Request
 add_call [] = None
 add_call (board ∷ words) =
-    option_and_then (λ body. option_map (call_at body) (board_target board (codes "/tasks"))) (add_body words)
+    option_and_then (λ body. option_map (call_at body) (board_target board (codes "/tasks")))
+    (add_body words)
 
 -- each further argument is a line
 abbrev pub lines_call : List Text → Option Request
-lines_call (board ∷ lines) = option_map (call_at (lines_text lines)) (board_target board (codes "/import-todo"))
+lines_call (board ∷ lines) =
+    option_map (call_at (lines_text lines)) (board_target board (codes "/import-todo"))
 lines_call [] = None
 
 abbrev pub sweep_call : List Text → Option Request
@@ -84,7 +88,8 @@ task_call suffix (a ∷ b ∷ c ∷ more) = None
 
 -- the body is made of the argument behind the task
 abbrev pub task_call_with : (Text → Text) → Text → List Text → Option Request
-task_call_with body suffix (board ∷ uuid ∷ text ∷ []) = option_map (call_at (body text)) (task_target board uuid suffix)
+task_call_with body suffix (board ∷ uuid ∷ text ∷ []) =
+    option_map (call_at (body text)) (task_target board uuid suffix)
 task_call_with body suffix [] = None
 task_call_with body suffix (a ∷ []) = None
 task_call_with body suffix (a ∷ b ∷ []) = None
@@ -97,7 +102,8 @@ abbrev pub link_data : Text → Data
 link_data other = object (member (codes "on") (string other) no_members)
 
 abbrev pub person_data : Text → Text → Data
-person_data name key = object (member (codes "key") (string key) (member (codes "name") (string name) no_members))
+person_data name key =
+    object (member (codes "key") (string key) (member (codes "name") (string name) no_members))
 
 abbrev pub title_data : Text → Data
 title_data title = object (member (codes "title") (string title) no_members)
@@ -105,7 +111,9 @@ title_data title = object (member (codes "title") (string title) no_members)
 -- `none` ends a role
 abbrev pub role_data : Text → Text → Data
 role_data name word =
-    object (member (codes "member") (string name) (member (codes "role") (if bytes_eq word (codes "none") then null else string word) no_members))
+    object (member (codes "member") (string name)
+    (member (codes "role")
+    (if bytes_eq word (codes "none") then null else string word) no_members))
 
 abbrev pub note_body : Text → Text
 note_body text = compact_text (note_data text)
@@ -114,7 +122,8 @@ abbrev pub link_body : Text → Text
 link_body other = compact_text (link_data other)
 
 abbrev pub person_call : List Text → Option Request
-person_call (name ∷ key ∷ []) = Some (call_at (compact_text (person_data name key)) (codes "/people"))
+person_call (name ∷ key ∷ []) =
+    Some (call_at (compact_text (person_data name key)) (codes "/people"))
 person_call [] = None
 person_call (a ∷ []) = None
 person_call (a ∷ b ∷ c ∷ more) = None
@@ -125,7 +134,8 @@ title_call [] = None
 title_call (a ∷ b ∷ more) = None
 
 abbrev pub role_call : List Text → Option Request
-role_call (board ∷ name ∷ word ∷ []) = option_map (call_at (compact_text (role_data name word))) (board_target board (codes "/roles"))
+role_call (board ∷ name ∷ word ∷ []) =
+    option_map (call_at (compact_text (role_data name word))) (board_target board (codes "/roles"))
 role_call [] = None
 role_call (a ∷ []) = None
 role_call (a ∷ b ∷ []) = None
@@ -136,10 +146,12 @@ ahead_data n = object (member (codes "ahead") (number (unsigned n)) no_members)
 
 -- sets how many instances of each recurring task stand on the board ahead of their dates
 abbrev pub ahead_request : Text → ℕ → Option Request
-ahead_request board n = option_map (call_at (compact_text (ahead_data n))) (board_target board (codes "/ahead"))
+ahead_request board n =
+    option_map (call_at (compact_text (ahead_data n))) (board_target board (codes "/ahead"))
 
 abbrev pub ahead_call : List Text → Option Request
-ahead_call (board ∷ n ∷ []) = option_and_then (ahead_request board) (option_and_then read_ahead (number_to 4294967295 n))
+ahead_call (board ∷ n ∷ []) =
+    option_and_then (ahead_request board) (option_and_then read_ahead (number_to 4294967295 n))
 ahead_call [] = None
 ahead_call (a ∷ []) = None
 ahead_call (a ∷ b ∷ c ∷ more) = None
@@ -160,11 +172,15 @@ request_named word arguments =
     else if bytes_eq word (codes "reopen") then task_call (codes "/reopen") arguments
     else if bytes_eq word (codes "start") then task_call (codes "/start") arguments
     else if bytes_eq word (codes "stop") then task_call (codes "/stop") arguments
-    else if bytes_eq word (codes "annotate") then task_call_with note_body (codes "/annotate") arguments
-    else if bytes_eq word (codes "denotate") then task_call_with note_body (codes "/denotate") arguments
-    else if bytes_eq word (codes "modify") then task_call_with (λ body. body) (codes "/modify") arguments
+    else if bytes_eq word (codes "annotate")
+    then task_call_with note_body (codes "/annotate") arguments
+    else if bytes_eq word (codes "denotate")
+    then task_call_with note_body (codes "/denotate") arguments
+    else if bytes_eq word (codes "modify")
+    then task_call_with (λ body. body) (codes "/modify") arguments
     else if bytes_eq word (codes "depend") then task_call_with link_body (codes "/depend") arguments
-    else if bytes_eq word (codes "undepend") then task_call_with link_body (codes "/undepend") arguments
+    else if bytes_eq word (codes "undepend")
+    then task_call_with link_body (codes "/undepend") arguments
     else if bytes_eq word (codes "sweep") then sweep_call arguments
     else if bytes_eq word (codes "person") then person_call arguments
     else if bytes_eq word (codes "board") then title_call arguments
@@ -182,15 +198,21 @@ request_of [] = None
 -- the host, who sends it, and that the connection ends with the answer
 unfoldable pub sender_lines : Sender → Text
 sender_lines sender =
-    codes "host: " ++ (sender.server ++ (codes "\r\nx-member: " ++ (sender.member ++ (codes "\r\nx-key: " ++ (sender.key ++ codes "\r\nconnection: close\r\n")))))
+    codes "host: " ++ (sender.server
+    ++ (codes "\r\nx-member: "
+    ++ (sender.member
+    ++ (codes "\r\nx-key: " ++ (sender.key ++ codes "\r\nconnection: close\r\n")))))
 
 abbrev pub view_message : Sender → Text → Text
-view_message sender target = codes "GET " ++ (target ++ (codes " HTTP/1.1\r\n" ++ (sender_lines sender ++ codes "\r\n")))
+view_message sender target =
+    codes "GET " ++ (target ++ (codes " HTTP/1.1\r\n" ++ (sender_lines sender ++ codes "\r\n")))
 
 abbrev pub call_message : Sender → ℕ → Text → Text → Text
 call_message sender id target body =
     codes "POST " ++ (target ++ (codes " HTTP/1.1\r\n" ++ (sender_lines sender
-    ++ (codes "x-request-id: " ++ (id_text id ++ (codes "\r\ncontent-length: " ++ (decimal (length body) ++ (codes "\r\n\r\n" ++ body))))))))
+    ++ (codes "x-request-id: "
+    ++ (id_text id ++ (codes "\r\ncontent-length: "
+    ++ (decimal (length body) ++ (codes "\r\n\r\n" ++ body))))))))
 
 -- the bytes of the message of a request; a view's has no identifier
 abbrev pub message_with : Sender → ℕ → Text → Option Text → Text

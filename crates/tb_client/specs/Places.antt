@@ -18,11 +18,13 @@ use Rattle.tb_client.specs.declared.request.Request.{Request}
 abbrev pub takes_task : Text → Bool
 takes_task word =
     list_any (bytes_eq word)
-    (codes "task" ∷ codes "done" ∷ codes "delete" ∷ codes "reopen" ∷ codes "start" ∷ codes "stop" ∷ [])
+    (codes "task" ∷ codes "done" ∷ codes "delete" ∷ codes "reopen" ∷ codes "start"
+    ∷ codes "stop" ∷ [])
 
 -- words with one task and a text behind it
 abbrev pub takes_text : Text → Bool
-takes_text word = list_any (bytes_eq word) (codes "annotate" ∷ codes "denotate" ∷ codes "modify" ∷ [])
+takes_text word =
+    list_any (bytes_eq word) (codes "annotate" ∷ codes "denotate" ∷ codes "modify" ∷ [])
 
 -- words with two tasks
 abbrev pub takes_two : Text → Bool
@@ -45,7 +47,8 @@ with_place places None = places
 with_place places (Some place) = places ++ place ∷ []
 
 abbrev pub with_argument : List ℕ → Bool → Text → List ℕ
-with_argument places is_task argument = if is_task then with_place places (place_in argument) else places
+with_argument places is_task argument = if is_task
+    then with_place places (place_in argument) else places
 
 -- some places, and those among arguments of which so many are tasks
 abbrev pub with_arguments : List ℕ → ℕ → List Text → List ℕ
@@ -57,7 +60,8 @@ with_arguments places left (argument ∷ more) =
 abbrev pub places_of : List Text → List ℕ
 places_of [] = []
 places_of (word ∷ []) = []
-places_of (word ∷ board ∷ arguments) = with_arguments [] (task_count word (length arguments)) arguments
+places_of (word ∷ board ∷ arguments) =
+    with_arguments [] (task_count word (length arguments)) arguments
 
 -- ---- the tasks of a board
 
@@ -79,7 +83,8 @@ board_task task =
 -- the tasks of an array behind those found
 abbrev pub with_tasks : List BoardTask → Items → Option (List BoardTask)
 with_tasks found no_items = Some found
-with_tasks found (item task more) = option_and_then (λ it. with_tasks (found ++ it ∷ []) more) (board_task task)
+with_tasks found (item task more) =
+    option_and_then (λ it. with_tasks (found ++ it ∷ []) more) (board_task task)
 
 abbrev pub board_tasks : Data → Option (List BoardTask)
 board_tasks null = None

@@ -21,7 +21,8 @@ const FIELD_LIMIT: usize = 64;
 /// The answer that the bytes are, if they are a whole one with nothing behind it.
 pub fn read_reply(alloc: Global, bytes: &[u8]) -> Result<Option<Reply>, AllocError>
     ensures whole { IfOk result (λ found. IfSome found (IsWholeAnswer bytes.now)) }
-    ensures none { IfOk result (λ found. IfNone found ((reply : Reply) → IsWholeAnswer bytes.now reply → ⊥)) }
+    ensures none { IfOk result
+        (λ found. IfNone found ((reply : Reply) → IsWholeAnswer bytes.now reply → ⊥)) }
 {
     let mut room = [EMPTY_HEADER_SPAN; FIELD_LIMIT];
     let Ok(Status::Complete(spans)) = parse_response(bytes, &mut room) else {
@@ -96,7 +97,9 @@ fn values_named<'b>(
     name: &str,
 ) -> Result<Vec<&'b [u8]>, AllocError>
     requires { All (IsHeaderWithin (length bytes.now)) spans.now }
-    ensures { IfOk result (λ values. map (λ value. value.now) values.items ≡ values_named name.now (map (header_bytes bytes.now) spans.now)) }
+    ensures { IfOk result
+        (λ values. map (λ value. value.now) values.items
+        ≡ values_named name.now (map (header_bytes bytes.now) spans.now)) }
 {
     let mut values = Vec::new(alloc);
     for span in spans {
@@ -113,7 +116,10 @@ fn push_named<'b>(
     name: &str,
 ) -> Result<(), AllocError>
     requires { IsHeaderWithin (length bytes.now) span.now }
-    ensures { OnOk result (map (λ value. value.now) values.new.items ≡ with_field (map (λ value. value.now) values.old.items) name.now (header_bytes bytes.now span.now)) }
+    ensures { OnOk result
+        (map (λ value. value.now) values.new.items
+        ≡ with_field (map (λ value. value.now) values.old.items) name.now
+        (header_bytes bytes.now span.now)) }
 {
     if !is_named(bytes, span, name) {
         return Ok(());

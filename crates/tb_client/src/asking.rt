@@ -31,12 +31,16 @@ pub trait Line {
 
     ghost unchanged: { (line : Self) → follows [] line line };
 
-    ghost joined: { (first more : List Event) (a b c : Self) → follows first a b → follows more b c → follows (first ++ more) a c };
+    ghost joined: { (first more : List Event) (a b c : Self) → follows first a b → follows more b c
+        → follows (first ++ more) a c };
 
     /// Sends a message on a new connection, and takes what comes until the connection ends: none where the message wasn't sent whole.
     fn ask(&mut self, message: &[u8]) -> Option<Items<u8>>
-        ensures whole { IfSome result (λ came. follows (asked message.now came ∷ []) self.old self.new) }
-        ensures front { IfNone result ((sent : List ℕ) × IsFront sent message.now × follows (torn sent ∷ []) self.old self.new) };
+        ensures whole { IfSome result
+            (λ came. follows (asked message.now came ∷ []) self.old self.new) }
+        ensures front { IfNone result
+            ((sent : List ℕ) × IsFront sent message.now
+            × follows (torn sent ∷ []) self.old self.new) };
 
     /// Lets so many milliseconds go by, unless the time for asking is over.
     fn pause(&mut self, milliseconds: u32) -> bool
@@ -58,7 +62,8 @@ pub fn ask_until_answered<L: Line>(
     line: &mut L,
     message: &[u8],
 ) -> Result<Reply, AskFault>
-    ensures { (happened : List Event) × L.follows happened line.old line.new × EndsBy message.now happened result }
+    ensures { (happened : List Event) × L.follows happened line.old line.new
+        × EndsBy message.now happened result }
 {
     let mut pause = FIRST_PAUSE;
     let mut tries = 0;
@@ -81,11 +86,14 @@ fn ask_once<L: Line>(
     line: &mut L,
     message: &[u8],
 ) -> Result<Option<Reply>, AllocError>
-    ensures answer { IfOk result (λ found. IfSome found (λ reply. (came : List ℕ) × IsWholeAnswer came reply × (asks_again reply.status ≡ false)
+    ensures answer { IfOk result
+        (λ found. IfSome found
+        (λ reply. (came : List ℕ) × IsWholeAnswer came reply × (asks_again reply.status ≡ false)
         × L.follows (asked message.now came ∷ []) line.old line.new)) }
     ensures none { IfOk result (λ found. IfNone found ((event : Event) × IsTry message.now event
         × L.follows (event ∷ []) line.old line.new)) }
-    ensures memory { OnErr result ((came : List ℕ) × L.follows (asked message.now came ∷ []) line.old line.new) }
+    ensures memory { OnErr result
+        ((came : List ℕ) × L.follows (asked message.now came ∷ []) line.old line.new) }
 {
     let Some(came) = line.ask(message) else {
         return Ok(None);

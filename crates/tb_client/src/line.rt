@@ -124,7 +124,9 @@ fn put_early(
     parts: &LineParts,
     task: &Task,
 ) -> Result<(), AllocError>
-    ensures { OnOk result (members_view object.new.entries ≡ with_fields (early_fields parts.now task.now) (members_view object.old.entries)) }
+    ensures { OnOk result
+        (members_view object.new.entries
+        ≡ with_fields (early_fields parts.now task.now) (members_view object.old.entries)) }
 {
     put_text(object, alloc, "description", task.description.as_str())?;
     put_moment(object, alloc, "due", task.due)?;
@@ -140,7 +142,9 @@ fn put_late(
     parts: &LineParts,
     task: &Task,
 ) -> Result<(), AllocError>
-    ensures { OnOk result (members_view object.new.entries ≡ with_fields (late_fields parts.now task.now) (members_view object.old.entries)) }
+    ensures { OnOk result
+        (members_view object.new.entries
+        ≡ with_fields (late_fields parts.now task.now) (members_view object.old.entries)) }
 {
     put_text_if_some(object, alloc, "project", &task.project)?;
     if parts.done {

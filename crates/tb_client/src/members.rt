@@ -15,7 +15,9 @@ pub(crate) fn put_text(
     name: &str,
     text: &str,
 ) -> Result<(), AllocError>
-    ensures { OnOk result (members_view object.new.entries ≡ with_field name.now (Some (string text.now)) (members_view object.old.entries)) }
+    ensures { OnOk result
+        (members_view object.new.entries
+        ≡ with_field name.now (Some (string text.now)) (members_view object.old.entries)) }
 {
     put(object, alloc, name, Value::try_from_str(alloc, text)?)
 }
@@ -26,7 +28,9 @@ pub(crate) fn put_text_if_some(
     name: &str,
     text: &Option<NonEmptyText>,
 ) -> Result<(), AllocError>
-    ensures { OnOk result (members_view object.new.entries ≡ with_field name.now (option_map string text.now) (members_view object.old.entries)) }
+    ensures { OnOk result
+        (members_view object.new.entries
+        ≡ with_field name.now (option_map string text.now) (members_view object.old.entries)) }
 {
     match text {
         Some(text) => put_text(object, alloc, name, text.as_str()),
@@ -40,7 +44,9 @@ pub(crate) fn put_moment(
     name: &str,
     moment: Option<Moment>,
 ) -> Result<(), AllocError>
-    ensures { OnOk result (members_view object.new.entries ≡ with_field name.now (option_map moment_data moment) (members_view object.old.entries)) }
+    ensures { OnOk result
+        (members_view object.new.entries
+        ≡ with_field name.now (option_map moment_data moment) (members_view object.old.entries)) }
 {
     match moment {
         Some(moment) => put_text(object, alloc, name, moment.text(alloc)?.as_str()),
@@ -54,7 +60,9 @@ pub(crate) fn put_id(
     name: &str,
     id: Option<TaskId>,
 ) -> Result<(), AllocError>
-    ensures { OnOk result (members_view object.new.entries ≡ with_field name.now (option_map id_data id) (members_view object.old.entries)) }
+    ensures { OnOk result
+        (members_view object.new.entries
+        ≡ with_field name.now (option_map id_data id) (members_view object.old.entries)) }
 {
     match id {
         Some(id) => put_text(object, alloc, name, id.text(alloc)?.as_str()),
@@ -67,7 +75,10 @@ pub(crate) fn put_priority(
     alloc: Global,
     priority: Option<Priority>,
 ) -> Result<(), AllocError>
-    ensures { OnOk result (members_view object.new.entries ≡ with_field (codes "priority") (option_map priority_data priority) (members_view object.old.entries)) }
+    ensures { OnOk result
+        (members_view object.new.entries
+        ≡ with_field (codes "priority") (option_map priority_data priority)
+        (members_view object.old.entries)) }
 {
     match priority {
         Some(priority) => put_text(object, alloc, "priority", priority.letter()),
@@ -80,7 +91,9 @@ pub(crate) fn put_tags(
     alloc: Global,
     tags: &[Text],
 ) -> Result<(), AllocError>
-    ensures { OnOk result (members_view object.new.entries ≡ with_field (codes "tags") (texts_data tags.now) (members_view object.old.entries)) }
+    ensures { OnOk result
+        (members_view object.new.entries
+        ≡ with_field (codes "tags") (texts_data tags.now) (members_view object.old.entries)) }
 {
     if tags.is_empty() {
         return Ok(());

@@ -171,7 +171,8 @@ fn note_call(alloc: Global, suffix: &str, arguments: &[Text]) -> Result<Option<R
 }
 
 fn modify_call(alloc: Global, arguments: &[Text]) -> Result<Option<Request>, AllocError>
-    ensures { IfOk result (λ found. found ≡ task_call_with (λ body. body) (codes "/modify") arguments.now) }
+    ensures { IfOk result
+        (λ found. found ≡ task_call_with (λ body. body) (codes "/modify") arguments.now) }
 {
     let [board, uuid, body] = arguments else {
         return Ok(None);

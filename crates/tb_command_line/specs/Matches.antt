@@ -28,7 +28,8 @@ abbrev pub flag_at : Text → List Row → Bool
 flag_at id rows = option_map_or (λ text. bytes_eq text (codes "true")) (first_of id rows) false
 
 abbrev pub connections_at : List Row → Result Connections WordsFault
-connections_at rows = or_bad (connections_in (first_of (codes "connections") rows) (flag_at (codes "forever") rows))
+connections_at rows =
+    or_bad (connections_in (first_of (codes "connections") rows) (flag_at (codes "forever") rows))
 
 abbrev pub init_at : List Row → Result Order WordsFault
 init_at rows = do
@@ -42,7 +43,14 @@ serve_at rows = do
   file ← text_at (codes "file") rows
   p ← value_at port_in (codes "port") rows
   n ← connections_at rows
-  Ok (order.Serve (record { file = file; port = p; connections = n; page = None; log = flag_at (codes "log") rows }))
+  Ok
+  (order.Serve (record {
+    file = file;
+    port = p;
+    connections = n;
+    page = None;
+    log = flag_at (codes "log") rows;
+  }))
 
 abbrev pub import_at : List Row → Result Order WordsFault
 import_at rows = do
@@ -52,7 +60,8 @@ import_at rows = do
   i ← value_at read_id (codes "id") rows
   b ← value_at board_in (codes "board") rows
   t ← value_at kind_in (codes "kind") rows
-  Ok (importing (flag_at (codes "all") rows) (record { file = file; member = n; key = k; id = i; board = b; kind = t }))
+  Ok (importing (flag_at (codes "all") rows)
+      (record { file = file; member = n; key = k; id = i; board = b; kind = t }))
 
 abbrev pub view_at : ViewKind → List Row → Result Order WordsFault
 view_at kind rows = do

@@ -45,7 +45,8 @@ texts_of (Init file name key) = file ∷ name ∷ key ∷ []
 texts_of (Serve file port None is_forever log) = file ∷ port ∷ []
 texts_of (Serve file port (Some count) is_forever log) = file ∷ port ∷ count ∷ []
 texts_of Run = []
-texts_of (Import file member key id board kind is_all) = file ∷ member ∷ key ∷ id ∷ board ∷ kind ∷ []
+texts_of (Import file member key id board kind is_all) =
+    file ∷ member ∷ key ∷ id ∷ board ∷ kind ∷ []
 texts_of (View kind file member key board) = file ∷ member ∷ key ∷ board ∷ []
 texts_of (Check file) = file ∷ []
 
@@ -65,7 +66,8 @@ words_of (Serve file port count is_forever log) =
     codes "serve" ∷ file ∷ codes "--port" ∷ port ∷ (option_words (codes "--connections") count
     ++ (flag_words (codes "--forever") is_forever ++ flag_words (codes "--log") log))
 words_of Run = codes "run" ∷ []
-words_of (Import file member key id board kind is_all) = codes "import" ∷ file ∷ member ∷ key ∷ id ∷ board ∷ kind ∷ flag_words (codes "--all") is_all
+words_of (Import file member key id board kind is_all) =
+    codes "import" ∷ file ∷ member ∷ key ∷ id ∷ board ∷ kind ∷ flag_words (codes "--all") is_all
 words_of (View kind file member key board) = word_of kind ∷ file ∷ member ∷ key ∷ board ∷ []
 words_of (Check file) = codes "check" ∷ file ∷ []
 
@@ -136,6 +138,7 @@ abbrev pub order_of : Request → Result Order WordsFault
 order_of (Init file name key) = init_of file name key
 order_of (Serve file port count is_forever log) = serve_of file port count is_forever log
 order_of Run = Ok order.Run
-order_of (Import file member key id board kind is_all) = import_of file member key id board kind is_all
+order_of (Import file member key id board kind is_all) =
+    import_of file member key id board kind is_all
 order_of (View kind file member key board) = view_of kind file member key board
 order_of (Check file) = Ok (order.Check file)

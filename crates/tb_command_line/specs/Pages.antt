@@ -30,7 +30,8 @@ page_in words = if has_page words then slice_get words (page_place words + 1) el
 
 -- the words without the option
 abbrev pub without_page : List Text → List Text
-without_page words = if has_page words then take (page_place words) words ++ drop (page_place words + 2) words else words
+without_page words = if has_page words
+    then take (page_place words) words ++ drop (page_place words + 2) words else words
 
 -- a server's order with the folder
 abbrev pub paged : Text → Order → Order

@@ -29,12 +29,14 @@ option_value name (first ∷ value ∷ rest) = if bytes_eq first name then Some 
 option_value name (first ∷ []) = None
 option_value name [] = None
 
-abbrev pub value_read : {A : Type 0} → (Text → Option A) → Option Text → Result (Option A) WordsFault
+abbrev pub value_read : {A : Type 0} → (Text → Option A) → Option Text
+    → Result (Option A) WordsFault
 value_read read None = Ok None
 value_read read (Some value) = or_bad (option_map Some (read value))
 
 -- what the word behind an option reads as
-abbrev pub option_in : {A : Type 0} → Text → (Text → Option A) → List Text → Result (Option A) WordsFault
+abbrev pub option_in : {A : Type 0} → Text → (Text → Option A) → List Text
+    → Result (Option A) WordsFault
 option_in name read words = value_read read (option_value name words)
 
 -- the words behind an option, where it was in front of them
@@ -67,7 +69,15 @@ sent_with id seconds (server ∷ member ∷ key ∷ word ∷ arguments) = do
   s ← or_bad (server_in server)
   n ← or_bad (read_name member)
   k ← or_bad (key_in key)
-  Ok (order.Send (record { server = s; member = n; key = k; id = id; seconds = unwrap_or seconds 60; words = word ∷ arguments }))
+  Ok
+  (order.Send (record {
+    server = s;
+    member = n;
+    key = k;
+    id = id;
+    seconds = unwrap_or seconds 60;
+    words = word ∷ arguments;
+  }))
 sent_with id seconds [] = Err Bad
 sent_with id seconds (server ∷ []) = Err Bad
 sent_with id seconds (server ∷ member ∷ []) = Err Bad
@@ -102,7 +112,8 @@ told_alone word =
     else None
 
 abbrev pub told_of_order : Text → Text → Option Order
-told_of_order name word = if bytes_eq word (codes "--help") then option_map order.Help (topic_named name) else None
+told_of_order name word = if bytes_eq word (codes "--help")
+    then option_map order.Help (topic_named name) else None
 
 -- what is told of the program itself, where the words ask for that
 unfoldable pub told_of : List Text → Option Order

@@ -12,9 +12,11 @@ use tb_values::Text;
 
 /// The order that the words without `--page` are, with the folder.
 pub(crate) fn read_paged(alloc: Global, words: &[&str]) -> Result<Order, WordsFault>
-    ensures { (request : Request) → without_page (map (λ word. word.now) words.entry.now) ≡ words_of request
+    ensures { (request : Request)
+        → without_page (map (λ word. word.now) words.entry.now) ≡ words_of request
         → list_all is_plain (texts_of request) ≡ true
-        → Reads result (with_page (page_in (map (λ word. word.now) words.entry.now)) (order_of request)) }
+        → Reads result (with_page (page_in (map (λ word. word.now) words.entry.now))
+        (order_of request)) }
 {
     let rest = without_page(alloc, words)?;
     let order = match read_listed(alloc, rest.as_slice()) {
@@ -28,7 +30,8 @@ pub(crate) fn read_paged(alloc: Global, words: &[&str]) -> Result<Order, WordsFa
 }
 
 fn page_in<'t>(words: &[&'t str]) -> Option<&'t str>
-    ensures { option_map (λ page. page.now) result ≡ page_in (map (λ word. word.now) words.entry.now) }
+    ensures { option_map (λ page. page.now) result
+        ≡ page_in (map (λ word. word.now) words.entry.now) }
 {
     if !has_page(words) {
         return None;
@@ -41,7 +44,9 @@ fn page_in<'t>(words: &[&'t str]) -> Option<&'t str>
 
 #[tactic(auto, using(crate::proofs::Paging::left_out))]
 fn without_page<'t>(alloc: Global, words: &[&'t str]) -> Result<Vec<&'t str>, AllocError>
-    ensures { IfOk result (λ rest. map (λ word. word.now) rest.items ≡ without_page (map (λ word. word.now) words.entry.now)) }
+    ensures { IfOk result
+        (λ rest. map (λ word. word.now) rest.items
+        ≡ without_page (map (λ word. word.now) words.entry.now)) }
 {
     if !has_page(words) {
         return Vec::from_slice(alloc, words);
@@ -54,7 +59,8 @@ fn without_page<'t>(alloc: Global, words: &[&'t str]) -> Result<Vec<&'t str>, Al
 
 fn has_page(words: &[&str]) -> bool
     ensures value { result ≡ has_page (map (λ word. word.now) words.entry.now) }
-    ensures within { result ≡ true → page_place (map (λ word. word.now) words.entry.now) + 2 ≤ length words.entry.now }
+    ensures within { result ≡ true
+        → page_place (map (λ word. word.now) words.entry.now) + 2 ≤ length words.entry.now }
 {
     let place = page_place(words);
     let is_within = place + 1 < words.len();
@@ -96,7 +102,8 @@ fn page_place(words: &[&str]) -> usize
 
 fn words_from<'w, 't>(words: &'w [&'t str], place: usize) -> &'w [&'t str]
     requires { place ≤ length words.now }
-    ensures { map (λ word. word.now) result.now ≡ drop place (map (λ word. word.now) words.entry.now) }
+    ensures { map (λ word. word.now) result.now
+        ≡ drop place (map (λ word. word.now) words.entry.now) }
 {
     &words[place..]
 }

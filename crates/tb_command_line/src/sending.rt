@@ -41,7 +41,8 @@ fn id_option(words: &[&str]) -> Result<Option<TaskId>, WordsFault>
 }
 
 fn seconds_option(words: &[&str]) -> Result<Option<u32>, WordsFault>
-    ensures { result ≡ option_in (codes "--for") seconds_in (map (λ word. word.now) words.entry.now) }
+    ensures { result
+        ≡ option_in (codes "--for") seconds_in (map (λ word. word.now) words.entry.now) }
 {
     let Some(value) = option_value(words, "--for") else {
         return Ok(None);
@@ -54,7 +55,8 @@ fn seconds_option(words: &[&str]) -> Result<Option<u32>, WordsFault>
 
 /// The word behind an option, where that is in front of the words.
 fn option_value<'t>(words: &[&'t str], name: &str) -> Option<&'t str>
-    ensures { option_map (λ value. value.now) result ≡ option_value name.now (map (λ word. word.now) words.entry.now) }
+    ensures { option_map (λ value. value.now) result
+        ≡ option_value name.now (map (λ word. word.now) words.entry.now) }
 {
     let [first, value, ..] = words else {
         return None;
@@ -64,7 +66,9 @@ fn option_value<'t>(words: &[&'t str], name: &str) -> Option<&'t str>
 
 /// The words behind an option, where it was in front of them.
 fn behind<'w, 't>(words: &'w [&'t str], is_given: bool) -> &'w [&'t str]
-    ensures { map (λ word. word.now) result.now ≡ (if is_given then drop 2 (map (λ word. word.now) words.entry.now) else map (λ word. word.now) words.entry.now) }
+    ensures { map (λ word. word.now) result.now
+        ≡ (if is_given then drop 2 (map (λ word. word.now) words.entry.now)
+        else map (λ word. word.now) words.entry.now) }
 {
     if !is_given {
         return words;

@@ -22,11 +22,15 @@ use std::alloc::{AllocError, Global};
 /// The order that the words after the program's name are. Of words in none of the forms, and of words that begin with a hyphen where
 /// no option stands, nothing is promised: tests show that they are bad.
 pub fn command_of(alloc: Global, words: &[&str]) -> Result<Order, WordsFault>
-    ensures listed { (request : Request) → without_page (map (λ word. word.now) words.entry.now) ≡ words_of request
+    ensures listed { (request : Request)
+        → without_page (map (λ word. word.now) words.entry.now) ≡ words_of request
         → list_all is_plain (texts_of request) ≡ true
-        → Reads result (with_page (page_in (map (λ word. word.now) words.entry.now)) (order_of request)) }
-    ensures told { (order : Order) → told_of (map (λ word. word.now) words.entry.now) ≡ Some order → result ≡ Ok order }
-    ensures sent { (rest : List (List ℕ)) → map (λ word. word.now) words.entry.now ≡ codes "send" ∷ rest
+        → Reads result (with_page (page_in (map (λ word. word.now) words.entry.now))
+        (order_of request)) }
+    ensures told { (order : Order) → told_of (map (λ word. word.now) words.entry.now) ≡ Some order
+        → result ≡ Ok order }
+    ensures sent { (rest : List (List ℕ))
+        → map (λ word. word.now) words.entry.now ≡ codes "send" ∷ rest
         → told_of (codes "send" ∷ rest) ≡ None → Reads result (send_of rest) }
 {
     if let Some(order) = read_told(words) {

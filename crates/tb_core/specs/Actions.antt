@@ -72,4 +72,5 @@ action_refusals b id a =
 -- the task is changed at its place
 abbrev pub judged_action : Board → ℕ → Action → ℕ → Result (Board × AnswerDetail) Refusal
 judged_action b id a m =
-    unless_refused (least (action_refusals b id a)) (record b { tasks = change_first (has_id id) (acted m a) b.tasks }) (Changed id)
+    unless_refused (least (action_refusals b id a))
+    (record b { tasks = change_first (has_id id) (acted m a) b.tasks }) (Changed id)

@@ -15,6 +15,7 @@ use Rattle.tb_board.specs.Numbers.{free_id}
 use Rattle.tb_core.specs.Refusals.{where_holds, bad_task, least, unless_refused}
 use Rattle.tb_board.specs.Board.{lacks_depends}
 use Rattle.tb_board.specs.Good.{has_template_form}
+use Rattle.tb_task.specs.Limits.{most_tasks}
 
 -- it came as an instance or with a mask
 abbrev pub is_linked : Incoming → Bool
@@ -33,7 +34,7 @@ abbrev pub add_fault : Incoming → Option Field
 add_fault i = first_fault (fault_of i.task) (is_linked i || is_misread i.task)
 
 abbrev pub is_full : Board → Bool
-is_full b = nat_le 10000 (length b.tasks)
+is_full b = nat_le most_tasks (length b.tasks)
 
 -- in the order of their numbers
 abbrev pub add_refusals : Board → Incoming → List (Option Refusal)
@@ -53,4 +54,6 @@ entered b i m = record i.task { id = entered_id b i; modified = Some m }
 
 -- the task goes last
 abbrev pub judged_add : Board → Incoming → ℕ → Result (Board × AnswerDetail) Refusal
-judged_add b i m = unless_refused (least (add_refusals b i)) (with_task b (entered b i m)) (Added (entered_id b i) i.dropped)
+judged_add b i m =
+    unless_refused (least (add_refusals b i)) (with_task b (entered b i m))
+    (Added (entered_id b i) i.dropped)

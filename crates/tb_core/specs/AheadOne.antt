@@ -55,9 +55,11 @@ abbrev pub IsFirstRequest : Request → Type 0
 IsFirstRequest r = is_first_command r.command ≡ true
 
 -- the answers to requests, one after the other, by a text of what a command makes of a world
-abbrev pub answers_by : (World → List ℕ → Command → ℕ → Outcome) → World → List Request → List (Result Answer Refusal)
+abbrev pub answers_by : (World → List ℕ → Command → ℕ → Outcome) → World → List Request
+    → List (Result Answer Refusal)
 answers_by text w [] = []
-answers_by text w (r ∷ rs) = (text w r.name r.command r.at).answer ∷ answers_by text (text w r.name r.command r.at).world rs
+answers_by text w (r ∷ rs) =
+    (text w r.name r.command r.at).answer ∷ answers_by text (text w r.name r.command r.at).world rs
 
 -- the world after them
 abbrev pub world_by : (World → List ℕ → Command → ℕ → Outcome) → World → List Request → World
@@ -66,4 +68,5 @@ world_by text w (r ∷ rs) = world_by text (text w r.name r.command r.at).world 
 
 abbrev pub AheadOne : Type 0
 AheadOne = (w : World) (rs : List Request) → IsFirstWorld w → AllByRecursion IsFirstRequest rs
-    → (answers_by apply w rs ≡ answers_by apply_at_once w rs) × (world_by apply w rs ≡ world_by apply_at_once w rs)
+    → (answers_by apply w rs ≡ answers_by apply_at_once w rs)
+    × (world_by apply w rs ≡ world_by apply_at_once w rs)

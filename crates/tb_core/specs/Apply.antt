@@ -120,10 +120,12 @@ judged b (SetAhead n ahead) m = Ok (with_ahead ahead b, Swept)
 
 -- the answer about a board that the sweep follows
 abbrev pub board_answer : Board → ℕ → AnswerDetail → BoardAnswer
-board_answer b m told = record { board = b.number; added = added b m; more = more (sweep b m) m; told = told }
+board_answer b m told =
+    record { board = b.number; added = added b m; more = more (sweep b m) m; told = told }
 
 -- the sweep follows a command that is accepted
-abbrev pub answered : ℕ → Result (Board × AnswerDetail) Refusal → Result (Board × BoardAnswer) Refusal
+abbrev pub answered : ℕ → Result (Board × AnswerDetail) Refusal
+    → Result (Board × BoardAnswer) Refusal
 answered m (Ok r) = Ok (sweep r.0 m, board_answer r.0 m r.1)
 answered m (Err refusal) = Err refusal
 
@@ -132,19 +134,25 @@ abbrev pub outcome : Board → Command → ℕ → Result (Board × BoardAnswer)
 outcome b c m = answered m (judged (wake b m) c m)
 
 -- a role that doesn't suffice is refused
-abbrev pub if_allowed : Bool → Result (Board × BoardAnswer) Refusal → Result (Board × BoardAnswer) Refusal
+abbrev pub if_allowed : Bool → Result (Board × BoardAnswer) Refusal
+    → Result (Board × BoardAnswer) Refusal
 if_allowed true r = r
 if_allowed false r = Err NotAllowed
 
 -- who isn't known is refused, then who has no role on the board, or where there is none, and then whose role doesn't suffice
-abbrev pub decided : Option ℕ → Option SeenBoard → Command → ℕ → Result (Board × BoardAnswer) Refusal
+abbrev pub decided : Option ℕ → Option SeenBoard → Command → ℕ
+    → Result (Board × BoardAnswer) Refusal
 decided None b c m = Err UnknownCaller
 decided (Some caller) None c m = Err NoBoard
 decided (Some caller) (Some b) c m = if_allowed (allows b.role c) (outcome b.board c m)
 
 -- a refusal changes nothing
 abbrev pub applied : World → Result (Board × BoardAnswer) Refusal → Outcome
-applied w (Ok r) = record { world = record w { boards = change_board r.0.number (λ _. r.0) w.boards }; answer = Ok (OnBoard r.1) }
+applied w (Ok r) =
+    record {
+      world = record w { boards = change_board r.0.number (λ _. r.0) w.boards };
+      answer = Ok (OnBoard r.1);
+    }
 applied w (Err refusal) = record { world = w; answer = Err refusal }
 
 abbrev pub on_board : World → Seen → Command → ℕ → Outcome
@@ -159,7 +167,11 @@ role_refusals seen b role =
     ∷ []
 
 abbrev pub with_role : World → Board → ℕ → Option Role → World
-with_role w b person role = record w { boards = change_board b.number (λ _. b) w.boards; roles = set_role w.roles b.number person role }
+with_role w b person role =
+    record w {
+      boards = change_board b.number (λ _. b) w.boards;
+      roles = set_role w.roles b.number person role;
+    }
 
 abbrev pub role_answer : Board → ℕ → Answer
 role_answer b m = OnBoard (board_answer b m Swept)
@@ -169,7 +181,8 @@ abbrev pub role_given : World → Seen → Option ℕ → Option SeenBoard → O
 role_given w seen None b role m = record { world = w; answer = Err UnknownCaller }
 role_given w seen (Some caller) None role m = record { world = w; answer = Err NoBoard }
 role_given w seen (Some caller) (Some b) role m =
-    given (least (role_refusals seen b role)) w (with_role w (sweep b.board m) (person_number seen.other) role) (role_answer b.board m)
+    given (least (role_refusals seen b role)) w
+    (with_role w (sweep b.board m) (person_number seen.other) role) (role_answer b.board m)
 
 -- a command at a moment, by what it looks at
 abbrev pub apply_seen : World → Seen → Command → ℕ → Outcome

@@ -24,10 +24,17 @@ use Rattle.tb_core.specs.Refusals.{least}
 
 -- the answer about a board that the sweep follows
 abbrev pub answer_at_once : Board → ℕ → AnswerDetail → BoardAnswer
-answer_at_once b m told = record { board = b.number; added = added_at_once b m; more = more_at_once (sweep_at_once b m) m; told = told }
+answer_at_once b m told =
+    record {
+      board = b.number;
+      added = added_at_once b m;
+      more = more_at_once (sweep_at_once b m) m;
+      told = told;
+    }
 
 -- the sweep follows a command that is accepted
-abbrev pub answered_at_once : ℕ → Result (Board × AnswerDetail) Refusal → Result (Board × BoardAnswer) Refusal
+abbrev pub answered_at_once : ℕ → Result (Board × AnswerDetail) Refusal
+    → Result (Board × BoardAnswer) Refusal
 answered_at_once m (Ok r) = Ok (sweep_at_once r.0 m, answer_at_once r.0 m r.1)
 answered_at_once m (Err refusal) = Err refusal
 
@@ -36,7 +43,8 @@ abbrev pub outcome_at_once : Board → Command → ℕ → Result (Board × Boar
 outcome_at_once b c m = answered_at_once m (judged (wake b m) c m)
 
 -- who isn't known is refused, and then who has no role on the board, or where there is none
-abbrev pub decided_at_once : Option ℕ → Option SeenBoard → Command → ℕ → Result (Board × BoardAnswer) Refusal
+abbrev pub decided_at_once : Option ℕ → Option SeenBoard → Command → ℕ
+    → Result (Board × BoardAnswer) Refusal
 decided_at_once None b c m = Err UnknownCaller
 decided_at_once (Some caller) None c m = Err NoBoard
 decided_at_once (Some caller) (Some b) c m = outcome_at_once b.board c m
@@ -49,7 +57,9 @@ abbrev pub role_at_once : World → Seen → Option ℕ → Option SeenBoard →
 role_at_once w seen None b role m = record { world = w; answer = Err UnknownCaller }
 role_at_once w seen (Some caller) None role m = record { world = w; answer = Err NoBoard }
 role_at_once w seen (Some caller) (Some b) role m =
-    given (least (role_refusals seen b role)) w (with_role w (sweep_at_once b.board m) (person_number seen.other) role) (OnBoard (answer_at_once b.board m Swept))
+    given (least (role_refusals seen b role)) w
+    (with_role w (sweep_at_once b.board m) (person_number seen.other) role)
+    (OnBoard (answer_at_once b.board m Swept))
 
 -- a command at a moment, by what it looks at; the text has no command by which a board looks ahead
 abbrev pub seen_at_once : World → Seen → Command → ℕ → Outcome

@@ -9,4 +9,5 @@ use Rattle.tb_core.specs.Refusals.{least}
 -- exactly where no smaller refusal holds, and the two tasks are one or the second depends on the first by a walk
 abbrev pub AreCyclesRefused : Type 0
 AreCyclesRefused = (b : Board) (id on m : ℕ)
-    → (judged_depend b id on m ≡ Err Cycle) ↔ ((least (link_refusals b id on None) ≡ None) × ((id ≡ on) ⊎ DependsOn b on id))
+    → (judged_depend b id on m ≡ Err Cycle)
+    ↔ ((least (link_refusals b id on None) ≡ None) × ((id ≡ on) ⊎ DependsOn b on id))

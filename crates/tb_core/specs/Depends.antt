@@ -26,7 +26,8 @@ depends_on on t = list_any (λ id. id == on) t.depends
 
 -- the link goes to its place in the order, and a task that has it isn't changed
 abbrev pub linked : ℕ → ℕ → Task → Task
-linked m on t = if depends_on on t then t else record t { depends = replace_key nat_cmp t.depends on; modified = Some m }
+linked m on t = if depends_on on t then t
+    else record t { depends = replace_key nat_cmp t.depends on; modified = Some m }
 
 abbrev pub unlinked : ℕ → ℕ → Task → Task
 unlinked m on t = record t { depends = remove_key (λ id. id == on) t.depends; modified = Some m }
@@ -51,7 +52,9 @@ abbrev pub depend_refusals : Board → ℕ → ℕ → List (Option Refusal)
 depend_refusals b id on = link_refusals b id on (where_holds Cycle (closes_walk b id on))
 
 abbrev pub undepend_refusals : Board → ℕ → ℕ → List (Option Refusal)
-undepend_refusals b id on = link_refusals b id on (where_holds NoLink (not (of_task (depends_on on) (find (has_id id) b.tasks))))
+undepend_refusals b id on =
+    link_refusals b id on
+    (where_holds NoLink (not (of_task (depends_on on) (find (has_id id) b.tasks))))
 
 -- the first task stands at the place and is open, and the other one is on the board
 pub record IsPlaceToLink (b : Board) (id on place : ℕ) : Type 0 where
@@ -61,8 +64,10 @@ pub record IsPlaceToLink (b : Board) (id on place : ℕ) : Type 0 where
 
 abbrev pub judged_depend : Board → ℕ → ℕ → ℕ → Result (Board × AnswerDetail) Refusal
 judged_depend b id on m =
-    unless_refused (least (depend_refusals b id on)) (record b { tasks = change_first (has_id id) (linked m on) b.tasks }) (Changed id)
+    unless_refused (least (depend_refusals b id on))
+    (record b { tasks = change_first (has_id id) (linked m on) b.tasks }) (Changed id)
 
 abbrev pub judged_undepend : Board → ℕ → ℕ → ℕ → Result (Board × AnswerDetail) Refusal
 judged_undepend b id on m =
-    unless_refused (least (undepend_refusals b id on)) (record b { tasks = change_first (has_id id) (unlinked m on) b.tasks }) (Changed id)
+    unless_refused (least (undepend_refusals b id on))
+    (record b { tasks = change_first (has_id id) (unlinked m on) b.tasks }) (Changed id)

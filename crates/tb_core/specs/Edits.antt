@@ -59,23 +59,30 @@ unless_empty (Some (c ∷ cs)) = Some (c ∷ cs)
 
 -- the attribute of that name goes to its place in byte order, or is removed
 abbrev pub with_extra : List ℕ → Option ExtraValue → List Extra → List Extra
-with_extra name None extras = remove_key (is_at (by_name (record { name = name; value = value.Null }))) extras
+with_extra name None extras =
+    remove_key (is_at (by_name (record { name = name; value = value.Null }))) extras
 with_extra name (Some v) extras = replace_key by_name extras (record { name = name; value = v })
 
 -- an attribute that the task format doesn't know. Those that it knows aren't edited here.
 unfoldable pub extended : Edit → Task → Task
-extended e t = if is_attribute e.name then t else record t { extras = with_extra e.name (option_and_then extra_in e.value) t.extras }
+extended e t = if is_attribute e.name then t
+    else record t { extras = with_extra e.name (option_and_then extra_in e.value) t.extras }
 
 -- the named attribute is set, or removed where nothing is given: a description is then empty
 unfoldable pub edited : Edit → Task → Task
 edited e t =
-    if bytes_eq e.name (codes "description") then record t { description = unwrap_or (given_text e.value) [] }
+    if bytes_eq e.name (codes "description")
+    then record t { description = unwrap_or (given_text e.value) [] }
     else if bytes_eq e.name (codes "due") then record t { due = given_moment e.value }
-    else if bytes_eq e.name (codes "priority") then record t { priority = option_and_then priority_in e.value }
-    else if bytes_eq e.name (codes "project") then record t { project = unless_empty (given_text e.value) }
-    else if bytes_eq e.name (codes "recur") then record t { recur = unless_empty (given_text e.value) }
+    else if bytes_eq e.name (codes "priority")
+    then record t { priority = option_and_then priority_in e.value }
+    else if bytes_eq e.name (codes "project")
+    then record t { project = unless_empty (given_text e.value) }
+    else if bytes_eq e.name (codes "recur")
+    then record t { recur = unless_empty (given_text e.value) }
     else if bytes_eq e.name (codes "scheduled") then record t { scheduled = given_moment e.value }
-    else if bytes_eq e.name (codes "tags") then record t { tags = unwrap_or (option_and_then tags_in e.value) [] }
+    else if bytes_eq e.name (codes "tags")
+    then record t { tags = unwrap_or (option_and_then tags_in e.value) [] }
     else if bytes_eq e.name (codes "until") then record t { until = given_moment e.value }
     else if bytes_eq e.name (codes "wait") then record t { wait = given_moment e.value }
     else extended e t

@@ -10,7 +10,8 @@ use Rattle.tb_sweep.specs.Sweep.{sweep}
 use Rattle.tb_board.specs.Changes.{IsDraft}
 
 -- the changes of the sweep, and then the role
-pub record IsRoleDecision (b : Board) (person : ℕ) (role : Option Role) (m : ℕ) (d : Decision) : Type 0 where
+pub record IsRoleDecision (b : Board) (person : ℕ) (role : Option Role) (m : ℕ)
+    (d : Decision) : Type 0 where
   pub draft : Draft
   pub made : IsDraft b draft
   pub swept : draft.board ≡ sweep b m

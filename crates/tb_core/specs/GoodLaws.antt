@@ -9,7 +9,8 @@ use Rattle.tb_core.specs.GoodWorld.{IsGoodWorld}
 
 -- each command leaves a good world good
 abbrev pub KeepsGood : Type 0
-KeepsGood = (w : World) (name : List ℕ) (c : Command) (m : ℕ) → IsGoodWorld w → IsGoodWorld (apply w name c m).world
+KeepsGood = (w : World) (name : List ℕ) (c : Command) (m : ℕ) → IsGoodWorld w
+    → IsGoodWorld (apply w name c m).world
 
 -- each command leaves the people who are known, with their keys
 abbrev pub KeepsPeople : Type 0
@@ -18,7 +19,8 @@ KeepsPeople = (w : World) (name : List ℕ) (c : Command) (m : ℕ) (person key 
 
 -- each command leaves people, boards and the identifiers of tasks at their places
 abbrev pub AlwaysExtends : Type 0
-AlwaysExtends = (w : World) (name : List ℕ) (c : Command) (m : ℕ) → Extends w (apply w name c m).world
+AlwaysExtends = (w : World) (name : List ℕ) (c : Command) (m : ℕ)
+    → Extends w (apply w name c m).world
 
 abbrev pub OpensGood : Type 0
 OpensGood = (name key : List ℕ) → IsGoodWorld (opening name key)

@@ -10,6 +10,7 @@ use Rattle.tb_board.specs.declared.world.World.{World}
 use Rattle.tb_board.specs.Roles.{role_order}
 use Rattle.tb_board.specs.World.{owns}
 use Rattle.tb_board.specs.Good.{IsGood}
+use Rattle.tb_task.specs.Limits.{most_boards, most_people}
 
 abbrev pub names : World → List (List ℕ)
 names w = map (λ (p : Person). p.name) w.people
@@ -31,9 +32,9 @@ HasOwner w b = list_any (owns b.number) w.roles ≡ true
 -- a good world: distinct names, boards numbered from 1, each good and owned, roles of its own people and boards in order
 pub record IsGoodWorld (w : World) : Type 0 where
   pub apart : IsDistinct bytes_eq (names w)
-  pub people : length w.people ≤ 10000
+  pub people : length w.people ≤ most_people
   pub numbered : numbers w.boards ≡ range_with_len 1 (length w.boards)
-  pub boards : length w.boards ≤ 10000
+  pub boards : length w.boards ≤ most_boards
   pub good : AllByRecursion IsGood w.boards
   pub owned : AllByRecursion (HasOwner w) w.boards
   pub roles : AllByRecursion (IsRoleIn w) w.roles

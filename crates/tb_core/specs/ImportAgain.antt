@@ -10,7 +10,8 @@ use Rattle.tb_core.specs.Apply.{apply}
 
 -- each task is known, and no instance came
 abbrev pub known_answer : ℕ → List Task → BoardAnswer
-known_answer board ts = record { board = board; added = 0; more = false; told = TodoImported (length ts) 0 }
+known_answer board ts =
+    record { board = board; added = 0; more = false; told = TodoImported (length ts) 0 }
 
 -- Where nothing more was wanted after an import, the same import right after it, at the same moment, is accepted, knows each
 -- of its tasks, and leaves the world as it is.
@@ -18,4 +19,7 @@ abbrev pub ImportTodoAgain : Type 0
 ImportTodoAgain = (w : World) (name : List ℕ) (n : ℕ) (ts : List Task) (m : ℕ) (a : BoardAnswer)
     → (apply w name (ImportTodo n ts) m).answer ≡ Ok (OnBoard a) → a.more ≡ false
     → apply (apply w name (ImportTodo n ts) m).world name (ImportTodo n ts) m
-    ≡ record { world = (apply w name (ImportTodo n ts) m).world; answer = Ok (OnBoard (known_answer a.board ts)) }
+    ≡ record {
+      world = (apply w name (ImportTodo n ts) m).world;
+      answer = Ok (OnBoard (known_answer a.board ts));
+    }

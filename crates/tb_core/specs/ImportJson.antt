@@ -17,7 +17,8 @@ refusal_of import.Cycle = Cycle
 refusal_of import.Full = Full
 
 -- the board after the import, and its counts
-abbrev pub told_of : Result (Board × ImportCounts) ImportRefusal → Result (Board × AnswerDetail) Refusal
+abbrev pub told_of : Result (Board × ImportCounts) ImportRefusal
+    → Result (Board × AnswerDetail) Refusal
 told_of (Ok r) = Ok (r.0, Imported r.1)
 told_of (Err refusal) = Err (refusal_of refusal)
 

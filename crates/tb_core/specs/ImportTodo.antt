@@ -16,6 +16,7 @@ use Rattle.tb_core.specs.declared.refusal.Refusal.{Refusal}
 use Rattle.tb_core.specs.declared.refusal.Refusal.TheVariants.{BadTaskAt, Full}
 use Rattle.tb_core.specs.Add.{first_fault}
 use Rattle.tb_core.specs.Refusals.{least, unless_refused, where_holds}
+use Rattle.tb_task.specs.Limits.{most_tasks}
 
 abbrev pub is_pending_or_completed : Status → Bool
 is_pending_or_completed Pending = true
@@ -49,7 +50,8 @@ first_bad at (t ∷ ts) = bad_at at (line_fault t) (first_bad (at + 1) ts)
 -- the tasks whose identifier none has that was there before: on the board, or earlier in the list
 abbrev pub new_beside : List Task → List Task → List Task
 new_beside before [] = []
-new_beside before (t ∷ ts) = if list_any (has_id t.id) before then new_beside before ts else t ∷ new_beside (before ++ t ∷ []) ts
+new_beside before (t ∷ ts) = if list_any (has_id t.id) before then new_beside before ts
+    else t ∷ new_beside (before ++ t ∷ []) ts
 
 abbrev pub new_tasks : Board → List Task → List Task
 new_tasks b ts = new_beside b.tasks ts
@@ -61,12 +63,13 @@ imported b ts = record b { tasks = b.tasks ++ new_tasks b ts }
 abbrev pub import_todo_refusals : Board → List Task → List (Option Refusal)
 import_todo_refusals b ts =
     first_bad 0 ts
-    ∷ where_holds Full (nat_lt 10000 (length b.tasks + length (new_tasks b ts)))
+    ∷ where_holds Full (nat_lt most_tasks (length b.tasks + length (new_tasks b ts)))
     ∷ []
 
 abbrev pub judged_import_todo : Board → List Task → Result (Board × AnswerDetail) Refusal
 judged_import_todo b ts =
-    unless_refused (least (import_todo_refusals b ts)) (imported b ts) (TodoImported (length ts - length (new_tasks b ts)) (length (new_tasks b ts)))
+    unless_refused (least (import_todo_refusals b ts)) (imported b ts)
+    (TodoImported (length ts - length (new_tasks b ts)) (length (new_tasks b ts)))
 
 -- the set has the identifiers of these tasks
 abbrev pub HasIdsOf : List Task → BTreeSet ℕ → Type 0

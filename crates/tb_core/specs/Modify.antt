@@ -23,7 +23,8 @@ is_misplaced edits t = names (codes "recur") edits && not (is_template t)
 
 -- the fault of the edits, and then that of the task with all of them
 abbrev pub modify_fault : ℕ → List Edit → Task → Option Field
-modify_fault m edits t = if is_misplaced edits t then Some BadPair else fault_of (modified m edits t)
+modify_fault m edits t = if is_misplaced edits t then Some BadPair
+    else fault_of (modified m edits t)
 
 -- a template's due date and step stay
 abbrev pub is_fixed : List Edit → Task → Bool
@@ -41,4 +42,5 @@ modify_refusals b id edits m =
 -- the task is changed at its place
 abbrev pub judged_modify : Board → ℕ → List Edit → ℕ → Result (Board × AnswerDetail) Refusal
 judged_modify b id edits m =
-    unless_refused (least (modify_refusals b id edits m)) (record b { tasks = change_first (has_id id) (modified m edits) b.tasks }) (Changed id)
+    unless_refused (least (modify_refusals b id edits m))
+    (record b { tasks = change_first (has_id id) (modified m edits) b.tasks }) (Changed id)

@@ -11,7 +11,8 @@ use Rattle.tb_task.specs.Check.{is_bad_text, is_empty}
 
 -- an annotation without text, or with a bad one
 abbrev pub note_fault : List ℕ → Option Field
-note_fault text = if is_empty text then Some EmptyDescription else if is_bad_text text then Some BadText else None
+note_fault text = if is_empty text then Some EmptyDescription else if is_bad_text text
+    then Some BadText else None
 
 abbrev pub says : List ℕ → Annotation → Bool
 says text a = bytes_eq a.description text
@@ -21,8 +22,13 @@ has_note text t = list_any (says text) t.annotations
 
 -- the annotation goes last
 abbrev pub annotated : ℕ → List ℕ → Task → Task
-annotated m text t = record t { annotations = t.annotations ++ record { entry = m; description = text } ∷ []; modified = Some m }
+annotated m text t =
+    record t {
+      annotations = t.annotations ++ record { entry = m; description = text } ∷ [];
+      modified = Some m;
+    }
 
 -- without the first annotation that says this
 abbrev pub denotated : ℕ → List ℕ → Task → Task
-denotated m text t = record t { annotations = remove_key (says text) t.annotations; modified = Some m }
+denotated m text t =
+    record t { annotations = remove_key (says text) t.annotations; modified = Some m }

@@ -23,7 +23,8 @@ least [] = None
 least (None ∷ rs) = least rs
 least (Some r ∷ rs) = Some r
 
-abbrev pub unless_refused : Option Refusal → Board → AnswerDetail → Result (Board × AnswerDetail) Refusal
+abbrev pub unless_refused : Option Refusal → Board → AnswerDetail
+    → Result (Board × AnswerDetail) Refusal
 unless_refused None b told = Ok (b, told)
 unless_refused (Some r) b told = Err r
 

@@ -4,6 +4,7 @@ ghost use Rattle.tb_core.specs.Add.{add_fault, add_refusals, entered_id, is_full
 ghost use Rattle.tb_board.specs.Board.{lacks_depends};
 ghost use Rattle.tb_core.specs.Effects.{Fits, GivesEffect};
 ghost use Rattle.tb_core.specs.Refusals.{least};
+ghost use Rattle.tb_task.specs.Limits.{most_tasks};
 
 use crate::command::AnswerDetail;
 use crate::effect::{Effect, Step};
@@ -11,11 +12,8 @@ use crate::judged::Stop;
 use crate::refusal::Refusal;
 use std::alloc::{AllocError, Global};
 use tb_board::{Board, has_template_form, next_number, taken_numbers};
-use tb_task::{Field, Incoming, Moment, Task, TaskId, check};
+use tb_task::{Field, Incoming, MOST_TASKS, Moment, Task, TaskId, check};
 use tb_values::Duplicate;
-
-/// How many tasks a board can have.
-pub const MOST_TASKS: usize = 10000;
 
 /// Why the board doesn't take the task, if it doesn't. It is the same for a board that is awake.
 pub fn add_refusal(board: &Board, incoming: &Incoming) -> Option<Refusal>
@@ -91,7 +89,7 @@ fn has_no_room(board: &Board) -> bool
 }
 
 fn id_for(alloc: Global, board: &Board, incoming: &Incoming) -> Result<TaskId, AllocError>
-    requires { length board.now.tasks < 10000 }
+    requires { length board.now.tasks < most_tasks }
     ensures { IfOk result (λ id. id ≡ entered_id board.now incoming.now) }
 {
     if incoming.named {

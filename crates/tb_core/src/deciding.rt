@@ -70,7 +70,9 @@ pub fn decide(
     command: &Command,
     at: Moment,
 ) -> Result<Decision, AllocError>
-    ensures decided { IfOk result (λ d. (w : World) (name : List ℕ) → seen.now ≡ seen_of w name command.now → IsDecision w d (apply w name command.now at)) }
+    ensures decided { IfOk result
+        (λ d. (w : World) (name : List ℕ) → seen.now ≡ seen_of w name command.now
+        → IsDecision w d (apply w name command.now at)) }
     ensures unchanged { IfOk result (λ d. IfErr d.answer (λ refusal. d.changes ≡ [])) }
     ensures shape { IfOk result (λ d. AreOfOne d.changes) }
 {
@@ -96,7 +98,9 @@ fn decide_on_board(
     command: &Command,
     at: Moment,
 ) -> Result<Decision, AllocError>
-    ensures decided { IfOk result (λ d. (w : World) (name : List ℕ) → seen.now ≡ seen_of w name command.now → IsDecision w d (on_board w seen.now command.now at)) }
+    ensures decided { IfOk result
+        (λ d. (w : World) (name : List ℕ) → seen.now ≡ seen_of w name command.now
+        → IsDecision w d (on_board w seen.now command.now at)) }
     ensures unchanged { IfOk result (λ d. IfErr d.answer (λ refusal. d.changes ≡ [])) }
     ensures shape { IfOk result (λ d. AreOfOne d.changes) }
 {
@@ -122,7 +126,10 @@ fn decide_role(
     role: Option<Role>,
     at: Moment,
 ) -> Result<Decision, AllocError>
-    ensures decided { IfOk result (λ d. (w : World) (name : List ℕ) (n : ℕ) (other : List ℕ) → seen.now ≡ seen_of w name (SetRole n other role) → IsDecision w d (role_given w seen.now seen.now.caller seen.now.board role at)) }
+    ensures decided { IfOk result
+        (λ d. (w : World) (name : List ℕ) (n : ℕ) (other : List ℕ)
+        → seen.now ≡ seen_of w name (SetRole n other role)
+        → IsDecision w d (role_given w seen.now seen.now.caller seen.now.board role at)) }
     ensures unchanged { IfOk result (λ d. IfErr d.answer (λ refusal. d.changes ≡ [])) }
     ensures shape { IfOk result (λ d. AreOfOne d.changes) }
 {
@@ -184,7 +191,8 @@ fn judge_calm(
     at: Moment,
 ) -> Result<Option<Accepted>, Stop>
     requires { TakesAdded board.now command.now }
-    ensures gives { IfOk result (λ found. IfSome found (λ accepted. IsAccepted board.now command.now at accepted)) }
+    ensures gives { IfOk result
+        (λ found. IfSome found (λ accepted. IsAccepted board.now command.now at accepted)) }
     ensures refused { IfErr result (λ stop. Fails stop (outcome board.now command.now at)) }
 {
     if is_import(command) {
@@ -230,7 +238,8 @@ fn judge_draft(alloc: Global, board: &Board, command: &Command, at: Moment) -> R
 
 /// Why a command is refused, where the board needn't wake for it to show.
 fn early_refusal(board: &Board, command: &Command) -> Option<Refusal>
-    ensures { MatchOption result (TakesAdded board.now command.now) (IsRefused board.now command.now) }
+    ensures { MatchOption result (TakesAdded board.now command.now)
+        (IsRefused board.now command.now) }
 {
     match command {
         Command::Add { incoming, .. } => add_refusal(board, incoming),

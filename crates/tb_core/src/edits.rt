@@ -176,7 +176,8 @@ fn extras_with(
     name: &NonEmptyText,
     value: &Option<Given>,
 ) -> Result<Ordered<Extra>, AllocError>
-    ensures { IfOk result (λ later. later ≡ with_extra name.now (option_and_then extra_in value.now) extras) }
+    ensures { IfOk result
+        (λ later. later ≡ with_extra name.now (option_and_then extra_in value.now) extras) }
 {
     let name = name.duplicate()?;
     match extra_given(value)? {

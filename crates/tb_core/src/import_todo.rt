@@ -6,14 +6,13 @@ ghost use Rattle.tb_core.specs.ImportTodo.{first_bad, judged_import_todo, line_f
 ghost use Rattle.tb_core.specs.Refusals.{Gives};
 ghost use Rattle.tb_task.specs.declared.task.Task.{Task};
 
-use crate::add::MOST_TASKS;
 use crate::command::AnswerDetail;
 use crate::judged::{Judged, Stop};
 use crate::refusal::Refusal;
 use std::alloc::{AllocError, Global};
 use std::collections::BTreeSet;
 use tb_board::Draft;
-use tb_task::{Field, Status, Task, TaskId, check};
+use tb_task::{Field, MOST_TASKS, Status, Task, TaskId, check};
 use tb_values::{Duplicate, Shared};
 
 /// Adds the tasks to a board that is awake whose identifiers are new to it.
@@ -86,7 +85,8 @@ fn new_tasks<'t>(
     before: &[Shared<Task>],
     tasks: &'t [Task],
 ) -> Result<Vec<&'t Task>, AllocError>
-    ensures { IfOk result (λ new. map (λ task. task.now) new.items ≡ new_beside before.now tasks.now) }
+    ensures { IfOk result
+        (λ new. map (λ task. task.now) new.items ≡ new_beside before.now tasks.now) }
 {
     let mut known = ids_of(alloc, before)?;
     let mut new = Vec::new(alloc);
@@ -109,7 +109,8 @@ fn ids_of(alloc: Global, tasks: &[Shared<Task>]) -> Result<BTreeSet<TaskId>, All
 }
 
 fn keep_id(ids: &mut BTreeSet<TaskId>, id: TaskId) -> Result<(), AllocError>
-    ensures { OnOk result ((tasks : List Task) (task : Task) → task.id ≡ id → HasIdsOf tasks ids.old → HasIdsOf (tasks ++ task ∷ []) ids.new) }
+    ensures { OnOk result ((tasks : List Task) (task : Task) → task.id ≡ id → HasIdsOf tasks ids.old
+        → HasIdsOf (tasks ++ task ∷ []) ids.new) }
 {
     ids.insert(id)?;
     Ok(())
@@ -117,15 +118,19 @@ fn keep_id(ids: &mut BTreeSet<TaskId>, id: TaskId) -> Result<(), AllocError>
 
 /// Puts the identifier into the set, and tells whether it is new.
 fn add_id(ids: &mut BTreeSet<TaskId>, id: TaskId) -> Result<bool, AllocError>
-    ensures new { IfOk result (λ new. (tasks : List Task) → HasIdsOf tasks ids.old → new ≡ not (list_any (has_id id) tasks)) }
-    ensures more { IfOk result (λ new. (tasks : List Task) (task : Task) → task.id ≡ id → HasIdsOf tasks ids.old → HasIdsOf (tasks ++ task ∷ []) ids.new) }
+    ensures new { IfOk result (λ new. (tasks : List Task) → HasIdsOf tasks ids.old
+        → new ≡ not (list_any (has_id id) tasks)) }
+    ensures more { IfOk result (λ new. (tasks : List Task) (task : Task) → task.id ≡ id
+        → HasIdsOf tasks ids.old → HasIdsOf (tasks ++ task ∷ []) ids.new) }
 {
     Ok(ids.insert(id)?)
 }
 
 /// The tasks go last in their order.
 fn push_all(alloc: Global, draft: Draft, tasks: &[&Task]) -> Result<Draft, AllocError>
-    ensures board { IfOk result (λ later. later.board ≡ record draft.board { tasks = draft.board.tasks ++ map (λ task. task.now) tasks.now }) }
+    ensures board { IfOk result
+        (λ later. later.board
+        ≡ record draft.board { tasks = draft.board.tasks ++ map (λ task. task.now) tasks.now }) }
     ensures follows { IfOk result (Follows draft) }
 {
     let mut draft = draft;

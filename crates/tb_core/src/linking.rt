@@ -68,7 +68,9 @@ pub fn undepend(board: &Board, id: TaskId, on: TaskId, at: Moment) -> Result<Eff
 /// The place of a task that is open, where the other task is on the board too.
 fn place_to_link(board: &Board, id: TaskId, on: TaskId) -> Result<usize, Stop>
     ensures place { IfOk result (IsPlaceToLink board.now id on) }
-    ensures refused { IfErr result (λ stop. (last : Option Refusal) (later : Board) (told : AnswerDetail) → Fails stop (unless_refused (least (link_refusals board.now id on last)) later told)) }
+    ensures refused { IfErr result
+        (λ stop. (last : Option Refusal) (later : Board) (told : AnswerDetail)
+        → Fails stop (unless_refused (least (link_refusals board.now id on last)) later told)) }
 {
     let Some(place) = place_of_task(board.tasks.as_slice(), id) else {
         return Err(Stop::Refused(Refusal::NoTask));
@@ -120,7 +122,11 @@ fn is_linked_to(task: &Task, on: TaskId) -> bool
 }
 
 fn linked_task(task: &Task, on: TaskId, at: Moment) -> Result<Task, AllocError>
-    ensures { IfOk result (λ t. t ≡ record task.now { depends = replace_key nat_cmp task.now.depends on; modified = Some at }) }
+    ensures { IfOk result
+        (λ t. t ≡ record task.now {
+          depends = replace_key nat_cmp task.now.depends on;
+          modified = Some at;
+        }) }
 {
     let mut task = task.duplicate()?;
     task.depends.insert(on)?;

@@ -61,7 +61,15 @@ pub fn look_for(world: &World, name: &Name, command: &Command) -> Result<Seen, A
 }
 
 fn look_at_board(world: &World, name: &Name, board: u32) -> Result<Seen, AllocError>
-    ensures { IfOk result (λ seen. seen ≡ record { caller = number_of world.now name.now; board = board_for world.now (number_of world.now name.now) (Some board); other = None; owners = owners world.now board; people = length world.now.people; boards = length world.now.boards }) }
+    ensures { IfOk result
+        (λ seen. seen ≡ record {
+          caller = number_of world.now name.now;
+          board = board_for world.now (number_of world.now name.now) (Some board);
+          other = None;
+          owners = owners world.now board;
+          people = length world.now.people;
+          boards = length world.now.boards;
+        }) }
 {
     let caller = world.number_of(name);
     let found = board_for(world, caller, board)?;
@@ -76,7 +84,15 @@ fn look_at_board(world: &World, name: &Name, board: u32) -> Result<Seen, AllocEr
 }
 
 fn look_at_person(world: &World, name: &Name, board: u32, other: &Name) -> Result<Seen, AllocError>
-    ensures { IfOk result (λ seen. seen ≡ record { caller = number_of world.now name.now; board = board_for world.now (number_of world.now name.now) (Some board); other = person_for world.now (Some board) (number_of world.now other.now); owners = owners world.now board; people = length world.now.people; boards = length world.now.boards }) }
+    ensures { IfOk result
+        (λ seen. seen ≡ record {
+          caller = number_of world.now name.now;
+          board = board_for world.now (number_of world.now name.now) (Some board);
+          other = person_for world.now (Some board) (number_of world.now other.now);
+          owners = owners world.now board;
+          people = length world.now.people;
+          boards = length world.now.boards;
+        }) }
 {
     let mut seen = look_at_board(world, name, board)?;
     seen.other = person_on(world, board, world.number_of(other));
@@ -84,7 +100,15 @@ fn look_at_person(world: &World, name: &Name, board: u32, other: &Name) -> Resul
 }
 
 fn look_at_people(world: &World, name: &Name, other: &Name) -> Seen
-    ensures { result ≡ record { caller = number_of world.now name.now; board = None; other = person_for world.now None (number_of world.now other.now); owners = 0; people = length world.now.people; boards = length world.now.boards } }
+    ensures { result
+        ≡ record {
+          caller = number_of world.now name.now;
+          board = None;
+          other = person_for world.now None (number_of world.now other.now);
+          owners = 0;
+          people = length world.now.people;
+          boards = length world.now.boards;
+        } }
 {
     let mut seen = look_at_counts(world, name);
     seen.other = person_off(world.number_of(other));
@@ -92,7 +116,15 @@ fn look_at_people(world: &World, name: &Name, other: &Name) -> Seen
 }
 
 fn look_at_counts(world: &World, name: &Name) -> Seen
-    ensures { result ≡ record { caller = number_of world.now name.now; board = None; other = None; owners = 0; people = length world.now.people; boards = length world.now.boards } }
+    ensures { result
+        ≡ record {
+          caller = number_of world.now name.now;
+          board = None;
+          other = None;
+          owners = 0;
+          people = length world.now.people;
+          boards = length world.now.boards;
+        } }
 {
     Seen {
         caller: world.number_of(name),

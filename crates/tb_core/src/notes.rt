@@ -67,7 +67,8 @@ fn notes_without(mut notes: Items<Annotation>, text: &Text) -> Items<Annotation>
 }
 
 fn place_of_note(notes: &[Annotation], text: &Text) -> Option<usize>
-    ensures { MatchOption result (IsNone (says text.now) notes.now) (IsFirst (says text.now) notes.now) }
+    ensures { MatchOption result (IsNone (says text.now) notes.now)
+        (IsFirst (says text.now) notes.now) }
 {
     first_note(notes, text)
 }

@@ -7,11 +7,8 @@ use crate::look::Seen;
 use crate::refusal::Refusal;
 use std::alloc::{AllocError, Global};
 use tb_board::{Change, Key, Name, Role, Title};
+use tb_task::{MOST_BOARDS, MOST_PEOPLE};
 use tb_values::{Duplicate, Items};
-
-const MOST_PEOPLE: usize = 10000;
-
-const MOST_BOARDS: usize = 10000;
 
 /// Lets a person in.
 pub fn decide_person(
@@ -20,7 +17,8 @@ pub fn decide_person(
     name: &Name,
     key: &Key,
 ) -> Result<Decision, AllocError>
-    ensures decided { IfOk result (λ d. d ≡ person_decision seen.now seen.now.caller name.now key.now) }
+    ensures decided { IfOk result
+        (λ d. d ≡ person_decision seen.now seen.now.caller name.now key.now) }
     ensures unchanged { IfOk result (λ d. IfErr d.answer (λ refusal. d.changes ≡ [])) }
 {
     let Some(caller) = seen.caller else {

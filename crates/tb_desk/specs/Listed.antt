@@ -25,5 +25,6 @@ pub record IsListed (w : World) (entries : List (KeptUnder × KeptReply)) (s : S
   pub is : s ≡ listed w entries
 
 -- they stand for one state alone
-pub only : {w : World} {entries : List (KeptUnder × KeptReply)} {s t : State} → IsListed w entries s → t ≡ listed w entries → t ≡ s
+pub only : {w : World} {entries : List (KeptUnder × KeptReply)} {s t : State} → IsListed w entries s
+    → t ≡ listed w entries → t ≡ s
 only held is = is ∙ sym held.is

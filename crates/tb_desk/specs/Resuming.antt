@@ -25,7 +25,8 @@ standing (x ∷ xs) = take x.stood x.calls ++ standing xs
 -- the replies given, session by session
 abbrev pub told : State → List Session → List (List Reply)
 told s [] = []
-told s (x ∷ xs) = take x.answered (replies_to s x.calls) ∷ told (plain s (once s (take x.stood x.calls))) xs
+told s (x ∷ xs) =
+    take x.answered (replies_to s x.calls) ∷ told (plain s (once s (take x.stood x.calls))) xs
 
 abbrev pub session_of : Sending → Session
 session_of x = record { calls = calls_of x.sent; answered = x.answered; stood = x.stood }
@@ -54,7 +55,8 @@ ComeInOrder s calls next (x ∷ xs) =
 -- asked: a call that is sent again for the first time that it stands is, with its moment, the call of the list.
 abbrev pub Resume : State → List Call → ℕ → List Sending → Type 0
 Resume s calls next [] = next ≡ length calls
-Resume s calls next (x ∷ xs) = (x.answered ≤ x.stood) × ComeInOrder s calls next (stands x) × Resume s calls (next_after next (stands x)) xs
+Resume s calls next (x ∷ xs) = (x.answered ≤ x.stood) × ComeInOrder s calls next (stands x)
+    × Resume s calls (next_after next (stands x)) xs
 
 -- Sessions in a row lead to the state after the calls that stand, each once.
 abbrev pub SessionsJoin : Type 0
@@ -65,9 +67,12 @@ SessionsJoin = (s : State) (xs : List Session) → led_to s xs ≡ plain s (once
 -- so that other people's calls may come between a call and its coming again.
 abbrev pub SessionsResume : Type 0
 SessionsResume = (s : State) (calls : List Call) (xs : List Sending) → Resume s calls 0 xs
-    → (led_to s (sessions_of xs) ≡ plain s (once s calls)) × (told s (sessions_of xs) ≡ replies_at s calls xs)
+    → (led_to s (sessions_of xs) ≡ plain s (once s calls))
+    × (told s (sessions_of xs) ≡ replies_at s calls xs)
 
 -- What a call was told whose caller was known is the reply that is kept in the end, where its content is the one kept.
 abbrev pub ToldIsKept : Type 0
-ToldIsKept = (s : State) (calls : List Call) (n : ℕ) (c : Call) (kept : KeptReply) → slice_get calls n ≡ Some c → WasKnown s calls n
-    → kept_for (plain s (once s calls)) c ≡ Some kept → kept.content ≡ c.content → reply s (take n calls) c ≡ kept.reply
+ToldIsKept = (s : State) (calls : List Call) (n : ℕ) (c : Call) (kept : KeptReply)
+    → slice_get calls n ≡ Some c → WasKnown s calls n
+    → kept_for (plain s (once s calls)) c ≡ Some kept → kept.content ≡ c.content
+    → reply s (take n calls) c ≡ kept.reply

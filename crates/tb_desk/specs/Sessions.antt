@@ -48,7 +48,8 @@ replies_at s calls (x ∷ xs) = replies_of s calls (take x.answered x.sent) ∷ 
 
 -- the caller of a call of the list was known when it came
 abbrev pub WasKnown : State → List Call → ℕ → Type 0
-WasKnown s calls n = (c : Call) → slice_get calls n ≡ Some c → is_known (plain s (once s (take n calls))) c ≡ true
+WasKnown s calls n = (c : Call) → slice_get calls n ≡ Some c
+    → is_known (plain s (once s (take n calls))) c ≡ true
 
 -- the first number that has not come, after these
 abbrev pub next_after : ℕ → List Sent → ℕ

@@ -37,7 +37,8 @@ abbrev pub seen_on : Option SeenBoard → (Board → Result (List ℕ) Refusal) 
 seen_on None shows = Err NoBoard
 seen_on (Some seen) shows = shows seen.board
 
-abbrev pub on_board : World → List ℕ → ℕ → (Board → Result (List ℕ) Refusal) → Result (List ℕ) Refusal
+abbrev pub on_board : World → List ℕ → ℕ → (Board → Result (List ℕ) Refusal)
+    → Result (List ℕ) Refusal
 on_board w name n shows = seen_on (board_for w (number_of w name) (Some n)) shows
 
 -- nobody has a role on a board that isn't there

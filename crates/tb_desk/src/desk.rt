@@ -50,15 +50,21 @@ impl<K: Keep> Desk<K> {
 
     /// Handles one call: it acts where its name is new, and is told what is kept for it otherwise.
     pub fn handle(&mut self, alloc: Global, call: &Call) -> Result<Reply, KeepFault>
-        ensures told { K.is_honest self.new ≡ true → (s : State) → K.holds self.old s → IfOk result (λ r. r ≡ reply s [] call.now) }
-        ensures left { (s : State) → K.holds self.old s → OnOk result (K.holds self.new (plain s (once s (call.now ∷ [])))) }
-        ensures memory { (s : State) → K.holds self.old s → IsErrOf result Memory → K.holds self.new s }
-        ensures held { (s : State) → K.holds self.old s → K.holds self.new s ⊎ K.holds self.new (plain s (once s (call.now ∷ []))) }
+        ensures told { K.is_honest self.new ≡ true → (s : State) → K.holds self.old s
+            → IfOk result (λ r. r ≡ reply s [] call.now) }
+        ensures left { (s : State) → K.holds self.old s
+            → OnOk result (K.holds self.new (plain s (once s (call.now ∷ [])))) }
+        ensures memory { (s : State) → K.holds self.old s → IsErrOf result Memory
+            → K.holds self.new s }
+        ensures held { (s : State) → K.holds self.old s
+            → K.holds self.new s ⊎ K.holds self.new (plain s (once s (call.now ∷ []))) }
         ensures stands { (s : State) → K.holds self.old s → Only s (K.after_stop self.old)
-            → StandsAfter s (call.now ∷ []) (if is_ok result then 1 else 0) (K.holds self.new) (K.after_stop self.new) }
+            → StandsAfter s (call.now ∷ []) (if is_ok result then 1 else 0) (K.holds self.new)
+            (K.after_stop self.new) }
         ensures honest { K.is_honest self.new ≡ true → K.is_honest self.old ≡ true }
         ensures still { K.has_failed self.old ≡ true
-            → IsStill (K.holds self.old) (K.after_stop self.old) (K.holds self.new) (K.after_stop self.new) }
+            → IsStill (K.holds self.old) (K.after_stop self.old) (K.holds self.new)
+            (K.after_stop self.new) }
         ensures failed { K.has_failed self.new ≡ is_store result }
         ensures closed { K.has_failed self.old ≡ true → IsErrOf result Store }
     {
@@ -70,18 +76,21 @@ impl<K: Keep> Desk<K> {
     pub fn run(&mut self, alloc: Global, calls: &[Call]) -> RunEnd
         ensures count { length result.replies ≤ length calls.now }
         ensures all { result.fault ≡ None → length result.replies ≡ length calls.now }
-        ensures told { K.is_honest self.new ≡ true → (s : State) → K.holds self.old s → result.replies ≡ replies_to s (take (length result.replies) calls.now) }
+        ensures told { K.is_honest self.new ≡ true → (s : State) → K.holds self.old s
+            → result.replies ≡ replies_to s (take (length result.replies) calls.now) }
         ensures left { (s : State) → K.holds self.old s → result.fault ≢ Some Store
             → K.holds self.new (plain s (once s (take (length result.replies) calls.now))) }
         ensures stands { (s : State) → K.holds self.old s → Only s (K.after_stop self.old)
-            → StandsAfter s calls.now (length result.replies) (K.holds self.new) (K.after_stop self.new) }
+            → StandsAfter s calls.now (length result.replies) (K.holds self.new)
+            (K.after_stop self.new) }
         ensures honest { K.is_honest self.new ≡ true → K.is_honest self.old ≡ true }
         ensures failed { result.fault ≡ Some Store → K.has_failed self.new ≡ true }
         ensures fine { result.fault ≢ Some Store → K.has_failed self.new ≡ K.has_failed self.old }
         ensures closed { K.has_failed self.old ≡ true → 0 < length calls.now → IsSome result.fault }
         ensures none { K.has_failed self.old ≡ true → length result.replies ≡ 0 }
         ensures still { K.has_failed self.old ≡ true
-            → IsStill (K.holds self.old) (K.after_stop self.old) (K.holds self.new) (K.after_stop self.new) }
+            → IsStill (K.holds self.old) (K.after_stop self.old) (K.holds self.new)
+            (K.after_stop self.new) }
     {
         let mut replies = Vec::new(alloc);
         for call in calls {
@@ -107,8 +116,10 @@ impl<K: Keep> Desk<K> {
         view: &View,
         at: Moment,
     ) -> Result<Reply, KeepFault>
-        ensures told { K.is_honest self.new ≡ true → (s : State) → K.holds self.old s → IfOk result (λ r. r ≡ shown_in s name.now key.now view.now at) }
-        ensures same { IsStill (K.holds self.old) (K.after_stop self.old) (K.holds self.new) (K.after_stop self.new) }
+        ensures told { K.is_honest self.new ≡ true → (s : State) → K.holds self.old s
+            → IfOk result (λ r. r ≡ shown_in s name.now key.now view.now at) }
+        ensures same { IsStill (K.holds self.old) (K.after_stop self.old) (K.holds self.new)
+            (K.after_stop self.new) }
         ensures honest { K.is_honest self.new ≡ true → K.is_honest self.old ≡ true }
         ensures failed { K.has_failed self.new ≡ is_store result }
         ensures closed { K.has_failed self.old ≡ true → IsErrOf result Store }
@@ -123,20 +134,25 @@ impl<K: Keep> Desk<K> {
         replies: &mut Vec<Reply>,
         call: &Call,
     ) -> Result<(), KeepFault>
-        ensures ok { K.is_honest self.new ≡ true → (s : State) → K.holds self.old s → OnOk result (replies.new.items ≡ replies.old.items ++ reply s [] call.now ∷ []) }
+        ensures ok { K.is_honest self.new ≡ true → (s : State) → K.holds self.old s
+            → OnOk result (replies.new.items ≡ replies.old.items ++ reply s [] call.now ∷ []) }
         ensures count { OnOk result (length replies.new.items ≡ length replies.old.items + 1) }
         ensures err { OnErr result (replies.new.items ≡ replies.old.items) }
-        ensures left { (s : State) → K.holds self.old s → OnOk result (K.holds self.new (plain s (once s (call.now ∷ [])))) }
-        ensures memory { (s : State) → K.holds self.old s → IsErrOf result Memory → K.holds self.new s }
+        ensures left { (s : State) → K.holds self.old s
+            → OnOk result (K.holds self.new (plain s (once s (call.now ∷ [])))) }
+        ensures memory { (s : State) → K.holds self.old s → IsErrOf result Memory
+            → K.holds self.new s }
         ensures stands { (s : State) → K.holds self.old s → Only s (K.after_stop self.old)
-            → StandsAfter s (call.now ∷ []) (if is_ok result then 1 else 0) (K.holds self.new) (K.after_stop self.new) }
+            → StandsAfter s (call.now ∷ []) (if is_ok result then 1 else 0) (K.holds self.new)
+            (K.after_stop self.new) }
         ensures honest { K.is_honest self.new ≡ true → K.is_honest self.old ≡ true }
         ensures failed { is_store result ≡ true → K.has_failed self.new ≡ true }
         ensures fine { OnOk result (K.has_failed self.new ≡ false) }
         ensures unchanged { IsErrOf result Memory → K.has_failed self.new ≡ K.has_failed self.old }
         ensures closed { K.has_failed self.old ≡ true → IsErr result }
         ensures still { K.has_failed self.old ≡ true
-            → IsStill (K.holds self.old) (K.after_stop self.old) (K.holds self.new) (K.after_stop self.new) }
+            → IsStill (K.holds self.old) (K.after_stop self.old) (K.holds self.new)
+            (K.after_stop self.new) }
     {
         if replies.reserve(1).is_err() {
             return Err(KeepFault::Memory);

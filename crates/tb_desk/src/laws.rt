@@ -14,5 +14,6 @@ pub fn sessions()
 
 /// A good world stays good, whatever calls come.
 pub fn worlds_stay_good()
-    ensures { (s : State) (calls : List Call) → IsGoodWorld s.world → IsGoodWorld (plain s (once s calls)).world }
+    ensures { (s : State) (calls : List Call) → IsGoodWorld s.world
+        → IsGoodWorld (plain s (once s calls)).world }
 {}

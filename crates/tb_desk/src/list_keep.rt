@@ -41,7 +41,6 @@ impl ListKeep {
 }
 
 impl Keep for ListKeep {
-
     ghost holds = { λ k s. IsListed k.world k.kept.entries s };
 
     ghost after_stop = { λ k s. s ≡ listed k.world k.kept.entries };
@@ -120,7 +119,8 @@ fn kept_in(
     kept: &BTreeMap<KeptUnder, KeptReply>,
     name: &KeptUnder,
 ) -> Result<Option<KeptReply>, AllocError>
-    ensures { IfOk result (λ found. found ≡ find name_cmp (call_name name.now) (map named kept.now.entries)) }
+    ensures { IfOk result
+        (λ found. found ≡ find name_cmp (call_name name.now) (map named kept.now.entries)) }
 {
     match kept.get(name) {
         Some(reply) => Ok(Some(reply.duplicate()?)),

@@ -13,15 +13,21 @@ use tb_reply::{Reply, reply_to, reply_to_refused};
 
 /// Handles one call: it acts where its name is new, and is told what is kept for it otherwise.
 pub(crate) fn serve<K: Keep>(keep: &mut K, alloc: Global, call: &Call) -> Result<Reply, KeepFault>
-    ensures told { K.is_honest keep.new ≡ true → (s : State) → K.holds keep.old s → IfOk result (λ r. r ≡ reply s [] call.now) }
-    ensures left { (s : State) → K.holds keep.old s → OnOk result (K.holds keep.new (plain s (once s (call.now ∷ [])))) }
+    ensures told { K.is_honest keep.new ≡ true → (s : State) → K.holds keep.old s
+        → IfOk result (λ r. r ≡ reply s [] call.now) }
+    ensures left { (s : State) → K.holds keep.old s
+        → OnOk result (K.holds keep.new (plain s (once s (call.now ∷ [])))) }
     ensures memory { (s : State) → K.holds keep.old s → IsErrOf result Memory → K.holds keep.new s }
-    ensures held { (s : State) → K.holds keep.old s → K.holds keep.new s ⊎ K.holds keep.new (plain s (once s (call.now ∷ []))) }
-    ensures store { (s : State) → K.holds keep.old s → Only s (K.after_stop keep.old) → IsErrOf result Store
-        → HoldsEither s (plain s (once s (call.now ∷ []))) (K.holds keep.new) (K.after_stop keep.new) }
+    ensures held { (s : State) → K.holds keep.old s
+        → K.holds keep.new s ⊎ K.holds keep.new (plain s (once s (call.now ∷ []))) }
+    ensures store { (s : State) → K.holds keep.old s → Only s (K.after_stop keep.old)
+        → IsErrOf result Store
+        → HoldsEither s (plain s (once s (call.now ∷ []))) (K.holds keep.new)
+        (K.after_stop keep.new) }
     ensures honest { K.is_honest keep.new ≡ true → K.is_honest keep.old ≡ true }
     ensures still { K.has_failed keep.old ≡ true
-        → IsStill (K.holds keep.old) (K.after_stop keep.old) (K.holds keep.new) (K.after_stop keep.new) }
+        → IsStill (K.holds keep.old) (K.after_stop keep.old) (K.holds keep.new)
+        (K.after_stop keep.new) }
     ensures failed { K.has_failed keep.new ≡ is_store result }
     ensures closed { K.has_failed keep.old ≡ true → IsErrOf result Store }
 {
@@ -37,8 +43,10 @@ fn find_settled<K: Keep>(
     alloc: Global,
     call: &Call,
 ) -> Result<Option<Reply>, KeepFault>
-    ensures found { K.is_honest keep.new ≡ true → (s : State) → K.holds keep.old s → IfOk result (λ found. MatchOption found (IsNew s call.now) (IsSettled s call.now)) }
-    ensures same { IsStill (K.holds keep.old) (K.after_stop keep.old) (K.holds keep.new) (K.after_stop keep.new) }
+    ensures found { K.is_honest keep.new ≡ true → (s : State) → K.holds keep.old s
+        → IfOk result (λ found. MatchOption found (IsNew s call.now) (IsSettled s call.now)) }
+    ensures same { IsStill (K.holds keep.old) (K.after_stop keep.old) (K.holds keep.new)
+        (K.after_stop keep.new) }
     ensures honest { K.is_honest keep.new ≡ true → K.is_honest keep.old ≡ true }
     ensures failed { K.has_failed keep.new ≡ is_store result }
     ensures closed { K.has_failed keep.old ≡ true → IsErrOf result Store }
@@ -59,11 +67,16 @@ fn find_settled<K: Keep>(
 /// Answers a call whose caller is known and whose name is new. The reply is whole before it is kept, and the board that was seen is let
 /// go, so that a keeper can change its own in place.
 fn answer_new<K: Keep>(keep: &mut K, alloc: Global, call: &Call) -> Result<Reply, KeepFault>
-    ensures told { K.is_honest keep.new ≡ true → (s : State) → K.holds keep.old s → IsNew s call.now → IfOk result (λ r. r ≡ reply_of (outcome s call.now).answer) }
-    ensures left { (s : State) → K.holds keep.old s → IsNew s call.now → OnOk result (K.holds keep.new (after_call s call.now)) }
-    ensures memory { (s : State) → K.holds keep.old s → IsNew s call.now → IsErrOf result Memory → K.holds keep.new s }
-    ensures held { (s : State) → K.holds keep.old s → IsNew s call.now → K.holds keep.new s ⊎ K.holds keep.new (after_call s call.now) }
-    ensures store { (s : State) → K.holds keep.old s → IsNew s call.now → Only s (K.after_stop keep.old) → IsErrOf result Store
+    ensures told { K.is_honest keep.new ≡ true → (s : State) → K.holds keep.old s → IsNew s call.now
+        → IfOk result (λ r. r ≡ reply_of (outcome s call.now).answer) }
+    ensures left { (s : State) → K.holds keep.old s → IsNew s call.now
+        → OnOk result (K.holds keep.new (after_call s call.now)) }
+    ensures memory { (s : State) → K.holds keep.old s → IsNew s call.now → IsErrOf result Memory
+        → K.holds keep.new s }
+    ensures held { (s : State) → K.holds keep.old s → IsNew s call.now
+        → K.holds keep.new s ⊎ K.holds keep.new (after_call s call.now) }
+    ensures store { (s : State) → K.holds keep.old s → IsNew s call.now
+        → Only s (K.after_stop keep.old) → IsErrOf result Store
         → HoldsEither s (after_call s call.now) (K.holds keep.new) (K.after_stop keep.new) }
     ensures honest { K.is_honest keep.new ≡ true → K.is_honest keep.old ≡ true }
     ensures failed { K.has_failed keep.new ≡ is_store result }

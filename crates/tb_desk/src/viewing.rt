@@ -32,8 +32,10 @@ pub(crate) fn show<K: Keep>(
     view: &View,
     at: Moment,
 ) -> Result<Reply, KeepFault>
-    ensures told { K.is_honest keep.new ≡ true → (s : State) → K.holds keep.old s → IfOk result (λ r. r ≡ shown_in s name.now key.now view.now at) }
-    ensures same { IsStill (K.holds keep.old) (K.after_stop keep.old) (K.holds keep.new) (K.after_stop keep.new) }
+    ensures told { K.is_honest keep.new ≡ true → (s : State) → K.holds keep.old s
+        → IfOk result (λ r. r ≡ shown_in s name.now key.now view.now at) }
+    ensures same { IsStill (K.holds keep.old) (K.after_stop keep.old) (K.holds keep.new)
+        (K.after_stop keep.new) }
     ensures honest { K.is_honest keep.new ≡ true → K.is_honest keep.old ≡ true }
     ensures failed { K.has_failed keep.new ≡ is_store result }
     ensures closed { K.has_failed keep.old ≡ true → IsErrOf result Store }
@@ -54,9 +56,11 @@ fn look_at<K: Keep>(
     view: &View,
     at: Moment,
 ) -> Result<Result<Text, Refusal>, KeepFault>
-    ensures told { K.is_honest keep.new ≡ true → (s : State) → K.holds keep.old s → IsSome (key_of s.world name.now)
+    ensures told { K.is_honest keep.new ≡ true → (s : State) → K.holds keep.old s
+        → IsSome (key_of s.world name.now)
         → IfOk result (λ shown. shown ≡ view_of s.world name.now view.now at) }
-    ensures same { IsStill (K.holds keep.old) (K.after_stop keep.old) (K.holds keep.new) (K.after_stop keep.new) }
+    ensures same { IsStill (K.holds keep.old) (K.after_stop keep.old) (K.holds keep.new)
+        (K.after_stop keep.new) }
     ensures honest { K.is_honest keep.new ≡ true → K.is_honest keep.old ≡ true }
     ensures failed { K.has_failed keep.new ≡ is_store result }
     ensures closed { K.has_failed keep.old ≡ true → IsErrOf result Store }
@@ -96,9 +100,11 @@ fn see<K: Keep>(
     name: &Name,
     board: u32,
 ) -> Result<Option<SeenBoard>, KeepFault>
-    ensures told { K.is_honest keep.new ≡ true → (s : State) → K.holds keep.old s → IsSome (key_of s.world name.now)
+    ensures told { K.is_honest keep.new ≡ true → (s : State) → K.holds keep.old s
+        → IsSome (key_of s.world name.now)
         → IfOk result (λ seen. seen ≡ board_for s.world (number_of s.world name.now) (Some board)) }
-    ensures same { IsStill (K.holds keep.old) (K.after_stop keep.old) (K.holds keep.new) (K.after_stop keep.new) }
+    ensures same { IsStill (K.holds keep.old) (K.after_stop keep.old) (K.holds keep.new)
+        (K.after_stop keep.new) }
     ensures honest { K.is_honest keep.new ≡ true → K.is_honest keep.old ≡ true }
     ensures failed { K.has_failed keep.new ≡ is_store result }
     ensures closed { K.has_failed keep.old ≡ true → IsErrOf result Store }
@@ -155,7 +161,8 @@ fn show_todo(
     seen: &Option<SeenBoard>,
     at: Moment,
 ) -> Result<Result<Text, Refusal>, AllocError>
-    ensures { IfOk result (λ shown. shown ≡ seen_on seen.now (λ b. Ok (file_text (shown_tasks b at)))) }
+    ensures { IfOk result
+        (λ shown. shown ≡ seen_on seen.now (λ b. Ok (file_text (shown_tasks b at)))) }
 {
     let Some(seen) = seen else {
         return Ok(Err(Refusal::NoBoard));
@@ -171,7 +178,8 @@ fn show_one(
     id: TaskId,
     at: Moment,
 ) -> Result<Result<Text, Refusal>, AllocError>
-    ensures { IfOk result (λ shown. shown ≡ seen_on seen.now (λ b. one_text b (find (has_id id) b.tasks) at)) }
+    ensures { IfOk result
+        (λ shown. shown ≡ seen_on seen.now (λ b. one_text b (find (has_id id) b.tasks) at)) }
 {
     match seen {
         Some(seen) => show_task(alloc, seen.board.get(), id, at),
@@ -185,7 +193,8 @@ fn show_task(
     id: TaskId,
     at: Moment,
 ) -> Result<Result<Text, Refusal>, AllocError>
-    ensures { IfOk result (λ shown. shown ≡ one_text board.now (find (has_id id) board.now.tasks) at) }
+    ensures { IfOk result
+        (λ shown. shown ≡ one_text board.now (find (has_id id) board.now.tasks) at) }
 {
     match task_on(board, id) {
         Some(task) => Ok(Ok(write_one(alloc, board, task, at)?)),

@@ -22,6 +22,7 @@ ends_in [] = 0
 ends_in (done ∷ history) = ends_one done.1 + ends_in history
 
 -- Some things were done, one after the other, and among them so many connections ended.
-abbrev pub Did : {V : Type 0} → (Bool → List (ℕ × Done) → V → V → Type 0) → Bool → ℕ → V → V → Type 0
+abbrev pub Did : {V : Type 0} → (Bool → List (ℕ × Done) → V → V → Type 0) → Bool → ℕ → V
+    → V → Type 0
 Did follows stopped ended old new =
     (history : List (ℕ × Done)) × follows stopped history old new × (ends_in history ≡ ended)

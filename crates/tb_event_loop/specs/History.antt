@@ -22,7 +22,8 @@ Leaves None ended now = now ≡ None
 Leaves (Some before) ended now = (left : ℕ) × (now ≡ Some left) × (ended + left ≡ before)
 
 -- Some things were done, one after the other, and the connections that ended among them have no longer to.
-abbrev pub Goes : {V : Type 0} → (Bool → List (ℕ × Done) → V → V → Type 0) → Bool → Option ℕ → Option ℕ → V → V → Type 0
+abbrev pub Goes : {V : Type 0} → (Bool → List (ℕ × Done) → V → V → Type 0) → Bool → Option ℕ
+    → Option ℕ → V → V → Type 0
 Goes follows stopped before now old new =
     (ended : ℕ) × Did follows stopped ended old new × Leaves before ended now
 

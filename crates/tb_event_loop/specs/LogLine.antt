@@ -15,7 +15,8 @@ hex_digit number = if nat_lt number 10 then 48 + number else 97 + (number - 10)
 
 -- a plain sign as it is, and another byte as \x and two digits
 abbrev pub escaped_byte : ℕ → List ℕ
-escaped_byte byte = if is_plain byte then byte ∷ [] else 92 ∷ 120 ∷ hex_digit (byte / 16) ∷ hex_digit (byte % 16) ∷ []
+escaped_byte byte = if is_plain byte then byte ∷ []
+    else 92 ∷ 120 ∷ hex_digit (byte / 16) ∷ hex_digit (byte % 16) ∷ []
 
 abbrev pub escaped : List ℕ → List ℕ
 escaped bytes = flat_map escaped_byte bytes
@@ -27,8 +28,10 @@ member_text (Some name) = codes " " ++ escaped name
 -- a line of the log: the moment, the member, the method, the target, the status, the bytes and the milliseconds
 abbrev pub log_text : LogEntry → List ℕ
 log_text entry =
-    moment_text entry.moment ++ member_text (option_copied entry.member) ++ codes " " ++ escaped entry.method.now ++ codes " "
-    ++ escaped entry.target.now ++ codes " " ++ escaped entry.status.now ++ codes " " ++ decimal entry.bytes ++ codes " "
+    moment_text entry.moment ++ member_text (option_copied entry.member) ++ codes " "
+    ++ escaped entry.method.now ++ codes " "
+    ++ escaped entry.target.now ++ codes " " ++ escaped entry.status.now ++ codes " "
+    ++ decimal entry.bytes ++ codes " "
     ++ decimal entry.millis ++ codes "\n"
 
 -- a word of a message, or a sign that it isn't known
@@ -43,6 +46,7 @@ known_moment (Some moment) = codes " " ++ moment_text moment
 -- the line that tells on which message the store failed
 abbrev pub failure_text : FailedMessage → List ℕ
 failure_text failed =
-    codes "taskboard: the file failed while" ++ known_text failed.method.now ++ known_text failed.target.now ++ codes " of"
+    codes "taskboard: the file failed while" ++ known_text failed.method.now
+    ++ known_text failed.target.now ++ codes " of"
     ++ known_text failed.member.now ++ codes " was handled at" ++ known_moment failed.moment
     ++ codes "; its outcome is known when the file is opened again\n"

@@ -77,7 +77,8 @@ impl EventLoop {
         service: &mut V,
         journal: &mut Journal<C, W>,
     ) -> Result<(), LoopFault>
-        ensures after { (history : List (ℕ × Done)) × V.follows (has_stopped result) history service.old service.new
+        ensures after { (history : List (ℕ × Done))
+            × V.follows (has_stopped result) history service.old service.new
             × EndsAll result (still_to_end self.old) (ends_in history) }
         ensures fault { IfErr result (λ fault. (fault ≡ Store) ⊎ (fault ≡ Sockets)) }
         ensures failed { result ≡ Err Store → V.has_failed service.new ≡ true }
@@ -137,7 +138,8 @@ impl EventLoop {
         service: &mut V,
         journal: &mut Journal<C, W>,
     ) -> Result<(), StoreFailed>
-        ensures after { Goes V.follows (is_err result) self.old.still_to_end self.new.still_to_end service.old service.new }
+        ensures after { Goes V.follows
+            (is_err result) self.old.still_to_end self.new.still_to_end service.old service.new }
         ensures failed { IsErr result → V.has_failed service.new ≡ true }
     {
         'places: for place in 0..self.places.end {
@@ -153,7 +155,8 @@ impl EventLoop {
         journal: &mut Journal<C, W>,
         place: usize,
     ) -> Result<(), StoreFailed>
-        ensures after { Goes V.follows (is_err result) self.old.still_to_end self.new.still_to_end service.old service.new }
+        ensures after { Goes V.follows
+            (is_err result) self.old.still_to_end self.new.still_to_end service.old service.new }
         ensures failed { IsErr result → V.has_failed service.new ≡ true }
     {
         if !self.places.begin_turn(place, self.now) {
@@ -171,7 +174,8 @@ impl EventLoop {
         journal: &mut Journal<C, W>,
         place: usize,
     ) -> Result<(), StoreFailed>
-        ensures after { Goes V.follows (is_err result) self.old.still_to_end self.new.still_to_end service.old service.new }
+        ensures after { Goes V.follows
+            (is_err result) self.old.still_to_end self.new.still_to_end service.old service.new }
         ensures failed { IsErr result → V.has_failed service.new ≡ true }
     {
         self.places.act(service, journal, place, self.now)?;
@@ -183,7 +187,8 @@ impl EventLoop {
 
     // The connection of a place has ended, so that another may come.
     fn leave<V: Service>(&mut self, service: &mut V, place: usize) -> Result<(), StoreFailed>
-        ensures after { Goes V.follows (is_err result) self.old.still_to_end self.new.still_to_end service.old service.new }
+        ensures after { Goes V.follows
+            (is_err result) self.old.still_to_end self.new.still_to_end service.old service.new }
         ensures failed { IsErr result → V.has_failed service.new ≡ true }
     {
         self.places.vacate(place);

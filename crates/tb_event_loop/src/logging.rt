@@ -83,7 +83,8 @@ fn push_moment(line: &mut Vec<u8>, moment: Option<Moment>) -> Result<(), AllocEr
 }
 
 fn push_member(line: &mut Vec<u8>, member: Option<&[u8]>) -> Result<(), AllocError>
-    ensures { OnOk result (line.new.items ≡ line.old.items ++ member_text (option_copied member.entry)) }
+    ensures { OnOk result
+        (line.new.items ≡ line.old.items ++ member_text (option_copied member.entry)) }
 {
     match member {
         Some(name) => push_word(line, name),

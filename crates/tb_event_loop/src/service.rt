@@ -41,11 +41,13 @@ pub trait Service {
     ghost unchanged: { (s : Self) → follows false [] s s };
 
     ghost joined: { (stopped : Bool) (first more : List (ℕ × Done)) (a b c : Self)
-        → follows false first a b → follows stopped more b c → follows stopped (first ++ more) a c };
+        → follows false first a b → follows stopped more b c
+        → follows stopped (first ++ more) a c };
 
     /// One thing happens to the connection in a place.
     fn happen(&mut self, place: usize, happening: &Happening<'_>) -> Result<(), StoreFailed>
-        ensures after { follows (is_err result) ((place, done_of happening.now) ∷ []) self.old self.new }
+        ensures after { follows (is_err result)
+            ((place, done_of happening.now) ∷ []) self.old self.new }
         ensures failed { IsErr result → has_failed self.new ≡ true };
 
     /// What came and is of no message yet that was answered.

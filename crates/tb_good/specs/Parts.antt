@@ -17,6 +17,7 @@ use Rattle.tb_board.specs.Instances.{by_template, HasRuns, HasTemplateOn, IsGone
 use Rattle.tb_board.specs.Links.{IsAcyclic}
 use Rattle.tb_board.specs.Roles.{role_order}
 use Rattle.tb_core.specs.GoodWorld.{HasOwner, IsRoleIn, names, numbers}
+use Rattle.tb_task.specs.Limits.{most_boards, most_people, most_tasks}
 
 -- a board takes the task, and it has the form of a template or of another task
 abbrev pub is_sound : Task → Bool
@@ -32,14 +33,18 @@ place_or_end places end id = unwrap_or (get nat_cmp places id) end
 
 -- by the places of their templates, and then by their own
 abbrev pub comes_before : BTreeMap ℕ ℕ → ℕ → Gone → Gone → Bool
-comes_before places end g h = is_lt (ordering_then (nat_cmp (place_or_end places end g.template) (place_or_end places end h.template)) (nat_cmp g.place h.place))
+comes_before places end g h =
+    is_lt (ordering_then
+    (nat_cmp (place_or_end places end g.template) (place_or_end places end h.template))
+    (nat_cmp g.place h.place))
 
 -- of a person of the world on one of its boards
 abbrev pub is_role_in : World → RoleOn → Bool
-is_role_in w r = nat_le 1 r.board && nat_le r.board (length w.boards) && nat_le 1 r.person && nat_le r.person (length w.people)
+is_role_in w r = nat_le 1 r.board && nat_le r.board (length w.boards) && nat_le 1 r.person
+    && nat_le r.person (length w.people)
 
 pub record HasGoodTasks (b : Board) : Type 0 where
-  pub few : length b.tasks ≤ 10000
+  pub few : length b.tasks ≤ most_tasks
   pub distinct : IsDistinct nat_eq (ids b.tasks)
   pub sound : AllByRecursion IsSound b.tasks
 
@@ -54,7 +59,7 @@ pub record HasGoodInstances (b : Board) : Type 0 where
   pub runs : HasRuns b
 
 pub record HasGoodPeople (w : World) : Type 0 where
-  pub people : length w.people ≤ 10000
+  pub people : length w.people ≤ most_people
   pub apart : IsDistinct bytes_eq (names w)
 
 pub record HasGoodRoles (w : World) : Type 0 where
@@ -62,7 +67,7 @@ pub record HasGoodRoles (w : World) : Type 0 where
   pub ordered : IsStrictlySortedBy role_order w.roles
 
 pub record HasGoodBoards (w : World) : Type 0 where
-  pub boards : length w.boards ≤ 10000
+  pub boards : length w.boards ≤ most_boards
   pub numbered : numbers w.boards ≡ range_with_len 1 (length w.boards)
   pub owned : AllByRecursion (HasOwner w) w.boards
   pub good : AllByRecursion IsGood w.boards

@@ -8,4 +8,5 @@ use Rattle.tb_board.specs.Instances.{is_template_with}
 
 -- the set has those of the templates among these tasks
 abbrev pub AreTemplates : List Task → BTreeSet ℕ → Type 0
-AreTemplates ts templates = (id : ℕ) → contains nat_cmp templates id ≡ list_any (is_template_with id) ts
+AreTemplates ts templates = (id : ℕ)
+    → contains nat_cmp templates id ≡ list_any (is_template_with id) ts

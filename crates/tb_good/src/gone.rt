@@ -16,7 +16,8 @@ use tb_task::TaskId;
 /// Whether each gone place is of a template of the board.
 pub(crate) fn are_on_templates(board: &Board, templates: &BTreeSet<TaskId>) -> bool
     requires templates { AreTemplates board.now.tasks templates.now }
-    ensures { result ≡ list_all (λ g. list_any (is_template_with g.template) board.now.tasks) board.now.gone }
+    ensures { result
+        ≡ list_all (λ g. list_any (is_template_with g.template) board.now.tasks) board.now.gone }
 {
     board
         .gone
@@ -28,7 +29,8 @@ pub(crate) fn are_on_templates(board: &Board, templates: &BTreeSet<TaskId>) -> b
 /// Whether the gone places stand by the places of their templates, and then by their own.
 pub(crate) fn are_in_order(board: &Board, places: &BTreeMap<TaskId, usize>) -> bool
     requires places { ArePlaces (ids board.now.tasks) places.now }
-    ensures { IsTrue result ↔ IsStrictlySortedBy (by_template (ids board.now.tasks)) board.now.gone }
+    ensures { IsTrue result
+        ↔ IsStrictlySortedBy (by_template (ids board.now.tasks)) board.now.gone }
 {
     let end = board.tasks.len();
     board

@@ -14,7 +14,8 @@ use tb_values::Shared;
 
 /// Whether each board has an owner.
 pub(crate) fn have_owners(alloc: Global, world: &World) -> Result<bool, AllocError>
-    ensures { IfOk result (λ answer. IsTrue answer ↔ AllByRecursion (HasOwner world.now) world.now.boards) }
+    ensures { IfOk result
+        (λ answer. IsTrue answer ↔ AllByRecursion (HasOwner world.now) world.now.boards) }
 {
     let owned = owned_boards(alloc, world.roles.as_slice())?;
     Ok(are_among(&owned, world.boards.as_slice()))
@@ -22,7 +23,8 @@ pub(crate) fn have_owners(alloc: Global, world: &World) -> Result<bool, AllocErr
 
 /// The numbers of the boards that have an owner.
 fn owned_boards(alloc: Global, roles: &[RoleOn]) -> Result<BTreeSet<u32>, AllocError>
-    ensures { IfOk result (λ owned. (board : ℕ) → contains nat_cmp owned board ≡ list_any (owns board) roles.now) }
+    ensures { IfOk result
+        (λ owned. (board : ℕ) → contains nat_cmp owned board ≡ list_any (owns board) roles.now) }
 {
     let mut owned = BTreeSet::new(alloc);
     for role in roles {

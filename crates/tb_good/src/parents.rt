@@ -42,7 +42,8 @@ pub(crate) fn have_parents(board: &Board, templates: &BTreeSet<TaskId>) -> bool
 
 /// Whether the parent is one of the templates, if the task has one.
 fn has_parent(templates: &BTreeSet<TaskId>, task: &Task) -> bool
-    ensures { (b : Board) → AreTemplates b.tasks templates.now → result ≡ has_template b task.now.parent }
+    ensures { (b : Board) → AreTemplates b.tasks templates.now
+        → result ≡ has_template b task.now.parent }
 {
     match task.parent {
         Some(id) => templates.contains(&id),

@@ -6,8 +6,7 @@ ghost use Rattle.tb_good.specs.Parts.{HasGoodPeople};
 use crate::distinct::are_distinct;
 use std::alloc::{AllocError, Global};
 use tb_board::{Person, World};
-
-const MOST_PEOPLE: usize = 10000;
+use tb_task::MOST_PEOPLE;
 
 /// Whether no two people have one name, and there aren't too many.
 pub(crate) fn has_good_people(alloc: Global, world: &World) -> Result<bool, AllocError>
@@ -21,7 +20,8 @@ pub(crate) fn has_good_people(alloc: Global, world: &World) -> Result<bool, Allo
 }
 
 fn names_of(alloc: Global, people: &[Person]) -> Result<Vec<&str>, AllocError>
-    ensures { IfOk result (λ names. map (λ name. name.now) names.items ≡ map (λ person. person.name) people.now) }
+    ensures { IfOk result
+        (λ names. map (λ name. name.now) names.items ≡ map (λ person. person.name) people.now) }
 {
     let mut names = Vec::with_capacity(alloc, people.len())?;
     for person in people {

@@ -54,7 +54,8 @@ fn instance_place(task: &Task) -> Option<(TaskId, u32)>
 
 /// Whether each place is below the number of its template's places.
 fn are_below_counts(alloc: Global, places: &[(TaskId, u32)]) -> Result<bool, AllocError>
-    ensures { IfOk result (λ answer. IsTrue answer ↔ AllByRecursion (IsBelowCount places.now) places.now) }
+    ensures { IfOk result
+        (λ answer. IsTrue answer ↔ AllByRecursion (IsBelowCount places.now) places.now) }
 {
     let counts = counts_of(alloc, places)?;
     Ok(are_below(&counts, places))

@@ -8,10 +8,8 @@ ghost use Rattle.tb_good.specs.Parts.{HasGoodTasks, is_sound};
 use crate::distinct::are_distinct;
 use std::alloc::{AllocError, Global};
 use tb_board::{Board, has_template_form};
-use tb_task::{Task, TaskId, check};
+use tb_task::{MOST_TASKS, Task, TaskId, check};
 use tb_values::Shared;
-
-const MOST_TASKS: usize = 10000;
 
 /// Whether each task is sound, no two have one identifier, and there aren't too many.
 pub(crate) fn has_good_tasks(alloc: Global, board: &Board) -> Result<bool, AllocError>

@@ -12,9 +12,8 @@ use crate::people::has_good_people;
 use crate::roles::has_good_roles;
 use std::alloc::{AllocError, Global};
 use tb_board::{Board, World};
+use tb_task::MOST_BOARDS;
 use tb_values::Shared;
-
-const MOST_BOARDS: usize = 10000;
 
 /// Whether the world keeps all that every command keeps, in time that grows little faster than its people, roles, tasks and links.
 pub fn is_good_world(alloc: Global, world: &World) -> Result<bool, AllocError>

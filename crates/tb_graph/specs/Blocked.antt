@@ -6,12 +6,14 @@ use Rattle.tb_graph.specs.Marks.{is_marked}
 
 -- open, and linked to an open node
 abbrev pub is_blocked : Graph → List Bool → ℕ → Bool
-is_blocked g are_open v = is_marked are_open v && list_any (is_marked are_open) (slice_index_or g v [])
+is_blocked g are_open v =
+    is_marked are_open v && list_any (is_marked are_open) (slice_index_or g v [])
 
 -- open, and another node that is open is linked to it
 abbrev pub IsBlocking : Graph → List Bool → ℕ → Type 0
 IsBlocking g are_open w =
-    (is_marked are_open w ≡ true) × (v : ℕ) × (v ≢ w) × (v < length g) × (is_marked are_open v ≡ true) × IsLink g v w
+    (is_marked are_open w ≡ true) × (v : ℕ) × (v ≢ w) × (v < length g)
+    × (is_marked are_open v ≡ true) × IsLink g v w
 
 -- for each node whether it is blocking
 pub record AreBlocking (g : Graph) (are_open : List Bool) (marks : List Bool) : Type 0 where
@@ -25,4 +27,5 @@ is_other_open are_open v w = not (w == v) && is_marked are_open w
 -- the marks after these nodes: those that pass the test are marked too
 abbrev pub marks_where : (ℕ → Bool) → List Bool → List ℕ → List Bool
 marks_where test marks [] = marks
-marks_where test marks (t ∷ ts) = marks_where test (if test t then slice_set marks t true else marks) ts
+marks_where test marks (t ∷ ts) =
+    marks_where test (if test t then slice_set marks t true else marks) ts

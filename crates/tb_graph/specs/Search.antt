@@ -11,10 +11,12 @@ pub record AreReached (g : Graph) (from : ℕ) (marks : List Bool) : Type 0 wher
 -- the marks after these targets
 abbrev pub marks_after : List Bool → List ℕ → List Bool
 marks_after marks [] = marks
-marks_after marks (t ∷ ts) = marks_after (if is_marked marks t then marks else slice_set marks t true) ts
+marks_after marks (t ∷ ts) =
+    marks_after (if is_marked marks t then marks else slice_set marks t true) ts
 
 -- the nodes to look at after these targets: those that had no mark are new
 abbrev pub work_after : List Bool → List ℕ → List ℕ → List ℕ
 work_after marks work [] = work
 work_after marks work (t ∷ ts) =
-    if is_marked marks t then work_after marks work ts else work_after (slice_set marks t true) (work ++ t ∷ []) ts
+    if is_marked marks t then work_after marks work ts
+    else work_after (slice_set marks t true) (work ++ t ∷ []) ts

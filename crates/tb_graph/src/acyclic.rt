@@ -98,7 +98,9 @@ fn take_off(
 
 /// The nodes that no link leads to.
 fn sources(alloc: Global, counts: &[usize]) -> Result<Vec<usize>, AllocError>
-    ensures { IfOk result (λ work. (v : ℕ) → IsIn v work.items ↔ ((v < length counts.now) × (slice_index counts.now v ≡ 0))) }
+    ensures { IfOk result
+        (λ work. (v : ℕ)
+        → IsIn v work.items ↔ ((v < length counts.now) × (slice_index counts.now v ≡ 0))) }
 {
     let mut work = Vec::new(alloc);
     for node in 0..counts.len() {
@@ -118,7 +120,8 @@ fn take_links(
     requires within { (t : ℕ) → IsIn t targets.now → t < length counts.old }
     requires enough { (v : ℕ) → occurrences v targets.now ≤ slice_index counts.old v }
     ensures counts { OnOk result (counts.new ≡ counts_without counts.old targets.now) }
-    ensures work { OnOk result (work.new.items ≡ work_without counts.old work.old.items targets.now) }
+    ensures work { OnOk result
+        (work.new.items ≡ work_without counts.old work.old.items targets.now) }
 {
     for target in targets {
         counts[*target] -= 1;

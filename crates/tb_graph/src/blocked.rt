@@ -14,7 +14,9 @@ pub(crate) fn blocked_nodes(
     targets: &[Items<usize>],
     open_nodes: &[bool],
 ) -> Result<Vec<bool>, AllocError>
-    ensures { IfOk result (λ marks. AreMarks (length targets.now) (is_blocked targets.now open_nodes.now) marks.items) }
+    ensures { IfOk result
+        (λ marks. AreMarks (length targets.now)
+        (is_blocked targets.now open_nodes.now) marks.items) }
 {
     let mut marks = Vec::new(alloc);
     for node in 0..targets.len() {

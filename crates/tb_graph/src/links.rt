@@ -49,7 +49,8 @@ impl Links {
     pub fn add(&mut self, from: usize, to: usize) -> Result<(), AllocError>
         requires from { from < length self.old }
         requires to { to < length self.old }
-        ensures ok { OnOk result (self.new ≡ slice_set self.old from (slice_index_or self.old from [] ++ to ∷ [])) }
+        ensures ok { OnOk result
+            (self.new ≡ slice_set self.old from (slice_index_or self.old from [] ++ to ∷ [])) }
         ensures err { OnErr result (self.new ≡ self.old) }
     {
         self.targets[from].push(to)
@@ -74,7 +75,8 @@ impl Links {
 
     /// Which nodes are open and linked to an open one. A node past the end of `open_nodes` is not open.
     pub fn blocked(&self, open_nodes: &[bool]) -> Result<Vec<bool>, AllocError>
-        ensures { IfOk result (λ marks. AreMarks (length self.now) (is_blocked self.now open_nodes.now) marks.items) }
+        ensures { IfOk result
+            (λ marks. AreMarks (length self.now) (is_blocked self.now open_nodes.now) marks.items) }
     {
         blocked_nodes(self.allocator(), self.targets.as_slice(), open_nodes)
     }

@@ -39,9 +39,11 @@ replies_among s (m ∷ ms) = replies_to s (calls_at m) ++ replies_among (after s
 
 -- the text that answers a message is made of the reply to the call that it asks for
 abbrev pub TellsReplies : Type 0
-TellsReplies = (site : Site) (s : State) (before : ℕ) (m : Timed) (call : Call) → calls_at m ≡ call ∷ []
+TellsReplies = (site : Site) (s : State) (before : ℕ) (m : Timed) (call : Call)
+    → calls_at m ≡ call ∷ []
     → (server site).text s before m
-    ≡ told_text (told_reply Json (reply s [] call)) (is_last m.received.closes before) (takes_body m.received.message)
+    ≡ told_text (told_reply Json (reply s [] call)) (is_last m.received.closes before)
+    (takes_body m.received.message)
 
 -- The steps are a run of the server, over any connections in any turns. The calls that it handled,
 -- in that order, are the answered ones of those that are sent, and told these replies; they stand,
@@ -59,7 +61,8 @@ abbrev pub left_by : State → Service → State
 left_by s x = after s (take x.sending.stood (calls_of x.sending.sent))
 
 -- the session of this page and these steps, which handled the first calls of those that are sent
-abbrev pub service_of : Site → (ℕ → Talk) → List (Step (Option ℕ) Timed) → (ℕ → Talk) → List Sent → ℕ → Service
+abbrev pub service_of : Site → (ℕ → Talk) → List (Step (Option ℕ) Timed) → (ℕ → Talk) → List Sent
+    → ℕ → Service
 service_of site talks steps later sent stood = record {
   site = site;
   talks = talks;
@@ -71,11 +74,13 @@ service_of site talks steps later sent stood = record {
 -- Whatever is left of a session that serves connections, by what it promises (`leaves` of
 -- `IsPlayed` and `IsCut`), it is what such a session leaves.
 abbrev pub StopsJoin : Type 0
-StopsJoin = (site : Site) (s end t : State) (talks later : ℕ → Talk) (steps : List (Step (Option ℕ) Timed)) (more : List Call)
+StopsJoin = (site : Site) (s end t : State) (talks later : ℕ → Talk)
+    (steps : List (Step (Option ℕ) Timed)) (more : List Call)
     (sent : List Sent) → Run (server site) s talks steps end later
     → IsAfterSome s (calls_handled steps ++ more) (length (calls_handled steps)) t
     → calls_of sent ≡ calls_handled steps ++ more
-    → (stood : ℕ) × Serves s (service_of site talks steps later sent stood) (replies_among s (handled steps))
+    → (stood : ℕ) × Serves s (service_of site talks steps later sent stood)
+    (replies_among s (handled steps))
     × (t ≡ left_by s (service_of site talks steps later sent stood))
 
 -- Each session begins with the state that the one before left, whenever that one stopped.
@@ -94,7 +99,9 @@ ServedInTurn s (x ∷ xs) = AllServed x.site s x.talks x.steps x.later × Served
 -- whenever the sessions stop and whatever comes again at whatever moment, lead where the list leads
 -- that is handled once; and the replies that the connections are told are those of that list.
 abbrev pub HeadlineOfConnections : Type 0
-HeadlineOfConnections = (s : State) (calls : List Call) (xs : List Service) (replies : List (List Reply)) (t : State)
+HeadlineOfConnections =
+    (s : State) (calls : List Call) (xs : List Service) (replies : List (List Reply)) (t : State)
     → IsGoodWorld s.world → SendsAll calls 0 (sendings xs)
-    → WereKnown s (as_came (sendings xs)) 0 (all_standing (sendings xs)) → ServeInTurn s xs replies t
+    → WereKnown s (as_came (sendings xs)) 0 (all_standing (sendings xs))
+    → ServeInTurn s xs replies t
     → IsAsUnstopped s calls (sendings xs) replies t × ServedInTurn s xs

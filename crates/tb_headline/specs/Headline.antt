@@ -13,7 +13,8 @@ Lives s [] [] t = t ≡ s
 Lives s [] (r ∷ rs) t = ⊥
 Lives s (x ∷ xs) [] t = ⊥
 Lives s (x ∷ xs) (r ∷ rs) t =
-    (r ≡ take x.answered (replies_to s (calls_of x.sent))) × (x.answered ≤ x.stood) × (x.stood ≤ x.answered + 1)
+    (r ≡ take x.answered (replies_to s (calls_of x.sent))) × (x.answered ≤ x.stood)
+    × (x.stood ≤ x.answered + 1)
     × (mid : State) × (mid ≡ plain s (once s (take x.stood (calls_of x.sent)))) × Lives mid xs rs t
 
 -- ---- how a list is sent
@@ -29,12 +30,15 @@ pub record IsSentOf (calls : List Call) (x : Sent) : Type 0 where
 abbrev pub AreSent : List Call → ℕ → List Sent → Type 0
 AreSent calls next [] = Unit {0}
 AreSent calls next (x ∷ xs) =
-    IsSentOf calls x × (((x.number ≡ next) × AreSent calls (next + 1) xs) ⊎ ((x.number < next) × AreSent calls next xs))
+    IsSentOf calls x
+    × (((x.number ≡ next) × AreSent calls (next + 1) xs)
+    ⊎ ((x.number < next) × AreSent calls next xs))
 
 -- Each session goes on from the first call of the list that was not answered, until all are.
 abbrev pub SendsAll : List Call → ℕ → List Sending → Type 0
 SendsAll calls next [] = next ≡ length calls
-SendsAll calls next (x ∷ xs) = AreSent calls next x.sent × SendsAll calls (next_after next (take x.answered x.sent)) xs
+SendsAll calls next (x ∷ xs) = AreSent calls next x.sent
+    × SendsAll calls (next_after next (take x.answered x.sent)) xs
 
 -- ---- the list as it came
 
@@ -46,7 +50,8 @@ all_standing (x ∷ xs) = stands x ++ all_standing xs
 -- the first call of each number from this one on
 abbrev pub first_of_each : ℕ → List Sent → List Call
 first_of_each next [] = []
-first_of_each next (x ∷ xs) = if x.number == next then x.call ∷ first_of_each (next + 1) xs else first_of_each next xs
+first_of_each next (x ∷ xs) = if x.number == next then x.call ∷ first_of_each (next + 1) xs
+    else first_of_each next xs
 
 -- the list, with each call at the moment at which it stood first
 abbrev pub as_came : List Sending → List Call
@@ -62,12 +67,14 @@ AreAgain (c ∷ cs) (d ∷ ds) = IsAgain c d × AreAgain cs ds
 -- where a call comes again behind the one after it in the list, its caller was known when it came first
 abbrev pub WereKnown : State → List Call → ℕ → List Sent → Type 0
 WereKnown s calls next [] = Unit {0}
-WereKnown s calls next (x ∷ xs) = (x.number + 1 < next → WasKnown s calls x.number) × WereKnown s calls (next_after next (x ∷ [])) xs
+WereKnown s calls next (x ∷ xs) = (x.number + 1 < next → WasKnown s calls x.number)
+    × WereKnown s calls (next_after next (x ∷ [])) xs
 
 -- ---- the headline
 
 -- a state after a list of calls that was sent so, and the answers that were given
-pub record IsAsUnstopped (s : State) (calls : List Call) (xs : List Sending) (replies : List (List Reply)) (t : State) : Type 0 where
+pub record IsAsUnstopped (s : State) (calls : List Call) (xs : List Sending)
+    (replies : List (List Reply)) (t : State) : Type 0 where
   -- the same calls, each at the moment at which it stood first
   pub list : AreAgain calls (as_came xs)
   -- handled once, without a stop, they lead to this state and are told the same
@@ -79,6 +86,8 @@ pub record IsAsUnstopped (s : State) (calls : List Call) (xs : List Sending) (re
 -- Sessions that send a list of calls, whenever they stop and whatever comes again at whatever moment, lead where the list
 -- leads that is handled once.
 abbrev pub Headline : Type 0
-Headline = (s : State) (calls : List Call) (xs : List Sending) (replies : List (List Reply)) (t : State)
-    → IsGoodWorld s.world → SendsAll calls 0 xs → WereKnown s (as_came xs) 0 (all_standing xs) → Lives s xs replies t
+Headline = (s : State) (calls : List Call) (xs : List Sending)
+    (replies : List (List Reply)) (t : State)
+    → IsGoodWorld s.world → SendsAll calls 0 xs → WereKnown s (as_came xs) 0 (all_standing xs)
+    → Lives s xs replies t
     → IsAsUnstopped s calls xs replies t

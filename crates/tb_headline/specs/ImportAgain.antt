@@ -21,7 +21,11 @@ known_answer board is = record {
 -- Where nothing more was wanted after an import into a good world, the same import right after it, at the same moment, is accepted,
 -- knows each of its tasks, and leaves the world as it is.
 abbrev pub ImportJsonAgain : Type 0
-ImportJsonAgain = (w : World) (name : List ℕ) (n : ℕ) (is : List Incoming) (m : ℕ) (a : BoardAnswer) → IsGoodWorld w
+ImportJsonAgain = (w : World) (name : List ℕ) (n : ℕ) (is : List Incoming) (m : ℕ) (a : BoardAnswer)
+    → IsGoodWorld w
     → (apply w name (ImportJson n is) m).answer ≡ Ok (OnBoard a) → a.more ≡ false
     → apply (apply w name (ImportJson n is) m).world name (ImportJson n is) m
-    ≡ record { world = (apply w name (ImportJson n is) m).world; answer = Ok (OnBoard (known_answer a.board is)) }
+    ≡ record {
+      world = (apply w name (ImportJson n is) m).world;
+      answer = Ok (OnBoard (known_answer a.board is));
+    }

@@ -26,7 +26,8 @@ HoldsNoState d = Opens d → (s : State) → IsFileOf s d.now.trees → ⊥
 
 -- where it is a store of this version, and no limit is set on the steps of a query, the disk has failed or refused a call since
 abbrev pub FailsByDisk : Database → Database → Type 0
-FailsByDisk old new = Opens old → IsReady old → (s : State) → AreTreesOf s old.now.trees → HasFaulted old new
+FailsByDisk old new = Opens old → IsReady old → (s : State) → AreTreesOf s old.now.trees
+    → HasFaulted old new
 
 module _ {S : Type 0} (g : Ghosts S) where
   -- the first of its tables is the one that tells what a store is
@@ -42,8 +43,10 @@ module _ {S : Type 0} (g : Ghosts S) where
   -- Why it isn't opened, by each fault: it isn't a store, as its tables or their first rows say; it is one of another version, as
   -- they say; the disk failed; memory was wanting. Where the first table isn't there, it is the first of these.
   abbrev pub IsRefused : Held S → Database → OpenFault → Type 0
-  IsRefused conn new NotOurs = WhileHonest new (HoldsNoState (state g conn) × (HasMeta conn → Says conn (Err NotOurs)))
-  IsRefused conn new WrongVersion = HasMeta conn × WhileHonest new (HoldsNoState (state g conn) × Says conn (Err WrongVersion))
+  IsRefused conn new NotOurs =
+      WhileHonest new (HoldsNoState (state g conn) × (HasMeta conn → Says conn (Err NotOurs)))
+  IsRefused conn new WrongVersion = HasMeta conn
+      × WhileHonest new (HoldsNoState (state g conn) × Says conn (Err WrongVersion))
   IsRefused conn new Store = HasMeta conn × WhileHonest new (FailsByDisk (state g conn) new)
   IsRefused conn new Memory = HasMeta conn
 

@@ -35,10 +35,12 @@ StopLeaves d P = WhileHonest d ((db : Trees) → d.may_leave db → P db)
 -- Each content that a stop may leave is the rows of a state after some of the calls, all that were answered among them,
 -- and one more at most.
 abbrev pub Leaves : State → List Call → ℕ → Database → Type 0
-Leaves s calls answered d = (db : Trees) → d.may_leave db → (t : State) × AreTreesOf t db × IsAfterSome s calls answered t
+Leaves s calls answered d = (db : Trees) → d.may_leave db
+    → (t : State) × AreTreesOf t db × IsAfterSome s calls answered t
 
 -- the first calls are answered as if nothing ever stopped, and so is what is held and what a stop leaves
-pub record IsSession (s : State) (calls : List Call) (replies : List Reply) (now : State → Type 0) (d : Database) : Type 0 where
+pub record IsSession (s : State) (calls : List Call) (replies : List Reply) (now : State → Type 0)
+    (d : Database) : Type 0 where
   pub told : replies ≡ replies_to s (take (length replies) calls)
   pub held : (t : State) × now t × IsAfterSome s calls (length replies) t
   pub leaves : Leaves s calls (length replies) d
@@ -51,12 +53,15 @@ calls_handled steps = calls_among (handled steps)
 
 -- Each connection is served what its own messages ask for, up to where another is opened in its
 -- place.
-abbrev pub AllServed : Site → State → (ℕ → Talk) → List (Step (Option ℕ) Timed) → (ℕ → Talk) → Type 0
-AllServed site s talks steps later = (c : ℕ) → IsSame c steps → IsServed (server site) c s (talks c) steps (later c)
+abbrev pub AllServed : Site → State → (ℕ → Talk) → List (Step (Option ℕ) Timed)
+    → (ℕ → Talk) → Type 0
+AllServed site s talks steps later = (c : ℕ) → IsSame c steps
+    → IsServed (server site) c s (talks c) steps (later c)
 
 -- All that was done to connections was done in these steps, and nothing else. They lead to the
 -- state of all their calls, each acting once; and this state alone is left.
-pub record IsPlayed (site : Site) (s : State) (done : List (ℕ × Happening (Option ℕ))) (talks later : ℕ → Talk)
+pub record IsPlayed (site : Site) (s : State) (done : List (ℕ × Happening (Option ℕ)))
+    (talks later : ℕ → Talk)
     (now may_leave : State → Type 0) (d : Database) : Type 0 where
   pub steps : List (Step (Option ℕ) Timed)
   pub done_is : done_in steps ≡ done
@@ -67,7 +72,8 @@ pub record IsPlayed (site : Site) (s : State) (done : List (ℕ × Happening (Op
 
 -- The same up to the turn of a connection in which the store failed: the call of the message that
 -- was taken then, if it asked for one, may be left or not, and all before it are.
-pub record IsCut (site : Site) (s : State) (done : List (ℕ × Happening (Option ℕ))) (talks later : ℕ → Talk)
+pub record IsCut (site : Site) (s : State) (done : List (ℕ × Happening (Option ℕ)))
+    (talks later : ℕ → Talk)
     (now may_leave : State → Type 0) (d : Database) : Type 0 where
   pub steps : List (Step (Option ℕ) Timed)
   pub middle : ℕ → Talk
@@ -78,6 +84,7 @@ pub record IsCut (site : Site) (s : State) (done : List (ℕ × Happening (Optio
   pub run : Run (server site) s talks steps (after s (calls_handled steps)) middle
   pub served : AllServed site s talks steps middle
   -- what came of that turn; its first part is the message
-  pub failed : Stops site (after s (calls_handled steps)) last (middle place) (later place) now may_leave
+  pub failed : Stops site (after s (calls_handled steps)) last (middle place)
+      (later place) now may_leave
   pub others : (c : ℕ) → (place == c) ≡ false → later c ≡ middle c
   pub leaves : Leaves s (calls_handled steps ++ calls_at failed.0) (length (calls_handled steps)) d

@@ -55,7 +55,8 @@ pub fn resume<S: Alter>(
     ensures begun { IfOk result (λ desk. Opens (state S.Store conn)
         → (s : State) → IsFileOf s (state S.Store conn).now.trees
         → IsAt s (⟦<SqlKeep<S> as Keep>⟧.holds desk) (⟦<SqlKeep<S> as Keep>⟧.after_stop desk)) }
-    ensures stopped { Opens (state S.Store conn) → (s : State) → IsFileOf s (state S.Store conn).now.trees
+    ensures stopped { Opens (state S.Store conn) → (s : State)
+        → IsFileOf s (state S.Store conn).now.trees
         → MatchResult result (λ desk. StopLeaves (state S.Store desk.conn) (AreTreesOf s))
         (λ e. StopLeaves (state S.Store e.0) (IsFileOf s)) }
     ensures ours { IfOk result (λ desk.
@@ -86,12 +87,16 @@ fn is_live<S: Alter>(conn: &Connection<S>)
 /// first calls, no fewer than were answered.
 pub fn run<S: Alter>(alloc: Global, desk: &mut Desk<SqlKeep<S>>, calls: &[Call]) -> RunEnd
     ensures session { WhileHonest (state S.Store desk.new.conn) ((s : State)
-        → IsAt s (⟦<SqlKeep<S> as Keep>⟧.holds desk.old) (⟦<SqlKeep<S> as Keep>⟧.after_stop desk.old)
-        → IsSession s calls.now result.replies (⟦<SqlKeep<S> as Keep>⟧.holds desk.new) (state S.Store desk.new.conn)) }
-    ensures honest { HasCleanDisk (state S.Store desk.new.conn) → HasCleanDisk (state S.Store desk.old.conn) }
+        → IsAt s (⟦<SqlKeep<S> as Keep>⟧.holds desk.old)
+        (⟦<SqlKeep<S> as Keep>⟧.after_stop desk.old)
+        → IsSession s calls.now result.replies (⟦<SqlKeep<S> as Keep>⟧.holds desk.new)
+        (state S.Store desk.new.conn)) }
+    ensures honest { HasCleanDisk (state S.Store desk.new.conn)
+        → HasCleanDisk (state S.Store desk.old.conn) }
     ensures all { result.fault ≡ None → length result.replies ≡ length calls.now }
     ensures left { (s : State) → ⟦<SqlKeep<S> as Keep>⟧.holds desk.old s → result.fault ≢ Some Store
-        → ⟦<SqlKeep<S> as Keep>⟧.holds desk.new (plain s (once s (take (length result.replies) calls.now))) }
+        → ⟦<SqlKeep<S> as Keep>⟧.holds desk.new
+        (plain s (once s (take (length result.replies) calls.now))) }
     ensures failed { result.fault ≡ Some Store → ⟦<SqlKeep<S> as Keep>⟧.has_failed desk.new ≡ true }
 {
     desk.run(alloc, calls)
@@ -110,14 +115,21 @@ pub fn serve<S: Alter>(
     happenings: &[(usize, Happening<'_>)],
 ) -> Result<(), ServeFault>
     ensures played { WhileHonest (state S.Store desk.new.conn) ((s : State)
-        → IsAt s (⟦<SqlKeep<S> as Keep>⟧.holds desk.old) (⟦<SqlKeep<S> as Keep>⟧.after_stop desk.old)
-        → OnOk result (IsPlayed paths.now.site s (done_at (length peers.old) happenings.now) (talk_at peers.old) (talk_at peers.new)
-        (⟦<SqlKeep<S> as Keep>⟧.holds desk.new) (⟦<SqlKeep<S> as Keep>⟧.after_stop desk.new) (state S.Store desk.new.conn))) }
+        → IsAt s (⟦<SqlKeep<S> as Keep>⟧.holds desk.old)
+        (⟦<SqlKeep<S> as Keep>⟧.after_stop desk.old)
+        → OnOk result (IsPlayed paths.now.site s (done_at (length peers.old) happenings.now)
+        (talk_at peers.old) (talk_at peers.new)
+        (⟦<SqlKeep<S> as Keep>⟧.holds desk.new) (⟦<SqlKeep<S> as Keep>⟧.after_stop desk.new)
+        (state S.Store desk.new.conn))) }
     ensures cut { WhileHonest (state S.Store desk.new.conn) ((s : State)
-        → IsAt s (⟦<SqlKeep<S> as Keep>⟧.holds desk.old) (⟦<SqlKeep<S> as Keep>⟧.after_stop desk.old)
-        → OnErr result (IsCut paths.now.site s (done_at (length peers.old) happenings.now) (talk_at peers.old) (talk_at peers.new)
-        (⟦<SqlKeep<S> as Keep>⟧.holds desk.new) (⟦<SqlKeep<S> as Keep>⟧.after_stop desk.new) (state S.Store desk.new.conn))) }
-    ensures honest { HasCleanDisk (state S.Store desk.new.conn) → HasCleanDisk (state S.Store desk.old.conn) }
+        → IsAt s (⟦<SqlKeep<S> as Keep>⟧.holds desk.old)
+        (⟦<SqlKeep<S> as Keep>⟧.after_stop desk.old)
+        → OnErr result (IsCut paths.now.site s (done_at (length peers.old) happenings.now)
+        (talk_at peers.old) (talk_at peers.new)
+        (⟦<SqlKeep<S> as Keep>⟧.holds desk.new) (⟦<SqlKeep<S> as Keep>⟧.after_stop desk.new)
+        (state S.Store desk.new.conn))) }
+    ensures honest { HasCleanDisk (state S.Store desk.new.conn)
+        → HasCleanDisk (state S.Store desk.old.conn) }
     ensures fault { IfErr result (λ fault. fault ≡ ServeFault.Store) }
     ensures failed { IsErr result → ⟦<SqlKeep<S> as Keep>⟧.has_failed desk.new ≡ true }
 {

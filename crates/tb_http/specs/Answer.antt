@@ -31,7 +31,8 @@ phrase_of status =
 
 -- the first line
 unfoldable pub status_line : ℕ → List ℕ
-status_line status = codes "HTTP/1.1 " ++ (decimal status ++ (codes " " ++ (phrase_of status ++ codes "\r\n")))
+status_line status =
+    codes "HTTP/1.1 " ++ (decimal status ++ (codes " " ++ (phrase_of status ++ codes "\r\n")))
 
 -- a field's line
 unfoldable pub field_line : List ℕ → List ℕ → List ℕ
@@ -54,7 +55,9 @@ type_text (File media) = media_text media
 -- what a browser may do with a file of a page (Content Security Policy Level 3): its scripts, styles and pictures are files of the
 -- page too, none of them stands within it, it talks to this server alone, and no other page shows it within itself
 unfoldable pub content_policy : List ℕ
-content_policy = codes "default-src 'none'; script-src 'self'; style-src 'self'; img-src 'self'; connect-src 'self'; base-uri 'none'; form-action 'none'; frame-ancestors 'none'"
+content_policy =
+    codes
+    "default-src 'none'; script-src 'self'; style-src 'self'; img-src 'self'; connect-src 'self'; base-uri 'none'; form-action 'none'; frame-ancestors 'none'"
 
 -- the lines that the answer to a file of a page has beside the others; other answers have none of them
 abbrev pub policy_lines : ContentType → List ℕ
@@ -88,13 +91,20 @@ answer_head answer size =
 
 -- the whole answer with this body, which isn't sent to a message of the method HEAD
 unfoldable pub answer_text : Answer → List ℕ → List ℕ
-answer_text answer body = answer_head answer (length body) ++ (if answer.sends_body then body else [])
+answer_text answer body =
+    answer_head answer (length body) ++ (if answer.sends_body then body else [])
 
 -- the answer to a fault, but for its body: its status if it has one
 abbrev pub answer_with : Option ℕ → Option Verb → Bool → Bool → Option Answer
 answer_with None allow is_last sends_body = None
 answer_with (Some status) allow is_last sends_body =
-    Some (record { status = status; content_type = Json; allow = allow; is_last = is_last; sends_body = sends_body })
+    Some (record {
+      status = status;
+      content_type = Json;
+      allow = allow;
+      is_last = is_last;
+      sends_body = sends_body;
+    })
 
 abbrev pub fault_answer : WireFault → Option Verb → Bool → Bool → Option Answer
 fault_answer fault allow is_closing sends_body =

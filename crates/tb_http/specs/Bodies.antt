@@ -30,7 +30,8 @@ both (Some a) (Some b) = Some (a, b)
 
 -- the name and the key of a new person
 abbrev pub person_in : Data → Option (List ℕ × List ℕ)
-person_in d = if has_members 2 d then both (text_at (codes "name") d) (text_at (codes "key") d) else None
+person_in d = if has_members 2 d
+    then both (text_at (codes "name") d) (text_at (codes "key") d) else None
 
 -- the title of a new board
 abbrev pub title_in : Data → Option (List ℕ)
@@ -38,7 +39,8 @@ title_in d = if has_members 1 d then text_at (codes "title") d else None
 
 -- a role's word, or null for none
 abbrev pub is_role : List ℕ → Bool
-is_role word = bytes_eq word (codes "owner") || (bytes_eq word (codes "member") || bytes_eq word (codes "reader"))
+is_role word = bytes_eq word (codes "owner")
+    || (bytes_eq word (codes "member") || bytes_eq word (codes "reader"))
 
 abbrev pub role_word : Data → Option (Option (List ℕ))
 role_word null = Some None
@@ -51,7 +53,9 @@ role_word (object ms) = None
 -- whose role is set, and to which
 abbrev pub role_in : Data → Option (List ℕ × Option (List ℕ))
 role_in d =
-    if has_members 2 d then both (text_at (codes "member") d) (option_and_then role_word (get (codes "role") d)) else None
+    if has_members 2 d
+    then both (text_at (codes "member") d)
+    (option_and_then role_word (get (codes "role") d)) else None
 
 -- how many instances ahead a board is to look
 abbrev pub ahead_in : Data → Option ℕ

@@ -31,7 +31,9 @@ is_close option = str_eq_ignore_ascii_case (without_ends option) (codes "close")
 
 -- a Connection line that has the word among its options, which are separated by commas
 unfoldable pub names_close : Field → Bool
-names_close line = is_named (codes "connection") line && list_any is_close (slice_split (λ byte. byte == 44) line.value)
+names_close line =
+    is_named (codes "connection") line
+    && list_any is_close (slice_split (λ byte. byte == 44) line.value)
 
 -- the sender closes the connection after this message
 unfoldable pub asks_to_close : Head → Bool

@@ -9,17 +9,20 @@ use Rattle.tb_http.specs.declared.message.Field.{Field}
 use Rattle.tb_http.specs.declared.message.Head.{Head}
 use Rattle.tb_http.specs.Numerals.{is_number, same_number}
 use Rattle.tb_http.specs.Message.{is_named, count_named}
+use Rattle.tb_task.specs.Limits.{longest_body}
 
 -- the most fields, and the longest body
 abbrev pub field_limit : ℕ
 field_limit = 64
 
 abbrev pub body_limit : ℕ
-body_limit = 1048576
+body_limit = longest_body
 
 -- a Content-Length line, if it is one, has the number of the first
 unfoldable pub agrees : List ℕ → Field → Bool
-agrees first line = not (is_named (codes "content-length") line) || (is_number line.value && same_number first line.value)
+agrees first line =
+    not (is_named (codes "content-length") line)
+    || (is_number line.value && same_number first line.value)
 
 -- a Content-Length line of more than 18 digits
 unfoldable pub is_long : Field → Bool
@@ -29,7 +32,8 @@ is_long line = is_named (codes "content-length") line && nat_lt 18 (length line.
 unfoldable pub length_of : List ℕ → List Field → Result ℕ WireFault
 length_of first fields =
     if not (is_number first && list_all (agrees first) fields) then Err BadHead
-    else (if list_any is_long fields || nat_lt body_limit (digits_value 10 first) then Err BodyTooLong
+    else (if list_any is_long fields || nat_lt body_limit (digits_value 10 first)
+    then Err BodyTooLong
     else Ok (digits_value 10 first))
 
 -- the length by the first Content-Length line, if there is one: a POST has to have it
@@ -47,4 +51,5 @@ body_length head =
     if has_bad_hosts (count_named (codes "host") head.fields) head.minor then Err BadHead
     else (if nat_lt field_limit (length head.fields) then Err HeadTooLong
     else (if nat_lt 0 (count_named (codes "transfer-encoding") head.fields) then Err Coding
-    else declared_length head.method (find (is_named (codes "content-length")) head.fields) head.fields))
+    else declared_length head.method
+    (find (is_named (codes "content-length")) head.fields) head.fields))

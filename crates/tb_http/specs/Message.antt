@@ -22,7 +22,8 @@ head_from tree = record {
 
 -- the message of a head with a body behind it
 abbrev pub message_from : Head → List ℕ → Message
-message_from head body = record { method = head.method; target = head.target; fields = head.fields; body = body }
+message_from head body =
+    record { method = head.method; target = head.target; fields = head.fields; body = body }
 
 -- what a call is known by, beside its identifier: its method, a space, its target, a line feed and its body
 abbrev pub content_of : Message → List ℕ

@@ -17,11 +17,13 @@ pub record IsLine (bytes : List ℕ) : Type 0 where
 -- the bytes begin with a head (false), or with what is left of one behind its request line (true)
 abbrev pub ReadsOn : Bool → List ℕ → List ℕ → Type 0
 ReadsOn false bytes rest = (head : RequestHead) × ReadsRequest bytes head rest
-ReadsOn true bytes rest = (fields : List Field) × (last : LineEnd) × ReadsSection bytes fields last rest
+ReadsOn true bytes rest = (fields : List Field) × (last : LineEnd)
+    × ReadsSection bytes fields last rest
 
 -- with this front the bytes are one of these just where without it they are the other
 pub record Leads (before after : Bool) (front : List ℕ) : Type 0 where
-  pub forth : (bytes rest : List ℕ) → ReadsOn before (front ++ bytes) rest → ReadsOn after bytes rest
+  pub forth : (bytes rest : List ℕ) → ReadsOn before (front ++ bytes) rest
+      → ReadsOn after bytes rest
   pub back : (bytes rest : List ℕ) → ReadsOn after bytes rest → ReadsOn before (front ++ bytes) rest
 
 -- the lines before the last one are those of a head, and the last one has no end so far

@@ -9,7 +9,8 @@ use Rattle.tb_http.specs.Wire.{BeginsWithMessage, Faults}
 abbrev pub OneMessage : Type 0
 OneMessage =
     (bytes : List ℕ) (a b : Message) (closes ends : Bool) (rest other : List ℕ)
-    → BeginsWithMessage bytes a closes rest → BeginsWithMessage bytes b ends other → (a ≡ b) × (closes ≡ ends) × (rest ≡ other)
+    → BeginsWithMessage bytes a closes rest → BeginsWithMessage bytes b ends other
+    → (a ≡ b) × (closes ≡ ends) × (rest ≡ other)
 
 -- a fault of the reader or of memory, which the bytes don't show
 abbrev pub IsOutside : WireFault → Type 0

@@ -57,7 +57,8 @@ task_resource (Some board) None = None
 task_resource None task = None
 
 abbrev pub action_resource : Option ℕ → Option ℕ → Option TaskAction → Option Resource
-action_resource (Some board) (Some task) (Some action) = Some (resource.TaskAction board task action)
+action_resource (Some board) (Some task) (Some action) =
+    Some (resource.TaskAction board task action)
 action_resource (Some board) (Some task) None = None
 action_resource (Some board) None action = None
 action_resource None task action = None
@@ -86,7 +87,8 @@ has_verb method verb = bytes_eq method (verb_name verb)
 -- a readable path of another method
 abbrev pub with_method : List ℕ → Verb → Option Resource → Result Resource RouteFault
 with_method method verb None = Err NoRoute
-with_method method verb (Some resource) = if has_verb method verb then Ok resource else Err (NoMethod verb)
+with_method method verb (Some resource) = if has_verb method verb then Ok resource
+    else Err (NoMethod verb)
 
 abbrev pub on_route : List ℕ → List ℕ → Option Route → Result Resource RouteFault
 on_route method path None = Err NoRoute

@@ -22,7 +22,8 @@ pub record BeginsWithHead (bytes : List ℕ) (head : Head) (behind : List ℕ) :
   pub says : head ≡ head_from tree
 
 -- the bytes begin with a whole message, which closes the connection or not
-pub record BeginsWithMessage (bytes : List ℕ) (message : Message) (closes : Bool) (rest : List ℕ) : Type 0 where
+pub record BeginsWithMessage (bytes : List ℕ) (message : Message) (closes : Bool)
+    (rest : List ℕ) : Type 0 where
   pub head : Head
   pub behind : List ℕ
   pub begins : BeginsWithHead bytes head behind
@@ -56,7 +57,8 @@ IsOpen bytes = HasNoRequest bytes × ¬ (HasBadLine bytes)
 -- no message can be read off the bytes, by their form alone
 abbrev pub Breaks : List ℕ → WireFault → Type 0
 Breaks bytes Ended = bytes ≡ []
-Breaks bytes Torn = (IsOpen bytes × (0 < length bytes) × (length bytes ≤ head_limit)) ⊎ LacksBody bytes
+Breaks bytes Torn = (IsOpen bytes × (0 < length bytes) × (length bytes ≤ head_limit))
+    ⊎ LacksBody bytes
 Breaks bytes BadHead = HasBadLine (take head_limit bytes)
 Breaks bytes HeadTooLong = IsOpen (take head_limit bytes) × (head_limit < length bytes)
 -- the reader and memory may fail at any point

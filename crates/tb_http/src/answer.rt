@@ -127,7 +127,8 @@ fn push_field(head: &mut Vec<u8>, name: &str, value: &str)
 #[tactic(auto, unfolding(crate::specs::Answer::field_line))]
 fn push_length(head: &mut Vec<u8>, size: u64)
     requires { vec_len head.old + 64 ≤ vec_capacity head.old }
-    ensures items { head.new.items ≡ head.old.items ++ field_line (codes "content-length") (decimal size) }
+    ensures items { head.new.items
+        ≡ head.old.items ++ field_line (codes "content-length") (decimal size) }
     ensures len { vec_len head.new ≤ vec_len head.old + 64 }
     ensures capacity { vec_capacity head.old ≤ vec_capacity head.new }
 {
@@ -178,7 +179,8 @@ fn type_of(content_type: ContentType) -> &'static str
 #[tactic(auto, unfolding(crate::specs::Answer::field_line, crate::specs::Answer::content_policy))]
 fn push_content_policy(head: &mut Vec<u8>)
     requires { vec_len head.old + 256 ≤ vec_capacity head.old }
-    ensures items { head.new.items ≡ head.old.items ++ field_line (codes "content-security-policy") content_policy }
+    ensures items { head.new.items
+        ≡ head.old.items ++ field_line (codes "content-security-policy") content_policy }
     ensures len { vec_len head.new ≤ vec_len head.old + 256 }
     ensures capacity { vec_capacity head.old ≤ vec_capacity head.new }
 {
@@ -262,9 +264,12 @@ impl HeadRoom {
         answer: Answer,
         body: &[u8],
     ) -> Result<(), WriteFault>
-        ensures whole { OnOk result (Appends (W.contents writer.old) (W.contents writer.new) (answer_text answer body.now)) }
+        ensures whole { OnOk result
+            (Appends (W.contents writer.old) (W.contents writer.new)
+            (answer_text answer body.now)) }
         ensures cut { IfErr result (λ fault. (fault.written < length (answer_text answer body.now))
-            × Appends (W.contents writer.old) (W.contents writer.new) (take fault.written (answer_text answer body.now))) }
+            × Appends (W.contents writer.old) (W.contents writer.new)
+            (take fault.written (answer_text answer body.now))) }
     {
         let head = self.head(answer, body.len() as u64);
         write_both(writer, head, if answer.sends_body { body } else { &[] })
@@ -273,9 +278,11 @@ impl HeadRoom {
 
 // Writes two texts one after the other.
 fn write_both<W: Write>(writer: &mut W, front: &[u8], behind: &[u8]) -> Result<(), WriteFault>
-    ensures whole { OnOk result (Appends (W.contents writer.old) (W.contents writer.new) (front.now ++ behind.now)) }
+    ensures whole { OnOk result
+        (Appends (W.contents writer.old) (W.contents writer.new) (front.now ++ behind.now)) }
     ensures cut { IfErr result (λ fault. (fault.written < length (front.now ++ behind.now))
-        × Appends (W.contents writer.old) (W.contents writer.new) (take fault.written (front.now ++ behind.now))) }
+        × Appends (W.contents writer.old) (W.contents writer.new)
+        (take fault.written (front.now ++ behind.now))) }
 {
     write_whole(writer, front)?;
     match write_whole(writer, behind) {

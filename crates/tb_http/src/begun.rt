@@ -54,7 +54,8 @@ fn find_head(
     room: &mut [HeaderSpan],
 ) -> Result<Option<Start>, WireFault>
     requires { length room.old ≡ FIELD_ROOM }
-    ensures head { IfOk result (λ found. IfSome found (λ start. (start.len ≤ length held.now) × (start.len ≤ HEAD_LIMIT)
+    ensures head { IfOk result
+        (λ found. IfSome found (λ start. (start.len ≤ length held.now) × (start.len ≤ HEAD_LIMIT)
         × BeginsWithHead held.now start.head (drop start.len held.now))) }
     ensures unfinished { IfOk result (λ found. IfNone found (IsUnfinished held.now)) }
     ensures fault { IfErr result (λ fault. HasFault held.now fault) }
@@ -150,7 +151,8 @@ fn take_message(
 pub fn take_begun(alloc: Global, begun: Begun, held: &mut Vec<u8>) -> Result<Taken, WireFault>
     requires begun { IsBegun held.old.items begun }
     requires whole { begun.len + begun.size ≤ length held.old.items }
-    ensures message { IfOk result (λ taken. BeginsWithMessage held.old.items taken.message taken.closes held.new.items) }
+    ensures message { IfOk result
+        (λ taken. BeginsWithMessage held.old.items taken.message taken.closes held.new.items) }
     ensures memory { IfErr result (λ fault. fault ≡ WireFault.Memory) }
     ensures same { OnErr result (held.new.items ≡ held.old.items) }
 {

@@ -47,7 +47,8 @@ fn number_at(value: &Value, name: &str) -> Option<u64>
 
 /// The person that a body adds.
 pub fn read_person(value: &Value) -> Option<PersonBody<'_>>
-    ensures { option_map (λ body. (body.name.now, body.key.now)) result ≡ bodies.person_in (view value.now) }
+    ensures { option_map (λ body. (body.name.now, body.key.now)) result
+        ≡ bodies.person_in (view value.now) }
 {
     if !has_members(value, 2) {
         return None;
@@ -75,7 +76,8 @@ fn is_role(word: &str) -> bool
 
 // A role's word, or null for none.
 fn role_word(value: &Value) -> Option<Option<&str>>
-    ensures { option_map (λ word. option_map (λ text. text.now) word) result ≡ bodies.role_word (view value.now) }
+    ensures { option_map (λ word. option_map (λ text. text.now) word) result
+        ≡ bodies.role_word (view value.now) }
 {
     match value {
         Value::Null => Some(None),

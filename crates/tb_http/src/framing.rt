@@ -79,7 +79,9 @@ fn is_post(method: &Method) -> bool
 
 #[tactic(auto, unfolding(crate::specs::Framing::declared_length))]
 fn declared_length(method: &Method, fields: &[Field]) -> Result<usize, WireFault>
-    ensures value { result ≡ framing.declared_length method.now (find (is_named_so (codes "content-length")) fields.now) fields.now }
+    ensures value { result
+        ≡ framing.declared_length method.now
+        (find (is_named_so (codes "content-length")) fields.now) fields.now }
     ensures bound { IfOk result (λ length. length ≤ BODY_LIMIT) }
 {
     match find_field(fields, CONTENT_LENGTH) {

@@ -95,7 +95,8 @@ fn take_next(
     ensures begun { IfSome begun.new (λ b. IsBegun held.new.items b) }
     ensures message { IfOk result (λ found. IfSome found (λ taken.
         BeginsWithMessage held.old.items taken.message taken.closes held.new.items)) }
-    ensures unfinished { IfOk result (λ found. IfNone found (IsUnfinished held.old.items × (held.new.items ≡ held.old.items))) }
+    ensures unfinished { IfOk result
+        (λ found. IfNone found (IsUnfinished held.old.items × (held.new.items ≡ held.old.items))) }
     ensures fault { IfErr result (λ fault. HasFault held.old.items fault) }
     ensures same { OnErr result (held.new.items ≡ held.old.items) }
 {
@@ -124,15 +125,21 @@ pub struct Inbox {
 
 impl Model for Inbox {
     ghost use Rattle.std.specs.Prelude.{◌≡◌, ◌<◌, IfSome, false};
+    ghost use Rattle.tb_http.specs.Closing.{message_limit};
     ghost use Rattle.tb_http.specs.Inbox.{Held, IsBegun};
     ghost use Rattle.tb_http.specs.OpenHead.{IsOpenHead};
 
     ghost Value = { Held };
 
-    ghost view = { λ i. record { bytes = i.held.items; messages = i.messages; is_closing = i.is_closing } };
+    ghost view = { λ i. record {
+      bytes = i.held.items;
+      messages = i.messages;
+      is_closing = i.is_closing;
+    } };
 
-    ghost invariant = { λ i. IsOpenHead i.held.items i.so_far × IfSome i.begun (λ b. IsBegun i.held.items b)
-        × (i.is_closing ≡ false → i.messages < 1000) };
+    ghost invariant = { λ i. IsOpenHead i.held.items i.so_far
+        × IfSome i.begun (λ b. IsBegun i.held.items b)
+        × (i.is_closing ≡ false → i.messages < message_limit) };
 }
 
 impl Inbox {
@@ -189,7 +196,8 @@ impl Inbox {
     /// Puts bytes that came behind those that are held.
     #[inline]
     pub fn push(&mut self, piece: &[u8]) -> Result<(), AllocError>
-        ensures ok { OnOk result (self.new ≡ record self.old { bytes = self.old.bytes ++ piece.now }) }
+        ensures ok { OnOk result
+            (self.new ≡ record self.old { bytes = self.old.bytes ++ piece.now }) }
         ensures err { OnErr result (self.new ≡ self.old) }
     {
         append(&mut self.held, piece)?;
@@ -217,13 +225,17 @@ impl Inbox {
         alloc: Global,
         room: &mut FieldRoom,
     ) -> Result<Option<Message>, WireFault>
-        ensures closed { self.old.is_closing ≡ true → (result ≡ Err WireFault.Ended) × (self.new ≡ self.old) }
-        ensures message { self.old.is_closing ≡ false → IfOk result (λ found. IfSome found (λ message.
+        ensures closed { self.old.is_closing ≡ true
+            → (result ≡ Err WireFault.Ended) × (self.new ≡ self.old) }
+        ensures message { self.old.is_closing ≡ false
+            → IfOk result (λ found. IfSome found (λ message.
             (closes : Bool) × BeginsWithMessage self.old.bytes message closes self.new.bytes
-            × (self.new.is_closing ≡ is_last closes self.old.messages) × (self.new.messages ≡ self.old.messages + 1))) }
+            × (self.new.is_closing ≡ is_last closes self.old.messages)
+            × (self.new.messages ≡ self.old.messages + 1))) }
         ensures unfinished { self.old.is_closing ≡ false → IfOk result (λ found. IfNone found
             (IsUnfinished self.old.bytes × (self.new ≡ self.old))) }
-        ensures fault { self.old.is_closing ≡ false → IfErr result (λ fault. HasFault self.old.bytes fault) }
+        ensures fault { self.old.is_closing ≡ false
+            → IfErr result (λ fault. HasFault self.old.bytes fault) }
         ensures closes { OnErr result (self.new ≡ record self.old { is_closing = true }) }
     {
         if self.is_closing {

@@ -65,7 +65,8 @@ fn field_at(alloc: Global, bytes: &[u8], span: HeaderSpan) -> Result<Field, Allo
 // The fields that the spans cover.
 fn fields_at(alloc: Global, bytes: &[u8], spans: &[HeaderSpan]) -> Result<Items<Field>, AllocError>
     requires { All (IsHeaderWithin (length bytes.now)) spans.now }
-    ensures { IfOk result (λ fields. fields ≡ map field_from (map (header_bytes bytes.now) spans.now)) }
+    ensures { IfOk result
+        (λ fields. fields ≡ map field_from (map (header_bytes bytes.now) spans.now)) }
 {
     let mut fields = Vec::with_capacity(alloc, spans.len())?;
     for span in spans {
@@ -104,7 +105,9 @@ pub fn head_at(
 ) -> Result<Head, AllocError>
     requires within { IsRequestWithin bytes.now headers.now spans }
     requires found { IsRequestOf bytes.now headers.now spans }
-    ensures { IfOk result (λ head. (tree : RequestHead) → IsRequestAt bytes.now headers.now spans tree → head ≡ head_from tree) }
+    ensures { IfOk result
+        (λ head. (tree : RequestHead) → IsRequestAt bytes.now headers.now spans tree
+        → head ≡ head_from tree) }
 {
     let method = spans.method.of(bytes);
     let target = spans.path.of(bytes);

@@ -45,8 +45,10 @@ impl OpenHead {
 #[inline]
 fn line_end(bytes: &[u8], from: usize) -> Option<usize>
     requires { from ≤ length bytes.now }
-    ensures { MatchOption result ((k : ℕ) → from ≤ k → k < length bytes.now → slice_index bytes.now k ≢ line_feed)
-        (λ end. (from < end) × (end ≤ length bytes.now) × (slice_index bytes.now (end - 1) ≡ line_feed)
+    ensures { MatchOption result
+        ((k : ℕ) → from ≤ k → k < length bytes.now → slice_index bytes.now k ≢ line_feed)
+        (λ end. (from < end) × (end ≤ length bytes.now)
+        × (slice_index bytes.now (end - 1) ≡ line_feed)
         × ((k : ℕ) → from ≤ k → k < end - 1 → slice_index bytes.now k ≢ line_feed)) }
 {
     let mut end = from;

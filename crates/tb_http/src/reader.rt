@@ -19,10 +19,13 @@ const READ_SIZE: usize = 4096;
 fn read_more<R: Read>(source: &mut R, inbox: &mut Inbox) -> Result<bool, WireFault>
     ensures kept { OnOk result (Keeps (prepend_known inbox.old.bytes (R.remaining source.old))
         (prepend_known inbox.new.bytes (R.remaining source.new))) }
-    ensures rest { (inbox.new.messages ≡ inbox.old.messages) × (inbox.new.is_closing ≡ inbox.old.is_closing) }
+    ensures rest { (inbox.new.messages ≡ inbox.old.messages)
+        × (inbox.new.is_closing ≡ inbox.old.is_closing) }
     ensures more { result ≡ Ok true → length inbox.old.bytes < length inbox.new.bytes }
-    ensures end { result ≡ Ok false → (inbox.new.bytes ≡ inbox.old.bytes) × IsAtEnd (R.remaining source.new) }
-    ensures fault { IfErr result (λ fault. (fault ≡ WireFault.Memory) ⊎ (fault ≡ WireFault.ReadFailed)) }
+    ensures end { result ≡ Ok false
+        → (inbox.new.bytes ≡ inbox.old.bytes) × IsAtEnd (R.remaining source.new) }
+    ensures fault { IfErr result
+        (λ fault. (fault ≡ WireFault.Memory) ⊎ (fault ≡ WireFault.ReadFailed)) }
 {
     let mut piece = [0u8; READ_SIZE];
     let Ok(count) = source.read(&mut piece) else {
@@ -39,9 +42,11 @@ fn read_on<R: Read>(source: &mut R, inbox: &mut Inbox) -> Result<(), WireFault>
     requires { IsUnfinished inbox.old.bytes }
     ensures kept { OnOk result (Keeps (prepend_known inbox.old.bytes (R.remaining source.old))
         (prepend_known inbox.new.bytes (R.remaining source.new))) }
-    ensures rest { (inbox.new.messages ≡ inbox.old.messages) × (inbox.new.is_closing ≡ inbox.old.is_closing) }
+    ensures rest { (inbox.new.messages ≡ inbox.old.messages)
+        × (inbox.new.is_closing ≡ inbox.old.is_closing) }
     ensures more { OnOk result (length inbox.old.bytes < length inbox.new.bytes) }
-    ensures fault { IfErr result (λ fault. IfSome (prepend_known inbox.old.bytes (R.remaining source.old))
+    ensures fault { IfErr result
+        (λ fault. IfSome (prepend_known inbox.old.bytes (R.remaining source.old))
         (λ bytes. Faults bytes fault)) }
 {
     if read_more(source, inbox)? {
@@ -61,14 +66,19 @@ fn read_next<R: Read>(
     room: &mut FieldRoom,
 ) -> Result<Message, WireFault>
     requires { inbox.old.is_closing ≡ false }
-    ensures message { IfOk result (λ message. IfSome (prepend_known inbox.old.bytes (R.remaining source.old))
-        (λ bytes. IsSomeAnd (prepend_known inbox.new.bytes (R.remaining source.new)) (λ rest. (closes : Bool)
-        × BeginsWithMessage bytes message closes rest × (inbox.new.is_closing ≡ is_last closes inbox.old.messages)))) }
-    ensures fault { IfErr result (λ fault. IfSome (prepend_known inbox.old.bytes (R.remaining source.old))
+    ensures message { IfOk result
+        (λ message. IfSome (prepend_known inbox.old.bytes (R.remaining source.old))
+        (λ bytes. IsSomeAnd (prepend_known inbox.new.bytes (R.remaining source.new))
+        (λ rest. (closes : Bool)
+        × BeginsWithMessage bytes message closes rest
+        × (inbox.new.is_closing ≡ is_last closes inbox.old.messages)))) }
+    ensures fault { IfErr result
+        (λ fault. IfSome (prepend_known inbox.old.bytes (R.remaining source.old))
         (λ bytes. Faults bytes fault)) }
     ensures counted { OnOk result (inbox.new.messages ≡ inbox.old.messages + 1) }
     ensures limit { OnOk result (message_limit ≤ inbox.new.messages → inbox.new.is_closing ≡ true) }
-    ensures closes { OnErr result ((inbox.new.is_closing ≡ true) × (inbox.new.messages ≡ inbox.old.messages)) }
+    ensures closes { OnErr result
+        ((inbox.new.is_closing ≡ true) × (inbox.new.messages ≡ inbox.old.messages)) }
 {
     loop {
         match inbox.next_message(alloc, room) {
@@ -107,7 +117,9 @@ impl<R: Read + Drop> Model for Reader<R> {
 impl<R: Read + Drop> Reader<R> {
     /// A reader of messages, with room for the fields of a head.
     pub fn new(alloc: Global, source: R) -> Result<Reader<R>, AllocError>
-        ensures { IfOk result (λ reader. (reader.bytes ≡ R.remaining source) × (reader.messages ≡ 0) × (reader.is_closing ≡ false)) }
+        ensures { IfOk result
+            (λ reader. (reader.bytes ≡ R.remaining source) × (reader.messages ≡ 0)
+            × (reader.is_closing ≡ false)) }
     {
         Ok(Reader {
             source,
@@ -126,14 +138,20 @@ impl<R: Read + Drop> Reader<R> {
     /// Reads the next message. It closes the connection where its sender says so, where it is the 1,000th, and
     /// where there is a fault.
     pub fn read_message(&mut self, alloc: Global) -> Result<Message, WireFault>
-        ensures closed { self.old.is_closing ≡ true → (result ≡ Err WireFault.Ended) × (self.new ≡ self.old) }
-        ensures message { self.old.is_closing ≡ false → IfOk result (λ message. IfSome self.old.bytes
-            (λ bytes. IsSomeAnd self.new.bytes (λ rest. (closes : Bool) × BeginsWithMessage bytes message closes rest
+        ensures closed { self.old.is_closing ≡ true
+            → (result ≡ Err WireFault.Ended) × (self.new ≡ self.old) }
+        ensures message { self.old.is_closing ≡ false
+            → IfOk result (λ message. IfSome self.old.bytes
+            (λ bytes. IsSomeAnd self.new.bytes
+            (λ rest. (closes : Bool) × BeginsWithMessage bytes message closes rest
             × (self.new.is_closing ≡ is_last closes self.old.messages)))) }
-        ensures fault { self.old.is_closing ≡ false → IfErr result (λ fault. IfSome self.old.bytes (λ bytes. Faults bytes fault)) }
+        ensures fault { self.old.is_closing ≡ false
+            → IfErr result (λ fault. IfSome self.old.bytes (λ bytes. Faults bytes fault)) }
         ensures counted { OnOk result (self.new.messages ≡ self.old.messages + 1) }
-        ensures limit { OnOk result (message_limit ≤ self.new.messages → self.new.is_closing ≡ true) }
-        ensures closes { OnErr result ((self.new.is_closing ≡ true) × (self.new.messages ≡ self.old.messages)) }
+        ensures limit { OnOk result
+            (message_limit ≤ self.new.messages → self.new.is_closing ≡ true) }
+        ensures closes { OnErr result
+            ((self.new.is_closing ≡ true) × (self.new.messages ≡ self.old.messages)) }
     {
         if self.inbox.closing() {
             return Err(WireFault::Ended);

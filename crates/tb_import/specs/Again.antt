@@ -8,8 +8,10 @@ use Rattle.tb_import.specs.Refusals.{is_cyclic, judged_import}
 
 -- an accepted import that comes again finds all tasks known, and changes nothing
 abbrev pub ImportAgainChangesNothing : Type 0
-ImportAgainChangesNothing = (b : Board) (is : List Incoming) (c : Board) (told : ImportCounts) → judged_import b is ≡ Ok (c, told)
-    → judged_import c is ≡ Ok (c, record { known = length is; new = 0; dropped = 0; orphans = 0; unlinked = 0 })
+ImportAgainChangesNothing = (b : Board) (is : List Incoming) (c : Board) (told : ImportCounts)
+    → judged_import b is ≡ Ok (c, told)
+    → judged_import c is
+    ≡ Ok (c, record { known = length is; new = 0; dropped = 0; orphans = 0; unlinked = 0 })
 
 -- a board is cyclic but where no walk over its tasks leads from one back to it
 abbrev pub AreClosedWalksFound : Type 0

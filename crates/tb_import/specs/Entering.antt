@@ -24,7 +24,8 @@ is_new_template_with id i = has_own_id id i && is_new_template i
 -- the marks of a mask, as gone places from k on
 abbrev pub marked_from : ℕ → ℕ → List ℕ → List Gone
 marked_from id k [] = []
-marked_from id k (mark ∷ marks) = record { template = id; place = k; mark = mark } ∷ marked_from id (k + 1) marks
+marked_from id k (mark ∷ marks) =
+    record { template = id; place = k; mark = mark } ∷ marked_from id (k + 1) marks
 
 abbrev pub mask_in : Incoming → List ℕ
 mask_in i = if is_new_template i then unwrap_or i.raw_mask [] else []
@@ -36,7 +37,8 @@ mask_places (i ∷ is) = marked_from i.task.id 0 (mask_in i) ++ mask_places is
 
 -- a template of the board, or one that is new
 abbrev pub is_parent : Board → List Incoming → ℕ → Bool
-is_parent b new id = list_any (is_template_with id) b.tasks || list_any (is_new_template_with id) new
+is_parent b new id =
+    list_any (is_template_with id) b.tasks || list_any (is_new_template_with id) new
 
 abbrev pub is_gone : List Gone → ℕ → ℕ → Bool
 is_gone gs id k = list_any (is_gone_at id k) gs
@@ -96,4 +98,5 @@ one_if false = 0
 -- how many of these tasks are orphans
 abbrev pub orphans : Board → List Incoming → Board → List Incoming → ℕ
 orphans first new b [] = 0
-orphans first new b (i ∷ is) = one_if (is_orphan (takes first new b.gone i) i) + orphans first new (with_new first new b i) is
+orphans first new b (i ∷ is) =
+    one_if (is_orphan (takes first new b.gone i) i) + orphans first new (with_new first new b i) is

@@ -7,4 +7,5 @@ use Rattle.tb_import.specs.Refusals.{judged_import}
 
 -- an import that is accepted leaves a good board good
 abbrev pub ImportKeepsGood : Type 0
-ImportKeepsGood = (b : Board) (is : List Incoming) → IsGood b → IfOk (judged_import b is) (λ after. IsGood after.0)
+ImportKeepsGood = (b : Board) (is : List Incoming) → IsGood b
+    → IfOk (judged_import b is) (λ after. IsGood after.0)

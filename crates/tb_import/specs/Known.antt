@@ -19,7 +19,9 @@ abbrev pub AreGone : List Gone → Places → Type 0
 AreGone gs places = (id k : ℕ) → has_place places id k ≡ is_gone gs id k
 
 -- one task more is on the board
-pub record IsEntered (first : Board) (new : List Incoming) (i : Incoming) (old later : Entering) : Type 0 where
+pub record IsEntered (first : Board) (new : List Incoming) (i : Incoming)
+    (old later : Entering) : Type 0 where
   pub board : later.draft.board ≡ with_new first new old.draft.board i
   pub places : AreGone later.draft.board.gone later.places
-  pub orphans : later.orphans ≡ old.orphans + one_if (is_orphan (takes first new old.draft.board.gone i) i)
+  pub orphans : later.orphans
+      ≡ old.orphans + one_if (is_orphan (takes first new old.draft.board.gone i) i)

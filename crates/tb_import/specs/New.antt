@@ -15,7 +15,8 @@ is_there b is id = is_on b id || list_any (has_own_id id) is
 -- the new tasks found so far, and those of the rest: one that is there already is known
 abbrev pub found_new : Board → List Incoming → List Incoming → List Incoming
 found_new b found [] = found
-found_new b found (i ∷ is) = if is_there b found i.task.id then found_new b found is else found_new b (found ++ i ∷ []) is
+found_new b found (i ∷ is) = if is_there b found i.task.id then found_new b found is
+    else found_new b (found ++ i ∷ []) is
 
 -- the tasks that are neither on the board nor earlier in the list
 abbrev pub new_tasks : Board → List Incoming → List Incoming

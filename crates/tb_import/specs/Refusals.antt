@@ -16,6 +16,7 @@ use Rattle.tb_import.specs.declared.refusal.ImportStop.{ImportStop}
 use Rattle.tb_import.specs.declared.refusal.ImportStop.TheVariants.{Memory, Refused}
 use Rattle.tb_import.specs.Entering.{is_linked}
 use Rattle.tb_import.specs.Import.{board_after, counts_after}
+use Rattle.tb_task.specs.Limits.{longest_text, most_tasks}
 
 -- a template or a plain task doesn't have the form of one
 abbrev pub is_misformed : Incoming → Bool
@@ -23,7 +24,8 @@ is_misformed i = is_some i.task.parent || not (has_template_form i.task)
 
 -- no reader leaves it so: what came as an instance recurs, another task has a parent or not the form of a template or a plain task, or the mask is too long
 abbrev pub is_misread : Incoming → Bool
-is_misread i = (if is_linked i then is_recurring i.task.status else is_misformed i) || nat_lt 16384 (length (unwrap_or i.raw_mask []))
+is_misread i = (if is_linked i then is_recurring i.task.status else is_misformed i)
+    || nat_lt longest_text (length (unwrap_or i.raw_mask []))
 
 abbrev pub first_fault : Option Field → Bool → Option Field
 first_fault (Some fault) misread = Some fault
@@ -50,7 +52,7 @@ abbrev pub is_cyclic : Board → Bool
 is_cyclic b = not (is_acyclic (links b))
 
 abbrev pub is_too_full : Board → Bool
-is_too_full b = nat_lt 10000 (length b.tasks)
+is_too_full b = nat_lt most_tasks (length b.tasks)
 
 abbrev pub least : List (Option ImportRefusal) → Option ImportRefusal
 least [] = None
@@ -59,15 +61,18 @@ least (Some r ∷ rs) = Some r
 
 -- in order of their numbers
 abbrev pub import_refusals : Board → List Incoming → List (Option ImportRefusal)
-import_refusals b is = bad_task 0 is ∷ where_holds Cycle (is_cyclic (board_after b is)) ∷ where_holds Full (is_too_full (board_after b is)) ∷ []
+import_refusals b is = bad_task 0 is ∷ where_holds Cycle (is_cyclic (board_after b is))
+    ∷ where_holds Full (is_too_full (board_after b is)) ∷ []
 
-abbrev pub unless_refused : Option ImportRefusal → Board → ImportCounts → Result (Board × ImportCounts) ImportRefusal
+abbrev pub unless_refused : Option ImportRefusal → Board → ImportCounts
+    → Result (Board × ImportCounts) ImportRefusal
 unless_refused None b counts = Ok (b, counts)
 unless_refused (Some r) b counts = Err r
 
 -- what the import makes of a board that is awake
 abbrev pub judged_import : Board → List Incoming → Result (Board × ImportCounts) ImportRefusal
-judged_import b is = unless_refused (least (import_refusals b is)) (board_after b is) (counts_after b is)
+judged_import b is =
+    unless_refused (least (import_refusals b is)) (board_after b is) (counts_after b is)
 
 -- a stop is the refusal that is expected, unless memory ran out
 abbrev pub Fails : {Y : Type 0} → ImportStop → Result Y ImportRefusal → Type 0

@@ -37,8 +37,14 @@ pub fn enter_all(
     known: &Known,
     new: &[Incoming],
 ) -> Result<Entering, AllocError>
-    ensures board { IfOk result (λ e. (first : Board) (all : List Incoming) → IsKnown first all known.now → AreGone entering.draft.board.gone entering.places → e.draft.board ≡ with_all first all entering.draft.board new.now) }
-    ensures orphans { IfOk result (λ e. (first : Board) (all : List Incoming) → IsKnown first all known.now → AreGone entering.draft.board.gone entering.places → e.orphans ≡ entering.orphans + orphans first all entering.draft.board new.now) }
+    ensures board { IfOk result
+        (λ e. (first : Board) (all : List Incoming) → IsKnown first all known.now
+        → AreGone entering.draft.board.gone entering.places
+        → e.draft.board ≡ with_all first all entering.draft.board new.now) }
+    ensures orphans { IfOk result
+        (λ e. (first : Board) (all : List Incoming) → IsKnown first all known.now
+        → AreGone entering.draft.board.gone entering.places
+        → e.orphans ≡ entering.orphans + orphans first all entering.draft.board new.now) }
     ensures follows { IfOk result (λ e. Follows entering.draft e.draft) }
 {
     let mut entering = entering;
@@ -55,7 +61,10 @@ fn enter(
     known: &Known,
     incoming: &Incoming,
 ) -> Result<Entering, AllocError>
-    ensures entered { IfOk result (λ e. (first : Board) (all : List Incoming) → IsKnown first all known.now → AreGone entering.draft.board.gone entering.places → IsEntered first all incoming.now entering e) }
+    ensures entered { IfOk result
+        (λ e. (first : Board) (all : List Incoming) → IsKnown first all known.now
+        → AreGone entering.draft.board.gone entering.places
+        → IsEntered first all incoming.now entering e) }
     ensures follows { IfOk result (λ e. Follows entering.draft e.draft) }
 {
     let Entering {
@@ -78,7 +87,8 @@ fn enter(
 
 /// Whether the task takes a gone place of a template.
 fn takes_place(known: &Known, places: &Places, incoming: &Incoming) -> bool
-    ensures { (first : Board) (all : List Incoming) (gs : List Gone) → IsKnown first all known.now → AreGone gs places.now → result ≡ takes first all gs incoming.now }
+    ensures { (first : Board) (all : List Incoming) (gs : List Gone) → IsKnown first all known.now
+        → AreGone gs places.now → result ≡ takes first all gs incoming.now }
 {
     match (incoming.raw_parent, incoming.raw_imask) {
         (Some(parent), Some(place)) => known.parents.has(parent) && places.has(parent, place),
@@ -93,7 +103,13 @@ fn draft_without(
     incoming: &Incoming,
     taking: bool,
 ) -> Result<Draft, AllocError>
-    ensures board { IfOk result (λ later. later.board ≡ record draft.board { gone = if taking then without_taken draft.board.gone incoming.now.raw_parent incoming.now.raw_imask else draft.board.gone }) }
+    ensures board { IfOk result
+        (λ later. later.board
+        ≡ record draft.board {
+          gone = if taking
+              then without_taken draft.board.gone incoming.now.raw_parent incoming.now.raw_imask
+              else draft.board.gone;
+        }) }
     ensures follows { IfOk result (Follows draft) }
 {
     if !taking {
@@ -106,7 +122,9 @@ fn draft_without(
 }
 
 fn remove_place(places: &mut Places, incoming: &Incoming, taking: bool)
-    ensures { (gs : List Gone) → AreGone gs places.old → AreGone (if taking then without_taken gs incoming.now.raw_parent incoming.now.raw_imask else gs) places.new }
+    ensures { (gs : List Gone) → AreGone gs places.old
+        → AreGone (if taking then without_taken gs incoming.now.raw_parent incoming.now.raw_imask
+        else gs) places.new }
 {
     if taking {
         if let (Some(parent), Some(place)) = (incoming.raw_parent, incoming.raw_imask) {
@@ -142,7 +160,9 @@ fn entered_task(
     incoming: &Incoming,
     taking: bool,
 ) -> Result<Task, AllocError>
-    ensures { IfOk result (λ task. (first : Board) (all : List Incoming) → IsKnown first all known.now → task ≡ entered first all taking incoming.now) }
+    ensures { IfOk result
+        (λ task. (first : Board) (all : List Incoming) → IsKnown first all known.now
+        → task ≡ entered first all taking incoming.now) }
 {
     let depends = linked_depends(alloc, &known.ids, &incoming.task.depends)?;
     let recur = recur_of(incoming, taking)?;
@@ -155,7 +175,9 @@ fn entered_task(
 }
 
 fn recur_of(incoming: &Incoming, taking: bool) -> Result<Option<NonEmptyText>, AllocError>
-    ensures { IfOk result (λ recur. recur ≡ (if is_orphan taking incoming.now then None else incoming.now.task.recur)) }
+    ensures { IfOk result
+        (λ recur. recur ≡ (if is_orphan taking incoming.now then None
+        else incoming.now.task.recur)) }
 {
     if is_orphan(incoming, taking) {
         return Ok(None);

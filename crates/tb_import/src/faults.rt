@@ -2,12 +2,11 @@ ghost use Rattle.std.specs.Prelude.{◌≡◌, ◌||◌, not, is_some, length, n
 ghost use Rattle.tb_board.specs.Good.{has_template_form};
 ghost use Rattle.tb_import.specs.Entering.{is_linked};
 ghost use Rattle.tb_import.specs.Refusals.{bad_task, import_fault, is_misread};
+ghost use Rattle.tb_task.specs.Limits.{longest_text};
 
 use crate::refusal::ImportRefusal;
 use tb_board::has_template_form;
-use tb_task::{Field, Incoming, Mask, Task, check, is_recurring_status};
-
-const LONGEST_MASK: usize = 16384;
+use tb_task::{Field, Incoming, LONGEST_TEXT, Mask, Task, check, is_recurring_status};
 
 /// The first task with a fault, known or new.
 pub fn first_bad_task(list: &[Incoming]) -> Option<ImportRefusal>
@@ -59,10 +58,10 @@ fn is_misformed(task: &Task) -> bool
 }
 
 fn is_too_long(mask: &Option<Mask>) -> bool
-    ensures { result ≡ nat_lt 16384 (length (unwrap_or mask.now [])) }
+    ensures { result ≡ nat_lt longest_text (length (unwrap_or mask.now [])) }
 {
     match mask {
-        Some(mask) => mask.len() > LONGEST_MASK,
+        Some(mask) => mask.len() > LONGEST_TEXT,
         None => false,
     }
 }

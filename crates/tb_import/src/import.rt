@@ -18,9 +18,7 @@ use crate::places::Places;
 use crate::refusal::{ImportRefusal, ImportStop};
 use std::alloc::{AllocError, Global};
 use tb_board::{Board, Draft, is_acyclic_board};
-use tb_task::{Incoming, TaskId};
-
-const MOST_TASKS: usize = 10000;
+use tb_task::{Incoming, MOST_TASKS, TaskId};
 
 /// Puts the new tasks of a list on a board that is awake, in time that grows little faster than the board and the list but for
 /// one pass over the gone places for each instance.
@@ -56,7 +54,8 @@ fn is_too_full(board: &Board) -> bool
 
 /// The board with the new tasks, whatever their links and however many they are.
 fn with_new(alloc: Global, draft: Draft, list: &[Incoming]) -> Result<Imported, AllocError>
-    ensures board { IfOk result (λ imported. imported.draft.board ≡ board_after draft.board list.now) }
+    ensures board { IfOk result
+        (λ imported. imported.draft.board ≡ board_after draft.board list.now) }
     ensures counts { IfOk result (λ imported. imported.counts ≡ counts_after draft.board list.now) }
     ensures follows { IfOk result (λ imported. Follows draft imported.draft) }
 {
@@ -83,8 +82,10 @@ fn enter_new(
     known: &Known,
 ) -> Result<Imported, AllocError>
     requires { IsKnown draft.board new.now known.now }
-    ensures board { IfOk result (λ imported. imported.draft.board ≡ with_new_tasks draft.board new.now) }
-    ensures counts { IfOk result (λ imported. imported.counts ≡ counts_of draft.board list.now new.now) }
+    ensures board { IfOk result
+        (λ imported. imported.draft.board ≡ with_new_tasks draft.board new.now) }
+    ensures counts { IfOk result
+        (λ imported. imported.counts ≡ counts_of draft.board list.now new.now) }
     ensures follows { IfOk result (λ imported. Follows draft imported.draft) }
 {
     let dropped = dropped_of(new)?;
@@ -121,7 +122,9 @@ fn dropped_of(new: &[Incoming]) -> Result<usize, AllocError>
 
 /// How many links of the new tasks lead to no task that is known.
 fn unlinked_of(new: &[Incoming], ids: &Ids) -> Result<usize, AllocError>
-    ensures { IfOk result (λ unlinked. unlinked ≡ sum_by (λ (i : Incoming). count_by (λ id. not (has ids.now id)) i.task.depends) new.now) }
+    ensures { IfOk result
+        (λ unlinked. unlinked
+        ≡ sum_by (λ (i : Incoming). count_by (λ id. not (has ids.now id)) i.task.depends) new.now) }
 {
     let mut unlinked = 0usize;
     for incoming in new {

@@ -28,7 +28,12 @@ pub fn is_new_template(incoming: &Incoming) -> bool
 }
 
 fn set_mask(draft: Draft, incoming: &Incoming) -> Result<Draft, AllocError>
-    ensures board { IfOk result (λ later. later.board ≡ record draft.board { gone = draft.board.gone ++ marked_from incoming.now.task.id 0 (mask_in incoming.now) }) }
+    ensures board { IfOk result
+        (λ later. later.board
+        ≡ record draft.board {
+          gone = draft.board.gone
+              ++ marked_from incoming.now.task.id 0 (mask_in incoming.now);
+        }) }
     ensures follows { IfOk result (Follows draft) }
 {
     if !is_new_template(incoming) {
@@ -41,7 +46,9 @@ fn set_mask(draft: Draft, incoming: &Incoming) -> Result<Draft, AllocError>
 }
 
 fn set_marks(draft: Draft, template: TaskId, mask: &Mask) -> Result<Draft, AllocError>
-    ensures board { IfOk result (λ later. later.board ≡ record draft.board { gone = draft.board.gone ++ marked_from template 0 mask.now }) }
+    ensures board { IfOk result
+        (λ later. later.board
+        ≡ record draft.board { gone = draft.board.gone ++ marked_from template 0 mask.now }) }
     ensures follows { IfOk result (Follows draft) }
 {
     let mut draft = draft;
@@ -53,7 +60,12 @@ fn set_marks(draft: Draft, template: TaskId, mask: &Mask) -> Result<Draft, Alloc
 
 /// A place of the template is gone. Masks with more places than 32 bits can count were refused before as bad tasks.
 fn set_mark(draft: Draft, template: TaskId, place: usize, mark: Mark) -> Result<Draft, AllocError>
-    ensures board { IfOk result (λ later. later.board ≡ record draft.board { gone = draft.board.gone ++ record { template = template; place = place; mark = mark } ∷ [] }) }
+    ensures board { IfOk result
+        (λ later. later.board
+        ≡ record draft.board {
+          gone = draft.board.gone
+              ++ record { template = template; place = place; mark = mark } ∷ [];
+        }) }
     ensures follows { IfOk result (Follows draft) }
 {
     if place > u32::MAX as usize {

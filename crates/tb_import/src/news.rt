@@ -19,7 +19,8 @@ impl NewTasks {
     /// The tasks of the list that are neither on the board nor earlier in the list.
     pub fn find(alloc: Global, board: &Board, list: &[Incoming]) -> Result<NewTasks, AllocError>
         ensures tasks { IfOk result (λ new. new.tasks ≡ new_tasks board.now list.now) }
-        ensures ids { IfOk result (λ new. (q : ℕ) → has new.ids q ≡ is_there board.now new.tasks q) }
+        ensures ids { IfOk result
+            (λ new. (q : ℕ) → has new.ids q ≡ is_there board.now new.tasks q) }
     {
         let mut new = NewTasks {
             tasks: Items::new(alloc),
@@ -35,7 +36,8 @@ impl NewTasks {
 
     fn add(&mut self, incoming: &Incoming) -> Result<(), AllocError>
         ensures tasks { OnOk result (self.new.tasks ≡ self.old.tasks ++ incoming.now ∷ []) }
-        ensures ids { OnOk result ((q : ℕ) → has self.new.ids q ≡ (has self.old.ids q || incoming.now.task.id == q)) }
+        ensures ids { OnOk result
+            ((q : ℕ) → has self.new.ids q ≡ (has self.old.ids q || incoming.now.task.id == q)) }
     {
         self.ids.insert(incoming.task.id)?;
         self.tasks.push(copied(incoming)?)

@@ -22,7 +22,9 @@ pub fn parents_of(alloc: Global, board: &Board, new: &[Incoming]) -> Result<Ids,
 }
 
 fn add_templates(parents: &mut Ids, tasks: &[Shared<Task>]) -> Result<(), AllocError>
-    ensures { OnOk result ((q : ℕ) → has parents.new q ≡ (has parents.old q || list_any (is_template_with q) tasks.now)) }
+    ensures { OnOk result
+        ((q : ℕ) → has parents.new q
+        ≡ (has parents.old q || list_any (is_template_with q) tasks.now)) }
 {
     for task in tasks {
         if is_template_task(task.get()) {
@@ -33,7 +35,9 @@ fn add_templates(parents: &mut Ids, tasks: &[Shared<Task>]) -> Result<(), AllocE
 }
 
 fn add_new_templates(parents: &mut Ids, new: &[Incoming]) -> Result<(), AllocError>
-    ensures { OnOk result ((q : ℕ) → has parents.new q ≡ (has parents.old q || list_any (is_new_template_with q) new.now)) }
+    ensures { OnOk result
+        ((q : ℕ) → has parents.new q
+        ≡ (has parents.old q || list_any (is_new_template_with q) new.now)) }
 {
     for incoming in new {
         if is_new_template(incoming) {

@@ -24,7 +24,8 @@ impl Places {
 
     /// The places that are gone.
     pub fn of(alloc: Global, gone: &[Gone]) -> Result<Places, AllocError>
-        ensures { IfOk result (λ places. (id k : ℕ) → has_place places id k ≡ is_gone gone.now id k) }
+        ensures { IfOk result
+            (λ places. (id k : ℕ) → has_place places id k ≡ is_gone gone.now id k) }
     {
         let mut places = Places::new(alloc);
         for item in gone {
@@ -40,14 +41,18 @@ impl Places {
     }
 
     fn insert(&mut self, template: TaskId, place: u32) -> Result<(), AllocError>
-        ensures { OnOk result ((id k : ℕ) → has_place self.new id k ≡ (has_place self.old id k || ((template == id) && (place == k)))) }
+        ensures { OnOk result
+            ((id k : ℕ) → has_place self.new id k
+            ≡ (has_place self.old id k || ((template == id) && (place == k)))) }
     {
         self.set.insert((template, place))?;
         Ok(())
     }
 
     pub fn remove(&mut self, template: TaskId, place: u32)
-        ensures { (id k : ℕ) → has_place self.new id k ≡ (has_place self.old id k && not ((template == id) && (place == k))) }
+        ensures { (id k : ℕ)
+            → has_place self.new id k
+            ≡ (has_place self.old id k && not ((template == id) && (place == k))) }
     {
         self.set.remove(&(template, place));
     }

@@ -11,12 +11,15 @@ noted (Some text) entry = Some (record { entry = entry; description = text })
 
 -- both members have to be there, and the text may be empty
 abbrev pub annotation_form : Data → Option Annotation
-annotation_form d = option_and_then (noted (option_and_then text_form (get (codes "description") d))) (option_and_then moment_form (get (codes "entry") d))
+annotation_form d =
+    option_and_then (noted (option_and_then text_form (get (codes "description") d)))
+    (option_and_then moment_form (get (codes "entry") d))
 
 -- the annotations of an array after those found: something else among them is wrong
 abbrev pub annotations_of : List Annotation → Items → Option (List Annotation)
 annotations_of found no_items = Some found
-annotations_of found (item d ds) = option_and_then (λ a. annotations_of (found ++ a ∷ []) ds) (annotation_form d)
+annotations_of found (item d ds) =
+    option_and_then (λ a. annotations_of (found ++ a ∷ []) ds) (annotation_form d)
 
 abbrev pub annotations_form : Data → Option (List Annotation)
 annotations_form null = None

@@ -12,6 +12,7 @@ use Rattle.tb_task.specs.declared.status.Status.{Status}
 use Rattle.tb_values.specs.Outcome.{◌>>=◌}
 use Rattle.tb_json.specs.declared.fault.JsonFault.{JsonFault}
 use Rattle.tb_json.specs.declared.fault.JsonFault.TheVariants.{BadField}
+use Rattle.tb_task.specs.Limits.{longest_text}
 
 -- null and the empty text mean that an attribute is absent
 abbrev pub unless_blank : Data → Option Data
@@ -36,12 +37,14 @@ abbrev pub kept : {A : Type 0} → Result A JsonFault → Result (Option A) Json
 kept (Ok a) = Ok (Some a)
 kept (Err e) = Err e
 
-abbrev pub optional : {A : Type 0} → (Data → Option A) → List ℕ → Option Data → Result (Option A) JsonFault
+abbrev pub optional : {A : Type 0} → (Data → Option A) → List ℕ → Option Data
+    → Result (Option A) JsonFault
 optional form name None = Ok None
 optional form name (Some d) = kept (well_formed name (form d))
 
 -- an attribute that may be absent: a value in another form is a fault
-abbrev pub attribute : {A : Type 0} → (Data → Option A) → List ℕ → Data → Result (Option A) JsonFault
+abbrev pub attribute : {A : Type 0} → (Data → Option A) → List ℕ → Data
+    → Result (Option A) JsonFault
 attribute form name d = optional form name (given name d)
 
 -- an attribute that has to be there, and may be the empty text
@@ -64,7 +67,8 @@ status_form d = option_and_then status_of (as_str d)
 
 -- at most 16,384 characters
 abbrev pub mask_form : Data → Option (List ℕ)
-mask_form d = option_and_then (λ text. if nat_le (length text) 16384 then mask_in text else None) (as_str d)
+mask_form d = option_and_then
+    (λ text. if nat_le (length text) longest_text then mask_in text else None) (as_str d)
 
 -- a text that names no priority is dropped
 abbrev pub priority_form : Data → Option (Option Priority)
@@ -82,4 +86,5 @@ members_dropped (Some (Some a)) = 0
 
 -- the priority, and how many members were dropped for it
 abbrev pub priority_in : Data → Result (Option Priority × ℕ) JsonFault
-priority_in d = attribute priority_form (codes "priority") d >>= λ p. Ok (value_kept p, members_dropped p)
+priority_in d = attribute priority_form (codes "priority") d >>= λ p. Ok
+    (value_kept p, members_dropped p)

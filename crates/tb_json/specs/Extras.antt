@@ -29,7 +29,8 @@ before name (Some value) rest = record { name = name; value = value } ∷ rest
 -- the extra attributes, by name
 abbrev pub extras_of : Members → List Extra
 extras_of no_members = []
-extras_of (member name d ms) = if is_attribute name then extras_of ms else before name (extra_form name d) (extras_of ms)
+extras_of (member name d ms) = if is_attribute name then extras_of ms
+    else before name (extra_form name d) (extras_of ms)
 
 abbrev pub one_if_none : {A : Type 0} → Option A → ℕ
 one_if_none None = 1
@@ -38,7 +39,8 @@ one_if_none (Some a) = 0
 -- how many members of other names have no form
 abbrev pub dropped_of : Members → ℕ
 dropped_of no_members = 0
-dropped_of (member name d ms) = if is_attribute name then dropped_of ms else one_if_none (extra_form name d) + dropped_of ms
+dropped_of (member name d ms) = if is_attribute name then dropped_of ms
+    else one_if_none (extra_form name d) + dropped_of ms
 
 -- a count of 32 bits, which stays at its greatest
 abbrev pub capped : ℕ → ℕ
@@ -55,7 +57,8 @@ with_extra extras name None = extras
 with_extra extras name (Some value) = put_extra extras (record { name = name; value = value })
 
 abbrev pub with_member : List Extra → List ℕ → Data → List Extra
-with_member extras name d = if is_attribute name then extras else with_extra extras name (extra_form name d)
+with_member extras name d = if is_attribute name then extras
+    else with_extra extras name (extra_form name d)
 
 abbrev pub one_more_if_none : {A : Type 0} → ℕ → Option A → ℕ
 one_more_if_none n None = capped (n + 1)

@@ -23,7 +23,14 @@ fields_to_entry d = do
   due ← attribute moment_form (codes "due") d
   end ← attribute moment_form (codes "end") d
   entry ← attribute moment_form (codes "entry") d
-  Ok (record { annotations = unwrap_or annotations []; depends = unwrap_or depends []; description = description; due = due; end = end; entry = entry })
+  Ok (record {
+    annotations = unwrap_or annotations [];
+    depends = unwrap_or depends [];
+    description = description;
+    due = due;
+    end = end;
+    entry = entry;
+  })
 
 -- from imask, which is never a fault, to recur
 unfoldable pub fields_to_recur : Data → Result FieldsToRecur JsonFault
@@ -55,14 +62,28 @@ fields_to_wait d = do
   until ← attribute moment_form (codes "until") d
   uuid ← attribute id_form (codes "uuid") d
   wait ← attribute moment_form (codes "wait") d
-  Ok (record { scheduled = scheduled; start = start; status = status; tags = unwrap_or tags []; until = until; uuid = uuid; wait = wait })
+  Ok (record {
+    scheduled = scheduled;
+    start = start;
+    status = status;
+    tags = unwrap_or tags [];
+    until = until;
+    uuid = uuid;
+    wait = wait;
+  })
 
 unfoldable pub fields_in : Data → Members → Result Fields JsonFault
 fields_in d ms = do
   first ← fields_to_entry d
   second ← fields_to_recur d
   third ← fields_to_wait d
-  Ok (record { first = first; second = second; third = third; extras = extras_of ms; dropped = capped (dropped_of ms + second.priorities_dropped) })
+  Ok (record {
+    first = first;
+    second = second;
+    third = third;
+    extras = extras_of ms;
+    dropped = capped (dropped_of ms + second.priorities_dropped);
+  })
 
 -- what a JSON value says of a task, or the first fault by name
 abbrev pub fields_of : Data → Result Fields JsonFault

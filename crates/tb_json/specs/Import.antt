@@ -10,16 +10,19 @@ use Rattle.tb_json.specs.declared.fault.JsonFault.{JsonFault}
 use Rattle.tb_json.specs.declared.fault.JsonFault.TheVariants.{NotObject, BadField, Memory as NoMemory}
 use Rattle.tb_json.specs.declared.import_fault.ImportFault.{ImportFault}
 use Rattle.tb_json.specs.declared.import_fault.ImportFault.TheVariants.{NotJson, TooMany, BadTask}
+use Rattle.tb_task.specs.Limits.{most_items}
 
 -- ---- the items
 
 abbrev pub with_text : List Data → List ℕ → Option (List Data)
-with_text found text = if length text == 0 then Some found else option_map (λ d. found ++ d ∷ []) (json_of_bytes text)
+with_text found text = if length text == 0 then Some found
+    else option_map (λ d. found ++ d ∷ []) (json_of_bytes text)
 
 -- each line that isn't empty is an item
 abbrev pub items_of_lines : List Data → List (List ℕ) → Option (List Data)
 items_of_lines found [] = Some found
-items_of_lines found (line ∷ lines) = option_and_then (λ more. items_of_lines more lines) (with_text found (line_text line))
+items_of_lines found (line ∷ lines) =
+    option_and_then (λ more. items_of_lines more lines) (with_text found (line_text line))
 
 abbrev pub items_of_array : Items → List Data
 items_of_array no_items = []
@@ -57,12 +60,13 @@ named_task at (Err fault) = Err (BadTask at (name_of fault))
 -- the items' tasks at a moment after those found, or the first item that is none
 abbrev pub tasks_of : ℕ → List Incoming → List Data → Result (List Incoming) ImportFault
 tasks_of m found [] = Ok found
-tasks_of m found (d ∷ ds) = named_task (length found) (task_of m d) >>= λ i. tasks_of m (found ++ i ∷ []) ds
+tasks_of m found (d ∷ ds) =
+    named_task (length found) (task_of m d) >>= λ i. tasks_of m (found ++ i ∷ []) ds
 
 -- at most 1,000 items
 abbrev pub tasks_within : ℕ → Option (List Data) → Result (List Incoming) ImportFault
 tasks_within m None = Err NotJson
-tasks_within m (Some ds) = if nat_lt 1000 (length ds) then Err TooMany else tasks_of m [] ds
+tasks_within m (Some ds) = if nat_lt most_items (length ds) then Err TooMany else tasks_of m [] ds
 
 -- the tasks of a text at a moment, or its first fault
 abbrev pub import_of : ℕ → List ℕ → Result (List Incoming) ImportFault

@@ -42,7 +42,8 @@ abbrev pub is_text_name : List ℕ → Bool
 is_text_name name = list_any (bytes_eq name) (codes "project" ∷ codes "recur" ∷ [])
 
 abbrev pub is_moment_name : List ℕ → Bool
-is_moment_name name = list_any (bytes_eq name) (codes "due" ∷ codes "scheduled" ∷ codes "until" ∷ codes "wait" ∷ [])
+is_moment_name name =
+    list_any (bytes_eq name) (codes "due" ∷ codes "scheduled" ∷ codes "until" ∷ codes "wait" ∷ [])
 
 -- an attribute that may be removed
 unfoldable pub removable_form : List ℕ → Data → Option Given
@@ -54,7 +55,8 @@ removable_form name d =
 abbrev pub is_removable : List ℕ → Bool
 is_removable name =
     list_any (bytes_eq name)
-    (codes "due" ∷ codes "priority" ∷ codes "project" ∷ codes "recur" ∷ codes "scheduled" ∷ codes "tags" ∷ codes "until" ∷ codes "wait" ∷ [])
+    (codes "due" ∷ codes "priority" ∷ codes "project" ∷ codes "recur" ∷ codes "scheduled"
+    ∷ codes "tags" ∷ codes "until" ∷ codes "wait" ∷ [])
 
 -- null and the empty text remove it
 abbrev pub unless_removed : List ℕ → Option Data → Option (Option Given)

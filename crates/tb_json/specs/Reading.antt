@@ -27,7 +27,8 @@ is_closed Deleted = true
 
 -- a task with a step and no parent is a template
 abbrev pub default_status : Fields → Status
-default_status f = if is_some f.second.recur && not (is_some f.second.parent) then Recurring else Pending
+default_status f = if is_some f.second.recur && not (is_some f.second.parent) then Recurring
+    else Pending
 
 -- the attributes as they were read: what is absent is empty, the identifier zero, and the task was entered at the moment m
 unfoldable pub drafted : ℕ → Fields → Incoming
@@ -73,7 +74,8 @@ abbrev pub without_imask : Incoming → Incoming
 without_imask i = record i { raw_imask = None; dropped = counted i.dropped i.raw_imask }
 
 abbrev pub is_deleted_template : Incoming → Bool
-is_deleted_template i = is_deleted i.task.status && is_some i.task.recur && not (is_some i.raw_parent)
+is_deleted_template i =
+    is_deleted i.task.status && is_some i.task.recur && not (is_some i.raw_parent)
 
 -- (1) a template is no instance
 unfoldable pub with_fit_link : Incoming → Incoming
@@ -82,23 +84,30 @@ with_fit_link i =
     else (if is_deleted_template i then without_imask i else i)
 
 abbrev pub may_recur : Incoming → Bool
-may_recur i = is_some i.raw_parent || is_recurring i.task.status || (is_deleted i.task.status && is_some i.task.due && is_step i.task.recur)
+may_recur i = is_some i.raw_parent || is_recurring i.task.status
+    || (is_deleted i.task.status && is_some i.task.due && is_step i.task.recur)
 
 -- (2) a step without a parent stays with a template alone
 unfoldable pub with_fit_recur : Incoming → Incoming
-with_fit_recur i = if may_recur i then i else record i { task = record i.task { recur = None }; dropped = counted i.dropped i.task.recur }
+with_fit_recur i = if may_recur i then i
+    else record i {
+      task = record i.task { recur = None };
+      dropped = counted i.dropped i.task.recur;
+    }
 
 abbrev pub is_template : Incoming → Bool
 is_template i = is_some i.task.recur && not (is_some i.raw_parent)
 
 -- (3) and so does a mask
 unfoldable pub with_fit_mask : Incoming → Incoming
-with_fit_mask i = if is_template i then i else record i { raw_mask = None; dropped = counted i.dropped i.raw_mask }
+with_fit_mask i = if is_template i then i
+    else record i { raw_mask = None; dropped = counted i.dropped i.raw_mask }
 
 -- (4) a closed task has an end, and an open one none
 unfoldable pub with_fit_end : ℕ → Incoming → Incoming
 with_fit_end m i =
-    if is_closed i.task.status then record i { task = record i.task { end = Some (unwrap_or i.task.end m) } }
+    if is_closed i.task.status
+    then record i { task = record i.task { end = Some (unwrap_or i.task.end m) } }
     else record i { task = record i.task { end = None }; dropped = counted i.dropped i.task.end }
 
 abbrev pub is_later : ℕ → Option ℕ → Bool
@@ -119,11 +128,18 @@ settled_status later Deleted = Deleted
 
 -- (5) a task waits until its moment has come
 unfoldable pub settled : ℕ → Incoming → Incoming
-settled m i = record i { task = record i.task { status = settled_status (is_later m i.task.wait) i.task.status } }
+settled m i =
+    record i {
+      task = record i.task {
+        status = settled_status
+            (is_later m i.task.wait) i.task.status;
+      };
+    }
 
 -- the rules, one after another
 unfoldable pub incoming_of : ℕ → Fields → Incoming
-incoming_of m f = settled m (with_fit_end m (with_fit_mask (with_fit_recur (with_fit_link (drafted m f)))))
+incoming_of m f =
+    settled m (with_fit_end m (with_fit_mask (with_fit_recur (with_fit_link (drafted m f)))))
 
 -- the task that a JSON value is at a moment, or the first fault by name
 abbrev pub task_of : ℕ → Data → Result Incoming JsonFault

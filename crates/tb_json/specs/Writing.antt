@@ -70,7 +70,9 @@ ids_data [] = None
 ids_data (id ∷ ids) = Some (array (items_of_ids (id ∷ ids)))
 
 unfoldable pub annotation_data : Annotation → Data
-annotation_data a = object (member (codes "description") (string a.description) (member (codes "entry") (moment_data a.entry) no_members))
+annotation_data a =
+    object (member (codes "description") (string a.description)
+    (member (codes "entry") (moment_data a.entry) no_members))
 
 abbrev pub items_of_annotations : List Annotation → Items
 items_of_annotations [] = no_items
@@ -129,7 +131,9 @@ late_fields t =
 -- the members of a task with a mask
 unfoldable pub members_of : Option (List ℕ) → Task → Members
 members_of mask t =
-    with_fields (late_fields t) (with_fields (middle_fields mask t) (with_fields (early_fields t) (with_fields (extra_fields t.extras) no_members)))
+    with_fields (late_fields t)
+    (with_fields (middle_fields mask t)
+    (with_fields (early_fields t) (with_fields (extra_fields t.extras) no_members)))
 
 abbrev pub task_json : Option (List ℕ) → Task → Data
 task_json mask t = object (members_of mask t)

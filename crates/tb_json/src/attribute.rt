@@ -8,11 +8,8 @@ ghost use Rattle.tb_json.specs.Outcome.{Reads};
 use crate::fault::{JsonFault, bad_field};
 use serde_json::Value;
 use std::alloc::{AllocError, Global};
-use tb_task::{Mask, Moment, Priority, Status, TaskId};
+use tb_task::{LONGEST_TEXT, Mask, Moment, Priority, Status, TaskId};
 use tb_values::{NonEmptyText, Text};
-
-/// The longest mask that is read.
-const LONGEST_MASK: usize = 16384;
 
 /// The value, unless it is null or the empty text.
 pub(crate) fn unless_blank(value: &Value) -> Option<&Value>
@@ -107,7 +104,7 @@ fn mask_of(alloc: Global, value: &Value) -> Result<Option<Mask>, AllocError>
     ensures { IfOk result (λ mask. mask ≡ mask_form (view value.now)) }
 {
     match value.as_str() {
-        Some(text) if text.len() <= LONGEST_MASK => Mask::read(alloc, text),
+        Some(text) if text.len() <= LONGEST_TEXT => Mask::read(alloc, text),
         _ => Ok(None),
     }
 }

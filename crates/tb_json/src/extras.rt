@@ -32,8 +32,12 @@ pub(crate) struct Extras {
 impl Extras {
     /// Takes a member whose name isn't one of a known attribute. One with the empty name is dropped.
     fn add_other(&mut self, alloc: Global, name: &str, value: &Value) -> Result<(), AllocError>
-        ensures kept { OnOk result (self.new.kept ≡ with_extra self.old.kept name.now (extra_form name.now (view value.now))) }
-        ensures dropped { OnOk result (self.new.dropped ≡ one_more_if_none self.old.dropped (extra_form name.now (view value.now))) }
+        ensures kept { OnOk result
+            (self.new.kept ≡ with_extra self.old.kept name.now
+            (extra_form name.now (view value.now))) }
+        ensures dropped { OnOk result
+            (self.new.dropped
+            ≡ one_more_if_none self.old.dropped (extra_form name.now (view value.now))) }
     {
         let name = NonEmptyText::from_str(alloc, name)?;
         let value = extra_value(alloc, value)?;
@@ -46,8 +50,10 @@ impl Extras {
 
     /// Takes one member of the object.
     fn add(&mut self, alloc: Global, name: &str, value: &Value) -> Result<(), AllocError>
-        ensures kept { OnOk result (self.new.kept ≡ with_member self.old.kept name.now (view value.now)) }
-        ensures dropped { OnOk result (self.new.dropped ≡ dropped_with self.old.dropped name.now (view value.now)) }
+        ensures kept { OnOk result
+            (self.new.kept ≡ with_member self.old.kept name.now (view value.now)) }
+        ensures dropped { OnOk result
+            (self.new.dropped ≡ dropped_with self.old.dropped name.now (view value.now)) }
     {
         if is_attribute(name) {
             return Ok(());
@@ -58,7 +64,8 @@ impl Extras {
     /// The extra attributes among the members of an object.
     pub(crate) fn of(alloc: Global, members: &Map<String, Value>) -> Result<Extras, AllocError>
         ensures kept { IfOk result (λ e. e.kept ≡ extras_of (members_view members.now.entries)) }
-        ensures dropped { IfOk result (λ e. e.dropped ≡ capped (dropped_of (members_view members.now.entries))) }
+        ensures dropped { IfOk result
+            (λ e. e.dropped ≡ capped (dropped_of (members_view members.now.entries))) }
     {
         let mut extras = Extras {
             kept: Ordered::new(alloc),

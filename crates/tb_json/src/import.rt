@@ -14,15 +14,14 @@ use crate::parsing::parse_bytes;
 use crate::reading::read_task;
 use serde_json::Value;
 use std::alloc::{AllocError, Global};
-use tb_task::{Incoming, Moment};
+use tb_task::{Incoming, MOST_ITEMS, Moment};
 use tb_values::{Items, Text};
-
-/// The most items of an import.
-const MAX_ITEMS: usize = 1000;
 
 /// Adds the item of a line, and says whether it was JSON.
 fn add_line(alloc: Global, items: &mut Vec<Value>, line: &[u8]) -> Result<bool, AllocError>
-    ensures { IfOk result (λ is_json. with_text (map view items.old.items) (text_of line.now) ≡ (if is_json then Some (map view items.new.items) else None)) }
+    ensures { IfOk result
+        (λ is_json. with_text (map view items.old.items) (text_of line.now)
+        ≡ (if is_json then Some (map view items.new.items) else None)) }
 {
     let text = line_text(line);
     if text.is_empty() {
@@ -36,7 +35,8 @@ fn add_line(alloc: Global, items: &mut Vec<Value>, line: &[u8]) -> Result<bool, 
 }
 
 fn items_of_lines(alloc: Global, text: &[u8]) -> Result<Option<Vec<Value>>, AllocError>
-    ensures { IfOk result (λ items. option_map (λ v. map view v.items) items ≡ all_items [] (all_lines text.now)) }
+    ensures { IfOk result
+        (λ items. option_map (λ v. map view v.items) items ≡ all_items [] (all_lines text.now)) }
 {
     let lines = lines_of(alloc, text)?;
     let mut items = Vec::new(alloc);
@@ -49,7 +49,8 @@ fn items_of_lines(alloc: Global, text: &[u8]) -> Result<Option<Vec<Value>>, Allo
 }
 
 fn items_of(alloc: Global, text: &[u8]) -> Result<Option<Vec<Value>>, AllocError>
-    ensures { IfOk result (λ items. option_map (λ v. map view v.items) items ≡ import_items text.now) }
+    ensures { IfOk result
+        (λ items. option_map (λ v. map view v.items) items ≡ import_items text.now) }
 {
     let Some(value) = parse_bytes(alloc, text)? else {
         return items_of_lines(alloc, text);
@@ -108,7 +109,7 @@ pub fn read_import(
     ensures { ReadsImport result (import_of moment text.now) }
 {
     let items = items_of(alloc, text)?.ok_or(ImportFault::NotJson)?;
-    if items.len() > MAX_ITEMS {
+    if items.len() > MOST_ITEMS {
         return Err(ImportFault::TooMany);
     }
     tasks_of(alloc, &items, moment)

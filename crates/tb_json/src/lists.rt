@@ -20,7 +20,9 @@ use tb_values::{Items, Ordered, Text};
 
 /// The texts of an array, or nothing where it has something else.
 fn texts_of<'v>(alloc: Global, list: &'v Vec<Value>) -> Result<Option<Vec<&'v str>>, AllocError>
-    ensures { IfOk result (λ texts. option_map (λ v. map (λ text. text.now) v.items) texts ≡ all_texts [] (items_view list.now.items)) }
+    ensures { IfOk result
+        (λ texts. option_map (λ v. map (λ text. text.now) v.items) texts
+        ≡ all_texts [] (items_view list.now.items)) }
 {
     let mut texts = Vec::new(alloc);
     for item in list {
@@ -48,14 +50,17 @@ fn filled_parts(alloc: Global, text: &str) -> Result<Vec<&str>, AllocError>
 
 /// Puts the text at its place in byte order, unless it is there.
 fn add_text(alloc: Global, set: &mut BTreeSet<String>, text: &str) -> Result<(), AllocError>
-    ensures { OnOk result (map string_bytes set.new.keys ≡ insert_key (slice_cmp nat_cmp) (map string_bytes set.old.keys) text.now) }
+    ensures { OnOk result
+        (map string_bytes set.new.keys
+        ≡ insert_key (slice_cmp nat_cmp) (map string_bytes set.old.keys) text.now) }
 {
     set.insert(String::from_str(alloc, text)?)?;
     Ok(())
 }
 
 fn set_of(alloc: Global, texts: &[&str]) -> Result<BTreeSet<String>, AllocError>
-    ensures { IfOk result (λ set. map string_bytes set.keys ≡ with_texts [] (map (λ text. text.now) texts.now)) }
+    ensures { IfOk result
+        (λ set. map string_bytes set.keys ≡ with_texts [] (map (λ text. text.now) texts.now)) }
 {
     let mut set = BTreeSet::new(alloc);
     for text in texts {
@@ -85,7 +90,8 @@ fn ordered_texts(alloc: Global, texts: &[&str]) -> Result<Ordered<Text>, AllocEr
 }
 
 fn ids_of(alloc: Global, texts: &[&str]) -> Result<Option<Vec<TaskId>>, AllocError>
-    ensures { IfOk result (λ ids. option_map (λ v. v.items) ids ≡ all_ids [] (map (λ text. text.now) texts.now)) }
+    ensures { IfOk result
+        (λ ids. option_map (λ v. v.items) ids ≡ all_ids [] (map (λ text. text.now) texts.now)) }
 {
     let mut ids = Vec::new(alloc);
     for text in texts {

@@ -17,7 +17,9 @@ pub(crate) fn put_text(
     name: &str,
     text: &str,
 ) -> Result<(), AllocError>
-    ensures { OnOk result (members_view object.new.entries ≡ with_field name.now (Some (string text.now)) (members_view object.old.entries)) }
+    ensures { OnOk result
+        (members_view object.new.entries
+        ≡ with_field name.now (Some (string text.now)) (members_view object.old.entries)) }
 {
     put(object, alloc, name, Value::try_from_str(alloc, text)?)
 }
@@ -28,7 +30,9 @@ pub(crate) fn put_text_if_some(
     name: &str,
     text: &Option<NonEmptyText>,
 ) -> Result<(), AllocError>
-    ensures { OnOk result (members_view object.new.entries ≡ with_field name.now (option_map string text.now) (members_view object.old.entries)) }
+    ensures { OnOk result
+        (members_view object.new.entries
+        ≡ with_field name.now (option_map string text.now) (members_view object.old.entries)) }
 {
     match text {
         Some(text) => put_text(object, alloc, name, text.as_str()),
@@ -42,7 +46,9 @@ pub(crate) fn put_moment(
     name: &str,
     moment: Option<Moment>,
 ) -> Result<(), AllocError>
-    ensures { OnOk result (members_view object.new.entries ≡ with_field name.now (option_map moment_data moment) (members_view object.old.entries)) }
+    ensures { OnOk result
+        (members_view object.new.entries
+        ≡ with_field name.now (option_map moment_data moment) (members_view object.old.entries)) }
 {
     match moment {
         Some(moment) => put(object, alloc, name, moment_value(alloc, moment)?),
@@ -56,7 +62,9 @@ pub(crate) fn put_id(
     name: &str,
     id: Option<TaskId>,
 ) -> Result<(), AllocError>
-    ensures { OnOk result (members_view object.new.entries ≡ with_field name.now (option_map id_data id) (members_view object.old.entries)) }
+    ensures { OnOk result
+        (members_view object.new.entries
+        ≡ with_field name.now (option_map id_data id) (members_view object.old.entries)) }
 {
     match id {
         Some(id) => put(object, alloc, name, id_value(alloc, id)?),
@@ -69,7 +77,10 @@ pub(crate) fn put_imask(
     alloc: Global,
     imask: Option<u32>,
 ) -> Result<(), AllocError>
-    ensures { OnOk result (members_view object.new.entries ≡ with_field (codes "imask") (option_map imask_data imask) (members_view object.old.entries)) }
+    ensures { OnOk result
+        (members_view object.new.entries
+        ≡ with_field (codes "imask") (option_map imask_data imask)
+        (members_view object.old.entries)) }
 {
     match imask {
         Some(imask) => put(object, alloc, "imask", Value::from(imask)),
@@ -82,7 +93,9 @@ pub(crate) fn put_mask(
     alloc: Global,
     mask: &Option<Mask>,
 ) -> Result<(), AllocError>
-    ensures { OnOk result (members_view object.new.entries ≡ with_field (codes "mask") (mask_data mask.now) (members_view object.old.entries)) }
+    ensures { OnOk result
+        (members_view object.new.entries
+        ≡ with_field (codes "mask") (mask_data mask.now) (members_view object.old.entries)) }
 {
     match mask {
         Some(mask) if !mask.is_empty() => put_text(object, alloc, "mask", mask.as_str()),
@@ -95,7 +108,10 @@ pub(crate) fn put_priority(
     alloc: Global,
     priority: Option<Priority>,
 ) -> Result<(), AllocError>
-    ensures { OnOk result (members_view object.new.entries ≡ with_field (codes "priority") (option_map priority_data priority) (members_view object.old.entries)) }
+    ensures { OnOk result
+        (members_view object.new.entries
+        ≡ with_field (codes "priority") (option_map priority_data priority)
+        (members_view object.old.entries)) }
 {
     match priority {
         Some(priority) => put_text(object, alloc, "priority", priority.letter()),
@@ -108,7 +124,9 @@ pub(crate) fn put_tags(
     alloc: Global,
     tags: &[Text],
 ) -> Result<(), AllocError>
-    ensures { OnOk result (members_view object.new.entries ≡ with_field (codes "tags") (texts_data tags.now) (members_view object.old.entries)) }
+    ensures { OnOk result
+        (members_view object.new.entries
+        ≡ with_field (codes "tags") (texts_data tags.now) (members_view object.old.entries)) }
 {
     if tags.is_empty() {
         return Ok(());
@@ -126,7 +144,9 @@ pub(crate) fn put_depends(
     alloc: Global,
     ids: &[TaskId],
 ) -> Result<(), AllocError>
-    ensures { OnOk result (members_view object.new.entries ≡ with_field (codes "depends") (ids_data ids.now) (members_view object.old.entries)) }
+    ensures { OnOk result
+        (members_view object.new.entries
+        ≡ with_field (codes "depends") (ids_data ids.now) (members_view object.old.entries)) }
 {
     if ids.is_empty() {
         return Ok(());
@@ -144,7 +164,10 @@ pub(crate) fn put_annotations(
     alloc: Global,
     annotations: &[Annotation],
 ) -> Result<(), AllocError>
-    ensures { OnOk result (members_view object.new.entries ≡ with_field (codes "annotations") (annotations_data annotations.now) (members_view object.old.entries)) }
+    ensures { OnOk result
+        (members_view object.new.entries
+        ≡ with_field (codes "annotations") (annotations_data annotations.now)
+        (members_view object.old.entries)) }
 {
     if annotations.is_empty() {
         return Ok(());

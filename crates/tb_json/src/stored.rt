@@ -85,7 +85,8 @@ fn read_text(alloc: Global, text: &str) -> Result<Task, JsonFault>
 pub fn read_stored(alloc: Global, text: &str) -> Result<Task, JsonFault>
     ensures exact { Reads result (stored_of text.now) }
     // What was written of a task that a board takes is that task.
-    ensures again { (t : StoredTask) → IsStorable t → text.now ≡ stored_text t → Reads result (Ok t) }
+    ensures again { (t : StoredTask) → IsStorable t → text.now ≡ stored_text t
+        → Reads result (Ok t) }
 {
     // The proof of `again` needs that an identifier's text is read as that identifier.
     ids_are_read();

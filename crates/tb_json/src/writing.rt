@@ -18,7 +18,8 @@ use tb_task::{Extra, Mask, Shown, Task};
 use tb_values::Text;
 
 fn members_of_extras(alloc: Global, extras: &[Extra]) -> Result<Map<String, Value>, AllocError>
-    ensures { IfOk result (λ object. members_view object.entries ≡ with_fields (extra_fields extras.now) no_members) }
+    ensures { IfOk result
+        (λ object. members_view object.entries ≡ with_fields (extra_fields extras.now) no_members) }
 {
     let mut object = Map::new(alloc);
     for extra in extras {
@@ -30,7 +31,9 @@ fn members_of_extras(alloc: Global, extras: &[Extra]) -> Result<Map<String, Valu
 
 /// The attributes from `annotations` to `entry`.
 fn put_early(object: &mut Map<String, Value>, alloc: Global, task: &Task) -> Result<(), AllocError>
-    ensures { OnOk result (members_view object.new.entries ≡ with_fields (early_fields task.now) (members_view object.old.entries)) }
+    ensures { OnOk result
+        (members_view object.new.entries
+        ≡ with_fields (early_fields task.now) (members_view object.old.entries)) }
 {
     put_annotations(object, alloc, task.annotations.as_slice())?;
     put_depends(object, alloc, task.depends.as_slice())?;
@@ -47,7 +50,9 @@ fn put_middle(
     task: &Task,
     mask: &Option<Mask>,
 ) -> Result<(), AllocError>
-    ensures { OnOk result (members_view object.new.entries ≡ with_fields (middle_fields mask.now task.now) (members_view object.old.entries)) }
+    ensures { OnOk result
+        (members_view object.new.entries
+        ≡ with_fields (middle_fields mask.now task.now) (members_view object.old.entries)) }
 {
     put_imask(object, alloc, task.imask)?;
     put_mask(object, alloc, mask)?;
@@ -60,7 +65,9 @@ fn put_middle(
 
 /// The attributes from `scheduled` to `wait`.
 fn put_late(object: &mut Map<String, Value>, alloc: Global, task: &Task) -> Result<(), AllocError>
-    ensures { OnOk result (members_view object.new.entries ≡ with_fields (late_fields task.now) (members_view object.old.entries)) }
+    ensures { OnOk result
+        (members_view object.new.entries
+        ≡ with_fields (late_fields task.now) (members_view object.old.entries)) }
 {
     put_moment(object, alloc, "scheduled", task.scheduled)?;
     put_moment(object, alloc, "start", task.start)?;
@@ -105,7 +112,8 @@ fn push_task(
     shown: &Shown,
     is_first: bool,
 ) -> Result<(), AllocError>
-    ensures { OnOk result (string_bytes text.new ≡ string_bytes text.old ++ piece is_first (shown_text shown.now)) }
+    ensures { OnOk result
+        (string_bytes text.new ≡ string_bytes text.old ++ piece is_first (shown_text shown.now)) }
 {
     if !is_first {
         text.push_str(",\n")?;

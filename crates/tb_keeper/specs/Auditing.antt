@@ -34,7 +34,8 @@ pub record HasItsRows (c : Content) (b : Board) : Type 0 where
   pub horizon_is : IsPermutation (filter (is_horizon b.number) c.horizon) (horizon_row b ∷ [])
   pub tasks_are : IsPermutation (filter (is_task_on b.number) c.tasks) (board_tasks b)
   pub links_are : IsPermutation (filter (is_link_on b.number) c.links) (board_links b)
-  pub instances_are : IsPermutation (filter (is_instance_on b.number) c.instances) (board_instances b)
+  pub instances_are : IsPermutation (filter (is_instance_on b.number) c.instances)
+      (board_instances b)
 
 -- ---- the numbers
 
@@ -45,7 +46,8 @@ task_count (b ∷ bs) = length b.tasks + task_count bs
 -- so many of the boards have other rows than their own
 abbrev pub AreFaults : Content → List Board → ℕ → Type 0
 AreFaults c [] n = n ≡ 0
-AreFaults c (b ∷ bs) n = (HasItsRows c b × AreFaults c bs n) ⊎ ((HasItsRows c b → ⊥) × ((m : ℕ) × (n ≡ m + 1) × AreFaults c bs m))
+AreFaults c (b ∷ bs) n = (HasItsRows c b × AreFaults c bs n)
+    ⊎ ((HasItsRows c b → ⊥) × ((m : ℕ) × (n ≡ m + 1) × AreFaults c bs m))
 
 -- the audit has the numbers of these boards, of their tasks, and of those that have other rows in the content
 pub record Tells (c : Content) (bs : List Board) (audit : Audit) : Type 0 where
@@ -67,7 +69,8 @@ without_mask row = record row { mask = None }
 
 -- there is the row of how far ahead the board looks, or none
 abbrev pub HasHorizonOrNone : Content → Board → Type 0
-HasHorizonOrNone c b = (filter (is_horizon b.number) c.horizon ≡ []) ⊎ (filter (is_horizon b.number) c.horizon ≡ horizon_row b ∷ [])
+HasHorizonOrNone c b = (filter (is_horizon b.number) c.horizon ≡ [])
+    ⊎ (filter (is_horizon b.number) c.horizon ≡ horizon_row b ∷ [])
 
 -- The boards, the tasks and the gone places are those of the world, but for lows and masks, and of how far ahead a board looks there
 -- may be no row. Links and instances may be any.
@@ -89,8 +92,12 @@ pub record StandsFor (c : Content) (row : BoardRow) (b : Board) : Type 0 where
   pub number : row.id ≡ b.number
   pub own : IsPermutation (filter (is_board b.number) c.boards) (row ∷ [])
   pub horizon : HasHorizonOrNone c b
-  pub tasks : (tasks : List TaskRow) → AreFound IsTaskBefore (filter (is_task_on b.number) c.tasks) tasks → map without_mask tasks ≡ map without_mask (board_tasks b)
-  pub read : (tasks : List TaskRow) (gone : List GoneRow) → AreFound IsTaskBefore (filter (is_task_on b.number) c.tasks) tasks → AreFound IsGoneBefore (filter (is_gone_on b.number) c.gone) gone
+  pub tasks : (tasks : List TaskRow)
+      → AreFound IsTaskBefore (filter (is_task_on b.number) c.tasks) tasks
+      → map without_mask tasks ≡ map without_mask (board_tasks b)
+  pub read : (tasks : List TaskRow) (gone : List GoneRow)
+      → AreFound IsTaskBefore (filter (is_task_on b.number) c.tasks) tasks
+      → AreFound IsGoneBefore (filter (is_gone_on b.number) c.gone) gone
       → board_of row (Some (horizon_row b)) tasks gone ≡ Ok b
 
 -- each row for the board at its place
@@ -108,7 +115,9 @@ pub record IsCheckOf (c : Content) (b : Board) (checked : Checked) : Type 0 wher
 -- ---- boards as they are found, whatever the rows are
 
 -- these rows are read as a good board, whose tasks are so many, and which has its rows or not
-pub record IsCheckBy (row : BoardRow) (horizon : Option HorizonRow) (tasks : List TaskRow) (gone : List GoneRow) (links : List LinkRow) (instances : List InstanceRow) (checked : Checked) : Type 0 where
+pub record IsCheckBy (row : BoardRow) (horizon : Option HorizonRow) (tasks : List TaskRow)
+    (gone : List GoneRow) (links : List LinkRow) (instances : List InstanceRow)
+    (checked : Checked) : Type 0 where
   pub board : Board
   pub read : board_of row (Some (known_horizon row.id horizon)) tasks gone ≡ Ok board
   pub good : IsGood board
@@ -126,7 +135,8 @@ pub record IsCheckOfRow (c : Content) (row : BoardRow) (checked : Checked) : Typ
   pub tasks_found : AreFound IsTaskBefore (filter (is_task_on row.id) c.tasks) tasks
   pub gone_found : AreFound IsGoneBefore (filter (is_gone_on row.id) c.gone) gone
   pub links_found : AreFound IsLinkBefore (filter (is_link_on row.id) c.links) links
-  pub instances_found : AreFound IsInstanceBefore (filter (is_instance_on row.id) c.instances) instances
+  pub instances_found : AreFound IsInstanceBefore
+      (filter (is_instance_on row.id) c.instances) instances
   pub check : IsCheckBy row horizon tasks gone links instances checked
 
 abbrev pub is_role_on : ℕ → RoleRow → Bool

@@ -20,6 +20,7 @@ Kept false people boards cached d s = IsStored s d × IsAtHand people boards cac
 Kept true people boards cached d s = (t : State) × IsStoredAsEither s t d
 
 -- The state has a good world, and is kept while the disk returns what was written.
-pub record Holds (failed : Bool) (people boards : ℕ) (cached : List (ℕ × Board)) (d : Database) (s : State) : Type 0 where
+pub record Holds (failed : Bool) (people boards : ℕ) (cached : List (ℕ × Board)) (d : Database)
+    (s : State) : Type 0 where
   pub good : IsGoodWorld s.world
   pub kept : HasCleanDisk d → Kept failed people boards cached d s

@@ -11,11 +11,15 @@ use Rattle.tb_keeper.specs.Holds.{Holds}
 
 module _ (failed : Bool) (people boards : ℕ) (cached : List (ℕ × Board)) (d : Database) where
   -- of a store that hasn't returned what was written nothing is said
-  pub given : (s : State) → IsGoodWorld s.world → (d.is_clean ≡ true → Holds failed people boards cached d s) → Holds failed people boards cached d s
-  given s good held = record { good = good; kept = λ clean. (held (clean_of d.is_clean clean)).kept clean }
+  pub given : (s : State) → IsGoodWorld s.world
+      → (d.is_clean ≡ true → Holds failed people boards cached d s)
+      → Holds failed people boards cached d s
+  given s good held =
+      record { good = good; kept = λ clean. (held (clean_of d.is_clean clean)).kept clean }
 
   -- until the store has failed, a stop leaves what is held
-  pub alone : (s t : State) → Holds failed people boards cached d s → failed ≡ false → MayLeave d t → t ≡ s
+  pub alone : (s t : State) → Holds failed people boards cached d s → failed ≡ false
+      → MayLeave d t → t ≡ s
   alone s t held fine may = go failed held fine
     where
       go : (b : Bool) → Holds b people boards cached d s → b ≡ false → t ≡ s

@@ -14,6 +14,7 @@ ghost use Rattle.tb_sql.specs.Opening.{IsAsBefore};
 ghost use Rattle.tb_stored.specs.Reopening.{OfState};
 ghost use Rattle.tb_keeper.specs.Counts.{is_new_board, is_new_person, one_if};
 ghost use Rattle.tb_keeper.specs.Holds.{IsAtHand};
+ghost use Rattle.tb_task.specs.Limits.{most_boards, most_people};
 
 use crate::sql_keep::SqlKeep;
 use sqlite::{Alter, Connection};
@@ -56,9 +57,11 @@ pub(crate) fn board_at<S: Alter>(
 
 /// Puts a board at hand, if there is one.
 fn put_at_hand(cache: &mut BoardCache, board: &Option<Shared<Board>>) -> Result<(), AllocError>
-    ensures there { OnOk result (IfSome board.now (λ b. lookup (nat_eq b.number) cache.new.entries ≡ Some b)) }
+    ensures there { OnOk result
+        (IfSome board.now (λ b. lookup (nat_eq b.number) cache.new.entries ≡ Some b)) }
     ensures none { board.now ≡ None → cache.new.entries ≡ cache.old.entries }
-    ensures of { (w : World) → AreOf w cache.old.entries → IfSome board.now (λ b. find_board w b.number ≡ Some b)
+    ensures of { (w : World) → AreOf w cache.old.entries
+        → IfSome board.now (λ b. find_board w b.number ≡ Some b)
         → AreOf w cache.new.entries }
 {
     match board {
@@ -72,8 +75,11 @@ impl<S: Alter> SqlKeep<S> {
     pub(crate) fn follow(&mut self, alloc: Global, changes: &[Change])
         ensures conn { self.new.conn ≡ self.old.conn }
         ensures failed { self.new.failed ≡ self.old.failed }
-        ensures hand { (w : World) → IsAtHand self.old.people self.old.boards self.old.cache.entries w → IsGoodWorld (changed w changes.now)
-            → IsAtHand self.new.people self.new.boards self.new.cache.entries (changed w changes.now) }
+        ensures hand { (w : World)
+            → IsAtHand self.old.people self.old.boards self.old.cache.entries w
+            → IsGoodWorld (changed w changes.now)
+            → IsAtHand self.new.people self.new.boards self.new.cache.entries
+            (changed w changes.now) }
         ensures others { (n : ℕ) → TouchesNone n changes.now
             → lookup (nat_eq n) self.new.cache.entries ≡ lookup (nat_eq n) self.old.cache.entries }
     {
@@ -83,9 +89,10 @@ impl<S: Alter> SqlKeep<S> {
     }
 }
 
-/// So many people, and those who come in. A good world has no more than 10,000.
+/// So many people, and those who come in. A good world has no more than its limit.
 fn people_with(people: usize, changes: &[Change]) -> usize
-    ensures { people + count_by is_new_person changes.now ≤ 10000 → result ≡ people + count_by is_new_person changes.now }
+    ensures { people + count_by is_new_person changes.now ≤ most_people
+        → result ≡ people + count_by is_new_person changes.now }
 {
     let mut count = people;
     for change in changes {
@@ -94,9 +101,10 @@ fn people_with(people: usize, changes: &[Change]) -> usize
     count
 }
 
-/// So many boards, and those that begin. A good world has no more than 10,000.
+/// So many boards, and those that begin. A good world has no more than its limit.
 fn boards_with(boards: usize, changes: &[Change]) -> usize
-    ensures { boards + count_by is_new_board changes.now ≤ 10000 → result ≡ boards + count_by is_new_board changes.now }
+    ensures { boards + count_by is_new_board changes.now ≤ most_boards
+        → result ≡ boards + count_by is_new_board changes.now }
 {
     let mut count = boards;
     for change in changes {

@@ -20,6 +20,7 @@ ghost use Rattle.tb_keeper.specs.Auditing.{is_instance_on, is_link_on, known_hor
 ghost use Rattle.tb_keeper.specs.Holds.{Holds};
 ghost use Rattle.tb_stored.specs.Reopening.{OfContent};
 ghost use Rattle.tb_stored.specs.Stored.{IsStored, MayLeave};
+ghost use Rattle.tb_task.specs.Limits.{most_boards, most_tasks};
 
 use crate::sound_rows::{are_numbered, hold_board, hold_people, hold_roles};
 use crate::sql_keep::SqlKeep;
@@ -35,11 +36,8 @@ use tb_sql_tables::rows::{BoardRow, GoneRow, HorizonRow, InstanceRow, LinkRow, T
 use tb_stored::by_key::horizon_row_at;
 use tb_stored::faults::fault_of;
 use tb_stored::reading::{board_rows, gone_rows, task_rows};
-use tb_task::ids_are_read;
+use tb_task::{MOST_BOARDS, ids_are_read};
 use tb_values::Items;
-
-/// A good world has no more boards.
-const MOST: usize = 10000;
 
 /// How many boards and tasks are stored, and how many of the boards have a least free number, a mask, a link or an instance that isn't
 /// theirs, or lack the row of how far ahead they look.
@@ -62,15 +60,21 @@ impl<S: Alter> SqlKeep<S> {
     /// nobody, people or boards that aren't numbered from 1, a board without an owner, one that looks further ahead than a board can, and
     /// one that isn't good by itself.
     pub fn audit(&mut self, alloc: Global) -> Result<Audit, KeepFault>
-        ensures sound { IfOk result (λ audit. HasCleanDisk (state S.Store self.new.conn) → (s : State) → IsStored s (state S.Store self.old.conn) → audit ≡ sound s.world) }
-        ensures counted { IfOk result (λ audit. HasCleanDisk (state S.Store self.new.conn) → (c : Content) → Stands c (state S.Store self.old.conn)
+        ensures sound { IfOk result (λ audit. HasCleanDisk (state S.Store self.new.conn)
+            → (s : State) → IsStored s (state S.Store self.old.conn) → audit ≡ sound s.world) }
+        ensures counted { IfOk result (λ audit. HasCleanDisk (state S.Store self.new.conn)
+            → (c : Content) → Stands c (state S.Store self.old.conn)
             → (w : World) → IsGoodWorld w → HasForm w → HasBoardsOf w c → Tells c w.boards audit) }
-        ensures whole { IfOk result (λ audit. OfContent (state S.Store self.old.conn) (state S.Store self.new.conn) (λ c. IsCountOf c audit)) }
+        ensures whole { IfOk result
+            (λ audit. OfContent (state S.Store self.old.conn) (state S.Store self.new.conn)
+            (λ c. IsCountOf c audit)) }
         ensures unchanged { IsAsBefore (state S.Store self.old.conn) (state S.Store self.new.conn) }
         ensures same { IsStill
-            (λ s. Holds self.old.failed self.old.people self.old.boards self.old.cache.entries (state S.Store self.old.conn) s)
+            (λ s. Holds self.old.failed self.old.people self.old.boards self.old.cache.entries
+            (state S.Store self.old.conn) s)
             (λ t. MayLeave (state S.Store self.old.conn) t)
-            (λ s. Holds self.new.failed self.new.people self.new.boards self.new.cache.entries (state S.Store self.new.conn) s)
+            (λ s. Holds self.new.failed self.new.people self.new.boards self.new.cache.entries
+            (state S.Store self.new.conn) s)
             (λ t. MayLeave (state S.Store self.new.conn) t) }
         ensures failed { self.new.failed ≡ is_store result }
         ensures closed { self.old.failed ≡ true → IsErrOf result KeepFault.Store }
@@ -93,7 +97,8 @@ impl<S: Alter> SqlKeep<S> {
 fn link_rows<S: Alter>(conn: &mut Connection<S>, board: u32) -> Result<Items<LinkRow>, StoreFault>
     requires { conn.old.in_transaction ≡ false }
     ensures idle { conn.new.in_transaction ≡ false }
-    ensures found { IfOk result (λ rows. HasCleanDisk (state S.Store conn.new) → (content : Content) → Stands content (state S.Store conn.old)
+    ensures found { IfOk result (λ rows. HasCleanDisk (state S.Store conn.new) → (content : Content)
+        → Stands content (state S.Store conn.old)
         → AreFound IsLinkBefore (filter (λ row. row.board == board) content.links) rows) }
     ensures same { IsAsBefore (state S.Store conn.old) (state S.Store conn.new) }
 {
@@ -113,7 +118,8 @@ fn instance_rows<S: Alter>(
 ) -> Result<Items<InstanceRow>, StoreFault>
     requires { conn.old.in_transaction ≡ false }
     ensures idle { conn.new.in_transaction ≡ false }
-    ensures found { IfOk result (λ rows. HasCleanDisk (state S.Store conn.new) → (content : Content) → Stands content (state S.Store conn.old)
+    ensures found { IfOk result (λ rows. HasCleanDisk (state S.Store conn.new) → (content : Content)
+        → Stands content (state S.Store conn.old)
         → AreFound IsInstanceBefore (filter (λ row. row.board == board) content.instances) rows) }
     ensures same { IsAsBefore (state S.Store conn.old) (state S.Store conn.new) }
 {
@@ -129,9 +135,12 @@ fn instance_rows<S: Alter>(
 /// Looks at people and replies, and then at each board.
 fn audit_store<S: Alter>(alloc: Global, conn: &mut Connection<S>) -> Result<Audit, StoreFault>
     ensures idle { conn.old.in_transaction ≡ false → conn.new.in_transaction ≡ false }
-    ensures counted { IfOk result (λ audit. OfContent (state S.Store conn.old) (state S.Store conn.new)
+    ensures counted { IfOk result
+        (λ audit. OfContent (state S.Store conn.old) (state S.Store conn.new)
         (λ c. (w : World) → IsGoodWorld w → HasForm w → HasBoardsOf w c → Tells c w.boards audit)) }
-    ensures whole { IfOk result (λ audit. OfContent (state S.Store conn.old) (state S.Store conn.new) (λ c. IsCountOf c audit)) }
+    ensures whole { IfOk result
+        (λ audit. OfContent (state S.Store conn.old) (state S.Store conn.new)
+        (λ c. IsCountOf c audit)) }
     ensures same { IsAsBefore (state S.Store conn.old) (state S.Store conn.new) }
 {
     if !conn.is_autocommit() {
@@ -149,14 +158,17 @@ fn audit_boards<S: Alter>(
 ) -> Result<Audit, StoreFault>
     requires { conn.old.in_transaction ≡ false }
     ensures idle { conn.new.in_transaction ≡ false }
-    ensures counted { IfOk result (λ audit. OfContent (state S.Store conn.old) (state S.Store conn.new)
+    ensures counted { IfOk result
+        (λ audit. OfContent (state S.Store conn.old) (state S.Store conn.new)
         (λ c. (w : World) → IsGoodWorld w → HasForm w → HasBoardsOf w c → Tells c w.boards audit)) }
-    ensures whole { IfOk result (λ audit. OfContent (state S.Store conn.old) (state S.Store conn.new) (λ c. IsCountOf c audit)) }
+    ensures whole { IfOk result
+        (λ audit. OfContent (state S.Store conn.old) (state S.Store conn.new)
+        (λ c. IsCountOf c audit)) }
     ensures same { IsAsBefore (state S.Store conn.old) (state S.Store conn.new) }
 {
     ids_are_read();
     let rows = board_rows(conn)?;
-    if rows.len() > MOST || !are_numbered(rows.as_slice()) {
+    if rows.len() > MOST_BOARDS || !are_numbered(rows.as_slice()) {
         return Err(StoreFault::Store);
     }
     audit_rows(alloc, conn, people, rows.as_slice())
@@ -170,10 +182,14 @@ fn audit_rows<S: Alter>(
     rows: &[BoardRow],
 ) -> Result<Audit, StoreFault>
     requires idle { conn.old.in_transaction ≡ false }
-    requires few { length rows.now ≤ 10000 }
+    requires few { length rows.now ≤ most_boards }
     ensures idle { conn.new.in_transaction ≡ false }
-    ensures counted { IfOk result (λ audit. OfContent (state S.Store conn.old) (state S.Store conn.new) (λ c. (bs : List Board) → StandFor c rows.now bs → Tells c bs audit)) }
-    ensures whole { IfOk result (λ audit. OfContent (state S.Store conn.old) (state S.Store conn.new) (λ c. CountsRows c rows.now audit)) }
+    ensures counted { IfOk result
+        (λ audit. OfContent (state S.Store conn.old) (state S.Store conn.new)
+        (λ c. (bs : List Board) → StandFor c rows.now bs → Tells c bs audit)) }
+    ensures whole { IfOk result
+        (λ audit. OfContent (state S.Store conn.old) (state S.Store conn.new)
+        (λ c. CountsRows c rows.now audit)) }
     ensures same { IsAsBefore (state S.Store conn.old) (state S.Store conn.new) }
 {
     let mut audit = Audit {
@@ -190,13 +206,14 @@ fn audit_rows<S: Alter>(
 
 /// The counts with one board more.
 fn with_board(audit: Audit, checked: Checked) -> Audit
-    requires boards { audit.boards ≤ 10000 }
+    requires boards { audit.boards ≤ most_boards }
     requires tasks { audit.tasks ≤ 100000000 }
-    requires faults { audit.faults ≤ 10000 }
-    requires few { checked.tasks ≤ 10000 }
+    requires faults { audit.faults ≤ most_boards }
+    requires few { checked.tasks ≤ most_tasks }
     ensures boards { result.boards ≡ audit.boards + 1 }
     ensures tasks { result.tasks ≡ audit.tasks + checked.tasks }
-    ensures faults { result.faults ≡ (if checked.as_stored then audit.faults else audit.faults + 1) }
+    ensures faults { result.faults
+        ≡ (if checked.as_stored then audit.faults else audit.faults + 1) }
 {
     let faults = if checked.as_stored {
         audit.faults
@@ -219,9 +236,13 @@ fn check_row<S: Alter>(
 ) -> Result<Checked, StoreFault>
     requires { conn.old.in_transaction ≡ false }
     ensures idle { conn.new.in_transaction ≡ false }
-    ensures checked { IfOk result (λ checked. OfContent (state S.Store conn.old) (state S.Store conn.new) (λ c. (b : Board) → StandsFor c row.now b → IsCheckOf c b checked)) }
-    ensures whole { IfOk result (λ checked. OfContent (state S.Store conn.old) (state S.Store conn.new) (λ c. IsRowCheck c row.now checked)) }
-    ensures few { IfOk result (λ checked. checked.tasks ≤ 10000) }
+    ensures checked { IfOk result
+        (λ checked. OfContent (state S.Store conn.old) (state S.Store conn.new)
+        (λ c. (b : Board) → StandsFor c row.now b → IsCheckOf c b checked)) }
+    ensures whole { IfOk result
+        (λ checked. OfContent (state S.Store conn.old) (state S.Store conn.new)
+        (λ c. IsRowCheck c row.now checked)) }
+    ensures few { IfOk result (λ checked. checked.tasks ≤ most_tasks) }
     ensures same { IsAsBefore (state S.Store conn.old) (state S.Store conn.new) }
 {
     hold_roles(conn, row.id, people)?;
@@ -236,9 +257,13 @@ fn check_board<S: Alter>(
 ) -> Result<Checked, StoreFault>
     requires { conn.old.in_transaction ≡ false }
     ensures idle { conn.new.in_transaction ≡ false }
-    ensures checked { IfOk result (λ checked. OfContent (state S.Store conn.old) (state S.Store conn.new) (λ c. (b : Board) → StandsFor c row.now b → IsCheckOf c b checked)) }
-    ensures whole { IfOk result (λ checked. OfContent (state S.Store conn.old) (state S.Store conn.new) (λ c. IsCheckOfRow c row.now checked)) }
-    ensures few { IfOk result (λ checked. checked.tasks ≤ 10000) }
+    ensures checked { IfOk result
+        (λ checked. OfContent (state S.Store conn.old) (state S.Store conn.new)
+        (λ c. (b : Board) → StandsFor c row.now b → IsCheckOf c b checked)) }
+    ensures whole { IfOk result
+        (λ checked. OfContent (state S.Store conn.old) (state S.Store conn.new)
+        (λ c. IsCheckOfRow c row.now checked)) }
+    ensures few { IfOk result (λ checked. checked.tasks ≤ most_tasks) }
     ensures same { IsAsBefore (state S.Store conn.old) (state S.Store conn.new) }
 {
     let horizon = horizon_row_at(conn, row.id)?;
@@ -254,11 +279,15 @@ fn check_tables<S: Alter>(
 ) -> Result<Checked, StoreFault>
     requires { conn.old.in_transaction ≡ false }
     ensures idle { conn.new.in_transaction ≡ false }
-    ensures checked { IfOk result (λ checked. OfContent (state S.Store conn.old) (state S.Store conn.new)
-        (λ c. (b : Board) → StandsFor c row.now b → IsOneOf (filter (is_horizon b.number) c.horizon) horizon → IsCheckOf c b checked)) }
-    ensures whole { IfOk result (λ checked. OfContent (state S.Store conn.old) (state S.Store conn.new)
-        (λ c. IsOneOf (filter (is_horizon row.now.id) c.horizon) horizon → IsCheckOfRow c row.now checked)) }
-    ensures few { IfOk result (λ checked. checked.tasks ≤ 10000) }
+    ensures checked { IfOk result
+        (λ checked. OfContent (state S.Store conn.old) (state S.Store conn.new)
+        (λ c. (b : Board) → StandsFor c row.now b
+        → IsOneOf (filter (is_horizon b.number) c.horizon) horizon → IsCheckOf c b checked)) }
+    ensures whole { IfOk result
+        (λ checked. OfContent (state S.Store conn.old) (state S.Store conn.new)
+        (λ c. IsOneOf (filter (is_horizon row.now.id) c.horizon) horizon
+        → IsCheckOfRow c row.now checked)) }
+    ensures few { IfOk result (λ checked. checked.tasks ≤ most_tasks) }
     ensures same { IsAsBefore (state S.Store conn.old) (state S.Store conn.new) }
 {
     let tasks = task_rows(conn, row.id)?;
@@ -287,11 +316,17 @@ fn compare(
     links: &[LinkRow],
     instances: &[InstanceRow],
 ) -> Result<Checked, StoreFault>
-    ensures size { IfOk result (λ checked. (b : Board) → board_of row.now (Some (horizon_row b)) tasks.now gone.now ≡ Ok b → checked.tasks ≡ length b.tasks) }
-    ensures tells { IfOk result (λ checked. (b : Board) → board_of row.now (Some (horizon_row b)) tasks.now gone.now ≡ Ok b → (horizon ≡ None) ⊎ (horizon ≡ Some (horizon_row b))
-        → IsTrue checked.as_stored ↔ AreAsStored b row.now horizon tasks.now links.now instances.now) }
-    ensures whole { IfOk result (λ checked. IsCheckBy row.now horizon tasks.now gone.now links.now instances.now checked) }
-    ensures few { IfOk result (λ checked. checked.tasks ≤ 10000) }
+    ensures size { IfOk result
+        (λ checked. (b : Board) → board_of row.now (Some (horizon_row b)) tasks.now gone.now ≡ Ok b
+        → checked.tasks ≡ length b.tasks) }
+    ensures tells { IfOk result
+        (λ checked. (b : Board) → board_of row.now (Some (horizon_row b)) tasks.now gone.now ≡ Ok b
+        → (horizon ≡ None) ⊎ (horizon ≡ Some (horizon_row b))
+        → IsTrue checked.as_stored
+        ↔ AreAsStored b row.now horizon tasks.now links.now instances.now) }
+    ensures whole { IfOk result
+        (λ checked. IsCheckBy row.now horizon tasks.now gone.now links.now instances.now checked) }
+    ensures few { IfOk result (λ checked. checked.tasks ≤ most_tasks) }
 {
     let known = known_horizon(row.id, horizon);
     let board = match read_board(alloc, row, Some(known), tasks, gone) {

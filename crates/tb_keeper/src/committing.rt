@@ -52,7 +52,8 @@ pub(crate) fn rows_for<S: Alter>(
     requires { conn.old.in_transaction ≡ false }
     ensures idle { conn.new.in_transaction ≡ false }
     ensures leads { IfOk result (λ rows. OfState (state S.Store conn.old) (state S.Store conn.new)
-        (λ s. AreOf s.world cache.old.entries → people ≡ length s.world.people → (call : CallValue) → MayCommit s changes.now call
+        (λ s. AreOf s.world cache.old.entries → people ≡ length s.world.people → (call : CallValue)
+        → MayCommit s changes.now call
         → Leads rows s.world (changed s.world changes.now))) }
     ensures cached { OfState (state S.Store conn.old) (state S.Store conn.new)
         (λ s. AreOf s.world cache.old.entries → AreOf s.world cache.new.entries) }
@@ -93,7 +94,11 @@ fn find_part<S: Alter>(
 }
 
 fn part_after(alloc: Global, board: &Board, changes: &[Change]) -> Result<BoardPart, AllocError>
-    ensures { IfOk result (λ part. part ≡ record { tasks_before = length board.now.tasks; later = replayed board.now changes.now }) }
+    ensures { IfOk result
+        (λ part. part ≡ record {
+          tasks_before = length board.now.tasks;
+          later = replayed board.now changes.now;
+        }) }
 {
     let later = replayed(alloc, board, changes)?;
     Ok(BoardPart {
@@ -112,7 +117,8 @@ pub(crate) fn kept_row_for<S: Alter>(
     requires { conn.old.in_transaction ≡ false }
     ensures idle { conn.new.in_transaction ≡ false }
     ensures row { IfOk result (λ row. OfState (state S.Store conn.old) (state S.Store conn.new)
-        (λ s. row ≡ kept_row s.world (name_of call.now, record { content = call.now.content; reply = reply.now }))) }
+        (λ s. row ≡ kept_row s.world
+        (name_of call.now, record { content = call.now.content; reply = reply.now }))) }
     ensures same { IsAsBefore (state S.Store conn.old) (state S.Store conn.new) }
 {
     let Some(person) = stored_person(alloc, conn, &call.member)? else {
@@ -128,7 +134,15 @@ pub(crate) fn kept_row_for<S: Alter>(
 }
 
 fn row_of(person: u32, call: &Call, reply: &Reply) -> Result<KeptRow, AllocError>
-    ensures { IfOk result (λ row. row ≡ record { person = person; id = call.now.id; content = call.now.content; number = reply.now.number; status = reply.now.status; body = reply.now.body }) }
+    ensures { IfOk result
+        (λ row. row ≡ record {
+          person = person;
+          id = call.now.id;
+          content = call.now.content;
+          number = reply.now.number;
+          status = reply.now.status;
+          body = reply.now.body;
+        }) }
 {
     let content = call.content.duplicate()?;
     let body = reply.body.duplicate()?;

@@ -43,12 +43,18 @@ impl<S: Alter> SqlKeep<S> {
     ) -> Result<SqlKeep<S>, (Connection<S>, CreateFault)>
         requires { conn.in_transaction ≡ false }
         ensures created { IfOk result (λ keep. Opens (state S.Store conn)
-            → Holds keep.failed keep.people keep.boards keep.cache.entries (state S.Store keep.conn) (opening name.now key.now)) }
+            → Holds keep.failed keep.people keep.boards keep.cache.entries (state S.Store keep.conn)
+            (opening name.now key.now)) }
         ensures fresh { IfOk result (λ keep. keep.failed ≡ false) }
-        ensures empty { ((state S.Store conn).now.schema ≡ no_schema → ⊥) → MatchResult result (λ keep. ⊥) (λ e. (e.0 ≡ conn) × (e.1 ≡ CreateFault.NotEmpty)) }
-        ensures taken { IfErr result (λ e. e.1 ≡ CreateFault.NotEmpty → (e.0 ≡ conn) × ((state S.Store conn).now.schema ≡ no_schema → ⊥)) }
-        ensures memory { IfErr result (λ e. e.1 ≡ CreateFault.Memory → Opens (state S.Store conn) → StandsEmpty (state S.Store e.0)) }
-        ensures store { IfErr result (λ e. e.1 ≡ CreateFault.Store → Opens (state S.Store conn) → IsEmptyOrStored (opening name.now key.now) (state S.Store e.0)) }
+        ensures empty { ((state S.Store conn).now.schema ≡ no_schema → ⊥)
+            → MatchResult result (λ keep. ⊥) (λ e. (e.0 ≡ conn) × (e.1 ≡ CreateFault.NotEmpty)) }
+        ensures taken { IfErr result
+            (λ e. e.1 ≡ CreateFault.NotEmpty
+            → (e.0 ≡ conn) × ((state S.Store conn).now.schema ≡ no_schema → ⊥)) }
+        ensures memory { IfErr result (λ e. e.1 ≡ CreateFault.Memory → Opens (state S.Store conn)
+            → StandsEmpty (state S.Store e.0)) }
+        ensures store { IfErr result (λ e. e.1 ≡ CreateFault.Store → Opens (state S.Store conn)
+            → IsEmptyOrStored (opening name.now key.now) (state S.Store e.0)) }
         ensures idle { IfErr result (λ e. e.0.in_transaction ≡ false) }
     {
         if !is_empty(&conn) {
@@ -80,7 +86,8 @@ struct First {
 }
 
 fn first_state(alloc: Global, name: &Name, key: &Key) -> Result<First, AllocError>
-    ensures rows { IfOk result (λ first. AreRowsOf (opening name.now key.now) (content_of first.rows)) }
+    ensures rows { IfOk result
+        (λ first. AreRowsOf (opening name.now key.now) (content_of first.rows)) }
     ensures cache { IfOk result (λ first. first.cache.entries ≡ []) }
 {
     rows_are_apart();

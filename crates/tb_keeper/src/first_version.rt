@@ -29,10 +29,15 @@ pub fn create_v1<S: Alter>(
     key: &Key,
 ) -> Result<Connection<S>, (Connection<S>, CreateFault)>
     requires { conn.in_transaction ≡ false }
-    ensures created { IfOk result (λ made. Opens (state S.Store conn) → IsStoredOld (opening name.now key.now) (state S.Store made)) }
-    ensures empty { ((state S.Store conn).now.schema ≡ no_schema → ⊥) → MatchResult result (λ made. ⊥) (λ e. (e.0 ≡ conn) × (e.1 ≡ CreateFault.NotEmpty)) }
-    ensures memory { IfErr result (λ e. e.1 ≡ CreateFault.Memory → Opens (state S.Store conn) → StandsEmpty (state S.Store e.0)) }
-    ensures store { IfErr result (λ e. e.1 ≡ CreateFault.Store → Opens (state S.Store conn) → IsEmptyOrStoredOld (opening name.now key.now) (state S.Store e.0)) }
+    ensures created { IfOk result
+        (λ made. Opens (state S.Store conn)
+        → IsStoredOld (opening name.now key.now) (state S.Store made)) }
+    ensures empty { ((state S.Store conn).now.schema ≡ no_schema → ⊥)
+        → MatchResult result (λ made. ⊥) (λ e. (e.0 ≡ conn) × (e.1 ≡ CreateFault.NotEmpty)) }
+    ensures memory { IfErr result (λ e. e.1 ≡ CreateFault.Memory → Opens (state S.Store conn)
+        → StandsEmpty (state S.Store e.0)) }
+    ensures store { IfErr result (λ e. e.1 ≡ CreateFault.Store → Opens (state S.Store conn)
+        → IsEmptyOrStoredOld (opening name.now key.now) (state S.Store e.0)) }
     ensures idle { IfErr result (λ e. e.0.in_transaction ≡ false) }
 {
     if !is_empty(&conn) {
@@ -49,7 +54,9 @@ pub fn create_v1<S: Alter>(
 }
 
 fn first_rows(alloc: Global, name: &Name, key: &Key) -> Result<FirstRows, AllocError>
-    ensures { IfOk result (λ first. AreOldRowsOf (opening name.now key.now) (first_content first.person first.board first.role)) }
+    ensures { IfOk result
+        (λ first. AreOldRowsOf (opening name.now key.now)
+        (first_content first.person first.board first.role)) }
 {
     rows_are_apart();
     let first = FirstRows::of(alloc, name, key)?;

@@ -31,7 +31,9 @@ pub(crate) fn find_key<S: Alter>(
     name: &Name,
 ) -> Result<Option<Key>, StoreFault>
     ensures idle { conn.old.in_transaction ≡ false → conn.new.in_transaction ≡ false }
-    ensures found { IfOk result (λ key. OfState (state S.Store conn.old) (state S.Store conn.new) (λ s. key ≡ key_of s.world name.now)) }
+    ensures found { IfOk result
+        (λ key. OfState (state S.Store conn.old) (state S.Store conn.new)
+        (λ s. key ≡ key_of s.world name.now)) }
     ensures same { IsAsBefore (state S.Store conn.old) (state S.Store conn.new) }
 {
     if !conn.is_autocommit() {
@@ -51,7 +53,9 @@ pub(crate) fn find_reply<S: Alter>(
     id: TaskId,
 ) -> Result<Option<KeptReply>, StoreFault>
     ensures idle { conn.old.in_transaction ≡ false → conn.new.in_transaction ≡ false }
-    ensures found { IfOk result (λ kept. OfState (state S.Store conn.old) (state S.Store conn.new) (λ s. kept ≡ get s.kept (name.now, id))) }
+    ensures found { IfOk result
+        (λ kept. OfState (state S.Store conn.old) (state S.Store conn.new)
+        (λ s. kept ≡ get s.kept (name.now, id))) }
     ensures same { IsAsBefore (state S.Store conn.old) (state S.Store conn.new) }
 {
     if !conn.is_autocommit() {
@@ -75,7 +79,15 @@ pub(crate) struct Glance {
 impl Glance {
     /// With so many people and boards.
     pub(crate) fn seen(self, people: usize, boards: usize) -> Seen
-        ensures { result ≡ record { caller = self.caller; board = self.board; other = self.other; owners = self.owners; people = people; boards = boards } }
+        ensures { result
+            ≡ record {
+              caller = self.caller;
+              board = self.board;
+              other = self.other;
+              owners = self.owners;
+              people = people;
+              boards = boards;
+            } }
     {
         let Glance {
             caller,
@@ -112,7 +124,8 @@ pub(crate) fn look_up<S: Alter>(
     ensures idle { conn.old.in_transaction ≡ false → conn.new.in_transaction ≡ false }
     ensures found { IfOk result (λ glance. OfState (state S.Store conn.old) (state S.Store conn.new)
         (λ s. AreOf s.world cache.old.entries → IsGlance s.world name.now command.now glance)) }
-    ensures at_hand { IfOk result (λ glance. (n : ℕ) → board_of command.now ≡ Some n → IsSeenAtHand cache.new.entries n glance.board) }
+    ensures at_hand { IfOk result (λ glance. (n : ℕ) → board_of command.now ≡ Some n
+        → IsSeenAtHand cache.new.entries n glance.board) }
     ensures cached { OfState (state S.Store conn.old) (state S.Store conn.new)
         (λ s. AreOf s.world cache.old.entries → AreOf s.world cache.new.entries) }
     ensures same { IsAsBefore (state S.Store conn.old) (state S.Store conn.new) }
@@ -140,7 +153,8 @@ fn find_parties<S: Alter>(
 ) -> Result<Parties, StoreFault>
     requires { conn.old.in_transaction ≡ false }
     ensures idle { conn.new.in_transaction ≡ false }
-    ensures found { IfOk result (λ parties. OfState (state S.Store conn.old) (state S.Store conn.new)
+    ensures found { IfOk result
+        (λ parties. OfState (state S.Store conn.old) (state S.Store conn.new)
         (λ s. AreParties s.world name.now command.now parties)) }
     ensures same { IsAsBefore (state S.Store conn.old) (state S.Store conn.new) }
 {
@@ -223,7 +237,8 @@ fn see_board<S: Alter>(
     requires { conn.old.in_transaction ≡ false }
     ensures idle { conn.new.in_transaction ≡ false }
     ensures found { IfOk result (λ seen. OfState (state S.Store conn.old) (state S.Store conn.new)
-        (λ s. AreOf s.world cache.old.entries → seen ≡ seen_with role (find_board s.world number))) }
+        (λ s. AreOf s.world cache.old.entries
+        → seen ≡ seen_with role (find_board s.world number))) }
     ensures at_hand { IfOk result (IsSeenAtHand cache.new.entries number) }
     ensures cached { OfState (state S.Store conn.old) (state S.Store conn.new)
         (λ s. AreOf s.world cache.old.entries → AreOf s.world cache.new.entries) }

@@ -25,7 +25,9 @@ pub(crate) fn find_boards<S: Alter>(
     name: &Name,
 ) -> Result<Items<BoardRole>, StoreFault>
     ensures idle { conn.old.in_transaction ≡ false → conn.new.in_transaction ≡ false }
-    ensures found { IfOk result (λ boards. OfState (state S.Store conn.old) (state S.Store conn.new) (λ s. boards ≡ boards_of s.world name.now)) }
+    ensures found { IfOk result
+        (λ boards. OfState (state S.Store conn.old) (state S.Store conn.new)
+        (λ s. boards ≡ boards_of s.world name.now)) }
     ensures same { IsAsBefore (state S.Store conn.old) (state S.Store conn.new) }
 {
     if !conn.is_autocommit() {
@@ -45,7 +47,9 @@ pub(crate) fn find_people<S: Alter>(
     board: u32,
 ) -> Result<Option<Items<PersonRole>>, StoreFault>
     ensures idle { conn.old.in_transaction ≡ false → conn.new.in_transaction ≡ false }
-    ensures found { IfOk result (λ people. OfState (state S.Store conn.old) (state S.Store conn.new) (λ s. people ≡ people_for s.world name.now board)) }
+    ensures found { IfOk result
+        (λ people. OfState (state S.Store conn.old) (state S.Store conn.new)
+        (λ s. people ≡ people_for s.world name.now board)) }
     ensures same { IsAsBefore (state S.Store conn.old) (state S.Store conn.new) }
 {
     if !conn.is_autocommit() {

@@ -30,26 +30,52 @@ impl<S: Alter> SqlKeep<S> {
     ) -> Result<SqlKeep<S>, (Connection<S>, OpenFault)>
         requires { conn.in_transaction ≡ false }
         ensures fresh { IfOk result (λ keep. keep.failed ≡ false) }
-        ensures tables { IfOk result (λ keep. has_tables (version_taken keep.migrated) (state S.Store conn).now.schema ≡ true) }
+        ensures tables { IfOk result
+            (λ keep. has_tables (version_taken keep.migrated)
+            (state S.Store conn).now.schema ≡ true) }
         ensures version { has_meta (state S.Store conn).now.schema.tables ≡ true
-            → IfOk result (λ keep. HasCleanDisk (state S.Store keep.conn) → IsAnswered S.Store conn (Ok (version_taken keep.migrated))) }
-        ensures holds { IfOk result (λ keep. keep.migrated ≡ false → OfState (state S.Store conn) (state S.Store keep.conn)
-            (λ s. Holds keep.failed keep.people keep.boards keep.cache.entries (state S.Store keep.conn) s)) }
-        ensures opened { IfOk result (λ keep. HasCleanDisk (state S.Store keep.conn) → Opens (state S.Store conn) → (s : State) → AreTreesOf s (state S.Store conn).now.trees
-            → Holds keep.failed keep.people keep.boards keep.cache.entries (state S.Store keep.conn) s) }
-        ensures migrated { IfOk result (λ keep. HasCleanDisk (state S.Store keep.conn) → Opens (state S.Store conn) → (s : State) → AreOldTreesOf s (state S.Store conn).now.trees
-            → Holds keep.failed keep.people keep.boards keep.cache.entries (state S.Store keep.conn) s) }
-        ensures same { IfOk result (λ keep. keep.migrated ≡ false → IsAsBefore (state S.Store conn) (state S.Store keep.conn)) }
-        ensures refused { IfErr result (λ e. (e.1 ≢ OpenFault.Store) ⊎ (is_old (state S.Store conn).now.schema ≡ false) → IsAsBefore (state S.Store conn) (state S.Store e.0)) }
-        ensures stopped { IfErr result (λ e. Opens (state S.Store conn) → (s : State) → AreOldTreesOf s (state S.Store conn).now.trees → IsStoredInEither s (state S.Store e.0)) }
-        ensures foreign { IfErr result (λ e. (e.1 ≡ OpenFault.NotOurs) ⊎ (e.1 ≡ OpenFault.WrongVersion)
+            → IfOk result (λ keep. HasCleanDisk (state S.Store keep.conn)
+            → IsAnswered S.Store conn (Ok (version_taken keep.migrated))) }
+        ensures holds { IfOk result
+            (λ keep. keep.migrated ≡ false → OfState (state S.Store conn) (state S.Store keep.conn)
+            (λ s. Holds keep.failed keep.people keep.boards keep.cache.entries
+            (state S.Store keep.conn) s)) }
+        ensures opened { IfOk result
+            (λ keep. HasCleanDisk (state S.Store keep.conn) → Opens (state S.Store conn)
+            → (s : State) → AreTreesOf s (state S.Store conn).now.trees
+            → Holds keep.failed keep.people keep.boards keep.cache.entries
+            (state S.Store keep.conn) s) }
+        ensures migrated { IfOk result
+            (λ keep. HasCleanDisk (state S.Store keep.conn) → Opens (state S.Store conn)
+            → (s : State) → AreOldTreesOf s (state S.Store conn).now.trees
+            → Holds keep.failed keep.people keep.boards keep.cache.entries
+            (state S.Store keep.conn) s) }
+        ensures same { IfOk result
+            (λ keep. keep.migrated ≡ false
+            → IsAsBefore (state S.Store conn) (state S.Store keep.conn)) }
+        ensures refused { IfErr result
+            (λ e. (e.1 ≢ OpenFault.Store) ⊎ (is_old (state S.Store conn).now.schema ≡ false)
+            → IsAsBefore (state S.Store conn) (state S.Store e.0)) }
+        ensures stopped { IfErr result
+            (λ e. Opens (state S.Store conn) → (s : State)
+            → AreOldTreesOf s (state S.Store conn).now.trees
+            → IsStoredInEither s (state S.Store e.0)) }
+        ensures foreign { IfErr result
+            (λ e. (e.1 ≡ OpenFault.NotOurs) ⊎ (e.1 ≡ OpenFault.WrongVersion)
             → HasCleanDisk (state S.Store e.0) → Opens (state S.Store conn)
-            → (content : Content) → AreRows content (state S.Store conn).now.trees ⊎ AreOldRows content (state S.Store conn).now.trees → ⊥) }
-        ensures unmarked { has_meta (state S.Store conn).now.schema.tables ≡ false → MatchResult result (λ keep. ⊥) (λ e. e.1 ≡ OpenFault.NotOurs) }
-        ensures shown { IfErr result (λ e. (e.1 ≡ OpenFault.NotOurs) ⊎ (e.1 ≡ OpenFault.WrongVersion)
-            → HasCleanDisk (state S.Store e.0) → has_meta (state S.Store conn).now.schema.tables ≡ true → IsAnswered S.Store conn (Err e.1)) }
+            → (content : Content)
+            → AreRows content (state S.Store conn).now.trees
+            ⊎ AreOldRows content (state S.Store conn).now.trees → ⊥) }
+        ensures unmarked { has_meta (state S.Store conn).now.schema.tables ≡ false
+            → MatchResult result (λ keep. ⊥) (λ e. e.1 ≡ OpenFault.NotOurs) }
+        ensures shown { IfErr result
+            (λ e. (e.1 ≡ OpenFault.NotOurs) ⊎ (e.1 ≡ OpenFault.WrongVersion)
+            → HasCleanDisk (state S.Store e.0)
+            → has_meta (state S.Store conn).now.schema.tables ≡ true
+            → IsAnswered S.Store conn (Err e.1)) }
         ensures excused { IfErr result (λ e. e.1 ≡ OpenFault.Store → Opens (state S.Store conn)
-            → FailsByFault (state S.Store conn) (state S.Store e.0) (λ content. AreRows content (state S.Store conn).now.trees)) }
+            → FailsByFault (state S.Store conn) (state S.Store e.0)
+            (λ content. AreRows content (state S.Store conn).now.trees)) }
         ensures ready { IfOk result (λ keep. keep.conn.in_transaction ≡ false) }
         ensures idle { IfErr result (λ e. e.0.in_transaction ≡ false) }
     {
@@ -106,7 +132,9 @@ fn at_hand<S: Alter>(alloc: Global, conn: &mut Connection<S>) -> Result<AtHand, 
     ensures idle { conn.new.in_transaction ≡ false }
     ensures held { IfOk result (λ hand. OfState (state S.Store conn.old) (state S.Store conn.new)
         (λ s. IsAtHand hand.people hand.boards hand.cache.entries s.world)) }
-    ensures excused { result ≡ Err StoreFault.Store → FailsByFault (state S.Store conn.old) (state S.Store conn.new) (λ content. Stands content (state S.Store conn.old)) }
+    ensures excused { result ≡ Err StoreFault.Store
+        → FailsByFault (state S.Store conn.old) (state S.Store conn.new)
+        (λ content. Stands content (state S.Store conn.old)) }
     ensures faults { KeepsFaults (state S.Store conn.old) (state S.Store conn.new) }
     ensures same { IsAsBefore (state S.Store conn.old) (state S.Store conn.new) }
 {
@@ -129,8 +157,10 @@ fn migrated<S: Alter>(alloc: Global, conn: &mut Connection<S>) -> Result<AtHand,
     ensures clean { HasCleanDisk (state S.Store conn.new) → HasCleanDisk (state S.Store conn.old) }
     ensures held { IfOk result (λ hand. OfOldState (state S.Store conn.old) (state S.Store conn.new)
         (λ s. Holds false hand.people hand.boards hand.cache.entries (state S.Store conn.new) s)) }
-    ensures store { result ≡ Err StoreFault.Store → (s : State) → IsStoredOld s (state S.Store conn.old) → IsStoredInEither s (state S.Store conn.new) }
-    ensures memory { result ≡ Err StoreFault.Memory → IsAsBefore (state S.Store conn.old) (state S.Store conn.new) }
+    ensures store { result ≡ Err StoreFault.Store → (s : State)
+        → IsStoredOld s (state S.Store conn.old) → IsStoredInEither s (state S.Store conn.new) }
+    ensures memory { result ≡ Err StoreFault.Memory
+        → IsAsBefore (state S.Store conn.old) (state S.Store conn.new) }
 {
     let Ok(cache) = BoardCache::new(alloc) else {
         return Err(StoreFault::Memory);

@@ -17,9 +17,7 @@ use tb_sql::store::StoreFault;
 use tb_sql_tables::rows::{BoardRow, KeptRow, RoleRow};
 use tb_stored::faults::fault_of;
 use tb_stored::reading::{kept_rows, people_rows, role_rows};
-
-/// A good world has no more people.
-const MOST: usize = 10000;
+use tb_task::MOST_PEOPLE;
 
 const OWNER: u32 = 1;
 
@@ -42,7 +40,7 @@ pub(crate) fn hold_people<S: Alter>(
         Err(fault) => return Err(fault_of(fault)),
     };
     let kept = kept_rows(conn)?;
-    if people <= MOST && are_of_people(kept.as_slice(), people) {
+    if people <= MOST_PEOPLE && are_of_people(kept.as_slice(), people) {
         Ok(people)
     } else {
         Err(StoreFault::Store)
@@ -72,7 +70,8 @@ pub(crate) fn hold_roles<S: Alter>(
 ) -> Result<(), StoreFault>
     requires { conn.old.in_transaction ≡ false }
     ensures idle { conn.new.in_transaction ≡ false }
-    ensures owned { OnOk result (OfContent (state S.Store conn.old) (state S.Store conn.new) (λ c. IsOwned c board)) }
+    ensures owned { OnOk result
+        (OfContent (state S.Store conn.old) (state S.Store conn.new) (λ c. IsOwned c board)) }
     ensures same { IsAsBefore (state S.Store conn.old) (state S.Store conn.new) }
 {
     let rows = role_rows(conn, board)?;

@@ -41,11 +41,14 @@ impl<S: Alter> SqlKeep<S> {
     pub fn close(self) -> Connection<S>
         ensures conn { result ≡ self.conn }
         ensures stored { (s : State)
-            → Holds self.failed self.people self.boards self.cache.entries (state S.Store self.conn) s → self.failed ≡ false
+            → Holds self.failed self.people self.boards self.cache.entries
+            (state S.Store self.conn) s → self.failed ≡ false
             → HasCleanDisk (state S.Store result) → IsStored s (state S.Store result) }
         ensures failed { (s : State)
-            → Holds self.failed self.people self.boards self.cache.entries (state S.Store self.conn) s → self.failed ≡ true
-            → HasCleanDisk (state S.Store result) → (t : State) × IsStoredAsEither s t (state S.Store result) }
+            → Holds self.failed self.people self.boards self.cache.entries
+            (state S.Store self.conn) s → self.failed ≡ true
+            → HasCleanDisk (state S.Store result)
+            → (t : State) × IsStoredAsEither s t (state S.Store result) }
     {
         let SqlKeep { conn, .. } = self;
         conn
@@ -56,7 +59,8 @@ impl<S: Alter> SqlKeep<S> {
         ensures told { option_map (λ found. found.now) result
             ≡ (if self.now.failed then None else lookup (nat_eq board) self.now.cache.entries) }
         ensures of { HasCleanDisk (state S.Store self.now.conn) → (s : State)
-            → Holds self.now.failed self.now.people self.now.boards self.now.cache.entries (state S.Store self.now.conn) s
+            → Holds self.now.failed self.now.people self.now.boards self.now.cache.entries
+            (state S.Store self.now.conn) s
             → IfSome result (λ found. find_board s.world board ≡ Some found.now) }
     {
         if self.failed {
@@ -72,7 +76,8 @@ impl<S: Alter> Keep for SqlKeep<S> {
     ghost use Rattle.tb_keeper.specs.Laws.{alone as held_alone, given as held_given, good as held_good, leaves as honest_leaves};
     ghost use Rattle.tb_stored.specs.Stored.{MayLeave};
 
-    ghost holds = { λ k s. Holds k.failed k.people k.boards k.cache.entries (state S.Store k.conn) s };
+    ghost holds = { λ k s. Holds k.failed k.people k.boards k.cache.entries
+        (state S.Store k.conn) s };
 
     ghost after_stop = { λ k t. MayLeave (state S.Store k.conn) t };
 
@@ -128,16 +133,23 @@ impl<S: Alter> Keep for SqlKeep<S> {
     /// A board that is seen is at hand from then on.
     fn look(&mut self, alloc: Global, name: &Name, command: &Command) -> Result<Seen, KeepFault>
         ensures answer { (state S.Store self.new.conn).is_clean ≡ true → (s : State)
-            → Holds self.old.failed self.old.people self.old.boards self.old.cache.entries (state S.Store self.old.conn) s
-            → IsSome (key_of s.world name.now) → IfOk result (λ seen. seen ≡ seen_of s.world name.now command.now) }
-        ensures at_hand { IfOk result (λ seen. (n : ℕ) → board_of command.now ≡ Some n → IsSeenAtHand self.new.cache.entries n seen.board) }
+            → Holds self.old.failed self.old.people self.old.boards self.old.cache.entries
+            (state S.Store self.old.conn) s
+            → IsSome (key_of s.world name.now)
+            → IfOk result (λ seen. seen ≡ seen_of s.world name.now command.now) }
+        ensures at_hand { IfOk result
+            (λ seen. (n : ℕ) → board_of command.now ≡ Some n
+            → IsSeenAtHand self.new.cache.entries n seen.board) }
         ensures same { IsStill
-            (λ s. Holds self.old.failed self.old.people self.old.boards self.old.cache.entries (state S.Store self.old.conn) s)
+            (λ s. Holds self.old.failed self.old.people self.old.boards self.old.cache.entries
+            (state S.Store self.old.conn) s)
             (λ t. MayLeave (state S.Store self.old.conn) t)
-            (λ s. Holds self.new.failed self.new.people self.new.boards self.new.cache.entries (state S.Store self.new.conn) s)
+            (λ s. Holds self.new.failed self.new.people self.new.boards self.new.cache.entries
+            (state S.Store self.new.conn) s)
             (λ t. MayLeave (state S.Store self.new.conn) t) }
         ensures failed { self.new.failed ≡ is_store result }
-        ensures honest { (state S.Store self.new.conn).is_clean ≡ true → (state S.Store self.old.conn).is_clean ≡ true }
+        ensures honest { (state S.Store self.new.conn).is_clean ≡ true
+            → (state S.Store self.old.conn).is_clean ≡ true }
         ensures closed { self.old.failed ≡ true → IsErrOf result KeepFault.Store }
     {
         if self.failed {

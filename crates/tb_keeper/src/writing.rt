@@ -31,18 +31,26 @@ impl<S: Alter> SqlKeep<S> {
         ensures people { self.new.people ≡ self.old.people }
         ensures boards { self.new.boards ≡ self.old.boards }
         ensures failed { self.new.failed ≡ self.old.failed }
-        ensures clean { HasCleanDisk (state S.Store self.new.conn) → HasCleanDisk (state S.Store self.old.conn) }
+        ensures clean { HasCleanDisk (state S.Store self.new.conn)
+            → HasCleanDisk (state S.Store self.old.conn) }
         ensures cached { OfState (state S.Store self.old.conn) (state S.Store self.new.conn)
             (λ s. AreOf s.world self.old.cache.entries → AreOf s.world self.new.cache.entries) }
-        ensures ok { OnOk result (OfState (state S.Store self.old.conn) (state S.Store self.new.conn)
-            (λ s. IsAtHand self.old.people self.old.boards self.old.cache.entries s.world → MayCommit s changes.now call.now
-            → IsStored (with_reply s changes.now call.now reply.now) (state S.Store self.new.conn))) }
-        ensures memory { result ≡ Err StoreFault.Memory → OfState (state S.Store self.old.conn) (state S.Store self.new.conn)
+        ensures ok { OnOk result
+            (OfState (state S.Store self.old.conn) (state S.Store self.new.conn)
+            (λ s. IsAtHand self.old.people self.old.boards self.old.cache.entries s.world
+            → MayCommit s changes.now call.now
+            → IsStored (with_reply s changes.now call.now reply.now)
+            (state S.Store self.new.conn))) }
+        ensures memory { result ≡ Err StoreFault.Memory
+            → OfState (state S.Store self.old.conn) (state S.Store self.new.conn)
             (λ s. IsStored s (state S.Store self.new.conn)) }
-        ensures store { result ≡ Err StoreFault.Store → OfState (state S.Store self.old.conn) (state S.Store self.new.conn)
-            (λ s. IsAtHand self.old.people self.old.boards self.old.cache.entries s.world → MayCommit s changes.now call.now
+        ensures store { result ≡ Err StoreFault.Store
+            → OfState (state S.Store self.old.conn) (state S.Store self.new.conn)
+            (λ s. IsAtHand self.old.people self.old.boards self.old.cache.entries s.world
+            → MayCommit s changes.now call.now
             → IsStored s (state S.Store self.new.conn)
-            ⊎ IsStoredAsEither s (with_reply s changes.now call.now reply.now) (state S.Store self.new.conn)) }
+            ⊎ IsStoredAsEither s (with_reply s changes.now call.now reply.now)
+            (state S.Store self.new.conn)) }
     {
         if !self.conn.is_autocommit() {
             return Err(StoreFault::Store); // Never: each call ends its transaction.

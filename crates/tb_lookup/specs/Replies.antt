@@ -7,4 +7,5 @@ use Rattle.tb_calls.specs.Calls.{State}
 
 -- this is kept under the identifier for the person of that number
 abbrev pub IsReplyFound : State → ℕ → ℕ → Option KeptReply → Type 0
-IsReplyFound s person id kept = (name : List ℕ) → number_of s.world name ≡ Some person → kept ≡ get s.kept (name, id)
+IsReplyFound s person id kept = (name : List ℕ) → number_of s.world name ≡ Some person
+    → kept ≡ get s.kept (name, id)

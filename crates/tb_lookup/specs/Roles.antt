@@ -16,7 +16,8 @@ role_for w board None = None
 role_for w board (Some person) = role_of w board person
 
 -- these are the roles of the caller and of the other person on a board, and how many owners it has
-pub record AreRolesFound (w : World) (board caller : ℕ) (other : Option ℕ) (found : RolesFound) : Type 0 where
+pub record AreRolesFound (w : World) (board caller : ℕ) (other : Option ℕ)
+    (found : RolesFound) : Type 0 where
   pub caller_is : found.caller ≡ role_of w board caller
   pub other_is : found.other ≡ role_for w board other
   pub owners_are : found.owners ≡ owners w board

@@ -95,7 +95,9 @@ pub fn count_boards<S: Alter>(conn: &mut Connection<S>) -> Result<usize, StoreFa
     ensures idle { conn.new.in_transaction ≡ false }
     ensures found { IfOk result (λ count. OfState (state S.Store conn.old) (state S.Store conn.new)
         (λ s. count ≡ length s.world.boards)) }
-    ensures excused { result ≡ Err StoreFault.Store → FailsByFault (state S.Store conn.old) (state S.Store conn.new) (λ content. Stands content (state S.Store conn.old)) }
+    ensures excused { result ≡ Err StoreFault.Store
+        → FailsByFault (state S.Store conn.old) (state S.Store conn.new)
+        (λ content. Stands content (state S.Store conn.old)) }
     ensures faults { KeepsFaults (state S.Store conn.old) (state S.Store conn.new) }
     ensures same { IsAsBefore (state S.Store conn.old) (state S.Store conn.new) }
 {

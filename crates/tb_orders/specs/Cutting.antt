@@ -3,6 +3,7 @@ use Rattle.std.specs.Prelude.{ℕ, ◌+◌, ◌==◌, ◌&&◌, ◌||◌, Bool, 
 use Rattle.std.specs.List.{slice_split}
 use Rattle.tb_command_line.specs.declared.order.ImportKind.{ImportKind}
 use Rattle.tb_command_line.specs.declared.order.ImportKind.TheVariants as kind
+use Rattle.tb_task.specs.Limits.{longest_body, most_items}
 
 -- the parts that are full, what the next one has so far, how many lines that is, and whether a line was longer than a part
 pub record Cut : Type 0 where
@@ -16,11 +17,13 @@ uncut = record { full = []; begun = []; lines = 0; is_long = false }
 
 -- a part has at most 1,000 lines and 1,048,576 bytes, the end of each line among them
 abbrev pub has_room : Cut → List ℕ → Bool
-has_room cut line = nat_lt cut.lines 1000 && nat_lt (length cut.begun + length line) 1048576
+has_room cut line =
+    nat_lt cut.lines most_items && nat_lt (length cut.begun + length line) longest_body
 
 -- what has lines is a part
 abbrev pub closed : Cut → Cut
-closed cut = if cut.lines == 0 then cut else record cut { full = cut.full ++ cut.begun ∷ []; begun = []; lines = 0 }
+closed cut = if cut.lines == 0 then cut
+    else record cut { full = cut.full ++ cut.begun ∷ []; begun = []; lines = 0 }
 
 -- the part that takes a line: the last one, where it has room
 abbrev pub with_room : Cut → List ℕ → Cut
@@ -31,7 +34,7 @@ added cut line = record {
   full = cut.full;
   begun = (cut.begun ++ line) ++ 10 ∷ [];
   lines = cut.lines + 1;
-  is_long = cut.is_long || nat_le 1048576 (length line);
+  is_long = cut.is_long || nat_le longest_body (length line);
 }
 
 -- an empty line is left out
@@ -64,8 +67,9 @@ parts_in cut = if cut.is_long then None else Some (closed cut).full
 
 -- a text that one call takes as it is
 abbrev pub is_one : List ℕ → Bool
-is_one text = nat_le (length text) 1048576 && nat_le (length (lines_of text)) 1000
+is_one text = nat_le (length text) longest_body && nat_le (length (lines_of text)) most_items
 
 -- the parts of a text
 abbrev pub parts_of : ImportKind → List ℕ → Option (List (List ℕ))
-parts_of kind text = if is_one text then Some (text ∷ []) else parts_in (cut_on kind uncut (lines_of text))
+parts_of kind text = if is_one text then Some (text ∷ [])
+    else parts_in (cut_on kind uncut (lines_of text))

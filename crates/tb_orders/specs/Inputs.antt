@@ -22,7 +22,8 @@ AreAskedBy order input (call ∷ []) = IsAskedBy order input call
 AreAskedBy order input (c ∷ d ∷ calls) = ⊥
 
 -- the call that an order asks for by an input was made, and its reply, which is true of an honest store, is told and decides how the order ended
-pub record IsMade (order : ImportOrder) (input : Option (List ℕ)) (s : State) (honest : Bool) (now : State → Type 0)
+pub record IsMade (order : ImportOrder) (input : Option (List ℕ)) (s : State) (honest : Bool)
+    (now : State → Type 0)
     (before after : Option (List ℕ)) (ending : Ending) : Type 0 where
   pub call : Call
   pub asked : IsAskedBy order input call

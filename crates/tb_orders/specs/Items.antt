@@ -46,10 +46,12 @@ pub record IsBadIn (order : ImportOrder) (input : Option (List ℕ)) (item : Bad
 abbrev pub IsBadBehind : ImportOrder → ℕ → List (List ℕ) → ℕ → BadItem → Type 0
 IsBadBehind order before [] at item = ⊥
 IsBadBehind order before (part ∷ parts) at item =
-    (item_in (before + 1) (asked_of (part_message order (before + 1) part) at) ≡ Some item) ⊎ IsBadBehind order (before + 1) parts at item
+    (item_in (before + 1) (asked_of (part_message order (before + 1) part) at) ≡ Some item)
+    ⊎ IsBadBehind order (before + 1) parts at item
 
 -- one of the parts of an input is
-pub record IsBadAmong (order : ImportOrder) (input : Option (List ℕ)) (item : BadItem) : Type 0 where
+pub record IsBadAmong (order : ImportOrder) (input : Option (List ℕ))
+    (item : BadItem) : Type 0 where
   pub text : List ℕ
   pub parts : List (List ℕ)
   pub at : ℕ

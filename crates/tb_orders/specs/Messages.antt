@@ -19,11 +19,18 @@ abbrev pub field : List ℕ → List ℕ → Field
 field name value = record { name = name; value = value }
 
 abbrev pub fields_under : ImportOrder → ℕ → List Field
-fields_under order id = field (codes "x-member") order.member ∷ field (codes "x-key") order.key ∷ field (codes "x-request-id") (id_text id) ∷ []
+fields_under order id = field (codes "x-member") order.member ∷ field (codes "x-key") order.key
+    ∷ field (codes "x-request-id") (id_text id) ∷ []
 
 -- the message by which the same import comes over HTTP under an identifier
 abbrev pub message_under : ImportOrder → ℕ → List ℕ → Message
-message_under order id text = record { method = codes "POST"; target = target_of order; fields = fields_under order id; body = text }
+message_under order id text =
+    record {
+      method = codes "POST";
+      target = target_of order;
+      fields = fields_under order id;
+      body = text;
+    }
 
 abbrev pub message_of : ImportOrder → List ℕ → Message
 message_of order text = message_under order order.id text

@@ -25,13 +25,15 @@ part_message order number part = message_under order (part_id order.id number) p
 -- the messages of parts that are numbered behind so many
 abbrev pub messages_behind : ImportOrder → ℕ → List (List ℕ) → List Message
 messages_behind order before [] = []
-messages_behind order before (part ∷ parts) = part_message order (before + 1) part ∷ messages_behind order (before + 1) parts
+messages_behind order before (part ∷ parts) =
+    part_message order (before + 1) part ∷ messages_behind order (before + 1) parts
 
 -- calls that the first of some messages ask for, one each, in order
 abbrev pub AreFirst : List Message → ℕ → List Call → Type 0
 AreFirst messages at [] = Unit {0}
 AreFirst [] at (call ∷ calls) = ⊥
-AreFirst (message ∷ messages) at (call ∷ calls) = AsksFor message at call × AreFirst messages at calls
+AreFirst (message ∷ messages) at (call ∷ calls) = AsksFor message at call
+    × AreFirst messages at calls
 
 -- the replies' bodies, a line each
 abbrev pub lines_text : List Reply → List ℕ
@@ -48,10 +50,12 @@ is_refused (reply ∷ replies) ending = false
 abbrev pub ends_as : List Reply → Ending → Bool
 ends_as [] Accepted = true
 ends_as [] Refused = false
-ends_as (reply ∷ replies) ending = if reply.number == 0 then ends_as replies ending else is_refused replies ending
+ends_as (reply ∷ replies) ending = if reply.number == 0 then ends_as replies ending
+    else is_refused replies ending
 
 -- the calls of some first messages were made, one after another: all of them where the run was accepted
-pub record IsRun (messages : List Message) (at : ℕ) (s : State) (result : Result Ending Fault) (honest : Bool)
+pub record IsRun (messages : List Message) (at : ℕ) (s : State) (result : Result Ending Fault)
+    (honest : Bool)
     (now may_leave : State → Type 0) (before after : Option (List ℕ)) : Type 0 where
   pub calls : List Call
   pub answered : ℕ
@@ -63,7 +67,8 @@ pub record IsRun (messages : List Message) (at : ℕ) (s : State) (result : Resu
   pub ends : honest ≡ true → IfOk result (λ ending. ends_as (replies_to s calls) ending ≡ true)
 
 -- of an input in parts: of those of its text, or of none, and then it failed
-pub record IsRunOf (order : ImportOrder) (input : Option (List ℕ)) (s : State) (result : Result Ending Fault) (honest : Bool)
+pub record IsRunOf (order : ImportOrder) (input : Option (List ℕ)) (s : State)
+    (result : Result Ending Fault) (honest : Bool)
     (now may_leave : State → Type 0) (before after : Option (List ℕ)) : Type 0 where
   pub text : List ℕ
   pub parts : List (List ℕ)

@@ -1,15 +1,13 @@
 //! A text in parts, each of which one import takes.
 ghost use Rattle.std.specs.Prelude.{◌≡◌, ◌<◌, ◌∷◌, [], IfOk, map, option_map, true};
 ghost use Rattle.tb_orders.specs.Cutting.{Cut, added, closed, cut_on, has_room, is_one, line_in, lines_of, parts_in, parts_of, put, uncut, with_room, without_close, without_open};
+ghost use Rattle.tb_task.specs.Limits.{most_items};
 
 use std::alloc::{AllocError, Global};
 use std::marker::Model;
 use tb_command_line::ImportKind;
+use tb_task::{LONGEST_BODY, MOST_ITEMS};
 use tb_values::Items;
-
-const MOST_LINES: usize = 1_000;
-
-const MOST_BYTES: usize = 1_048_576;
 
 /// A text that is being cut.
 #[derive(Drop)]
@@ -25,7 +23,12 @@ impl Model for Cutting {
 
     ghost Value = { Cut };
 
-    ghost view = { λ cut. record { full = cut.full.items; begun = cut.begun.items; lines = cut.lines; is_long = cut.is_long } };
+    ghost view = { λ cut. record {
+      full = cut.full.items;
+      begun = cut.begun.items;
+      lines = cut.lines;
+      is_long = cut.is_long;
+    } };
 }
 
 /// The parts of a text, or none where a line is longer than a part.
@@ -47,7 +50,7 @@ fn is_one(alloc: Global, text: &[u8]) -> Result<bool, AllocError>
     ensures { IfOk result (λ is. is ≡ is_one text.now) }
 {
     let lines = lines_of(alloc, text)?;
-    Ok(text.len() <= MOST_BYTES && lines.len() <= MOST_LINES)
+    Ok(text.len() <= LONGEST_BODY && lines.len() <= MOST_ITEMS)
 }
 
 fn cut_text(alloc: Global, kind: ImportKind, text: &[u8]) -> Result<Cutting, AllocError>
@@ -82,7 +85,8 @@ fn parts_in(alloc: Global, cut: Cutting) -> Result<Option<Vec<Items<u8>>>, Alloc
 }
 
 fn cut_lines(alloc: Global, kind: ImportKind, lines: &[&[u8]]) -> Result<Cutting, AllocError>
-    ensures { IfOk result (λ cut. cut ≡ cut_on kind uncut (map (λ line. line.now) lines.entry.now)) }
+    ensures { IfOk result
+        (λ cut. cut ≡ cut_on kind uncut (map (λ line. line.now) lines.entry.now)) }
 {
     let mut cut = Cutting {
         full: Vec::new(alloc),
@@ -136,7 +140,7 @@ fn put(alloc: Global, cut: Cutting, line: &[u8]) -> Result<Cutting, AllocError>
 
 fn with_room(alloc: Global, cut: Cutting, line: &[u8]) -> Result<Cutting, AllocError>
     ensures value { IfOk result (λ made. made ≡ with_room cut line.now) }
-    ensures room { IfOk result (λ made. made.lines < 1000) }
+    ensures room { IfOk result (λ made. made.lines < most_items) }
 {
     if has_room(&cut, line) {
         return Ok(cut);
@@ -146,13 +150,15 @@ fn with_room(alloc: Global, cut: Cutting, line: &[u8]) -> Result<Cutting, AllocE
 
 fn has_room(cut: &Cutting, line: &[u8]) -> bool
     ensures value { result ≡ has_room cut.now line.now }
-    ensures lines { result ≡ true → cut.now.lines < 1000 }
+    ensures lines { result ≡ true → cut.now.lines < most_items }
 {
-    cut.lines < MOST_LINES && line.len() < MOST_BYTES && cut.begun.len() < MOST_BYTES - line.len()
+    cut.lines < MOST_ITEMS
+        && line.len() < LONGEST_BODY
+        && cut.begun.len() < LONGEST_BODY - line.len()
 }
 
 fn added(cut: Cutting, line: &[u8]) -> Result<Cutting, AllocError>
-    requires { cut.lines < 1000 }
+    requires { cut.lines < most_items }
     ensures { IfOk result (λ made. made ≡ added cut line.now) }
 {
     let Cutting {
@@ -167,7 +173,7 @@ fn added(cut: Cutting, line: &[u8]) -> Result<Cutting, AllocError>
         full,
         begun,
         lines: lines + 1,
-        is_long: is_long || line.len() >= MOST_BYTES,
+        is_long: is_long || line.len() >= LONGEST_BODY,
     })
 }
 

@@ -28,23 +28,30 @@ pub fn import_text<K: Keep, W: Write>(
     at: Moment,
     writer: &mut W,
 ) -> Result<Ending, Fault>
-    ensures told { K.is_honest desk.new ≡ true → (s : State) → K.holds desk.old s → (call : Call) → AsksFor message.now at call
-        → OnOk result (Appends (W.contents writer.old) (W.contents writer.new) (line_text (reply s [] call))) }
-    ensures front { K.is_honest desk.new ≡ true → (s : State) → K.holds desk.old s → (call : Call) → AsksFor message.now at call
-        → OnErr result (AppendsFront (W.contents writer.old) (W.contents writer.new) (line_text (reply s [] call))) }
+    ensures told { K.is_honest desk.new ≡ true → (s : State) → K.holds desk.old s → (call : Call)
+        → AsksFor message.now at call
+        → OnOk result (Appends (W.contents writer.old) (W.contents writer.new)
+        (line_text (reply s [] call))) }
+    ensures front { K.is_honest desk.new ≡ true → (s : State) → K.holds desk.old s → (call : Call)
+        → AsksFor message.now at call
+        → OnErr result (AppendsFront (W.contents writer.old) (W.contents writer.new)
+        (line_text (reply s [] call))) }
     ensures left { (s : State) → K.holds desk.old s → (call : Call) → AsksFor message.now at call
         → OnOk result (K.holds desk.new (plain s (once s (call ∷ [])))) }
     ensures held { (s : State) → K.holds desk.old s → (call : Call) → AsksFor message.now at call
         → K.holds desk.new s ⊎ K.holds desk.new (plain s (once s (call ∷ []))) }
-    ensures ending { K.is_honest desk.new ≡ true → (s : State) → K.holds desk.old s → (call : Call) → AsksFor message.now at call
+    ensures ending { K.is_honest desk.new ≡ true → (s : State) → K.holds desk.old s → (call : Call)
+        → AsksFor message.now at call
         → IfOk result (λ ending. ending ≡ ending_of (reply s [] call)) }
     ensures memory { (s : State) → K.holds desk.old s → IsErrOf result Memory → K.holds desk.new s }
     ensures written { (s : State) → K.holds desk.old s → (call : Call) → AsksFor message.now at call
         → IsErrOf result WriteFailed → K.holds desk.new (plain s (once s (call ∷ []))) }
-    ensures stands { (s : State) → K.holds desk.old s → Only s (K.after_stop desk.old) → (call : Call) → AsksFor message.now at call
+    ensures stands { (s : State) → K.holds desk.old s → Only s (K.after_stop desk.old)
+        → (call : Call) → AsksFor message.now at call
         → StandsAfter s (call ∷ []) (calls_made result) (K.holds desk.new) (K.after_stop desk.new) }
     ensures unasked { ((call : Call) → AsksFor message.now at call → ⊥)
-        → ((result ≡ Err BadBody) ⊎ (result ≡ Err Memory)) × (desk.new ≡ desk.old) × (writer.new ≡ writer.old) }
+        → ((result ≡ Err BadBody) ⊎ (result ≡ Err Memory)) × (desk.new ≡ desk.old)
+        × (writer.new ≡ writer.old) }
     ensures unread { IsErrOf result BadBody → (call : Call) → AsksFor message.now at call → ⊥ }
     ensures same { IsErrOf result BadBody → desk.new ≡ desk.old }
     ensures honest { K.is_honest desk.new ≡ true → K.is_honest desk.old ≡ true }
@@ -66,16 +73,23 @@ fn make_call<K: Keep, W: Write>(
     writer: &mut W,
 ) -> Result<Ending, Fault>
     ensures told { K.is_honest desk.new ≡ true → (s : State) → K.holds desk.old s
-        → OnOk result (Appends (W.contents writer.old) (W.contents writer.new) (line_text (reply s [] call.now))) }
+        → OnOk result (Appends (W.contents writer.old) (W.contents writer.new)
+        (line_text (reply s [] call.now))) }
     ensures front { K.is_honest desk.new ≡ true → (s : State) → K.holds desk.old s
-        → OnErr result (AppendsFront (W.contents writer.old) (W.contents writer.new) (line_text (reply s [] call.now))) }
-    ensures left { (s : State) → K.holds desk.old s → OnOk result (K.holds desk.new (plain s (once s (call.now ∷ [])))) }
-    ensures held { (s : State) → K.holds desk.old s → K.holds desk.new s ⊎ K.holds desk.new (plain s (once s (call.now ∷ []))) }
-    ensures ending { K.is_honest desk.new ≡ true → (s : State) → K.holds desk.old s → IfOk result (λ ending. ending ≡ ending_of (reply s [] call.now)) }
+        → OnErr result (AppendsFront (W.contents writer.old) (W.contents writer.new)
+        (line_text (reply s [] call.now))) }
+    ensures left { (s : State) → K.holds desk.old s
+        → OnOk result (K.holds desk.new (plain s (once s (call.now ∷ [])))) }
+    ensures held { (s : State) → K.holds desk.old s
+        → K.holds desk.new s ⊎ K.holds desk.new (plain s (once s (call.now ∷ []))) }
+    ensures ending { K.is_honest desk.new ≡ true → (s : State) → K.holds desk.old s
+        → IfOk result (λ ending. ending ≡ ending_of (reply s [] call.now)) }
     ensures memory { (s : State) → K.holds desk.old s → IsErrOf result Memory → K.holds desk.new s }
-    ensures written { (s : State) → K.holds desk.old s → IsErrOf result WriteFailed → K.holds desk.new (plain s (once s (call.now ∷ []))) }
+    ensures written { (s : State) → K.holds desk.old s → IsErrOf result WriteFailed
+        → K.holds desk.new (plain s (once s (call.now ∷ []))) }
     ensures stands { (s : State) → K.holds desk.old s → Only s (K.after_stop desk.old)
-        → StandsAfter s (call.now ∷ []) (calls_made result) (K.holds desk.new) (K.after_stop desk.new) }
+        → StandsAfter s (call.now ∷ []) (calls_made result) (K.holds desk.new)
+        (K.after_stop desk.new) }
     ensures honest { K.is_honest desk.new ≡ true → K.is_honest desk.old ≡ true }
     ensures fault { IfErr result (λ fault. is_of_answers fault ≡ true) }
     ensures store { IsErrOf result Store → K.has_failed desk.new ≡ true }
@@ -87,8 +101,10 @@ fn make_call<K: Keep, W: Write>(
 }
 
 fn print_reply<W: Write>(writer: &mut W, reply: &Reply) -> Result<Ending, Fault>
-    ensures told { OnOk result (Appends (W.contents writer.old) (W.contents writer.new) (line_text reply.now)) }
-    ensures front { OnErr result (AppendsFront (W.contents writer.old) (W.contents writer.new) (line_text reply.now)) }
+    ensures told { OnOk result
+        (Appends (W.contents writer.old) (W.contents writer.new) (line_text reply.now)) }
+    ensures front { OnErr result
+        (AppendsFront (W.contents writer.old) (W.contents writer.new) (line_text reply.now)) }
     ensures ending { IfOk result (λ ending. ending ≡ ending_of reply.now) }
     ensures fault { IfErr result (λ fault. fault ≡ WriteFailed) }
 {

@@ -40,13 +40,17 @@ pub fn import_input<K: Keep, R: Read + Drop, W: Write>(
     clock: &impl Clock,
     writer: &mut W,
 ) -> Result<Ending, OrderFault>
-    ensures made { (s : State) → K.holds desk.old s → IfOk (end_of result) (IsMade order.now (R.remaining reader) s
+    ensures made { (s : State) → K.holds desk.old s
+        → IfOk (end_of result) (IsMade order.now (R.remaining reader) s
         (K.is_honest desk.new) (K.holds desk.new) (W.contents writer.old) (W.contents writer.new)) }
-    ensures memory { (s : State) → K.holds desk.old s → IsErrOf (end_of result) Memory → K.holds desk.new s }
+    ensures memory { (s : State) → K.holds desk.old s → IsErrOf (end_of result) Memory
+        → K.holds desk.new s }
     ensures stands { (s : State) → K.holds desk.old s → Only s (K.after_stop desk.old)
         → (calls : List Call) × AreAskedBy order.now (R.remaining reader) calls
-        × StandsAfter s calls (calls_made (end_of result)) (K.holds desk.new) (K.after_stop desk.new) }
-    ensures item { IfErr result (λ failed. IfSome failed.item (IsBadIn order.now (R.remaining reader))) }
+        × StandsAfter s calls (calls_made (end_of result)) (K.holds desk.new)
+        (K.after_stop desk.new) }
+    ensures item { IfErr result
+        (λ failed. IfSome failed.item (IsBadIn order.now (R.remaining reader))) }
     ensures fault { IfErr (end_of result) (λ fault. is_of_inputs fault ≡ true) }
     ensures store { IsErrOf (end_of result) Store → K.has_failed desk.new ≡ true }
 {
@@ -65,7 +69,8 @@ fn read_message<R: Read + Drop>(
     reader: R,
     clock: &impl Clock,
 ) -> Result<Arrived, Fault>
-    ensures read { IfOk result (λ arrived. (text : List ℕ) × IfSome (R.remaining reader) (λ all. text ≡ all)
+    ensures read { IfOk result
+        (λ arrived. (text : List ℕ) × IfSome (R.remaining reader) (λ all. text ≡ all)
         × (arrived.message ≡ message_of order.now text)) }
     ensures fault { IfErr result (λ fault. is_of_messages fault ≡ true) }
 {

@@ -52,7 +52,9 @@ pub(crate) fn with_item(
     part: usize,
 ) -> Result<Ending, OrderFault>
     ensures end { end_of result ≡ end }
-    ensures item { IfErr result (λ failed. IfSome failed.item (λ item. item_in part (asked_of message.now at) ≡ Some item)) }
+    ensures item { IfErr result
+        (λ failed. IfSome failed.item
+        (λ item. item_in part (asked_of message.now at) ≡ Some item)) }
 {
     match end {
         Ok(ending) => Ok(ending),

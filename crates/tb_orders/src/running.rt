@@ -50,9 +50,12 @@ pub(crate) fn import_parts<K: Keep, W: Write, P: Progress>(
 ) -> Result<Ending, OrderFault>
     requires { before + length parts.now < 2 ^ 64 }
     ensures run { (s : State) → K.holds desk.old s → Only s (K.after_stop desk.old)
-        → IsRun (messages_behind run.now.order.now before parts.entry.now) run.now.at s (end_of result) (K.is_honest desk.new)
+        → IsRun (messages_behind run.now.order.now before parts.entry.now) run.now.at s
+        (end_of result) (K.is_honest desk.new)
         (K.holds desk.new) (K.after_stop desk.new) (W.contents writer.old) (W.contents writer.new) }
-    ensures item { IfErr result (λ failed. IfSome failed.item (IsBadBehind run.now.order.now before parts.entry.now run.now.at)) }
+    ensures item { IfErr result
+        (λ failed. IfSome failed.item
+        (IsBadBehind run.now.order.now before parts.entry.now run.now.at)) }
     ensures honest { K.is_honest desk.new ≡ true → K.is_honest desk.old ≡ true }
     ensures fault { IfErr (end_of result) (λ fault. is_of_imports fault ≡ true) }
     ensures store { IsErrOf (end_of result) Store → K.has_failed desk.new ≡ true }
@@ -78,10 +81,12 @@ fn import_part<K: Keep, W: Write>(
     writer: &mut W,
 ) -> Result<Ending, OrderFault>
     ensures run { (s : State) → K.holds desk.old s → Only s (K.after_stop desk.old)
-        → IsRun (part_message run.now.order.now number part.now ∷ []) run.now.at s (end_of result) (K.is_honest desk.new)
+        → IsRun (part_message run.now.order.now number part.now ∷ []) run.now.at s (end_of result)
+        (K.is_honest desk.new)
         (K.holds desk.new) (K.after_stop desk.new) (W.contents writer.old) (W.contents writer.new) }
     ensures item { IfErr result (λ failed. IfSome failed.item
-        (λ item. item_in number (asked_of (part_message run.now.order.now number part.now) run.now.at) ≡ Some item)) }
+        (λ item. item_in number
+        (asked_of (part_message run.now.order.now number part.now) run.now.at) ≡ Some item)) }
     ensures honest { K.is_honest desk.new ≡ true → K.is_honest desk.old ≡ true }
     ensures fault { IfErr (end_of result) (λ fault. is_of_imports fault ≡ true) }
     ensures store { IsErrOf (end_of result) Store → K.has_failed desk.new ≡ true }

@@ -27,11 +27,15 @@ pub fn print_view<K: Keep, W: Write>(
     writer: &mut W,
 ) -> Result<Ending, Fault>
     ensures told { K.is_honest desk.new ≡ true → (s : State) → K.holds desk.old s
-        → OnOk result (Appends (W.contents writer.old) (W.contents writer.new) (view_text (shown_by s order.now at))) }
+        → OnOk result (Appends (W.contents writer.old) (W.contents writer.new)
+        (view_text (shown_by s order.now at))) }
     ensures front { K.is_honest desk.new ≡ true → (s : State) → K.holds desk.old s
-        → OnErr result (AppendsFront (W.contents writer.old) (W.contents writer.new) (view_text (shown_by s order.now at))) }
-    ensures ending { K.is_honest desk.new ≡ true → (s : State) → K.holds desk.old s → IfOk result (λ ending. ending ≡ ending_of (shown_by s order.now at)) }
-    ensures same { IsStill (K.holds desk.old) (K.after_stop desk.old) (K.holds desk.new) (K.after_stop desk.new) }
+        → OnErr result (AppendsFront (W.contents writer.old) (W.contents writer.new)
+        (view_text (shown_by s order.now at))) }
+    ensures ending { K.is_honest desk.new ≡ true → (s : State) → K.holds desk.old s
+        → IfOk result (λ ending. ending ≡ ending_of (shown_by s order.now at)) }
+    ensures same { IsStill (K.holds desk.old) (K.after_stop desk.old) (K.holds desk.new)
+        (K.after_stop desk.new) }
     ensures fault { IfErr result (λ fault. is_of_answers fault ≡ true) }
     ensures store { IsErrOf result Store → K.has_failed desk.new ≡ true }
 {
@@ -42,8 +46,10 @@ pub fn print_view<K: Keep, W: Write>(
 }
 
 fn print_shown<W: Write>(writer: &mut W, reply: &Reply) -> Result<Ending, Fault>
-    ensures told { OnOk result (Appends (W.contents writer.old) (W.contents writer.new) (view_text reply.now)) }
-    ensures front { OnErr result (AppendsFront (W.contents writer.old) (W.contents writer.new) (view_text reply.now)) }
+    ensures told { OnOk result
+        (Appends (W.contents writer.old) (W.contents writer.new) (view_text reply.now)) }
+    ensures front { OnErr result
+        (AppendsFront (W.contents writer.old) (W.contents writer.new) (view_text reply.now)) }
     ensures ending { IfOk result (λ ending. ending ≡ ending_of reply.now) }
     ensures fault { IfErr result (λ fault. fault ≡ WriteFailed) }
 {
@@ -52,8 +58,10 @@ fn print_shown<W: Write>(writer: &mut W, reply: &Reply) -> Result<Ending, Fault>
 }
 
 fn print_body<W: Write>(writer: &mut W, reply: &Reply) -> Result<(), Fault>
-    ensures told { OnOk result (Appends (W.contents writer.old) (W.contents writer.new) (view_text reply.now)) }
-    ensures front { OnErr result (AppendsFront (W.contents writer.old) (W.contents writer.new) (view_text reply.now)) }
+    ensures told { OnOk result
+        (Appends (W.contents writer.old) (W.contents writer.new) (view_text reply.now)) }
+    ensures front { OnErr result
+        (AppendsFront (W.contents writer.old) (W.contents writer.new) (view_text reply.now)) }
     ensures fault { IfErr result (λ fault. fault ≡ WriteFailed) }
 {
     if reply.number == 0 {

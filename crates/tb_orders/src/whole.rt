@@ -43,7 +43,8 @@ pub fn import_all<K: Keep, R: Read + Drop, W: Write>(
     ensures run { (s : State) → K.holds desk.old s → Only s (K.after_stop desk.old)
         → IsRunOf order.now (R.remaining reader) s (end_of result) (K.is_honest desk.new)
         (K.holds desk.new) (K.after_stop desk.new) (W.contents writer.old) (W.contents writer.new) }
-    ensures item { IfErr result (λ failed. IfSome failed.item (IsBadAmong order.now (R.remaining reader))) }
+    ensures item { IfErr result
+        (λ failed. IfSome failed.item (IsBadAmong order.now (R.remaining reader))) }
     ensures fault { IfErr (end_of result) (λ fault. is_of_inputs fault ≡ true) }
     ensures store { IsErrOf (end_of result) Store → K.has_failed desk.new ≡ true }
 {
@@ -67,7 +68,8 @@ fn read_parts<R: Read + Drop>(
     reader: R,
     clock: &impl Clock,
 ) -> Result<Arrived, Fault>
-    ensures read { IfOk result (λ arrived. (text : List ℕ) × IfSome (R.remaining reader) (λ all. text ≡ all)
+    ensures read { IfOk result
+        (λ arrived. (text : List ℕ) × IfSome (R.remaining reader) (λ all. text ≡ all)
         × (parts_of order.now.kind text ≡ Some arrived.parts.items)) }
     ensures fault { IfErr result (λ fault. is_of_messages fault ≡ true) }
 {

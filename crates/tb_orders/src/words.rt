@@ -28,11 +28,17 @@ pub fn read_order(rt: &HostRuntime) -> Result<Order, Fault>
 
 /// The order that the words after the first are, which names the program.
 fn order_after_name(alloc: Global, words: Args) -> Result<Order, Fault>
-    ensures order { (request : Request) → without_page (map string_bytes (drop 1 (into_iter_items words))) ≡ words_of request
+    ensures order { (request : Request)
+        → without_page (map string_bytes (drop 1 (into_iter_items words))) ≡ words_of request
         → list_all is_plain (texts_of request) ≡ true
-        → ReadsAs result (with_page (page_in (map string_bytes (drop 1 (into_iter_items words)))) (order_of request)) }
-    ensures told { (order : Order) → told_of (map string_bytes (drop 1 (into_iter_items words))) ≡ Some order → OnOk result (result ≡ Ok order) }
-    ensures sent { (rest : List (List ℕ)) → map string_bytes (drop 1 (into_iter_items words)) ≡ codes "send" ∷ rest
+        → ReadsAs result
+        (with_page (page_in (map string_bytes (drop 1 (into_iter_items words))))
+        (order_of request)) }
+    ensures told { (order : Order)
+        → told_of (map string_bytes (drop 1 (into_iter_items words))) ≡ Some order
+        → OnOk result (result ≡ Ok order) }
+    ensures sent { (rest : List (List ℕ))
+        → map string_bytes (drop 1 (into_iter_items words)) ≡ codes "send" ∷ rest
         → told_of (codes "send" ∷ rest) ≡ None → ReadsAs result (send_of rest) }
     ensures fault { IfErr result (λ fault. is_of_words fault ≡ true) }
 {
@@ -43,11 +49,15 @@ fn order_after_name(alloc: Global, words: Args) -> Result<Order, Fault>
 
 /// The order that words are, or the program's fault.
 pub fn order_of(alloc: Global, words: &[&str]) -> Result<Order, Fault>
-    ensures order { (request : Request) → without_page (map (λ word. word.now) words.entry.now) ≡ words_of request
+    ensures order { (request : Request)
+        → without_page (map (λ word. word.now) words.entry.now) ≡ words_of request
         → list_all is_plain (texts_of request) ≡ true
-        → ReadsAs result (with_page (page_in (map (λ word. word.now) words.entry.now)) (order_of request)) }
-    ensures told { (order : Order) → told_of (map (λ word. word.now) words.entry.now) ≡ Some order → result ≡ Ok order }
-    ensures sent { (rest : List (List ℕ)) → map (λ word. word.now) words.entry.now ≡ codes "send" ∷ rest
+        → ReadsAs result
+        (with_page (page_in (map (λ word. word.now) words.entry.now)) (order_of request)) }
+    ensures told { (order : Order) → told_of (map (λ word. word.now) words.entry.now) ≡ Some order
+        → result ≡ Ok order }
+    ensures sent { (rest : List (List ℕ))
+        → map (λ word. word.now) words.entry.now ≡ codes "send" ∷ rest
         → told_of (codes "send" ∷ rest) ≡ None → ReadsAs result (send_of rest) }
     ensures fault { IfErr result (λ fault. is_of_words fault ≡ true) }
 {
@@ -79,7 +89,8 @@ fn collected(alloc: Global, words: Args) -> Result<Vec<String>, AllocError>
 }
 
 fn texts_of<'a>(alloc: Global, words: &'a [String]) -> Result<Vec<&'a str>, AllocError>
-    ensures { IfOk result (λ texts. map (λ text. text.now) texts.items ≡ map string_bytes words.entry.now) }
+    ensures { IfOk result
+        (λ texts. map (λ text. text.now) texts.items ≡ map string_bytes words.entry.now) }
 {
     let mut texts = Vec::new(alloc);
     for word in words {

@@ -6,7 +6,9 @@ use Rattle.tb_orders.specs.declared.ending.Ending.TheVariants.{Accepted, Refused
 
 -- `boards B tasks T faults F`
 abbrev pub audit_text : Audit → List ℕ
-audit_text audit = codes "boards " ++ (decimal audit.boards ++ (codes " tasks " ++ (decimal audit.tasks ++ (codes " faults " ++ decimal audit.faults))))
+audit_text audit =
+    codes "boards " ++ (decimal audit.boards
+    ++ (codes " tasks " ++ (decimal audit.tasks ++ (codes " faults " ++ decimal audit.faults))))
 
 abbrev pub audit_line : Audit → List ℕ
 audit_line audit = audit_text audit ++ 10 ∷ []

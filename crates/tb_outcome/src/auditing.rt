@@ -14,8 +14,10 @@ use tb_values::Text;
 
 /// Prints how many boards and tasks a file has, and how many boards differ from what their tasks say. One that differs is a refusal.
 pub fn print_audit<W: Write>(alloc: Global, audit: &Audit, writer: &mut W) -> Result<Ending, Fault>
-    ensures told { OnOk result (Appends (W.contents writer.old) (W.contents writer.new) (audit_line audit.now)) }
-    ensures front { OnErr result (AppendsFront (W.contents writer.old) (W.contents writer.new) (audit_line audit.now)) }
+    ensures told { OnOk result
+        (Appends (W.contents writer.old) (W.contents writer.new) (audit_line audit.now)) }
+    ensures front { OnErr result
+        (AppendsFront (W.contents writer.old) (W.contents writer.new) (audit_line audit.now)) }
     ensures ending { IfOk result (λ ending. ending ≡ ending_of_audit audit.now) }
     ensures fault { IfErr result (λ fault. is_of_printing fault ≡ true) }
 {

@@ -22,8 +22,10 @@ pub fn status_of(end: Result<Ending, Fault>) -> u8
 
 /// Tells a fault by its name, on a line after the program's.
 pub fn print_fault<W: Write>(fault: Fault, writer: &mut W) -> Result<(), Fault>
-    ensures whole { OnOk result (Appends (W.contents writer.old) (W.contents writer.new) (fault_line fault)) }
-    ensures front { OnErr result (AppendsFront (W.contents writer.old) (W.contents writer.new) (fault_line fault)) }
+    ensures whole { OnOk result
+        (Appends (W.contents writer.old) (W.contents writer.new) (fault_line fault)) }
+    ensures front { OnErr result
+        (AppendsFront (W.contents writer.old) (W.contents writer.new) (fault_line fault)) }
     ensures fault { IfErr result (λ fault. fault ≡ WriteFailed) }
 {
     match print_text(writer, "taskboard: ") {

@@ -18,9 +18,12 @@ has_stopped (Err Memory) = false
 -- From each state that was held, and alone was left by a stop: some calls were handled, and the desk stands where they
 -- lead. Where the store failed meanwhile, the last of them may have acted or not, and a stop leaves all that were
 -- answered, and one more at most.
-abbrev pub Follows : Bool → (State → Type 0) → (State → Type 0) → (State → Type 0) → (State → Type 0) → Type 0
+abbrev pub Follows : Bool → (State → Type 0) → (State → Type 0) → (State → Type 0)
+    → (State → Type 0) → Type 0
 Follows false old old_stops now stops =
-    (s : State) → old s → Only s old_stops → (calls : List Call) × StandsAt (after s calls) now stops
+    (s : State) → old s → Only s old_stops
+    → (calls : List Call) × StandsAt (after s calls) now stops
 Follows true old old_stops now stops =
     (s : State) → old s → Only s old_stops
-    → (calls : List Call) × (answered : ℕ) × (length calls ≤ answered + 1) × StandsAfter s calls answered now stops
+    → (calls : List Call) × (answered : ℕ) × (length calls ≤ answered + 1)
+    × StandsAfter s calls answered now stops

@@ -36,47 +36,59 @@ fault_of _ = None
 abbrev pub Comes : Site → Option ServeFault → State → turns.Happening (Option ℕ) → Talk → Talk
     → (State → Type 0) → (State → Type 0) → Type 0
 Comes site fault s done old new now stops =
-    (e : Event Timed) × Fits (server site) old done e × (fault_of e ≡ fault) × Moves (server site) s e old new
+    (e : Event Timed) × Fits (server site) old done e × (fault_of e ≡ fault)
+    × Moves (server site) s e old new
     × StandsAt (after_event (server site) s e) now stops
 
 -- The store failed on a message that was taken: its call may have acted, it is told of the failure, and the connection
 -- takes no more.
-abbrev pub Stops : Site → State → turns.Happening (Option ℕ) → Talk → Talk → (State → Type 0) → (State → Type 0) → Type 0
+abbrev pub Stops : Site → State → turns.Happening (Option ℕ) → Talk → Talk → (State → Type 0)
+    → (State → Type 0) → Type 0
 Stops site s done old new now stops =
-    (m : Timed) × (text : List ℕ) × (is_whole : Bool) × Fits (server_at site keep.Store) old done (failed m text is_whole)
-    × Moves (server_at site keep.Store) s (failed m text is_whole) old new × StandsAfter s (calls_at m) 0 now stops
+    (m : Timed) × (text : List ℕ) × (is_whole : Bool)
+    × Fits (server_at site keep.Store) old done (failed m text is_whole)
+    × Moves (server_at site keep.Store) s (failed m text is_whole) old new
+    × StandsAfter s (calls_at m) 0 now stops
 
 -- what came of one thing that was done to a connection
-abbrev pub HappensTo : {T : Type 0} → Site → Result T ServeFault → State → turns.Happening (Option ℕ) → Talk → Talk
+abbrev pub HappensTo : {T : Type 0} → Site → Result T ServeFault → State
+    → turns.Happening (Option ℕ) → Talk → Talk
     → (State → Type 0) → (State → Type 0) → Type 0
 HappensTo site (Ok x) s done old new now stops = Comes site None s done old new now stops
 HappensTo site (Err Store) s done old new now stops = Stops site s done old new now stops
-HappensTo site (Err Memory) s done old new now stops = Comes site (Some Memory) s done old new now stops
-HappensTo site (Err WriteFailed) s done old new now stops = Comes site (Some WriteFailed) s done old new now stops
+HappensTo site (Err Memory) s done old new now stops =
+    Comes site (Some Memory) s done old new now stops
+HappensTo site (Err WriteFailed) s done old new now stops =
+    Comes site (Some WriteFailed) s done old new now stops
 HappensTo site (Err ReadFailed) s done old new now stops = ⊥
 
 -- the same among all connections: those of other places stay as they were
-abbrev pub Happens : {T : Type 0} → Site → Result T ServeFault → State → ℕ → turns.Happening (Option ℕ)
+abbrev pub Happens : {T : Type 0} → Site → Result T ServeFault → State → ℕ
+    → turns.Happening (Option ℕ)
     → (ℕ → Talk) → (ℕ → Talk) → (State → Type 0) → (State → Type 0) → Type 0
 Happens site r s place done talks later now stops =
-    HappensTo site r s done (talks place) (later place) now stops × ((c : ℕ) → (place == c) ≡ false → later c ≡ talks c)
+    HappensTo site r s done (talks place) (later place) now stops
+    × ((c : ℕ) → (place == c) ≡ false → later c ≡ talks c)
 
 -- ---- one thing after the other
 
 -- what is done, at places that there are
 abbrev pub done_at : ℕ → List (ℕ × Happening) → List (ℕ × turns.Happening (Option ℕ))
 done_at count [] = []
-done_at count (h ∷ hs) = if nat_lt h.0 count then (h.0, done_of h.1) ∷ done_at count hs else done_at count hs
+done_at count (h ∷ hs) = if nat_lt h.0 count then (h.0, done_of h.1) ∷ done_at count hs
+    else done_at count hs
 
 -- A run of the server was made of these things that were done, and the desk stands at its end.
 abbrev pub Plays : Site → State → List (ℕ × turns.Happening (Option ℕ)) → (ℕ → Talk) → (ℕ → Talk)
     → (State → Type 0) → (State → Type 0) → Type 0
 Plays site s done talks later now stops =
-    (ks : List (Step (Option ℕ) Timed)) × (end : State) × (done_in ks ≡ done) × Run (server site) s talks ks end later
+    (ks : List (Step (Option ℕ) Timed)) × (end : State) × (done_in ks ≡ done)
+    × Run (server site) s talks ks end later
     × StandsAt end now stops
 
 -- The same up to one of them, on which the store failed.
-pub record IsStopped (site : Site) (s : State) (done : List (ℕ × turns.Happening (Option ℕ))) (talks later : ℕ → Talk)
+pub record IsStopped (site : Site) (s : State) (done : List (ℕ × turns.Happening (Option ℕ)))
+    (talks later : ℕ → Talk)
     (now stops : State → Type 0) : Type 0 where
   pub ks : List (Step (Option ℕ) Timed)
   pub end : State

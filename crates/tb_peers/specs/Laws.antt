@@ -15,9 +15,11 @@ use Rattle.tb_turns.specs.Served.{AllAt, AllWell, IsSame, IsServed, handled, tak
 -- was handed is a front of its answers, in their order. All this is said up to where another is opened in its place.
 abbrev pub AnyTurns : Type 0
 AnyTurns =
-    (site : Site) (s : State) (talks : ℕ → Talk) (ks : List (Step (Option ℕ) Timed)) (end : State) (later : ℕ → Talk)
+    (site : Site) (s : State) (talks : ℕ → Talk) (ks : List (Step (Option ℕ) Timed)) (end : State)
+    (later : ℕ → Talk)
     → Run (server site) s talks ks end later
-    → (end ≡ after s (calls_among (handled ks))) × ((c : ℕ) → IsSame c ks → IsServed (server site) c s (talks c) ks (later c))
+    → (end ≡ after s (calls_among (handled ks)))
+    × ((c : ℕ) → IsSame c ks → IsServed (server site) c s (talks c) ks (later c))
 
 abbrev pub moments_of : List Timed → List (Option ℕ)
 moments_of [] = []
@@ -30,5 +32,7 @@ received_of (m ∷ ms) = m.received ∷ received_of ms
 -- where all is of one connection, and goes well, it is told what one that is served alone is told
 abbrev pub OneAlone : Type 0
 OneAlone =
-    (site : Site) (c : ℕ) (s : State) (before : ℕ) (ks : List (Step (Option ℕ) Timed)) → AllAt c ks → AllWell ks
-    → told_on (server site) c s before ks ≡ answers site s (moments_of (taken_on c ks)) before (received_of (taken_on c ks))
+    (site : Site) (c : ℕ) (s : State) (before : ℕ) (ks : List (Step (Option ℕ) Timed)) → AllAt c ks
+    → AllWell ks
+    → told_on (server site) c s before ks
+    ≡ answers site s (moments_of (taken_on c ks)) before (received_of (taken_on c ks))

@@ -33,13 +33,16 @@ fn exchange_next<K: Keep>(
         × (inbox.new ≡ inbox.old) × (out.new.items ≡ out.old.items) × (desk.new ≡ desk.old)) }
     ensures exchanges { K.is_honest desk.new ≡ true → (s : State) → K.holds desk.old s
         → Only s (K.after_stop desk.old) → IfSome result (λ exchange.
-        Exchanges paths.now.site s (at ∷ []) inbox.old.messages inbox.old.bytes (Some out.old.items) (Some out.new.items) exchange
+        Exchanges paths.now.site s (at ∷ []) inbox.old.messages inbox.old.bytes (Some out.old.items)
+        (Some out.new.items) exchange
         (K.holds desk.new) (K.after_stop desk.new) (Some inbox.new.bytes) inbox.new.is_closing) }
     ensures follows { IfSome result (λ exchange.
         Follows (has_stopped (exchanging.outcome exchange.turn exchange.is_whole))
         (K.holds desk.old) (K.after_stop desk.old) (K.holds desk.new) (K.after_stop desk.new)) }
-    ensures refused { IfSome result (λ exchange. (fault : WireFault) → exchange.turn ≡ Turn.Unread fault
-        → HasFault inbox.old.bytes fault × (inbox.new.bytes ≡ inbox.old.bytes) × (inbox.new.is_closing ≡ true)) }
+    ensures refused { IfSome result
+        (λ exchange. (fault : WireFault) → exchange.turn ≡ Turn.Unread fault
+        → HasFault inbox.old.bytes fault × (inbox.new.bytes ≡ inbox.old.bytes)
+        × (inbox.new.is_closing ≡ true)) }
     ensures counted { IfSome result (λ exchange.
         inbox.new.messages ≡ inbox.old.messages + reads_one exchange.turn) }
     ensures honest { K.is_honest desk.new ≡ true → K.is_honest desk.old ≡ true }
@@ -99,8 +102,10 @@ pub(crate) fn answer_whole<K: Keep>(
     ensures follows { IfSome result (λ exchange.
         Follows (has_stopped (exchanging.outcome exchange.turn exchange.is_whole))
         (K.holds desk.old) (K.after_stop desk.old) (K.holds desk.new) (K.after_stop desk.new)) }
-    ensures refused { IfSome result (λ exchange. (fault : WireFault) → exchange.turn ≡ Turn.Unread fault
-        → HasFault inbox.old.bytes fault × (inbox.new.bytes ≡ inbox.old.bytes) × (inbox.new.is_closing ≡ true)) }
+    ensures refused { IfSome result
+        (λ exchange. (fault : WireFault) → exchange.turn ≡ Turn.Unread fault
+        → HasFault inbox.old.bytes fault × (inbox.new.bytes ≡ inbox.old.bytes)
+        × (inbox.new.is_closing ≡ true)) }
     ensures counted { IfSome result (λ exchange.
         inbox.new.messages ≡ inbox.old.messages + reads_one exchange.turn) }
     ensures honest { K.is_honest desk.new ≡ true → K.is_honest desk.old ≡ true }

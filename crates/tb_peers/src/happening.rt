@@ -37,8 +37,10 @@ fn open<K: Keep>(alloc: Global, peer: &mut Peer, desk: &Desk<K>)
 }
 
 fn come<K: Keep>(peer: &mut Peer, desk: &Desk<K>, piece: &[u8]) -> Result<(), ServeFault>
-    ensures happens { (site : Site) → (s : State) → K.holds desk.now s → Only s (K.after_stop desk.now)
-        → HappensTo site result s (comes piece.now) peer.old peer.new (K.holds desk.now) (K.after_stop desk.now) }
+    ensures happens { (site : Site) → (s : State) → K.holds desk.now s
+        → Only s (K.after_stop desk.now)
+        → HappensTo site result s (comes piece.now) peer.old peer.new (K.holds desk.now)
+        (K.after_stop desk.now) }
     ensures memory { IfErr result (λ fault. fault ≡ ServeFault.Memory) }
 {
     match peer.take(piece) {
@@ -49,7 +51,8 @@ fn come<K: Keep>(peer: &mut Peer, desk: &Desk<K>, piece: &[u8]) -> Result<(), Se
 
 fn go<K: Keep>(alloc: Global, peer: &mut Peer, desk: &Desk<K>, count: usize)
     ensures { (site : Site) → (s : State) → K.holds desk.now s → Only s (K.after_stop desk.now)
-        → Comes site None s (goes count) peer.old peer.new (K.holds desk.now) (K.after_stop desk.now) }
+        → Comes site None s (goes count) peer.old peer.new (K.holds desk.now)
+        (K.after_stop desk.now) }
 {
     peer.mark_sent(alloc, count);
 }
@@ -65,7 +68,8 @@ fn happen_to<K: Keep>(
 ) -> Result<(), ServeFault>
     ensures happens { K.is_honest desk.new ≡ true → (s : State) → K.holds desk.old s
         → Only s (K.after_stop desk.old)
-        → HappensTo paths.now.site result s (done_of happening.now) peer.old peer.new (K.holds desk.new) (K.after_stop desk.new) }
+        → HappensTo paths.now.site result s (done_of happening.now) peer.old peer.new
+        (K.holds desk.new) (K.after_stop desk.new) }
     ensures follows { Follows (has_stopped result) (K.holds desk.old) (K.after_stop desk.old)
         (K.holds desk.new) (K.after_stop desk.new) }
     ensures honest { K.is_honest desk.new ≡ true → K.is_honest desk.old ≡ true }
@@ -100,7 +104,8 @@ pub fn happen<K: Keep>(
     requires { place < length peers.old }
     ensures happens { K.is_honest desk.new ≡ true → (s : State) → K.holds desk.old s
         → Only s (K.after_stop desk.old)
-        → Happens paths.now.site result s place (done_of happening.now) (talk_at peers.old) (talk_at peers.new)
+        → Happens paths.now.site result s place (done_of happening.now) (talk_at peers.old)
+        (talk_at peers.new)
         (K.holds desk.new) (K.after_stop desk.new) }
     ensures follows { Follows (has_stopped result) (K.holds desk.old) (K.after_stop desk.old)
         (K.holds desk.new) (K.after_stop desk.new) }

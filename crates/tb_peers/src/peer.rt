@@ -32,7 +32,6 @@ pub struct Peer {
 }
 
 impl Model for Peer {
-
     ghost Value = { Talk };
 
     ghost view = { λ p. record {
@@ -42,7 +41,8 @@ impl Model for Peer {
       out = drop p.sent p.out.items;
     } };
 
-    ghost invariant = { λ p. (p.sent ≤ length p.out.items) × (p.is_closing ≡ false → p.inbox.is_closing ≡ false) };
+    ghost invariant = { λ p. (p.sent ≤ length p.out.items)
+        × (p.is_closing ≡ false → p.inbox.is_closing ≡ false) };
 }
 
 // Lets go of the bytes at the front.
@@ -125,7 +125,8 @@ impl Peer {
 
     // Takes bytes that came.
     pub(crate) fn take(&mut self, piece: &[u8]) -> Result<(), AllocError>
-        ensures ok { OnOk result (self.new ≡ record self.old { bytes = self.old.bytes ++ piece.now }) }
+        ensures ok { OnOk result
+            (self.new ≡ record self.old { bytes = self.old.bytes ++ piece.now }) }
         ensures err { OnErr result (self.new ≡ record self.old { is_closing = true }) }
     {
         match self.inbox.push(piece) {
@@ -156,7 +157,8 @@ impl Peer {
     ) -> Result<(), ServeFault>
         ensures happens { K.is_honest desk.new ≡ true → (s : State) → K.holds desk.old s
             → Only s (K.after_stop desk.old)
-            → HappensTo paths.now.site result s (turns at) self.old self.new (K.holds desk.new) (K.after_stop desk.new) }
+            → HappensTo paths.now.site result s (turns at) self.old self.new (K.holds desk.new)
+            (K.after_stop desk.new) }
         ensures follows { Follows (has_stopped result) (K.holds desk.old) (K.after_stop desk.old)
             (K.holds desk.new) (K.after_stop desk.new) }
         ensures honest { K.is_honest desk.new ≡ true → K.is_honest desk.old ≡ true }

@@ -24,11 +24,13 @@ fn play_one<K: Keep>(
 ) -> Result<(), ServeFault>
     ensures plays { K.is_honest desk.new ≡ true → (s : State) → K.holds desk.old s
         → Only s (K.after_stop desk.old)
-        → OnOk result (Plays paths.now.site s (done_at (length peers.old) (entry.now ∷ [])) (talk_at peers.old) (talk_at peers.new)
+        → OnOk result (Plays paths.now.site s (done_at (length peers.old) (entry.now ∷ []))
+        (talk_at peers.old) (talk_at peers.new)
         (K.holds desk.new) (K.after_stop desk.new)) }
     ensures stopped { K.is_honest desk.new ≡ true → (s : State) → K.holds desk.old s
         → Only s (K.after_stop desk.old)
-        → OnErr result (IsStopped paths.now.site s (done_at (length peers.old) (entry.now ∷ [])) (talk_at peers.old) (talk_at peers.new)
+        → OnErr result (IsStopped paths.now.site s (done_at (length peers.old) (entry.now ∷ []))
+        (talk_at peers.old) (talk_at peers.new)
         (K.holds desk.new) (K.after_stop desk.new)) }
     ensures fault { IfErr result (λ fault. fault ≡ ServeFault.Store) }
     ensures honest { K.is_honest desk.new ≡ true → K.is_honest desk.old ≡ true }
@@ -58,11 +60,13 @@ pub fn play<K: Keep>(
 ) -> Result<(), ServeFault>
     ensures plays { K.is_honest desk.new ≡ true → (s : State) → K.holds desk.old s
         → Only s (K.after_stop desk.old)
-        → OnOk result (Plays paths.now.site s (done_at (length peers.old) happenings.now) (talk_at peers.old) (talk_at peers.new)
+        → OnOk result (Plays paths.now.site s (done_at (length peers.old) happenings.now)
+        (talk_at peers.old) (talk_at peers.new)
         (K.holds desk.new) (K.after_stop desk.new)) }
     ensures stopped { K.is_honest desk.new ≡ true → (s : State) → K.holds desk.old s
         → Only s (K.after_stop desk.old)
-        → OnErr result (IsStopped paths.now.site s (done_at (length peers.old) happenings.now) (talk_at peers.old) (talk_at peers.new)
+        → OnErr result (IsStopped paths.now.site s (done_at (length peers.old) happenings.now)
+        (talk_at peers.old) (talk_at peers.new)
         (K.holds desk.new) (K.after_stop desk.new)) }
     ensures fault { IfErr result (λ fault. fault ≡ ServeFault.Store) }
     ensures honest { K.is_honest desk.new ≡ true → K.is_honest desk.old ≡ true }

@@ -11,7 +11,8 @@ use tb_values::write_whole;
 /// Prints a text as it is. Where the writer fails, a front of the text is out.
 pub fn print_text<W: Write>(writer: &mut W, text: &str) -> Result<(), Fault>
     ensures whole { OnOk result (Appends (W.contents writer.old) (W.contents writer.new) text.now) }
-    ensures front { OnErr result (AppendsFront (W.contents writer.old) (W.contents writer.new) text.now) }
+    ensures front { OnErr result
+        (AppendsFront (W.contents writer.old) (W.contents writer.new) text.now) }
     ensures fault { IfErr result (λ fault. fault ≡ WriteFailed) }
 {
     match write_whole(writer, text.as_bytes()) {
@@ -22,8 +23,10 @@ pub fn print_text<W: Write>(writer: &mut W, text: &str) -> Result<(), Fault>
 
 /// Prints a text and a line feed.
 pub fn print_line<W: Write>(writer: &mut W, text: &str) -> Result<(), Fault>
-    ensures whole { OnOk result (Appends (W.contents writer.old) (W.contents writer.new) (text.now ++ 10 ∷ [])) }
-    ensures front { OnErr result (AppendsFront (W.contents writer.old) (W.contents writer.new) (text.now ++ 10 ∷ [])) }
+    ensures whole { OnOk result
+        (Appends (W.contents writer.old) (W.contents writer.new) (text.now ++ 10 ∷ [])) }
+    ensures front { OnErr result
+        (AppendsFront (W.contents writer.old) (W.contents writer.new) (text.now ++ 10 ∷ [])) }
     ensures fault { IfErr result (λ fault. fault ≡ WriteFailed) }
 {
     match print_text(writer, text) {

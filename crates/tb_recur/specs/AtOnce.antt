@@ -16,11 +16,13 @@ wanted_at_once p k m = is_inside p.until (due p.due p.step k) && has_begun_at_on
 -- the first from k on that isn't wanted, in so many steps
 abbrev pub first_unwanted_at_once : Plan → ℕ → ℕ → ℕ → ℕ
 first_unwanted_at_once p m k zero = k
-first_unwanted_at_once p m k (suc steps) = if wanted_at_once p k m then first_unwanted_at_once p m (k + 1) steps else k
+first_unwanted_at_once p m k (suc steps) = if wanted_at_once p k m
+    then first_unwanted_at_once p m (k + 1) steps else k
 
 -- the least that isn't wanted
 unfoldable pub need_at_once : Plan → ℕ → ℕ
 need_at_once p m = first_unwanted_at_once p m 0 2932898
 
 abbrev pub OneAheadIsAtOnce : Type 0
-OneAheadIsAtOnce = (p : Plan) (m : ℕ) → ((k : ℕ) → wanted p 1 k m ≡ wanted_at_once p k m) × (need p 1 m ≡ need_at_once p m)
+OneAheadIsAtOnce = (p : Plan) (m : ℕ)
+    → ((k : ℕ) → wanted p 1 k m ≡ wanted_at_once p k m) × (need p 1 m ≡ need_at_once p m)

@@ -29,7 +29,8 @@ wanted p ahead k m = is_inside p.until (due p.due p.step k) && has_begun p ahead
 -- the first from k on that isn't wanted, in so many steps
 abbrev pub first_unwanted : Plan → ℕ → ℕ → ℕ → ℕ → ℕ
 first_unwanted p ahead m k zero = k
-first_unwanted p ahead m k (suc steps) = if wanted p ahead k m then first_unwanted p ahead m (k + 1) steps else k
+first_unwanted p ahead m k (suc steps) = if wanted p ahead k m
+    then first_unwanted p ahead m (k + 1) steps else k
 
 -- the least that isn't wanted; the years up to 9999 have fewer days than steps are taken
 unfoldable pub need : Plan → ℕ → ℕ → ℕ

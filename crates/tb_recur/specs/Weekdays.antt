@@ -34,4 +34,5 @@ nth_weekday day (suc k) = next_weekday (nth_weekday day k)
 
 -- the k-th weekday is the day up to which exactly k weekdays lie after the first
 abbrev pub IsNthWeekday : Type 0
-IsNthWeekday = (day k later : ℕ) → 1 ≤ k → (IsWeekdayAfter day k later → later ≡ nth_weekday day k) × IsWeekdayAfter day k (nth_weekday day k)
+IsNthWeekday = (day k later : ℕ) → 1 ≤ k → (IsWeekdayAfter day k later → later ≡ nth_weekday day k)
+    × IsWeekdayAfter day k (nth_weekday day k)

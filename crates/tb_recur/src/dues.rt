@@ -32,7 +32,8 @@ fn moment_on(day: u64, second: u64) -> Option<Moment>
 /// The day k steps after a moment's, or `None` where it is past the year 9999.
 #[tactic(auto, unfolding(crate::specs::Due::day_after))]
 fn steps_later(start: Moment, step: Step, k: u32) -> Option<u64>
-    ensures { MatchOption result (2932896 < day_after (start / 86400) step k) (λ day. day ≡ day_after (start / 86400) step k) }
+    ensures { MatchOption result (2932896 < day_after (start / 86400) step k)
+        (λ day. day ≡ day_after (start / 86400) step k) }
 {
     match step {
         Step::Days(days) => Some(start.seconds() / DAY + days as u64 * k as u64),

@@ -12,7 +12,9 @@ const LAST_MONTH: u64 = 119999;
 /// The number of the day so many months after a moment's, or `None` where its month is past the year 9999.
 pub(crate) fn months_after(start: Moment, months: u64) -> Option<u64>
     requires { months < 2 ^ 64 - 2 ^ 32 }
-    ensures { MatchOption result (2932896 < day_number (months_later (date_of (start / 86400)) months)) (λ day. day ≡ day_number (months_later (date_of (start / 86400)) months)) }
+    ensures { MatchOption result
+        (2932896 < day_number (months_later (date_of (start / 86400)) months))
+        (λ day. day ≡ day_number (months_later (date_of (start / 86400)) months)) }
 {
     let parts = parts_of(start);
     let later = parts.year as u64 * 12 + (parts.month as u64 - 1) + months;

@@ -41,7 +41,8 @@ person_at number row = if row.id == number then person_of row else Err NotRows
 -- the people of rows, after those found
 abbrev pub people_in : List Person → List PersonRow → Result (List Person) ReopenFault
 people_in found [] = Ok found
-people_in found (row ∷ rows) = person_at (length found + 1) row >>= λ person. people_in (found ++ person ∷ []) rows
+people_in found (row ∷ rows) =
+    person_at (length found + 1) row >>= λ person. people_in (found ++ person ∷ []) rows
 
 -- ---- tasks, which stand at the places from 1
 
@@ -62,7 +63,8 @@ task_at place row = if row.place == place then task_of row else Err NotRows
 -- the tasks of rows, after those found
 abbrev pub tasks_in : List Task → List TaskRow → Result (List Task) ReopenFault
 tasks_in found [] = Ok found
-tasks_in found (row ∷ rows) = task_at (length found + 1) row >>= λ t. tasks_in (found ++ t ∷ []) rows
+tasks_in found (row ∷ rows) =
+    task_at (length found + 1) row >>= λ t. tasks_in (found ++ t ∷ []) rows
 
 -- ---- places that are gone, of templates at their places
 
@@ -94,7 +96,8 @@ abbrev pub ahead_of : Option HorizonRow → Result ℕ ReopenFault
 ahead_of None = Err NotRows
 ahead_of (Some row) = readable (read_ahead row.ahead)
 
-abbrev pub board_of : BoardRow → Option HorizonRow → List TaskRow → List GoneRow → Result Board ReopenFault
+abbrev pub board_of : BoardRow → Option HorizonRow → List TaskRow → List GoneRow
+    → Result Board ReopenFault
 board_of row horizon task_rows gone_rows = do
   title ← readable (read_title row.title)
   ahead ← ahead_of horizon
@@ -113,19 +116,23 @@ abbrev pub horizon_on : ℕ → List HorizonRow → Option HorizonRow
 horizon_on n rows = slice_get (filter (is_horizon n) rows) 0
 
 -- the boards of rows, after those found
-abbrev pub boards_in : List HorizonRow → List TaskRow → List GoneRow → List Board → List BoardRow → Result (List Board) ReopenFault
+abbrev pub boards_in : List HorizonRow → List TaskRow → List GoneRow → List Board → List BoardRow
+    → Result (List Board) ReopenFault
 boards_in horizons tasks gone found [] = Ok found
 boards_in horizons tasks gone found (row ∷ rows) =
-    board_of row (horizon_on row.id horizons) (filter (is_task_on row.id) tasks) (filter (is_gone_on row.id) gone) >>= λ b. boards_in horizons tasks gone (found ++ b ∷ []) rows
+    board_of row (horizon_on row.id horizons) (filter (is_task_on row.id) tasks)
+    (filter (is_gone_on row.id) gone) >>= λ b. boards_in horizons tasks gone (found ++ b ∷ []) rows
 
 -- ---- roles
 
 -- 1 is owner, 2 is member, 3 is reader
 abbrev pub role_of_kind : ℕ → Result Role ReopenFault
-role_of_kind kind = if kind == 1 then Ok Owner else if kind == 2 then Ok Member else if kind == 3 then Ok Reader else Err NotRows
+role_of_kind kind = if kind == 1 then Ok Owner else if kind == 2 then Ok Member else if kind == 3
+    then Ok Reader else Err NotRows
 
 abbrev pub role_of : RoleRow → Result RoleOn ReopenFault
-role_of row = role_of_kind row.kind >>= λ role. Ok (record { board = row.board; person = row.person; role = role })
+role_of row = role_of_kind row.kind >>= λ role. Ok
+    (record { board = row.board; person = row.person; role = role })
 
 -- the roles of rows, after those found
 abbrev pub roles_in : List RoleOn → List RoleRow → Result (List RoleOn) ReopenFault

@@ -85,11 +85,14 @@ with_field (Some field) members = object (member (codes "field") (string field) 
 abbrev pub with_place : Option ℕ → Option (List ℕ) → Members → Data
 with_place None field members = with_field field members
 with_place (Some at) None members = object members
-with_place (Some at) (Some field) members = object (member (codes "at") (number (unsigned at)) (member (codes "field") (string field) members))
+with_place (Some at) (Some field) members =
+    object (member (codes "at") (number (unsigned at))
+    (member (codes "field") (string field) members))
 
 abbrev pub refusal_body : Refusal → Data
 refusal_body r = with_place (refused_place r) (refused_field r)
-    (member (codes "name") (string (refusal_name r)) (member (codes "refused") (number (unsigned (number_of r))) no_members))
+    (member (codes "name") (string (refusal_name r))
+    (member (codes "refused") (number (unsigned (number_of r))) no_members))
 
 unfoldable pub added_body : BoardAnswer → List ℕ → ℕ → Data
 added_body a uuid dropped = object

@@ -9,4 +9,9 @@ use Rattle.tb_reply.specs.Bodies.{answer_body, refusal_body}
 
 unfoldable pub reply_of : Result Answer Refusal → Reply
 reply_of (Ok answer) = record { number = 0; status = 200; body = compact_text (answer_body answer) }
-reply_of (Err refusal) = record { number = number_of refusal; status = status_of refusal; body = compact_text (refusal_body refusal) }
+reply_of (Err refusal) =
+    record {
+      number = number_of refusal;
+      status = status_of refusal;
+      body = compact_text (refusal_body refusal);
+    }

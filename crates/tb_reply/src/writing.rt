@@ -36,7 +36,12 @@ pub fn reply_to_refused(alloc: Global, refusal: Refusal) -> Result<Reply, AllocE
 
 fn write_reply(alloc: Global, number: u8, status: u16, body: &Value) -> Result<Reply, AllocError>
     requires { has_float (view body.now) ≡ false }
-    ensures { IfOk result (λ reply. reply ≡ record { number = number; status = status; body = compact_text (view body.now) }) }
+    ensures { IfOk result
+        (λ reply. reply ≡ record {
+          number = number;
+          status = status;
+          body = compact_text (view body.now);
+        }) }
 {
     let body = Text::from_string(body.to_string(alloc)?);
     Ok(Reply {

@@ -26,7 +26,8 @@ pub record Waits : Type 0 where
   pub blocking : List Bool
 
 abbrev pub rank : Waits → ℕ → ℕ → Task → Rank
-rank w m place t = (record { 0 = urgency_of (is_marked w.blocked place) (is_marked w.blocking place) m t }, place)
+rank w m place t =
+    (record { 0 = urgency_of (is_marked w.blocked place) (is_marked w.blocking place) m t }, place)
 
 -- the rank of a task, if it is listed
 abbrev pub rank_if_listed : Waits → ℕ → ℕ → Task → List Rank
@@ -42,14 +43,16 @@ header = codes "place  urgency flg due              project      description\n"
 
 -- W waiting, * started, b blocked, k blocking
 abbrev pub standing_flag : Task → List ℕ
-standing_flag t = if is_waiting_now t.status then codes "W" else if is_some t.start then codes "*" else codes "-"
+standing_flag t = if is_waiting_now t.status then codes "W" else if is_some t.start then codes "*"
+    else codes "-"
 
 abbrev pub flag : Bool → List ℕ → List ℕ
 flag true letter = letter
 flag false letter = codes "-"
 
 abbrev pub flags : Bool → Bool → Task → List ℕ
-flags is_blocked is_blocking t = standing_flag t ++ (flag is_blocked (codes "b") ++ flag is_blocking (codes "k"))
+flags is_blocked is_blocking t =
+    standing_flag t ++ (flag is_blocked (codes "b") ++ flag is_blocking (codes "k"))
 
 abbrev pub due_text : Option ℕ → List ℕ
 due_text None = codes "-"
@@ -63,7 +66,8 @@ project_text (Some project) = shown_text project
 abbrev pub line : Waits → Rank → Option Task → List ℕ
 line w r None = []
 line w r (Some t) =
-    row_text (r.1 + 1) r.0.0 (flags (is_marked w.blocked r.1) (is_marked w.blocking r.1) t) (due_text t.due) (project_text t.project) (shown_text t.description)
+    row_text (r.1 + 1) r.0.0 (flags (is_marked w.blocked r.1) (is_marked w.blocking r.1) t)
+    (due_text t.due) (project_text t.project) (shown_text t.description)
 
 abbrev pub lines : Waits → List Task → List Rank → List ℕ
 lines w tasks [] = []

@@ -26,7 +26,8 @@ is_negative (negsuc n) = true
 abbrev pub urgency_text : ℤ → List ℕ
 urgency_text z =
     let n = unsigned_abs z in
-    (if is_negative z && nat_le unit (n * 1000) then 45 ∷ [] else []) ++ (decimal (n / unit) ++ 46 ∷ three_digits (n % unit * 1000 / unit))
+    (if is_negative z && nat_le unit (n * 1000) then 45 ∷ [] else [])
+    ++ (decimal (n / unit) ++ 46 ∷ three_digits (n % unit * 1000 / unit))
 
 -- a control character is shown as a space
 abbrev pub shown_char : ℕ → ℕ
@@ -38,4 +39,6 @@ shown_text text = encode_utf8_all (map shown_char (chars text))
 -- place, urgency, flags, due, project and description
 abbrev pub row_text : ℕ → ℤ → List ℕ → List ℕ → List ℕ → List ℕ → List ℕ
 row_text place urgency flags due project description =
-    right 5 (decimal place) ++ 32 ∷ (right 8 (urgency_text urgency) ++ 32 ∷ (flags ++ 32 ∷ (left 16 due ++ 32 ∷ (left 12 project ++ 32 ∷ (description ++ 10 ∷ [])))))
+    right 5 (decimal place) ++ 32
+    ∷ (right 8 (urgency_text urgency) ++ 32
+    ∷ (flags ++ 32 ∷ (left 16 due ++ 32 ∷ (left 12 project ++ 32 ∷ (description ++ 10 ∷ [])))))

@@ -52,7 +52,8 @@ age_parts m entry = min (2 * unit) (7 * (m - entry))
 
 -- of annotations, and of tags: 0.8 units for one, 0.9 for two, 1 for more
 abbrev pub count_parts : ℕ → ℕ
-count_parts n = if nat_lt n 1 then 0 else if nat_lt n 2 then 88300800 else if nat_lt n 3 then 99338400 else unit
+count_parts n = if nat_lt n 1 then 0 else if nat_lt n 2 then 88300800 else if nat_lt n 3
+    then 99338400 else unit
 
 abbrev pub is_waiting_now : Status → Bool
 is_waiting_now Pending = false
@@ -77,12 +78,15 @@ own_parts m t =
 -- the sum of all terms, of a task that is blocked or blocking or not
 unfoldable pub urgency_of : Bool → Bool → ℕ → Task → ℤ
 urgency_of blocked blocking m t =
-    pos (own_parts m t + parts_if blocking (8 * unit)) -ℤ pos (parts_if (is_waiting_now t.status) (3 * unit) + parts_if blocked (5 * unit))
+    pos (own_parts m t + parts_if blocking (8 * unit)) -ℤ pos
+    (parts_if (is_waiting_now t.status) (3 * unit) + parts_if blocked (5 * unit))
 
 -- that of a task of a board that is awake, by its place from 0
 abbrev pub urgency_awake : Board → ℕ → ℕ → Task → ℤ
-urgency_awake b m place t = urgency_of (is_marked (blocked b) place) (is_marked (blocking b) place) m t
+urgency_awake b m place t =
+    urgency_of (is_marked (blocked b) place) (is_marked (blocking b) place) m t
 
 -- that of the task of the woken board at a place, counted from 1
 abbrev pub urgency_at : Board → ℕ → ℕ → Option ℤ
-urgency_at b m place = option_map (urgency_awake (wake b m) m (place - 1)) (slice_get (wake b m).tasks (place - 1))
+urgency_at b m place =
+    option_map (urgency_awake (wake b m) m (place - 1)) (slice_get (wake b m).tasks (place - 1))

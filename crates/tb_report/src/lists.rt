@@ -29,7 +29,9 @@ pub fn list_tasks(
     marked: &Marked,
     at: Moment,
 ) -> Result<Text, AllocError>
-    ensures { IfOk result (λ text. text ≡ tasks_listed (waits_in marked.now.blocked.items marked.now.blocking.items) tasks.now at) }
+    ensures { IfOk result
+        (λ text. text ≡ tasks_listed
+        (waits_in marked.now.blocked.items marked.now.blocking.items) tasks.now at) }
 {
     let ranks = in_order(ranks_of(alloc, tasks, marked, at)?)?;
     let mut text = with_header(alloc)?;
@@ -50,7 +52,9 @@ fn ranks_of(
     marked: &Marked,
     at: Moment,
 ) -> Result<Vec<Rank>, AllocError>
-    ensures { IfOk result (λ ranks. ranks.items ≡ ranks_from (waits_in marked.now.blocked.items marked.now.blocking.items) at 0 tasks.now) }
+    ensures { IfOk result
+        (λ ranks. ranks.items
+        ≡ ranks_from (waits_in marked.now.blocked.items marked.now.blocking.items) at 0 tasks.now) }
 {
     let mut ranks = Vec::new(alloc);
     for (place, task) in tasks.iter().enumerate() {
@@ -66,7 +70,11 @@ fn add_rank(
     place: usize,
     at: Moment,
 ) -> Result<(), AllocError>
-    ensures { OnOk result (ranks.new.items ≡ ranks.old.items ++ rank_if_listed (waits_in marked.now.blocked.items marked.now.blocking.items) at place task.now) }
+    ensures { OnOk result
+        (ranks.new.items
+        ≡ ranks.old.items
+        ++ rank_if_listed
+        (waits_in marked.now.blocked.items marked.now.blocking.items) at place task.now) }
 {
     if is_listed(task.status) {
         ranks.push(rank_of(task, marked, place, at))?;
@@ -81,7 +89,8 @@ fn is_listed(status: Status) -> bool
 }
 
 fn rank_of(task: &Task, marked: &Marked, place: usize, at: Moment) -> Rank
-    ensures { result ≡ rank (waits_in marked.now.blocked.items marked.now.blocking.items) at place task.now }
+    ensures { result
+        ≡ rank (waits_in marked.now.blocked.items marked.now.blocking.items) at place task.now }
 {
     let is_blocked = mark_at(marked.blocked.as_slice(), place);
     let is_blocking = mark_at(marked.blocking.as_slice(), place);
@@ -98,7 +107,11 @@ fn push_lines(
     marked: &Marked,
     ranks: &[Rank],
 ) -> Result<(), AllocError>
-    ensures { OnOk result (string_bytes text.new ≡ string_bytes text.old ++ lines (waits_in marked.now.blocked.items marked.now.blocking.items) tasks.now ranks.now) }
+    ensures { OnOk result
+        (string_bytes text.new
+        ≡ string_bytes text.old
+        ++ lines (waits_in marked.now.blocked.items marked.now.blocking.items) tasks.now
+        ranks.now) }
 {
     for rank in ranks {
         push_line(alloc, text, tasks, marked, *rank)?;
@@ -113,7 +126,11 @@ fn push_line(
     marked: &Marked,
     rank: Rank,
 ) -> Result<(), AllocError>
-    ensures { OnOk result (string_bytes text.new ≡ string_bytes text.old ++ line (waits_in marked.now.blocked.items marked.now.blocking.items) rank (slice_get tasks.now rank.1)) }
+    ensures { OnOk result
+        (string_bytes text.new
+        ≡ string_bytes text.old
+        ++ line (waits_in marked.now.blocked.items marked.now.blocking.items) rank
+        (slice_get tasks.now rank.1)) }
 {
     let Some(task) = tasks.get(rank.1) else {
         return Ok(());
@@ -129,7 +146,11 @@ fn push_task(
     rank: Rank,
 ) -> Result<(), AllocError>
     requires { rank.1 + 1 < 2 ^ 64 }
-    ensures { OnOk result (string_bytes text.new ≡ string_bytes text.old ++ line (waits_in marked.now.blocked.items marked.now.blocking.items) rank (Some task.now)) }
+    ensures { OnOk result
+        (string_bytes text.new
+        ≡ string_bytes text.old
+        ++ line (waits_in marked.now.blocked.items marked.now.blocking.items) rank
+        (Some task.now)) }
 {
     let is_blocked = mark_at(marked.blocked.as_slice(), rank.1);
     let is_blocking = mark_at(marked.blocking.as_slice(), rank.1);

@@ -22,7 +22,8 @@ pub struct Row<'a> {
 /// Adds the line of a row.
 pub fn push_row(alloc: Global, listing: &mut String, row: &Row<'_>) -> Result<(), AllocError>
     ensures { OnOk result (string_bytes listing.new ≡ string_bytes listing.old
-        ++ row_text row.now.place row.now.urgency row.now.flags.now row.now.due.now row.now.project.now row.now.description.now) }
+        ++ row_text row.now.place row.now.urgency row.now.flags.now row.now.due.now
+        row.now.project.now row.now.description.now) }
 {
     let place = row.place;
     let urgency = decimals(alloc, row.urgency)?;
@@ -58,7 +59,8 @@ fn shows_sign(urgency: i64, size: u64) -> bool
 }
 
 fn sign_of(urgency: i64, size: u64) -> &'static str
-    ensures { result.now ≡ (if is_negative urgency && nat_le unit (size * 1000) then 45 ∷ [] else []) }
+    ensures { result.now
+        ≡ (if is_negative urgency && nat_le unit (size * 1000) then 45 ∷ [] else []) }
 {
     if shows_sign(urgency, size) { "-" } else { "" }
 }

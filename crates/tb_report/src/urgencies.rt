@@ -53,7 +53,9 @@ fn is_still_waiting(task: &Task, at: Moment) -> bool
 /// What a task gains by its own attributes, and what it gains and loses by where it stands.
 fn sum_of(own: u64, is_waiting: bool, is_blocked: bool, is_blocking: bool) -> i64
     requires { own ≤ 200 * unit }
-    ensures { result ≡ pos (own + parts_if is_blocking (8 * unit)) -ℤ pos (parts_if is_waiting (3 * unit) + parts_if is_blocked (5 * unit)) }
+    ensures { result
+        ≡ pos (own + parts_if is_blocking (8 * unit)) -ℤ pos
+        (parts_if is_waiting (3 * unit) + parts_if is_blocked (5 * unit)) }
 {
     let gained = own + parts_where(is_blocking, 8);
     let lost = parts_where(is_waiting, 3) + parts_where(is_blocked, 5);

@@ -48,7 +48,8 @@ abbrev pub part_of : World → List Change → Option BoardPart
 part_of w cs = part_of_board (board_in w (touched_board cs)) cs
 
 -- so many people and the part are those of a good world, which the changes of one decision leave good
-pub record IsPartOf (w : World) (people : ℕ) (part : Option BoardPart) (cs : List Change) : Type 0 where
+pub record IsPartOf (w : World) (people : ℕ) (part : Option BoardPart)
+    (cs : List Change) : Type 0 where
   pub good : IsGoodWorld w
   pub later : IsGoodWorld (changed w cs)
   pub extends : Extends w (changed w cs)
@@ -81,8 +82,10 @@ empty_board n title = record { number = n; title = title; tasks = []; gone = [];
 -- those that follow from a change by itself, where there were so many people
 abbrev pub single_changes : ℕ → Change → List RowChange
 single_changes people (PutTask m place t) = []
-single_changes people (NewPerson name key) = AddPerson (person_row (people + 1) (record { name = name; key = key })) ∷ []
-single_changes people (NewBoard m title) = AddBoard (board_row (empty_board m title)) ∷ AddHorizon (horizon_row (empty_board m title)) ∷ []
+single_changes people (NewPerson name key) =
+    AddPerson (person_row (people + 1) (record { name = name; key = key })) ∷ []
+single_changes people (NewBoard m title) =
+    AddBoard (board_row (empty_board m title)) ∷ AddHorizon (horizon_row (empty_board m title)) ∷ []
 single_changes people (SetRole m q role) = role_set m q role
 single_changes people (SetGone m g) = []
 single_changes people (TakeGone m id k) = []

@@ -61,16 +61,29 @@ abbrev pub mask_cell : Board → Task → Option (List ℕ)
 mask_cell b t = if is_template t then Some (mask b t.id) else None
 
 abbrev pub task_row : Board → ℕ → Task → TaskRow
-task_row b place t = record { board = b.number; place = place; uuid = t.id; body = stored_text t; mask = mask_cell b t }
+task_row b place t =
+    record {
+      board = b.number;
+      place = place;
+      uuid = t.id;
+      body = stored_text t;
+      mask = mask_cell b t;
+    }
 
 abbrev pub link_row : Board → ℕ → ℕ → LinkRow
 link_row b place id = record { board = b.number; place = place; target = place_of b.tasks id }
 
 abbrev pub instance_row : Board → ℕ → ℕ → ℕ → InstanceRow
-instance_row b place parent imask = record { board = b.number; template = place_of b.tasks parent; imask = imask; place = place }
+instance_row b place parent imask =
+    record { board = b.number; template = place_of b.tasks parent; imask = imask; place = place }
 
 abbrev pub gone_row : Board → Gone → GoneRow
-gone_row b g = record { board = b.number; template = place_of b.tasks g.template; imask = g.place; mark = g.mark ∷ [] }
+gone_row b g = record {
+  board = b.number;
+  template = place_of b.tasks g.template;
+  imask = g.place;
+  mark = g.mark ∷ [];
+}
 
 abbrev pub horizon_row : Board → HorizonRow
 horizon_row b = record { board = b.number; ahead = b.ahead }

@@ -61,19 +61,24 @@ abbrev pub is_changed : ℕ → List ℕ → ℕ → Bool
 is_changed old put place = not (nat_lt place old) || is_among put place
 
 abbrev pub instance_template : Board → ℕ → List ℕ → ℕ → Task → List ℕ
-instance_template b old put place t = if is_changed old put place then template_place b t.parent else []
+instance_template b old put place t = if is_changed old put place
+    then template_place b t.parent else []
 
 -- the templates of which an instance or a gone place is changed
 abbrev pub changed_templates : Board → ℕ → List ℕ → List Change → List ℕ
-changed_templates b old put cs = rows_from (instance_template b old put) 0 b.tasks ++ flat_map (gone_template b) cs
+changed_templates b old put cs =
+    rows_from (instance_template b old put) 0 b.tasks ++ flat_map (gone_template b) cs
 
 -- ---- the changes of rows of a task, by its place from 1
 
 abbrev pub new_task : Board → ℕ → Task → List RowChange
-new_task b place t = AddTask (task_row b place t) ∷ (map AddLink (link_rows b place t) ++ map AddInstance (instance_rows b place t))
+new_task b place t =
+    AddTask (task_row b place t)
+    ∷ (map AddLink (link_rows b place t) ++ map AddInstance (instance_rows b place t))
 
 abbrev pub put_task : Board → ℕ → Task → List RowChange
-put_task b place t = SetText b.number place (stored_text t) (mask_cell b t) ∷ RemoveLinks b.number place ∷ map AddLink (link_rows b place t)
+put_task b place t = SetText b.number place (stored_text t) (mask_cell b t)
+    ∷ RemoveLinks b.number place ∷ map AddLink (link_rows b place t)
 
 abbrev pub new_mask : Board → ℕ → Task → List RowChange
 new_mask b place t = SetMask b.number place (mask_cell b t) ∷ []
@@ -81,7 +86,9 @@ new_mask b place t = SetMask b.number place (mask_cell b t) ∷ []
 -- of the task at a place from 0, where there were so many tasks, and these are put, and these templates changed
 abbrev pub task_changes : Board → ℕ → List ℕ → List ℕ → ℕ → Task → List RowChange
 task_changes b old put templates place t =
-    if nat_lt place old then (if is_among put place then put_task b (place + 1) t else (if is_among templates place then new_mask b (place + 1) t else []))
+    if nat_lt place old
+    then (if is_among put place then put_task b (place + 1) t
+    else (if is_among templates place then new_mask b (place + 1) t else []))
     else new_task b (place + 1) t
 
 -- ---- those of a board
@@ -99,8 +106,10 @@ gone_changes b (PutTask m place t) = []
 gone_changes b (NewPerson name key) = []
 gone_changes b (NewBoard m title) = []
 gone_changes b (SetRole m person role) = []
-gone_changes b (SetGone m g) = if b.number == m then gone_added b g (place_in (ids b.tasks) g.template) else []
-gone_changes b (TakeGone m id k) = if b.number == m then gone_removed b k (place_in (ids b.tasks) id) else []
+gone_changes b (SetGone m g) = if b.number == m
+    then gone_added b g (place_in (ids b.tasks) g.template) else []
+gone_changes b (TakeGone m id k) = if b.number == m
+    then gone_removed b k (place_in (ids b.tasks) id) else []
 gone_changes b (SetAhead m ahead) = []
 
 -- whether a change sets how far ahead board n looks
@@ -114,7 +123,8 @@ sets_ahead n (TakeGone m id k) = false
 sets_ahead n (SetAhead m ahead) = n == m
 
 abbrev pub ahead_changes : Board → List Change → List RowChange
-ahead_changes b cs = if list_any (sets_ahead b.number) cs then SetHorizon b.number b.ahead ∷ [] else []
+ahead_changes b cs = if list_any (sets_ahead b.number) cs
+    then SetHorizon b.number b.ahead ∷ [] else []
 
 abbrev pub low_changes : ℕ → Board → List RowChange
 low_changes old b = if nat_lt old (length b.tasks) then SetLow b.number (free b) ∷ [] else []
@@ -123,12 +133,16 @@ low_changes old b = if nat_lt old (length b.tasks) then SetLow b.number (free b)
 abbrev pub later_board : ℕ → Board → List Change → List RowChange
 later_board old b cs =
     let put = flat_map (put_place b.number) cs in
-    low_changes old b ++ (ahead_changes b cs ++ (rows_from (task_changes b old put (changed_templates b old put cs)) 0 b.tasks ++ flat_map (gone_changes b) cs))
+    low_changes old b
+    ++ (ahead_changes b cs
+    ++ (rows_from (task_changes b old put (changed_templates b old put cs)) 0 b.tasks
+    ++ flat_map (gone_changes b) cs))
 
 abbrev pub kept_board : ℕ → Board → List Change → List RowChange
 kept_board old b cs = if list_any (is_of_board b.number) cs then later_board old b cs else []
 
 -- Of tables with the rows of the first world the changes make tables with the rows of the second, and kept replies stay.
 pub record Leads (rows : List RowChange) (w v : World) : Type 0 where
-  pub tables : (c : Content) → HaveSameRows c (world_rows w) → HaveSameRows (changed_by_all rows c) (world_rows v)
+  pub tables : (c : Content) → HaveSameRows c (world_rows w)
+      → HaveSameRows (changed_by_all rows c) (world_rows v)
   pub kept : (c : Content) → (changed_by_all rows c).kept ≡ c.kept

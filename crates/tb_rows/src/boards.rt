@@ -6,6 +6,7 @@ ghost use Rattle.tb_rows.specs.Part.{empty_board};
 ghost use Rattle.tb_rows.specs.Rows.{board_row};
 ghost use Rattle.tb_rows.specs.Steps.{ahead_changes, changed_templates, kept_board, later_board, low_changes, put_place, sets_ahead};
 ghost use Rattle.tb_rows.specs.Sought.{AreFor};
+ghost use Rattle.tb_task.specs.Limits.{most_tasks};
 
 use crate::concerned::{PlaceList, changed_templates, is_concerned, put_places};
 use crate::gone::push_gone_changes;
@@ -25,7 +26,7 @@ pub(crate) fn push_kept_board(
     board: &Board,
     changes: &[Change],
 ) -> Result<(), AllocError>
-    requires { length board.now.tasks ≤ 10000 }
+    requires { length board.now.tasks ≤ most_tasks }
     ensures { OnOk result (rows.new ≡ rows.old ++ kept_board old board.now changes.now) }
 {
     if !is_concerned(changes, board.number) {
@@ -41,7 +42,7 @@ fn push_later_board(
     board: &Board,
     changes: &[Change],
 ) -> Result<(), AllocError>
-    requires { length board.now.tasks ≤ 10000 }
+    requires { length board.now.tasks ≤ most_tasks }
     ensures { OnOk result (rows.new ≡ rows.old ++ later_board old board.now changes.now) }
 {
     let places = TaskPlaces::for_changes(alloc, board, changes)?;
@@ -61,8 +62,12 @@ fn concerned_tasks(
 ) -> Result<Concerned, AllocError>
     requires { AreFor board.now places.now }
     ensures old { IfOk result (λ concerned. concerned.old ≡ old) }
-    ensures put { IfOk result (λ concerned. concerned.put ≡ flat_map (put_place board.now.number) changes.now) }
-    ensures templates { IfOk result (λ concerned. concerned.templates ≡ changed_templates board.now old (flat_map (put_place board.now.number) changes.now) changes.now) }
+    ensures put { IfOk result
+        (λ concerned. concerned.put ≡ flat_map (put_place board.now.number) changes.now) }
+    ensures templates { IfOk result
+        (λ concerned. concerned.templates
+        ≡ changed_templates board.now old
+        (flat_map (put_place board.now.number) changes.now) changes.now) }
 {
     let count = board.tasks.len();
     let put = PlaceList::of(alloc, put_places(alloc, changes, board.number)?, count)?;
@@ -82,7 +87,7 @@ fn push_low(
     old: usize,
     board: &Board,
 ) -> Result<(), AllocError>
-    requires { length board.now.tasks ≤ 10000 }
+    requires { length board.now.tasks ≤ most_tasks }
     ensures { OnOk result (rows.new ≡ rows.old ++ low_changes old board.now) }
 {
     if old < board.tasks.len() {

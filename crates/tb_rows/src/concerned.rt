@@ -142,7 +142,8 @@ pub(crate) fn changed_templates(
     changes: &[Change],
 ) -> Result<Items<usize>, AllocError>
     requires { AreFor board.now places.now }
-    ensures { IfOk result (λ templates. templates ≡ changed_templates board.now old put.now changes.now) }
+    ensures { IfOk result
+        (λ templates. templates ≡ changed_templates board.now old put.now changes.now) }
 {
     let mut templates = Items::new(alloc);
     push_instance_templates(&mut templates, board, places, old, put)?;
@@ -158,7 +159,9 @@ fn push_instance_templates(
     put: &PlaceList,
 ) -> Result<(), AllocError>
     requires { AreFor board.now places.now }
-    ensures { OnOk result (templates.new ≡ templates.old ++ rows_from (instance_template board.now old put.now) 0 board.now.tasks) }
+    ensures { OnOk result
+        (templates.new ≡ templates.old
+        ++ rows_from (instance_template board.now old put.now) 0 board.now.tasks) }
 {
     for (place, task) in board.tasks.as_slice().iter().enumerate() {
         push_instance_template(templates, board, places, old, put, place, task.get())?;
@@ -176,7 +179,8 @@ fn push_instance_template(
     task: &Task,
 ) -> Result<(), AllocError>
     requires { AreFor board.now places.now }
-    ensures { OnOk result (templates.new ≡ templates.old ++ instance_template board.now old put.now place task.now) }
+    ensures { OnOk result
+        (templates.new ≡ templates.old ++ instance_template board.now old put.now place task.now) }
 {
     if !is_changed(old, put, place) {
         return Ok(());
@@ -197,7 +201,8 @@ fn push_gone_templates(
     changes: &[Change],
 ) -> Result<(), AllocError>
     requires { AreFor board.now places.now }
-    ensures { OnOk result (templates.new ≡ templates.old ++ flat_map (gone_template board.now) changes.now) }
+    ensures { OnOk result
+        (templates.new ≡ templates.old ++ flat_map (gone_template board.now) changes.now) }
 {
     for change in changes {
         push_gone_template(templates, board, places, change)?;

@@ -7,6 +7,7 @@ ghost use Rattle.tb_board.specs.Links.{place_in};
 ghost use Rattle.tb_rows.specs.Rows.{gone_row};
 ghost use Rattle.tb_rows.specs.Steps.{gone_added, gone_changes, gone_removed};
 ghost use Rattle.tb_rows.specs.Sought.{AreFor};
+ghost use Rattle.tb_task.specs.Limits.{most_tasks};
 
 use crate::linking::place_number;
 use crate::task_places::TaskPlaces;
@@ -24,7 +25,7 @@ fn gone_row(
     gone: &Gone,
 ) -> Result<GoneRow, AllocError>
     requires places { AreFor board.now places.now }
-    requires few { length board.now.tasks ≤ 10000 }
+    requires few { length board.now.tasks ≤ most_tasks }
     ensures { IfOk result (λ row. row ≡ gone_row board.now gone.now) }
 {
     let mut mask = Mask::new(alloc);
@@ -46,7 +47,7 @@ pub(crate) fn push_gone_changes(
     changes: &[Change],
 ) -> Result<(), AllocError>
     requires places { AreFor board.now places.now }
-    requires few { length board.now.tasks ≤ 10000 }
+    requires few { length board.now.tasks ≤ most_tasks }
     ensures { OnOk result (rows.new ≡ rows.old ++ flat_map (gone_changes board.now) changes.now) }
 {
     for change in changes {
@@ -63,7 +64,7 @@ fn push_gone_change(
     change: &Change,
 ) -> Result<(), AllocError>
     requires places { AreFor board.now places.now }
-    requires few { length board.now.tasks ≤ 10000 }
+    requires few { length board.now.tasks ≤ most_tasks }
     ensures { OnOk result (rows.new ≡ rows.old ++ gone_changes board.now change.now) }
 {
     match change {
@@ -97,8 +98,10 @@ fn push_gone(
     gone: &Gone,
 ) -> Result<(), AllocError>
     requires places { AreFor board.now places.now }
-    requires few { length board.now.tasks ≤ 10000 }
-    ensures { OnOk result (rows.new ≡ rows.old ++ gone_added board.now gone.now (place_in (ids board.now.tasks) gone.now.template)) }
+    requires few { length board.now.tasks ≤ most_tasks }
+    ensures { OnOk result
+        (rows.new ≡ rows.old
+        ++ gone_added board.now gone.now (place_in (ids board.now.tasks) gone.now.template)) }
 {
     if places.place_of(board, gone.template).is_none() {
         return Ok(());
@@ -116,8 +119,10 @@ fn push_taken(
     imask: u32,
 ) -> Result<(), AllocError>
     requires places { AreFor board.now places.now }
-    requires few { length board.now.tasks ≤ 10000 }
-    ensures { OnOk result (rows.new ≡ rows.old ++ gone_removed board.now imask (place_in (ids board.now.tasks) template)) }
+    requires few { length board.now.tasks ≤ most_tasks }
+    ensures { OnOk result
+        (rows.new ≡ rows.old
+        ++ gone_removed board.now imask (place_in (ids board.now.tasks) template)) }
 {
     if let Some(place) = places.place_of(board, template) {
         rows.push(RowChange::RemoveGone {

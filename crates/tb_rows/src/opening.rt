@@ -23,7 +23,9 @@ pub struct FirstRows {
 
 impl FirstRows {
     pub fn of(alloc: Global, name: &Name, key: &Key) -> Result<FirstRows, AllocError>
-        ensures { IfOk result (λ first. first_content first.person first.board first.role ≡ without_horizon (world_rows (opening name.now key.now))) }
+        ensures { IfOk result
+            (λ first. first_content first.person first.board first.role
+            ≡ without_horizon (world_rows (opening name.now key.now))) }
     {
         let person = person_row(alloc, 0, name, key)?;
         let board = first_board(alloc)?;
@@ -60,7 +62,9 @@ pub fn opening_rows(alloc: Global, name: &Name, key: &Key) -> Result<Items<RowCh
 
 #[tactic(auto, unfolding(tb_board::specs::Numbers::free))]
 fn first_board(alloc: Global) -> Result<BoardRow, AllocError>
-    ensures { IfOk result (λ row. row ≡ board_row (record { number = 1; title = codes "board"; tasks = []; gone = []; ahead = 1 })) }
+    ensures { IfOk result
+        (λ row. row ≡ board_row
+        (record { number = 1; title = codes "board"; tasks = []; gone = []; ahead = 1 })) }
 {
     let title = Text::from_str(alloc, "board")?;
     Ok(BoardRow {

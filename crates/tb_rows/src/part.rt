@@ -6,6 +6,7 @@ ghost use Rattle.tb_board.specs.Changes.{changed};
 ghost use Rattle.tb_board.specs.declared.world.World.{World};
 ghost use Rattle.tb_rows.specs.Part.{IsPartOf, is_small_part, part_board, rows_of_part, single_changes, touched_board};
 ghost use Rattle.tb_rows.specs.Steps.{Leads};
+ghost use Rattle.tb_task.specs.Limits.{most_people};
 
 use crate::boards::{empty_board_row, first_horizon, push_kept_board};
 use crate::people::person_row;
@@ -13,10 +14,8 @@ use crate::roles::push_role;
 use std::alloc::{AllocError, Global};
 use tb_board::{Board, Change};
 use tb_sql::changes::RowChange;
+use tb_task::{MOST_PEOPLE, MOST_TASKS};
 use tb_values::Items;
-
-/// A good world has no more people, and none of its boards more tasks.
-const MOST: usize = 10000;
 
 /// A board that changes touch: how many tasks it had, and what it is after them.
 #[derive(Drop)]
@@ -49,10 +48,12 @@ pub fn part_changes(
     part: Option<BoardPart>,
     changes: &[Change],
 ) -> Result<Items<RowChange>, AllocError>
-    ensures leads { IfOk result (λ rows. (w : World) → IsPartOf w people part changes.now → Leads rows w (changed w changes.now)) }
-    ensures steps { IfOk result (λ rows. people ≤ 10000 → is_small_part part ≡ true → rows ≡ rows_of_part people part changes.now) }
+    ensures leads { IfOk result (λ rows. (w : World) → IsPartOf w people part changes.now
+        → Leads rows w (changed w changes.now)) }
+    ensures steps { IfOk result (λ rows. people ≤ most_people → is_small_part part ≡ true
+        → rows ≡ rows_of_part people part changes.now) }
 {
-    if people <= MOST && is_small(&part) {
+    if people <= MOST_PEOPLE && is_small(&part) {
         return rows_of_part(alloc, people, &part, changes);
     }
     Ok(Items::new(alloc))
@@ -62,7 +63,7 @@ fn is_small(part: &Option<BoardPart>) -> bool
     ensures { result ≡ is_small_part part.now }
 {
     match part {
-        Some(part) => part.later.tasks.len() <= MOST,
+        Some(part) => part.later.tasks.len() <= MOST_TASKS,
         None => true,
     }
 }
@@ -73,7 +74,7 @@ fn rows_of_part(
     part: &Option<BoardPart>,
     changes: &[Change],
 ) -> Result<Items<RowChange>, AllocError>
-    requires people { people ≤ 10000 }
+    requires people { people ≤ most_people }
     requires small { is_small_part part.now ≡ true }
     ensures { IfOk result (λ rows. rows ≡ rows_of_part people part.now changes.now) }
 {
@@ -106,7 +107,7 @@ fn push_singles(
     people: usize,
     changes: &[Change],
 ) -> Result<(), AllocError>
-    requires { people ≤ 10000 }
+    requires { people ≤ most_people }
     ensures { OnOk result (rows.new ≡ rows.old ++ flat_map (single_changes people) changes.now) }
 {
     for change in changes {
@@ -121,7 +122,7 @@ fn push_single(
     people: usize,
     change: &Change,
 ) -> Result<(), AllocError>
-    requires { people ≤ 10000 }
+    requires { people ≤ most_people }
     ensures { OnOk result (rows.new ≡ rows.old ++ single_changes people change.now) }
 {
     match change {

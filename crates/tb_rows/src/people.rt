@@ -1,5 +1,6 @@
 ghost use Rattle.std.specs.Prelude.{◌≡◌, ◌+◌, ◌≤◌, IfOk};
 ghost use Rattle.tb_rows.specs.Rows.{person_row};
+ghost use Rattle.tb_task.specs.Limits.{most_people};
 
 use std::alloc::{AllocError, Global};
 use tb_board::{Key, Name};
@@ -13,8 +14,9 @@ pub(crate) fn person_row(
     name: &Name,
     key: &Key,
 ) -> Result<PersonRow, AllocError>
-    requires { people ≤ 10000 }
-    ensures { IfOk result (λ row. row ≡ person_row (people + 1) (record { name = name.now; key = key.now })) }
+    requires { people ≤ most_people }
+    ensures { IfOk result
+        (λ row. row ≡ person_row (people + 1) (record { name = name.now; key = key.now })) }
 {
     Ok(PersonRow {
         id: people as u32 + 1,

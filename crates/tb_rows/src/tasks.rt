@@ -5,6 +5,7 @@ ghost use Rattle.tb_sql.specs.declared.changes.RowChange.TheVariants.{AddInstanc
 ghost use Rattle.tb_rows.specs.Rows.{instance_rows, link_rows, mask_cell, rows_from, task_row};
 ghost use Rattle.tb_rows.specs.Steps.{new_mask, new_task, put_task, task_changes};
 ghost use Rattle.tb_rows.specs.Sought.{AreFor};
+ghost use Rattle.tb_task.specs.Limits.{most_tasks};
 
 use crate::concerned::PlaceList;
 use crate::linking::{instance_row, link_row};
@@ -61,8 +62,11 @@ pub(crate) fn push_tasks(
     concerned: &Concerned,
 ) -> Result<(), AllocError>
     requires places { AreFor board.now places.now }
-    requires few { length board.now.tasks ≤ 10000 }
-    ensures { OnOk result (rows.new ≡ rows.old ++ rows_from (task_changes board.now concerned.now.old concerned.now.put concerned.now.templates) 0 board.now.tasks) }
+    requires few { length board.now.tasks ≤ most_tasks }
+    ensures { OnOk result
+        (rows.new ≡ rows.old
+        ++ rows_from (task_changes board.now concerned.now.old concerned.now.put
+        concerned.now.templates) 0 board.now.tasks) }
 {
     for (place, task) in board.tasks.as_slice().iter().enumerate() {
         push_task(alloc, rows, board, places, concerned, place, task.get())?;
@@ -80,9 +84,12 @@ fn push_task(
     task: &Task,
 ) -> Result<(), AllocError>
     requires places { AreFor board.now places.now }
-    requires few { length board.now.tasks ≤ 10000 }
+    requires few { length board.now.tasks ≤ most_tasks }
     requires within { place < length board.now.tasks }
-    ensures { OnOk result (rows.new ≡ rows.old ++ task_changes board.now concerned.now.old concerned.now.put concerned.now.templates place task.now) }
+    ensures { OnOk result
+        (rows.new ≡ rows.old
+        ++ task_changes board.now concerned.now.old concerned.now.put concerned.now.templates
+        place task.now) }
 {
     let number = place as u32 + 1;
     if place >= concerned.old {
@@ -107,7 +114,7 @@ fn push_new_task(
     task: &Task,
 ) -> Result<(), AllocError>
     requires places { AreFor board.now places.now }
-    requires few { length board.now.tasks ≤ 10000 }
+    requires few { length board.now.tasks ≤ most_tasks }
     ensures { OnOk result (rows.new ≡ rows.old ++ new_task board.now place task.now) }
 {
     let row = task_row(alloc, board, place, task)?;
@@ -126,7 +133,7 @@ fn push_put_task(
     task: &Task,
 ) -> Result<(), AllocError>
     requires places { AreFor board.now places.now }
-    requires few { length board.now.tasks ≤ 10000 }
+    requires few { length board.now.tasks ≤ most_tasks }
     ensures { OnOk result (rows.new ≡ rows.old ++ put_task board.now place task.now) }
 {
     let body = write_stored(alloc, task)?;
@@ -171,8 +178,9 @@ fn push_links(
     task: &Task,
 ) -> Result<(), AllocError>
     requires places { AreFor board.now places.now }
-    requires few { length board.now.tasks ≤ 10000 }
-    ensures { OnOk result (rows.new ≡ rows.old ++ map AddLink (link_rows board.now place task.now)) }
+    requires few { length board.now.tasks ≤ most_tasks }
+    ensures { OnOk result
+        (rows.new ≡ rows.old ++ map AddLink (link_rows board.now place task.now)) }
 {
     for id in task.depends.as_slice() {
         let row = link_row(board, places, place, *id);
@@ -190,8 +198,9 @@ fn push_instance(
     task: &Task,
 ) -> Result<(), AllocError>
     requires places { AreFor board.now places.now }
-    requires few { length board.now.tasks ≤ 10000 }
-    ensures { OnOk result (rows.new ≡ rows.old ++ map AddInstance (instance_rows board.now place task.now)) }
+    requires few { length board.now.tasks ≤ most_tasks }
+    ensures { OnOk result
+        (rows.new ≡ rows.old ++ map AddInstance (instance_rows board.now place task.now)) }
 {
     if let Some(row) = instance_row(board, places, place, task) {
         rows.push(RowChange::AddInstance(row))?;

@@ -15,6 +15,7 @@ use Rattle.tb_script.specs.declared.line_fault.Unreadable.TheVariants.{BadLine}
 use Rattle.tb_script.specs.Lines.{Answered}
 use Rattle.tb_script.specs.Reading.{asked}
 use Rattle.tb_script.specs.Replies.{reply_text, unreadable_text}
+use Rattle.tb_task.specs.Limits.{longest_body}
 
 -- the state in which a script begins
 abbrev pub first_state : State
@@ -22,7 +23,7 @@ first_state = opening (codes "root") (codes "root-key-1")
 
 -- a line is text of at most 1,048,576 bytes
 abbrev pub is_readable : List ℕ → Bool
-is_readable line = nat_le (length line) 1048576 && is_utf8 line
+is_readable line = nat_le (length line) longest_body && is_utf8 line
 
 -- what a line asks, if it can be read
 unfoldable pub request_of : List ℕ → Result Asked Unreadable
@@ -43,8 +44,10 @@ view_text v r = if r.number == 0 then accepted_text v r.body else reply_text r
 
 -- a call counts once, and a view changes nothing
 unfoldable pub carried_out : State → Asked → Answered State
-carried_out s (asks.Call c) = record { state = plain s (once s (c ∷ [])); text = reply_text (reply s [] c) }
-carried_out s (asks.View l) = record { state = s; text = view_text l.view (shown_in s l.member l.key l.view l.at) }
+carried_out s (asks.Call c) =
+    record { state = plain s (once s (c ∷ [])); text = reply_text (reply s [] c) }
+carried_out s (asks.View l) =
+    record { state = s; text = view_text l.view (shown_in s l.member l.key l.view l.at) }
 
 -- a line that can't be read changes nothing
 abbrev pub answered : State → Result Asked Unreadable → Answered State
@@ -53,7 +56,8 @@ answered s (Err fault) = record { state = s; text = unreadable_text fault }
 
 -- an empty line is skipped
 unfoldable pub answer : State → List ℕ → Answered State
-answer s line = if length line == 0 then record { state = s; text = [] } else answered s (request_of line)
+answer s line = if length line == 0 then record { state = s; text = [] }
+    else answered s (request_of line)
 
 -- the call that is asked for, if it is one
 abbrev pub call_asked : Result Asked Unreadable → Option Call

@@ -24,8 +24,17 @@ content_of fields = join_by (λ field. field) (9 ∷ []) fields
 
 -- a call or a view, by a person with a key at a moment
 abbrev pub asking : ℕ → List ℕ → List ℕ → ℕ → List ℕ → Request → Asked
-asking at name secret number content (Call c) = asks.Call (record { member = name; key = secret; id = number; moment = at; content = content; command = c })
-asking at name secret number content (ViewOf v) = asks.View (record { member = name; key = secret; view = v; at = at })
+asking at name secret number content (Call c) =
+    asks.Call (record {
+      member = name;
+      key = secret;
+      id = number;
+      moment = at;
+      content = content;
+      command = c;
+    })
+asking at name secret number content (ViewOf v) =
+    asks.View (record { member = name; key = secret; view = v; at = at })
 
 unfoldable pub asked_in : List (List ℕ) → Result Asked Unreadable
 asked_in (moment ∷ member ∷ key ∷ id ∷ word ∷ arguments) = do

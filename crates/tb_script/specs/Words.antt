@@ -27,13 +27,15 @@ one asks (a ∷ []) = asks a
 one asks [] = Err BadLine
 one asks (a ∷ b ∷ more) = Err BadLine
 
-abbrev pub two : {A : Type 0} → (List ℕ → List ℕ → Result A Unreadable) → List (List ℕ) → Result A Unreadable
+abbrev pub two : {A : Type 0} → (List ℕ → List ℕ → Result A Unreadable) → List (List ℕ)
+    → Result A Unreadable
 two asks (a ∷ b ∷ []) = asks a b
 two asks [] = Err BadLine
 two asks (a ∷ []) = Err BadLine
 two asks (a ∷ b ∷ c ∷ more) = Err BadLine
 
-abbrev pub three : {A : Type 0} → (List ℕ → List ℕ → List ℕ → Result A Unreadable) → List (List ℕ) → Result A Unreadable
+abbrev pub three : {A : Type 0} → (List ℕ → List ℕ → List ℕ → Result A Unreadable) → List (List ℕ)
+    → Result A Unreadable
 three asks (a ∷ b ∷ c ∷ []) = asks a b c
 three asks [] = Err BadLine
 three asks (a ∷ []) = Err BadLine

@@ -16,10 +16,8 @@ use std::alloc::{AllocError, Global};
 use tb_calls::{Call, Keep, View};
 use tb_desk::Desk;
 use tb_reply::Reply;
+use tb_task::LONGEST_BODY;
 use tb_values::Text;
-
-/// The longest line that is read.
-pub(crate) const LINE_LIMIT: usize = 1_048_576;
 
 /// Answers a line that isn't empty.
 pub(crate) fn answer_line<K: Keep>(
@@ -27,9 +25,12 @@ pub(crate) fn answer_line<K: Keep>(
     desk: &mut Desk<K>,
     line: &[u8],
 ) -> Result<Text, LinesFault>
-    ensures told { K.is_honest desk.new ≡ true → (s : State) → K.holds desk.old s → IfOk result (λ text. text ≡ (answered s (request_of line.now)).text) }
-    ensures left { K.is_honest desk.new ≡ true → (s : State) → K.holds desk.old s → OnOk result (K.holds desk.new (answered s (request_of line.now)).state) }
-    ensures held { K.is_honest desk.new ≡ true → (s : State) → K.holds desk.old s → K.holds desk.new s ⊎ K.holds desk.new (answered s (request_of line.now)).state }
+    ensures told { K.is_honest desk.new ≡ true → (s : State) → K.holds desk.old s
+        → IfOk result (λ text. text ≡ (answered s (request_of line.now)).text) }
+    ensures left { K.is_honest desk.new ≡ true → (s : State) → K.holds desk.old s
+        → OnOk result (K.holds desk.new (answered s (request_of line.now)).state) }
+    ensures held { K.is_honest desk.new ≡ true → (s : State) → K.holds desk.old s
+        → K.holds desk.new s ⊎ K.holds desk.new (answered s (request_of line.now)).state }
     ensures honest { K.is_honest desk.new ≡ true → K.is_honest desk.old ≡ true }
     ensures failed { K.has_failed desk.new ≡ (is_store result || K.has_failed desk.old) }
 {
@@ -53,9 +54,10 @@ fn read_request(alloc: Global, line: &[u8]) -> Result<Asked, LineFault>
 
 /// The line as text, where it is one and isn't too long.
 fn readable(line: &[u8]) -> Option<&str>
-    ensures { MatchOption result (is_readable line.now ≡ false) (λ text. (text.now ≡ line.now) × (is_readable line.now ≡ true)) }
+    ensures { MatchOption result (is_readable line.now ≡ false)
+        (λ text. (text.now ≡ line.now) × (is_readable line.now ≡ true)) }
 {
-    if line.len() > LINE_LIMIT {
+    if line.len() > LONGEST_BODY {
         return None;
     }
     match str::from_utf8(line) {
@@ -66,9 +68,12 @@ fn readable(line: &[u8]) -> Option<&str>
 
 #[tactic(auto, unfolding(crate::specs::Answer::carried_out))]
 fn carry_out<K: Keep>(alloc: Global, desk: &mut Desk<K>, asked: &Asked) -> Result<Text, LinesFault>
-    ensures told { K.is_honest desk.new ≡ true → (s : State) → K.holds desk.old s → IfOk result (λ text. text ≡ (carried_out s asked.now).text) }
-    ensures left { K.is_honest desk.new ≡ true → (s : State) → K.holds desk.old s → OnOk result (K.holds desk.new (carried_out s asked.now).state) }
-    ensures held { K.is_honest desk.new ≡ true → (s : State) → K.holds desk.old s → K.holds desk.new s ⊎ K.holds desk.new (carried_out s asked.now).state }
+    ensures told { K.is_honest desk.new ≡ true → (s : State) → K.holds desk.old s
+        → IfOk result (λ text. text ≡ (carried_out s asked.now).text) }
+    ensures left { K.is_honest desk.new ≡ true → (s : State) → K.holds desk.old s
+        → OnOk result (K.holds desk.new (carried_out s asked.now).state) }
+    ensures held { K.is_honest desk.new ≡ true → (s : State) → K.holds desk.old s
+        → K.holds desk.new s ⊎ K.holds desk.new (carried_out s asked.now).state }
     ensures honest { K.is_honest desk.new ≡ true → K.is_honest desk.old ≡ true }
     ensures failed { K.has_failed desk.new ≡ (is_store result || K.has_failed desk.old) }
 {
@@ -79,9 +84,12 @@ fn carry_out<K: Keep>(alloc: Global, desk: &mut Desk<K>, asked: &Asked) -> Resul
 }
 
 fn answer_call<K: Keep>(alloc: Global, desk: &mut Desk<K>, call: &Call) -> Result<Text, LinesFault>
-    ensures told { K.is_honest desk.new ≡ true → (s : State) → K.holds desk.old s → IfOk result (λ text. text ≡ reply_text (reply s [] call.now)) }
-    ensures left { K.is_honest desk.new ≡ true → (s : State) → K.holds desk.old s → OnOk result (K.holds desk.new (plain s (once s (call.now ∷ [])))) }
-    ensures held { K.is_honest desk.new ≡ true → (s : State) → K.holds desk.old s → K.holds desk.new s ⊎ K.holds desk.new (plain s (once s (call.now ∷ []))) }
+    ensures told { K.is_honest desk.new ≡ true → (s : State) → K.holds desk.old s
+        → IfOk result (λ text. text ≡ reply_text (reply s [] call.now)) }
+    ensures left { K.is_honest desk.new ≡ true → (s : State) → K.holds desk.old s
+        → OnOk result (K.holds desk.new (plain s (once s (call.now ∷ [])))) }
+    ensures held { K.is_honest desk.new ≡ true → (s : State) → K.holds desk.old s
+        → K.holds desk.new s ⊎ K.holds desk.new (plain s (once s (call.now ∷ []))) }
     ensures honest { K.is_honest desk.new ≡ true → K.is_honest desk.old ≡ true }
     ensures failed { K.has_failed desk.new ≡ (is_store result || K.has_failed desk.old) }
 {
@@ -90,8 +98,12 @@ fn answer_call<K: Keep>(alloc: Global, desk: &mut Desk<K>, call: &Call) -> Resul
 }
 
 fn answer_view<K: Keep>(alloc: Global, desk: &mut Desk<K>, look: &Look) -> Result<Text, LinesFault>
-    ensures told { K.is_honest desk.new ≡ true → (s : State) → K.holds desk.old s → IfOk result (λ text. text ≡ view_text look.now.view (shown_in s look.now.member look.now.key look.now.view look.now.at)) }
-    ensures same { K.is_honest desk.new ≡ true → (s : State) → K.holds desk.old s → K.holds desk.new s }
+    ensures told { K.is_honest desk.new ≡ true → (s : State) → K.holds desk.old s
+        → IfOk result (λ text. text
+        ≡ view_text look.now.view
+        (shown_in s look.now.member look.now.key look.now.view look.now.at)) }
+    ensures same { K.is_honest desk.new ≡ true → (s : State) → K.holds desk.old s
+        → K.holds desk.new s }
     ensures honest { K.is_honest desk.new ≡ true → K.is_honest desk.old ≡ true }
     ensures failed { K.has_failed desk.new ≡ (is_store result || K.has_failed desk.old) }
 {

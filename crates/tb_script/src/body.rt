@@ -51,7 +51,8 @@ pub(crate) fn read_tasks(
 
 /// A line whose body can't be taken can't be read.
 fn or_line_fault<T: Drop>(read: Result<T, BodyFault>) -> Result<T, LineFault>
-    ensures { (expected : Result T BadBody) → ReadsBody read expected → Reads result (or_unreadable expected) }
+    ensures { (expected : Result T BadBody) → ReadsBody read expected
+        → Reads result (or_unreadable expected) }
 {
     match read {
         Ok(body) => Ok(body),

@@ -45,9 +45,11 @@ pub fn run_lines<R: Read + Drop, W: Write>(
     writer: &mut W,
 ) -> Result<(), LinesFault>
     ensures answers { OnOk result (IfSome (R.remaining reader) (λ script.
-        Appends (W.contents writer.old) (W.contents writer.new) (answers_from answer first_state script))) }
+        Appends (W.contents writer.old) (W.contents writer.new)
+        (answers_from answer first_state script))) }
     ensures front { OnErr result (IfSome (R.remaining reader) (λ script.
-        AppendsFront (W.contents writer.old) (W.contents writer.new) (answers_from answer first_state script))) }
+        AppendsFront (W.contents writer.old) (W.contents writer.new)
+        (answers_from answer first_state script))) }
     ensures no_store { result ≢ Err Store }
 {
     let mut desk = first_desk(alloc)?;
@@ -62,12 +64,16 @@ pub fn run_lines_on<R: Read + Drop, W: Write, K: Keep>(
     writer: &mut W,
     desk: &mut Desk<K>,
 ) -> Result<(), LinesFault>
-    ensures answers { K.is_honest desk.new ≡ true → (s : State) → K.holds desk.old s → OnOk result (IfSome (R.remaining reader) (λ script.
+    ensures answers { K.is_honest desk.new ≡ true → (s : State) → K.holds desk.old s
+        → OnOk result (IfSome (R.remaining reader) (λ script.
         Appends (W.contents writer.old) (W.contents writer.new) (answers_from answer s script))) }
-    ensures left { K.is_honest desk.new ≡ true → (s : State) → K.holds desk.old s → OnOk result (IfSome (R.remaining reader) (λ script.
+    ensures left { K.is_honest desk.new ≡ true → (s : State) → K.holds desk.old s
+        → OnOk result (IfSome (R.remaining reader) (λ script.
         K.holds desk.new (after_lines s (lines_of script)))) }
-    ensures front { K.is_honest desk.new ≡ true → (s : State) → K.holds desk.old s → OnErr result (IfSome (R.remaining reader) (λ script.
-        LeavesSome s (lines_of script) (W.contents writer.old) (W.contents writer.new) (K.holds desk.new))) }
+    ensures front { K.is_honest desk.new ≡ true → (s : State) → K.holds desk.old s
+        → OnErr result (IfSome (R.remaining reader) (λ script.
+        LeavesSome s (lines_of script) (W.contents writer.old) (W.contents writer.new)
+        (K.holds desk.new))) }
     ensures honest { K.is_honest desk.new ≡ true → K.is_honest desk.old ≡ true }
     ensures failed { K.has_failed desk.new ≡ (is_store result || K.has_failed desk.old) }
 {
@@ -104,8 +110,10 @@ fn first_desk(alloc: Global) -> Result<Desk<ListKeep>, AllocError>
 }
 
 fn write_answers<W: Write>(writer: &mut W, answers: &[u8]) -> Result<(), LinesFault>
-    ensures whole { OnOk result (Appends (W.contents writer.old) (W.contents writer.new) answers.now) }
-    ensures front { OnErr result (AppendsFront (W.contents writer.old) (W.contents writer.new) answers.now) }
+    ensures whole { OnOk result
+        (Appends (W.contents writer.old) (W.contents writer.new) answers.now) }
+    ensures front { OnErr result
+        (AppendsFront (W.contents writer.old) (W.contents writer.new) answers.now) }
     ensures no_store { is_store result ≡ false }
 {
     match write_whole(writer, answers) {

@@ -45,7 +45,8 @@ fn read_fields(alloc: Global, fields: &[&str]) -> Result<Asked, LineFault>
 
 /// The bytes from the first of these fields to the last.
 fn join_fields(alloc: Global, fields: &[&str]) -> Result<Items<u8>, AllocError>
-    ensures { IfOk result (λ content. content ≡ content_of (map (λ field. field.now) fields.entry.now)) }
+    ensures { IfOk result
+        (λ content. content ≡ content_of (map (λ field. field.now) fields.entry.now)) }
 {
     let text = fields.join(alloc, "\t")?;
     Ok(Items::from_vec(text.into_bytes()))

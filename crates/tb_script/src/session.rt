@@ -5,11 +5,12 @@ ghost use Rattle.tb_script.specs.Answer.{answer};
 ghost use Rattle.tb_script.specs.Faults.{is_store};
 ghost use Rattle.tb_script.specs.Runs.{fed, fed_byte, from};
 
-use crate::answering::{LINE_LIMIT, answer_line};
+use crate::answering::answer_line;
 use crate::fault::LinesFault;
 use std::alloc::Global;
 use tb_calls::Keep;
 use tb_desk::Desk;
+use tb_task::LONGEST_BODY;
 
 const LINE_FEED: u8 = b'\n';
 
@@ -37,10 +38,18 @@ impl Session {
         chunk: &[u8],
         output: &mut Vec<u8>,
     ) -> Result<(), LinesFault>
-        ensures line { (s : State) → OnOk result (self.new.line.items ≡ (fed (from s self.old.line.items output.old.items) chunk.now).line) }
-        ensures told { K.is_honest desk.new ≡ true → (s : State) → K.holds desk.old s → OnOk result (output.new.items ≡ (fed (from s self.old.line.items output.old.items) chunk.now).told) }
-        ensures left { K.is_honest desk.new ≡ true → (s : State) → K.holds desk.old s → OnOk result (K.holds desk.new (fed (from s self.old.line.items output.old.items) chunk.now).state) }
-        ensures held { K.is_honest desk.new ≡ true → (s : State) → K.holds desk.old s → (n : ℕ) × K.holds desk.new (fed (from s self.old.line.items output.old.items) (take n chunk.now)).state }
+        ensures line { (s : State)
+            → OnOk result (self.new.line.items
+            ≡ (fed (from s self.old.line.items output.old.items) chunk.now).line) }
+        ensures told { K.is_honest desk.new ≡ true → (s : State) → K.holds desk.old s
+            → OnOk result (output.new.items
+            ≡ (fed (from s self.old.line.items output.old.items) chunk.now).told) }
+        ensures left { K.is_honest desk.new ≡ true → (s : State) → K.holds desk.old s
+            → OnOk result (K.holds desk.new
+            (fed (from s self.old.line.items output.old.items) chunk.now).state) }
+        ensures held { K.is_honest desk.new ≡ true → (s : State) → K.holds desk.old s
+            → (n : ℕ) × K.holds desk.new
+            (fed (from s self.old.line.items output.old.items) (take n chunk.now)).state }
         ensures honest { K.is_honest desk.new ≡ true → K.is_honest desk.old ≡ true }
         ensures failed { K.has_failed desk.new ≡ (is_store result || K.has_failed desk.old) }
     {
@@ -56,18 +65,25 @@ impl Session {
         byte: u8,
         output: &mut Vec<u8>,
     ) -> Result<(), LinesFault>
-        ensures line { (s : State) → OnOk result (self.new.line.items ≡ (fed_byte (from s self.old.line.items output.old.items) byte).line) }
-        ensures told { K.is_honest desk.new ≡ true → (s : State) → K.holds desk.old s → OnOk result (output.new.items ≡ (fed_byte (from s self.old.line.items output.old.items) byte).told) }
-        ensures left { K.is_honest desk.new ≡ true → (s : State) → K.holds desk.old s → OnOk result (K.holds desk.new (fed_byte (from s self.old.line.items output.old.items) byte).state) }
+        ensures line { (s : State)
+            → OnOk result (self.new.line.items
+            ≡ (fed_byte (from s self.old.line.items output.old.items) byte).line) }
+        ensures told { K.is_honest desk.new ≡ true → (s : State) → K.holds desk.old s
+            → OnOk result (output.new.items
+            ≡ (fed_byte (from s self.old.line.items output.old.items) byte).told) }
+        ensures left { K.is_honest desk.new ≡ true → (s : State) → K.holds desk.old s
+            → OnOk result (K.holds desk.new
+            (fed_byte (from s self.old.line.items output.old.items) byte).state) }
         ensures held { K.is_honest desk.new ≡ true → (s : State) → K.holds desk.old s
-            → K.holds desk.new s ⊎ K.holds desk.new (fed_byte (from s self.old.line.items output.old.items) byte).state }
+            → K.holds desk.new s
+            ⊎ K.holds desk.new (fed_byte (from s self.old.line.items output.old.items) byte).state }
         ensures honest { K.is_honest desk.new ≡ true → K.is_honest desk.old ≡ true }
         ensures failed { K.has_failed desk.new ≡ (is_store result || K.has_failed desk.old) }
     {
         if byte == LINE_FEED {
             self.end_line(desk, output)?;
             self.line.clear();
-        } else if self.line.len() <= LINE_LIMIT {
+        } else if self.line.len() <= LONGEST_BODY {
             self.line.push(byte)?;
         }
         Ok(())
@@ -81,9 +97,13 @@ impl Session {
         output: &mut Vec<u8>,
     ) -> Result<(), LinesFault>
         ensures line { OnOk result (self.new.line.items ≡ self.old.line.items) }
-        ensures told { K.is_honest desk.new ≡ true → (s : State) → K.holds desk.old s → OnOk result (output.new.items ≡ output.old.items ++ (answer s self.old.line.items).text) }
-        ensures left { K.is_honest desk.new ≡ true → (s : State) → K.holds desk.old s → OnOk result (K.holds desk.new (answer s self.old.line.items).state) }
-        ensures held { K.is_honest desk.new ≡ true → (s : State) → K.holds desk.old s → K.holds desk.new s ⊎ K.holds desk.new (answer s self.old.line.items).state }
+        ensures told { K.is_honest desk.new ≡ true → (s : State) → K.holds desk.old s
+            → OnOk result (output.new.items
+            ≡ output.old.items ++ (answer s self.old.line.items).text) }
+        ensures left { K.is_honest desk.new ≡ true → (s : State) → K.holds desk.old s
+            → OnOk result (K.holds desk.new (answer s self.old.line.items).state) }
+        ensures held { K.is_honest desk.new ≡ true → (s : State) → K.holds desk.old s
+            → K.holds desk.new s ⊎ K.holds desk.new (answer s self.old.line.items).state }
         ensures honest { K.is_honest desk.new ≡ true → K.is_honest desk.old ≡ true }
         ensures failed { K.has_failed desk.new ≡ (is_store result || K.has_failed desk.old) }
     {

@@ -25,7 +25,8 @@ pub(crate) fn read_request(
     arguments: &[&str],
     at: Moment,
 ) -> Result<Request, LineFault>
-    ensures { Reads result (request_in word.now (map (λ argument. argument.now) arguments.entry.now) at) }
+    ensures { Reads result
+        (request_in word.now (map (λ argument. argument.now) arguments.entry.now) at) }
 {
     match word {
         "list" => read_listing(arguments),
@@ -163,7 +164,8 @@ fn read_add(alloc: Global, arguments: &[&str], at: Moment) -> Result<Request, Li
 }
 
 fn read_import(alloc: Global, arguments: &[&str], at: Moment) -> Result<Request, LineFault>
-    ensures { Reads result (two (importing at) (map (λ argument. argument.now) arguments.entry.now)) }
+    ensures { Reads result
+        (two (importing at) (map (λ argument. argument.now) arguments.entry.now)) }
 {
     let [board, text] = arguments else {
         return Err(LineFault::bad_line());
@@ -174,7 +176,8 @@ fn read_import(alloc: Global, arguments: &[&str], at: Moment) -> Result<Request,
 }
 
 fn read_import_todo(alloc: Global, arguments: &[&str], at: Moment) -> Result<Request, LineFault>
-    ensures { Reads result (importing_todo at (map (λ argument. argument.now) arguments.entry.now)) }
+    ensures { Reads result
+        (importing_todo at (map (λ argument. argument.now) arguments.entry.now)) }
 {
     let [board, lines @ ..] = arguments else {
         return Err(LineFault::bad_line());
@@ -192,7 +195,8 @@ fn read_action(arguments: &[&str], action: Action) -> Result<Request, LineFault>
 }
 
 fn read_annotate(alloc: Global, arguments: &[&str]) -> Result<Request, LineFault>
-    ensures { Reads result (three (acting_with Annotate) (map (λ argument. argument.now) arguments.entry.now)) }
+    ensures { Reads result
+        (three (acting_with Annotate) (map (λ argument. argument.now) arguments.entry.now)) }
 {
     let [board, uuid, text] = arguments else {
         return Err(LineFault::bad_line());
@@ -206,7 +210,8 @@ fn read_annotate(alloc: Global, arguments: &[&str]) -> Result<Request, LineFault
 }
 
 fn read_denotate(alloc: Global, arguments: &[&str]) -> Result<Request, LineFault>
-    ensures { Reads result (three (acting_with Denotate) (map (λ argument. argument.now) arguments.entry.now)) }
+    ensures { Reads result
+        (three (acting_with Denotate) (map (λ argument. argument.now) arguments.entry.now)) }
 {
     let [board, uuid, text] = arguments else {
         return Err(LineFault::bad_line());

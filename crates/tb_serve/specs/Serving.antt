@@ -43,7 +43,8 @@ left_by clock (m ∷ ms) = left_by (later clock) ms
 
 -- the answer to a message, to which so many came before
 abbrev pub answer_to : Site → State → Option ℕ → ℕ → Received → List ℕ
-answer_to site s at before m = told_text (told_with site s m.message at) (is_last m.closes before) (takes_body m.message)
+answer_to site s at before m =
+    told_text (told_with site s m.message at) (is_last m.closes before) (takes_body m.message)
 
 -- the calls among messages, at the clock's moments
 abbrev pub calls_of : List (Option ℕ) → List Received → List Call
@@ -54,7 +55,8 @@ calls_of clock (m ∷ ms) = calls_in m.message (next clock) ++ calls_of (later c
 abbrev pub answers : Site → State → List (Option ℕ) → ℕ → List Received → List ℕ
 answers site s clock before [] = []
 answers site s clock before (m ∷ ms) =
-    answer_to site s (next clock) before m ++ answers site (after s (calls_in m.message (next clock))) (later clock) (before + 1) ms
+    answer_to site s (next clock) before m
+    ++ answers site (after s (calls_in m.message (next clock))) (later clock) (before + 1) ms
 
 -- none of the messages closes the connection
 abbrev pub none_closes : ℕ → List Received → Bool
@@ -81,43 +83,60 @@ unread_text fault = text_with (fault_answer fault None true true) (body_of fault
 -- behind a front the text is written, whole or up to some byte
 abbrev pub Sends : Option (List ℕ) → Option (List ℕ) → List ℕ → List ℕ → Bool → Type 0
 Sends old new front text true = Appends old new (front ++ text)
-Sends old new front text false = (count : ℕ) × (count < length text) × Appends old new (front ++ take count text)
+Sends old new front text false = (count : ℕ) × (count < length text)
+    × Appends old new (front ++ take count text)
 
 -- What came of a message that was read, which closes the connection or not, the text that answers it, and what stands then.
-abbrev pub Handles : Site → State → Option ℕ → Bool → Message → Turn → List ℕ → (State → Type 0) → (State → Type 0) → Type 0
+abbrev pub Handles : Site → State → Option ℕ → Bool → Message → Turn → List ℕ → (State → Type 0)
+    → (State → Type 0) → Type 0
 Handles site s at closes message Replied text now may_leave =
-    (text ≡ told_text (told_with site s message at) closes (takes_body message)) × StandsAt (after s (calls_in message at)) now may_leave
+    (text ≡ told_text (told_with site s message at) closes (takes_body message))
+    × StandsAt (after s (calls_in message at)) now may_leave
 Handles site s at closes message (Failed fault) text now may_leave =
-    (text ≡ failed_text fault (takes_body message)) × FailedAt fault s (calls_in message at) now may_leave
+    (text ≡ failed_text fault (takes_body message))
+    × FailedAt fault s (calls_in message at) now may_leave
 Handles site s at closes message (Unread fault) text now may_leave = ⊥
 
 -- what stands behind a message that was read, whatever it was told
-abbrev pub Settles : State → Option ℕ → Message → Turn → (State → Type 0) → (State → Type 0) → Type 0
+abbrev pub Settles : State → Option ℕ → Message → Turn → (State → Type 0)
+    → (State → Type 0) → Type 0
 Settles s at message Replied now may_leave = StandsAt (after s (calls_in message at)) now may_leave
-Settles s at message (Failed fault) now may_leave = FailedAt fault s (calls_in message at) now may_leave
+Settles s at message (Failed fault) now may_leave =
+    FailedAt fault s (calls_in message at) now may_leave
 Settles s at message (Unread fault) now may_leave = ⊥
 
 -- Handled, with what was written of the text.
-abbrev pub HandlesMessage : Site → State → Option ℕ → Bool → Message → Option (List ℕ) → Option (List ℕ) → Turn → Bool → (State → Type 0) → (State → Type 0) → Type 0
+abbrev pub HandlesMessage : Site → State → Option ℕ → Bool → Message → Option (List ℕ)
+    → Option (List ℕ) → Turn → Bool → (State → Type 0) → (State → Type 0) → Type 0
 HandlesMessage site s at closes message old new turn is_whole now may_leave =
-    (text : List ℕ) × Sends old new [] text is_whole × Handles site s at closes message turn text now may_leave
+    (text : List ℕ) × Sends old new [] text is_whole
+    × Handles site s at closes message turn text now may_leave
 
 -- What comes of the bytes at the front of which the next message stands, if one does. What is left of them is told where the
 -- connection goes on.
-abbrev pub Turns : Site → State → List (Option ℕ) → ℕ → List ℕ → Turn → List ℕ → (State → Type 0) → (State → Type 0) → Option (List ℕ) → Bool → Type 0
+abbrev pub Turns : Site → State → List (Option ℕ) → ℕ → List ℕ → Turn → List ℕ → (State → Type 0)
+    → (State → Type 0) → Option (List ℕ) → Bool → Type 0
 Turns site s clock before bytes (Unread fault) text now may_leave left is_closing =
     Faults bytes fault × (text ≡ unread_text fault) × StandsAt s now may_leave
 Turns site s clock before bytes Replied text now may_leave left is_closing =
-    (m : Received) × (rest : List ℕ) × BeginsWithMessage bytes m.message m.closes rest × (left ≡ Some rest)
-    × (is_closing ≡ is_last m.closes before) × Handles site s (next clock) (is_last m.closes before) m.message Replied text now may_leave
+    (m : Received) × (rest : List ℕ) × BeginsWithMessage bytes m.message m.closes rest
+    × (left ≡ Some rest)
+    × (is_closing ≡ is_last m.closes before)
+    × Handles site s (next clock) (is_last m.closes before) m.message Replied text now may_leave
 Turns site s clock before bytes (Failed fault) text now may_leave left is_closing =
-    (m : Received) × (rest : List ℕ) × BeginsWithMessage bytes m.message m.closes rest × (left ≡ Some rest)
-    × (is_closing ≡ is_last m.closes before) × Handles site s (next clock) (is_last m.closes before) m.message (Failed fault) text now may_leave
+    (m : Received) × (rest : List ℕ) × BeginsWithMessage bytes m.message m.closes rest
+    × (left ≡ Some rest)
+    × (is_closing ≡ is_last m.closes before)
+    × Handles site s (next clock) (is_last m.closes before) m.message
+    (Failed fault) text now may_leave
 
 -- What came of the next message, what was written of its answer, and what stands then.
-abbrev pub Exchanges : Site → State → List (Option ℕ) → ℕ → List ℕ → Option (List ℕ) → Option (List ℕ) → Exchange → (State → Type 0) → (State → Type 0) → Option (List ℕ) → Bool → Type 0
+abbrev pub Exchanges : Site → State → List (Option ℕ) → ℕ → List ℕ → Option (List ℕ)
+    → Option (List ℕ) → Exchange → (State → Type 0) → (State → Type 0) → Option (List ℕ)
+    → Bool → Type 0
 Exchanges site s clock before bytes old new exchange now may_leave left is_closing =
-    (text : List ℕ) × Sends old new [] text exchange.is_whole × Turns site s clock before bytes exchange.turn text now may_leave left is_closing
+    (text : List ℕ) × Sends old new [] text exchange.is_whole
+    × Turns site s clock before bytes exchange.turn text now may_leave left is_closing
 
 -- ---- how a connection ends
 
@@ -147,7 +166,8 @@ turn_fault (Failed fault) = Some (keep_fault fault)
 turn_fault (Unread fault) = unread_fault fault
 
 abbrev pub exchange_fault : Exchange → Option ServeFault
-exchange_fault exchange = if exchange.is_whole then turn_fault exchange.turn else Some fault.WriteFailed
+exchange_fault exchange = if exchange.is_whole then turn_fault exchange.turn
+    else Some fault.WriteFailed
 
 -- a message was told what it asked for, and its answer written whole
 abbrev pub goes_on : Turn → Bool → Bool
@@ -187,7 +207,9 @@ abbrev pub no_start : ServeEnd
 no_start = record { messages = 0; answered = 0; fault = Some fault.Memory }
 
 -- The connection ended behind messages that were all answered whole, the last of which closes it, and none before.
-pub record IsClosed (site : Site) (s : State) (clock : List (Option ℕ)) (bytes : List ℕ) (old new : Option (List ℕ)) (now : State → Type 0) (may_leave : State → Type 0) (end : ServeEnd) : Type 0 where
+pub record IsClosed (site : Site) (s : State) (clock : List (Option ℕ)) (bytes : List ℕ)
+    (old new : Option (List ℕ)) (now : State → Type 0) (may_leave : State → Type 0)
+    (end : ServeEnd) : Type 0 where
   pub told : List Received
   pub left : List ℕ
   pub brings : Brings bytes told left
@@ -198,7 +220,9 @@ pub record IsClosed (site : Site) (s : State) (clock : List (Option ℕ)) (bytes
 
 -- The connection ended behind messages that were all answered whole and none of which closes it, by an exchange that was
 -- no whole answer to a message.
-pub record IsEnded (site : Site) (s : State) (clock : List (Option ℕ)) (bytes : List ℕ) (old new : Option (List ℕ)) (now : State → Type 0) (may_leave : State → Type 0) (end : ServeEnd) : Type 0 where
+pub record IsEnded (site : Site) (s : State) (clock : List (Option ℕ)) (bytes : List ℕ)
+    (old new : Option (List ℕ)) (now : State → Type 0) (may_leave : State → Type 0)
+    (end : ServeEnd) : Type 0 where
   pub told : List Received
   pub left : List ℕ
   pub brings : Brings bytes told left
@@ -208,17 +232,21 @@ pub record IsEnded (site : Site) (s : State) (clock : List (Option ℕ)) (bytes 
   pub text : List ℕ
   pub sends : Sends old new (answers site s clock 0 told) text exchange.is_whole
   pub turns : (rest : Option (List ℕ)) × (is_closing : Bool)
-      × Turns site (after s (calls_of clock told)) (left_by clock told) (length told) left exchange.turn text now may_leave rest is_closing
+      × Turns site (after s (calls_of clock told)) (left_by clock told)
+      (length told) left exchange.turn text now may_leave rest is_closing
   pub counts : end ≡ ended_by (length told) exchange
 
 -- There was no memory to begin with.
-pub record IsUnstarted (s : State) (old new : Option (List ℕ)) (now : State → Type 0) (may_leave : State → Type 0) (end : ServeEnd) : Type 0 where
+pub record IsUnstarted (s : State) (old new : Option (List ℕ)) (now : State → Type 0)
+    (may_leave : State → Type 0) (end : ServeEnd) : Type 0 where
   pub written : Appends old new []
   pub stands : StandsAt s now may_leave
   pub counts : end ≡ no_start
 
 -- how the serving of a connection ends
-abbrev pub IsServed : Site → State → List (Option ℕ) → List ℕ → Option (List ℕ) → Option (List ℕ) → (State → Type 0) → (State → Type 0) → ServeEnd → Type 0
+abbrev pub IsServed : Site → State → List (Option ℕ) → List ℕ → Option (List ℕ) → Option (List ℕ)
+    → (State → Type 0) → (State → Type 0) → ServeEnd → Type 0
 IsServed site s clock bytes old new now may_leave end =
     IsClosed site s clock bytes old new now may_leave end
-    ⊎ (IsEnded site s clock bytes old new now may_leave end ⊎ IsUnstarted s old new now may_leave end)
+    ⊎ (IsEnded site s clock bytes old new now may_leave end
+    ⊎ IsUnstarted s old new now may_leave end)

@@ -31,7 +31,8 @@ use Rattle.tb_site.specs.Site.{file_for}
 -- ---- what is told
 
 abbrev pub told_reply : ContentType → Reply → Response
-told_reply type reply = record { status = reply.status; content_type = type; allow = None; body = reply.body }
+told_reply type reply =
+    record { status = reply.status; content_type = type; allow = None; body = reply.body }
 
 -- a listing and lines of todo.txt are plain text, where they aren't refused
 abbrev pub view_type : View → ℕ → ContentType
@@ -47,14 +48,22 @@ told_view view reply = told_reply (view_type view reply.number) reply
 
 -- each of these faults has a status
 abbrev pub told_fault : WireFault → Option Verb → List ℕ → Response
-told_fault fault allow body = record { status = unwrap_or (status_of fault) 500; content_type = Json; allow = allow; body = body }
+told_fault fault allow body =
+    record {
+      status = unwrap_or (status_of fault) 500;
+      content_type = Json;
+      allow = allow;
+      body = body;
+    }
 
 abbrev pub told_rejection : Rejection → Response
-told_rejection rejection = told_fault (fault_of rejection) (allowed_by rejection) (body_of rejection)
+told_rejection rejection =
+    told_fault (fault_of rejection) (allowed_by rejection) (body_of rejection)
 
 abbrev pub told_asked : State → ℕ → Asked → Response
 told_asked s at (asked.Call call) = told_reply Json (reply s [] call)
-told_asked s at (asked.View sender view) = told_view view (shown_in s sender.name sender.key view at)
+told_asked s at (asked.View sender view) =
+    told_view view (shown_in s sender.name sender.key view at)
 told_asked s at asked.Unknown = told_reply Json unknown_caller
 
 abbrev pub told_by : State → ℕ → Result Asked Rejection → Response
@@ -68,7 +77,8 @@ told_at s message (Some at) = told_by s at (asked_of message at)
 
 -- a file of the page
 abbrev pub told_file : SiteFile → Response
-told_file file = record { status = 200; content_type = File file.media; allow = None; body = file.body }
+told_file file =
+    record { status = 200; content_type = File file.media; allow = None; body = file.body }
 
 abbrev pub file_or : Option SiteFile → Response → Response
 file_or None told = told
@@ -94,8 +104,22 @@ told_text told is_last sends_body = answer_text (answer_of told is_last sends_bo
 -- ---- what is told where the keeper gives no reply; the connection is closed then
 
 abbrev pub failed_answer : KeepFault → Bool → Answer
-failed_answer keep.Memory sends_body = record { status = 503; content_type = Json; allow = None; is_last = true; sends_body = sends_body }
-failed_answer keep.Store sends_body = record { status = 500; content_type = Json; allow = None; is_last = true; sends_body = sends_body }
+failed_answer keep.Memory sends_body =
+    record {
+      status = 503;
+      content_type = Json;
+      allow = None;
+      is_last = true;
+      sends_body = sends_body;
+    }
+failed_answer keep.Store sends_body =
+    record {
+      status = 500;
+      content_type = Json;
+      allow = None;
+      is_last = true;
+      sends_body = sends_body;
+    }
 
 abbrev pub failed_body : KeepFault → List ℕ
 failed_body keep.Memory = codes "{\"name\":\"Memory\"}"
@@ -131,6 +155,7 @@ abbrev pub FailedAt : KeepFault → State → List Call → (State → Type 0) �
 FailedAt keep.Memory s calls now may_leave = StandsAt s now may_leave
 FailedAt keep.Store s calls now may_leave = StandsAfter s calls 0 now may_leave
 
-abbrev pub ReachesAt : {T : Type 0} → Result T KeepFault → State → List Call → (State → Type 0) → (State → Type 0) → Type 0
+abbrev pub ReachesAt : {T : Type 0} → Result T KeepFault → State → List Call → (State → Type 0)
+    → (State → Type 0) → Type 0
 ReachesAt (Ok told) s calls now may_leave = StandsAt (after s calls) now may_leave
 ReachesAt (Err fault) s calls now may_leave = FailedAt fault s calls now may_leave

@@ -10,5 +10,6 @@ pub trait Clock {
     ghost answers: { Self → Option (List (Option ℕ)) };
 
     fn now(&mut self) -> Option<Moment>
-        ensures { IfSome (answers self.old) (λ known. (result ≡ next known) × (answers self.new ≡ Some (later known))) };
+        ensures { IfSome (answers self.old)
+            (λ known. (result ≡ next known) × (answers self.new ≡ Some (later known))) };
 }

@@ -59,7 +59,7 @@ pub struct Exchange {
 impl Exchange {
     /// The end behind so many messages that were read and answered, and this exchange.
     pub(crate) fn ends(self, before: usize) -> ServeEnd
-        requires { before < 1000 }
+        requires { before < message_limit }
         ensures { result ≡ ended_by before self }
     {
         ServeEnd {
@@ -159,7 +159,8 @@ fn send_failed<W: Write>(
     fault: KeepFault,
     sends_body: bool,
 ) -> bool
-    ensures { Sends (W.contents writer.old) (W.contents writer.new) [] (telling.failed_text fault sends_body) result }
+    ensures { Sends (W.contents writer.old) (W.contents writer.new) []
+        (telling.failed_text fault sends_body) result }
 {
     let answer = failed_answer(fault, sends_body);
     send(room, writer, answer, failed_body(fault).as_bytes())
@@ -192,7 +193,8 @@ fn failed_body(fault: KeepFault) -> &'static str
 
 // Sends an answer, and says whether it went out whole.
 fn send<W: Write>(room: &mut HeadRoom, writer: &mut W, answer: Answer, body: &[u8]) -> bool
-    ensures { Sends (W.contents writer.old) (W.contents writer.new) [] (answer_text answer body.now) result }
+    ensures { Sends (W.contents writer.old) (W.contents writer.new) []
+        (answer_text answer body.now) result }
 {
     room.send(writer, answer, body).is_ok()
 }
@@ -210,7 +212,8 @@ pub fn handle_message<W: Write, K: Keep>(
 ) -> Exchange
     ensures handles { K.is_honest desk.new ≡ true → (s : State) → K.holds desk.old s
         → Only s (K.after_stop desk.old)
-        → HandlesMessage paths.now.site s at is_last message.now (W.contents writer.old) (W.contents writer.new)
+        → HandlesMessage paths.now.site s at is_last message.now (W.contents writer.old)
+        (W.contents writer.new)
         result.turn result.is_whole (K.holds desk.new) (K.after_stop desk.new) }
     ensures stands { (s : State) → K.holds desk.old s → Only s (K.after_stop desk.old)
         → Settles s at message.now result.turn (K.holds desk.new) (K.after_stop desk.new) }
@@ -254,13 +257,16 @@ fn serve_message<R: Read + Drop, W: Write, K: Keep, C: Clock>(
     ensures exchanges { K.is_honest desk.new ≡ true → (s : State) → K.holds desk.old s
         → Only s (K.after_stop desk.old)
         → IfSome reader.old.bytes (λ bytes. IfSome (C.answers clock.old) (λ moments.
-        Exchanges paths.now.site s moments reader.old.messages bytes (W.contents writer.old) (W.contents writer.new) result
+        Exchanges paths.now.site s moments reader.old.messages bytes (W.contents writer.old)
+        (W.contents writer.new) result
         (K.holds desk.new) (K.after_stop desk.new) reader.new.bytes reader.new.is_closing)) }
     ensures honest { K.is_honest desk.new ≡ true → K.is_honest desk.old ≡ true }
     ensures failed { result.turn ≡ Turn.Failed KeepFault.Store → K.has_failed desk.new ≡ true }
-    ensures clock { IfSome (C.answers clock.old) (λ moments. C.answers clock.new ≡ Some (drop (reads_one result.turn) moments)) }
+    ensures clock { IfSome (C.answers clock.old)
+        (λ moments. C.answers clock.new ≡ Some (drop (reads_one result.turn) moments)) }
     ensures counted { result.turn ≡ Turn.Replied → reader.new.messages ≡ reader.old.messages + 1 }
-    ensures limit { result.turn ≡ Turn.Replied → message_limit ≤ reader.new.messages → reader.new.is_closing ≡ true }
+    ensures limit { result.turn ≡ Turn.Replied → message_limit ≤ reader.new.messages
+        → reader.new.is_closing ≡ true }
 {
     match reader.read_message(alloc) {
         Ok(message) => {
@@ -290,10 +296,12 @@ fn serve_all<R: Read + Drop, W: Write, K: Keep, C: Clock>(
     ensures served { K.is_honest desk.new ≡ true → (s : State) → K.holds desk.old s
         → Only s (K.after_stop desk.old)
         → IfSome reader.old.bytes (λ bytes. IfSome (C.answers clock.old) (λ moments.
-        IsServed paths.now.site s moments bytes (W.contents writer.old) (W.contents writer.new) (K.holds desk.new) (K.after_stop desk.new) result)) }
+        IsServed paths.now.site s moments bytes (W.contents writer.old) (W.contents writer.new)
+        (K.holds desk.new) (K.after_stop desk.new) result)) }
     ensures honest { K.is_honest desk.new ≡ true → K.is_honest desk.old ≡ true }
     ensures failed { result.fault ≡ Some ServeFault.Store → K.has_failed desk.new ≡ true }
-    ensures clock { IfSome (C.answers clock.old) (λ moments. C.answers clock.new ≡ Some (drop result.messages moments)) }
+    ensures clock { IfSome (C.answers clock.old)
+        (λ moments. C.answers clock.new ≡ Some (drop result.messages moments)) }
 {
     let mut answered = 0;
     'messages: while !reader.closing() {
@@ -323,10 +331,12 @@ pub fn serve<R: Read + Drop, W: Write, K: Keep, C: Clock>(
     ensures served { K.is_honest desk.new ≡ true → (s : State) → K.holds desk.old s
         → Only s (K.after_stop desk.old)
         → IfSome (R.remaining source) (λ bytes. IfSome (C.answers clock.old) (λ moments.
-        IsServed paths.now.site s moments bytes (W.contents writer.old) (W.contents writer.new) (K.holds desk.new) (K.after_stop desk.new) result)) }
+        IsServed paths.now.site s moments bytes (W.contents writer.old) (W.contents writer.new)
+        (K.holds desk.new) (K.after_stop desk.new) result)) }
     ensures honest { K.is_honest desk.new ≡ true → K.is_honest desk.old ≡ true }
     ensures failed { result.fault ≡ Some ServeFault.Store → K.has_failed desk.new ≡ true }
-    ensures clock { IfSome (C.answers clock.old) (λ moments. C.answers clock.new ≡ Some (drop result.messages moments)) }
+    ensures clock { IfSome (C.answers clock.old)
+        (λ moments. C.answers clock.new ≡ Some (drop result.messages moments)) }
 {
     let Ok(mut room) = HeadRoom::new(alloc) else {
         return UNSTARTED;

@@ -40,7 +40,8 @@ pub(crate) fn tell<K: Keep>(
 }
 
 fn without_clock(alloc: Global) -> Result<Response, AllocError>
-    ensures { IfOk result (λ told. (s : State) → (message : Message) → told ≡ told_at s message None) }
+    ensures { IfOk result
+        (λ told. (s : State) → (message : Message) → told ≡ told_at s message None) }
 {
     let body = Text::from_str(alloc, WireFault::NoClock.body())?;
     Ok(Response::fault(WireFault::NoClock, None, body))
@@ -56,7 +57,8 @@ fn tell_at<K: Keep>(
     ensures told { K.is_honest desk.new ≡ true → (s : State) → K.holds desk.old s
         → IfOk result (λ told. told ≡ told_by s at (asked_of message.now at)) }
     ensures stands { (s : State) → K.holds desk.old s → Only s (K.after_stop desk.old)
-        → ReachesAt result s (called_by (asked_of message.now at)) (K.holds desk.new) (K.after_stop desk.new) }
+        → ReachesAt result s (called_by (asked_of message.now at)) (K.holds desk.new)
+        (K.after_stop desk.new) }
     ensures honest { K.is_honest desk.new ≡ true → K.is_honest desk.old ≡ true }
     ensures failed { IsErrOf result KeepFault.Store → K.has_failed desk.new ≡ true }
 {
@@ -114,7 +116,8 @@ fn tell_view<K: Keep>(
     at: Moment,
 ) -> Result<Response, KeepFault>
     ensures told { K.is_honest desk.new ≡ true → (s : State) → K.holds desk.old s
-        → IfOk result (λ told. told ≡ told_view view.now (shown_in s sender.now.name sender.now.key view.now at)) }
+        → IfOk result (λ told. told
+        ≡ told_view view.now (shown_in s sender.now.name sender.now.key view.now at)) }
     ensures stands { (s : State) → K.holds desk.old s → Only s (K.after_stop desk.old)
         → ReachesAt result s [] (K.holds desk.new) (K.after_stop desk.new) }
     ensures honest { K.is_honest desk.new ≡ true → K.is_honest desk.old ≡ true }

@@ -22,14 +22,16 @@ abbrev pub AreTimed : List (ℕ × Done) → List (ℕ × Happening (Option ℕ)
 AreTimed [] [] = Unit {0}
 AreTimed [] (one ∷ timed) = ⊥
 AreTimed (one ∷ history) [] = ⊥
-AreTimed (one ∷ history) (other ∷ timed) = (other.0 ≡ one.0) × IsTimed one.1 other.1 × AreTimed history timed
+AreTimed (one ∷ history) (other ∷ timed) = (other.0 ≡ one.0) × IsTimed one.1 other.1
+    × AreTimed history timed
 
 -- those at places that there are
 abbrev pub at_places : ℕ → List (ℕ × Happening (Option ℕ)) → List (ℕ × Happening (Option ℕ))
 at_places count timed = filter (λ one. nat_lt one.0 count) timed
 
 -- The store failed on the last of what was done: a run was made of all before it, and its call may have acted.
-pub record StopsAtLast (site : Site) (s : State) (timed : List (ℕ × Happening (Option ℕ))) (talks later : ℕ → Talk)
+pub record StopsAtLast (site : Site) (s : State) (timed : List (ℕ × Happening (Option ℕ)))
+    (talks later : ℕ → Talk)
     (now stops : State → Type 0) : Type 0 where
   pub ks : List (Step (Option ℕ) Timed)
   pub end : State
@@ -50,7 +52,8 @@ Makes site true s timed talks later now stops = StopsAtLast site s timed talks l
 -- What was done to the connections of a server, one thing after the other, and what it made of them and of the desk:
 -- nothing but this is done to any of them, and to what the desk holds. What connections are told is said of a store that
 -- is honest to the end.
-pub record Serves (site kept : Site) (stopped : Bool) (history : List (ℕ × Done)) (talks later : List Talk) (was_honest is_honest : Bool)
+pub record Serves (site kept : Site) (stopped : Bool) (history : List (ℕ × Done))
+    (talks later : List Talk) (was_honest is_honest : Bool)
     (old old_stops now stops : State → Type 0) : Type 0 where
   -- the page stays
   pub page : kept ≡ site
@@ -65,4 +68,5 @@ pub record Serves (site kept : Site) (stopped : Bool) (history : List (ℕ × Do
   -- These very bytes came, these turns were had, this much was sent. The calls are those of the messages that the bytes
   -- bring, by the law of any turns of `tb_peers`.
   pub run : is_honest ≡ true → (s : State) → old s → Only s old_stops
-      → Makes site stopped s (at_places (length talks) timed) (talk_at talks) (talk_at later) now stops
+      → Makes site stopped s (at_places (length talks) timed) (talk_at talks)
+      (talk_at later) now stops

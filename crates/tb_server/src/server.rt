@@ -88,7 +88,8 @@ fn at_moment<'a, C: Clock>(clock: &mut C, happening: &Happening<'a>) -> PeerHapp
 }
 
 impl<K: Keep, C: Clock> Service for Server<K, C> {
-    ghost follows = { λ stopped history old new. Serves old.paths.site new.paths.site stopped history old.peers.items new.peers.items
+    ghost follows = { λ stopped history old new. Serves old.paths.site new.paths.site stopped
+        history old.peers.items new.peers.items
         (K.is_honest old.desk) (K.is_honest new.desk)
         (K.holds old.desk) (K.after_stop old.desk) (K.holds new.desk) (K.after_stop new.desk) };
 
@@ -103,9 +104,11 @@ impl<K: Keep, C: Clock> Service for Server<K, C> {
     ghost unchanged = { λ s. serves_none s.paths.site s.peers.items (K.is_honest s.desk)
         (K.holds s.desk) (K.after_stop s.desk) };
 
-    ghost joined = { λ stopped first more a b c. serves_then a.paths.site b.paths.site c.paths.site stopped first more a.peers.items b.peers.items c.peers.items
+    ghost joined = { λ stopped first more a b c. serves_then a.paths.site b.paths.site c.paths.site
+        stopped first more a.peers.items b.peers.items c.peers.items
         (K.is_honest a.desk) (K.is_honest b.desk) (K.is_honest c.desk)
-        (K.holds a.desk) (K.after_stop a.desk) (K.holds b.desk) (K.after_stop b.desk) (K.holds c.desk) (K.after_stop c.desk) };
+        (K.holds a.desk) (K.after_stop a.desk) (K.holds b.desk) (K.after_stop b.desk)
+        (K.holds c.desk) (K.after_stop c.desk) };
 
     fn happen(&mut self, place: usize, happening: &Happening<'_>) -> Result<(), StoreFailed> {
         let what = at_moment(&mut self.clock, happening);

@@ -16,7 +16,8 @@ use Rattle.tb_site.specs.Site.{file_at}
 
 -- a to z, 0 to 9, '_', '-' or '.'
 unfoldable pub is_name_byte : ℕ → Bool
-is_name_byte c = (nat_le 97 c && nat_le c 122) || (nat_le 48 c && nat_le c 57) || (c == 95) || (c == 45) || (c == 46)
+is_name_byte c = (nat_le 97 c && nat_le c 122) || (nat_le 48 c && nat_le c 57) || (c == 95)
+    || (c == 45) || (c == 46)
 
 abbrev pub has_ending : List ℕ → List ℕ → Bool
 has_ending name ending = ends_with nat_eq name ending
@@ -42,7 +43,8 @@ empty_draft = record { files = []; room = 4194304 }
 
 abbrev pub with_file : Draft → FoundFile → MediaType → Draft
 with_file draft found media = record {
-  files = draft.files ++ record { path = codes "/" ++ found.name; media = media; body = found.body } ∷ [];
+  files = draft.files
+      ++ record { path = codes "/" ++ found.name; media = media; body = found.body } ∷ [];
   room = draft.room - length found.body;
 }
 
@@ -50,7 +52,8 @@ abbrev pub draft_as : Draft → FoundFile → Option MediaType → Result Draft 
 draft_as draft found None = Ok draft
 draft_as draft found (Some media) =
     if nat_le 64 (length draft.files) then Err TooManyFiles
-    else (if nat_lt draft.room (length found.body) then Err TooLarge else Ok (with_file draft found media))
+    else (if nat_lt draft.room (length found.body) then Err TooLarge
+    else Ok (with_file draft found media))
 
 unfoldable pub draft_with : Draft → FoundFile → Result Draft PageFault
 draft_with draft found = draft_as draft found (media_of found.name)

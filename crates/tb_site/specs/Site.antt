@@ -34,7 +34,8 @@ has_no_route (Err (NoMethod verb)) = false
 
 -- a message reads a path that no route has
 abbrev pub is_free : Message → Bool
-is_free message = reads message.method && has_no_route (resource_asked message.method message.target)
+is_free message =
+    reads message.method && has_no_route (resource_asked message.method message.target)
 
 abbrev pub if_free : Option SiteFile → Bool → Option SiteFile
 if_free None free = None
@@ -58,7 +59,8 @@ file_answer file is_last sends_body = record {
 
 -- a message that is told a file has no route
 abbrev pub FilesBehindRoutes : Type 0
-FilesBehindRoutes = (site : Site) (message : Message) (file : SiteFile) → file_for site message ≡ Some file
+FilesBehindRoutes = (site : Site) (message : Message) (file : SiteFile)
+    → file_for site message ≡ Some file
     → resource_asked message.method message.target ≡ Err NoRoute
 
 -- where there is no page, no message is told a file

@@ -61,7 +61,8 @@ abbrev pub is_link_from : ℕ → ℕ → LinkRow → Bool
 is_link_from board place link = (link.board == board) && (link.place == place)
 
 abbrev pub is_gone : ℕ → ℕ → ℕ → GoneRow → Bool
-is_gone board template imask gone = (gone.board == board) && ((gone.template == template) && (gone.imask == imask))
+is_gone board template imask gone =
+    (gone.board == board) && ((gone.template == template) && (gone.imask == imask))
 
 abbrev pub is_kept : ℕ → ℕ → KeptRow → Bool
 is_kept person id kept = (kept.person == person) && (kept.id == id)
@@ -72,34 +73,59 @@ is_horizon board horizon = horizon.board == board
 -- ---- rows that go
 
 abbrev pub without_role : ℕ → ℕ → Content → Content
-without_role board person content = record content { roles = filter (λ role. not (is_role board person role)) content.roles }
+without_role board person content =
+    record content { roles = filter (λ role. not (is_role board person role)) content.roles }
 
 abbrev pub without_links : ℕ → ℕ → Content → Content
-without_links board place content = record content { links = filter (λ link. not (is_link_from board place link)) content.links }
+without_links board place content =
+    record content { links = filter (λ link. not (is_link_from board place link)) content.links }
 
 abbrev pub without_gone : ℕ → ℕ → ℕ → Content → Content
-without_gone board template imask content = record content { gone = filter (λ gone. not (is_gone board template imask gone)) content.gone }
+without_gone board template imask content =
+    record content { gone = filter (λ gone. not (is_gone board template imask gone)) content.gone }
 
 -- ---- rows that change
 
 -- the board of this number has this least free number
 abbrev pub with_low : ℕ → ℕ → Content → Content
-with_low id low content = record content { boards = map (λ (board : BoardRow). if is_board id board then (let changed : BoardRow = record board { low = low } in changed) else board) content.boards }
+with_low id low content =
+    record content {
+      boards = map
+          (λ (board : BoardRow). if is_board id board
+          then (let changed : BoardRow = record board { low = low } in changed) else board)
+          content.boards;
+    }
 
 -- the board of this number has so many instances ahead
 abbrev pub with_ahead : ℕ → ℕ → Content → Content
 with_ahead board ahead content =
-    record content { horizon = map (λ (horizon : HorizonRow). if is_horizon board horizon then (let changed : HorizonRow = record horizon { ahead = ahead } in changed) else horizon) content.horizon }
+    record content {
+      horizon = map
+          (λ (horizon : HorizonRow). if is_horizon board horizon
+          then (let changed : HorizonRow = record horizon { ahead = ahead } in changed)
+                      else horizon)
+          content.horizon;
+    }
 
 -- the task at the place has this text and this mask
 abbrev pub with_text : ℕ → ℕ → List ℕ → Option (List ℕ) → Content → Content
 with_text board place body mask content =
-    record content { tasks = map (λ (task : TaskRow). if is_task board place task then (let changed : TaskRow = record task { body = body; mask = mask } in changed) else task) content.tasks }
+    record content {
+      tasks = map
+          (λ (task : TaskRow). if is_task board place task
+          then (let changed : TaskRow = record task { body = body; mask = mask } in changed)
+          else task) content.tasks;
+    }
 
 -- the task at the place has this mask
 abbrev pub with_mask : ℕ → ℕ → Option (List ℕ) → Content → Content
 with_mask board place mask content =
-    record content { tasks = map (λ (task : TaskRow). if is_task board place task then (let changed : TaskRow = record task { mask = mask } in changed) else task) content.tasks }
+    record content {
+      tasks = map
+          (λ (task : TaskRow). if is_task board place task
+          then (let changed : TaskRow = record task { mask = mask } in changed) else task)
+          content.tasks;
+    }
 
 -- ---- orders of rows, by the rest of the key
 

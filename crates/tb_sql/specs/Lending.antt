@@ -16,7 +16,8 @@ tasks_text = codes "SELECT board, place, uuid, body, mask FROM task WHERE board 
 
 module _ {S : Type 0} (g : Ghosts S) where
   -- the connection sees the content, and these of the board's tasks have been lent
-  pub record HasLent (board : ℕ) (content : Content) (h : Held S) (lent : List TaskRow) : Type 0 where
+  pub record HasLent (board : ℕ) (content : Content) (h : Held S)
+      (lent : List TaskRow) : Type 0 where
     pub rows : List Row
     pub read : lent ≡ map task_of rows
     pub given : HasGiven g tasks_text (Int (pos board) ∷ []) h rows
@@ -25,4 +26,5 @@ module _ {S : Type 0} (g : Ghosts S) where
   -- one more is lent, or those so far are all, in order of place
   abbrev pub LendsOn : ℕ → Content → Held S → List TaskRow → Option TaskRow → Type 0
   LendsOn board content new lent (Some task) = HasLent board content new (lent ++ task ∷ [])
-  LendsOn board content new lent None = AreFound IsTaskBefore (filter (λ task. task.board == board) content.tasks) lent
+  LendsOn board content new lent None =
+      AreFound IsTaskBefore (filter (λ task. task.board == board) content.tasks) lent

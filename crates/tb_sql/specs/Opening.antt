@@ -44,34 +44,59 @@ are_columns (e ∷ es) [] = false
 are_columns (e ∷ es) (c ∷ cs) = (same_name c.name e.0 && e.1 c.kind) && are_columns es cs
 
 unfoldable pub is_meta : Table → Bool
-is_meta table = same_name table.name (codes "meta") && are_columns ((codes "one", is_integer) ∷ (codes "kind", is_text) ∷ (codes "version", is_integer) ∷ []) table.columns
+is_meta table = same_name table.name (codes "meta")
+    && are_columns ((codes "one", is_integer) ∷ (codes "kind", is_text)
+    ∷ (codes "version", is_integer) ∷ []) table.columns
 
 unfoldable pub is_person : Table → Bool
-is_person table = same_name table.name (codes "person") && are_columns ((codes "id", is_integer) ∷ (codes "name", is_text) ∷ (codes "secret", is_text) ∷ []) table.columns
+is_person table =
+    same_name table.name (codes "person")
+    && are_columns ((codes "id", is_integer) ∷ (codes "name", is_text) ∷ (codes "secret", is_text)
+    ∷ []) table.columns
 
 unfoldable pub is_board : Table → Bool
-is_board table = same_name table.name (codes "board") && are_columns ((codes "id", is_integer) ∷ (codes "title", is_text) ∷ (codes "low", is_integer) ∷ []) table.columns
+is_board table =
+    same_name table.name (codes "board")
+    && are_columns ((codes "id", is_integer) ∷ (codes "title", is_text) ∷ (codes "low", is_integer)
+    ∷ []) table.columns
 
 unfoldable pub is_role : Table → Bool
-is_role table = same_name table.name (codes "role") && are_columns ((codes "board", is_integer) ∷ (codes "person", is_integer) ∷ (codes "kind", is_integer) ∷ []) table.columns
+is_role table = same_name table.name (codes "role")
+    && are_columns ((codes "board", is_integer) ∷ (codes "person", is_integer)
+    ∷ (codes "kind", is_integer) ∷ []) table.columns
 
 unfoldable pub is_task : Table → Bool
-is_task table = same_name table.name (codes "task") && are_columns ((codes "board", is_integer) ∷ (codes "place", is_integer) ∷ (codes "uuid", is_blob) ∷ (codes "body", is_text) ∷ (codes "mask", is_text) ∷ []) table.columns
+is_task table = same_name table.name (codes "task")
+    && are_columns ((codes "board", is_integer) ∷ (codes "place", is_integer)
+    ∷ (codes "uuid", is_blob) ∷ (codes "body", is_text) ∷ (codes "mask", is_text) ∷ [])
+    table.columns
 
 unfoldable pub is_link : Table → Bool
-is_link table = same_name table.name (codes "link") && are_columns ((codes "board", is_integer) ∷ (codes "place", is_integer) ∷ (codes "target", is_integer) ∷ []) table.columns
+is_link table = same_name table.name (codes "link")
+    && are_columns ((codes "board", is_integer) ∷ (codes "place", is_integer)
+    ∷ (codes "target", is_integer) ∷ []) table.columns
 
 unfoldable pub is_instance : Table → Bool
-is_instance table = same_name table.name (codes "instance") && are_columns ((codes "board", is_integer) ∷ (codes "template", is_integer) ∷ (codes "imask", is_integer) ∷ (codes "place", is_integer) ∷ []) table.columns
+is_instance table =
+    same_name table.name (codes "instance")
+    && are_columns ((codes "board", is_integer) ∷ (codes "template", is_integer)
+    ∷ (codes "imask", is_integer) ∷ (codes "place", is_integer) ∷ []) table.columns
 
 unfoldable pub is_gone : Table → Bool
-is_gone table = same_name table.name (codes "gone") && are_columns ((codes "board", is_integer) ∷ (codes "template", is_integer) ∷ (codes "imask", is_integer) ∷ (codes "mark", is_text) ∷ []) table.columns
+is_gone table = same_name table.name (codes "gone")
+    && are_columns ((codes "board", is_integer) ∷ (codes "template", is_integer)
+    ∷ (codes "imask", is_integer) ∷ (codes "mark", is_text) ∷ []) table.columns
 
 unfoldable pub is_kept : Table → Bool
-is_kept table = same_name table.name (codes "kept") && are_columns ((codes "person", is_integer) ∷ (codes "id", is_blob) ∷ (codes "content", is_blob) ∷ (codes "number", is_integer) ∷ (codes "status", is_integer) ∷ (codes "body", is_text) ∷ []) table.columns
+is_kept table = same_name table.name (codes "kept")
+    && are_columns ((codes "person", is_integer) ∷ (codes "id", is_blob)
+    ∷ (codes "content", is_blob) ∷ (codes "number", is_integer) ∷ (codes "status", is_integer)
+    ∷ (codes "body", is_text) ∷ []) table.columns
 
 unfoldable pub is_horizon : Table → Bool
-is_horizon table = same_name table.name (codes "horizon") && are_columns ((codes "board", is_integer) ∷ (codes "ahead", is_integer) ∷ []) table.columns
+is_horizon table =
+    same_name table.name (codes "horizon")
+    && are_columns ((codes "board", is_integer) ∷ (codes "ahead", is_integer) ∷ []) table.columns
 
 -- the first of the tables tells what the file is
 abbrev pub has_meta : List Table → Bool
@@ -87,11 +112,15 @@ are_tables (p ∷ ps) (t ∷ ts) = p t && are_tables ps ts
 
 -- the tables are those of a store, in the order in which they are made
 abbrev pub are_ours : List Table → Bool
-are_ours = are_tables (is_meta ∷ is_person ∷ is_board ∷ is_role ∷ is_task ∷ is_link ∷ is_instance ∷ is_gone ∷ is_kept ∷ is_horizon ∷ [])
+are_ours = are_tables
+    (is_meta ∷ is_person ∷ is_board ∷ is_role ∷ is_task ∷ is_link ∷ is_instance ∷ is_gone ∷ is_kept
+    ∷ is_horizon ∷ [])
 
 -- the same for a store of the first version
 abbrev pub are_old : List Table → Bool
-are_old = are_tables (is_meta ∷ is_person ∷ is_board ∷ is_role ∷ is_task ∷ is_link ∷ is_instance ∷ is_gone ∷ is_kept ∷ [])
+are_old = are_tables
+    (is_meta ∷ is_person ∷ is_board ∷ is_role ∷ is_task ∷ is_link ∷ is_instance ∷ is_gone
+    ∷ is_kept ∷ [])
 
 -- beside the tables are the nine indexes of their keys alone
 abbrev pub has_key_indexes : Schema → Bool
@@ -131,15 +160,18 @@ IsOfStore schema = (schema ≡ store_schema) ⊎ (schema ≡ old_schema)
 
 -- where the tables are those of a store, these are the rows of the first
 abbrev pub AreMetas : Database → List MetaRow → Type 0
-AreMetas db metas = IsOfStore db.schema → (rows : List MetaRow) → HasKeyed (map row_of_meta rows) (db.trees meta_tree) → IsPermutation rows metas
+AreMetas db metas = IsOfStore db.schema → (rows : List MetaRow)
+    → HasKeyed (map row_of_meta rows) (db.trees meta_tree) → IsPermutation rows metas
 
 abbrev pub version_of : ℕ → Result Version OpenFault
-version_of number = if number == 2 then Ok Second else (if number == 1 then Ok First else Err WrongVersion)
+version_of number = if number == 2 then Ok Second
+    else (if number == 1 then Ok First else Err WrongVersion)
 
 -- what the rows of the first table say: one row names a store and its version
 abbrev pub judged : List MetaRow → Result Version OpenFault
 judged [] = Err NotOurs
-judged (meta ∷ []) = if bytes_eq meta.kind (codes "taskboard") then version_of meta.version else Err NotOurs
+judged (meta ∷ []) = if bytes_eq meta.kind (codes "taskboard") then version_of meta.version
+    else Err NotOurs
 judged (a ∷ b ∷ metas) = Err NotOurs
 
 -- a store is taken only where the tables of its version are there, and nothing else
@@ -169,11 +201,14 @@ pub record AreShown (old new : State) (metas : List MetaRow) : Type 0 where
 module _ {S : Type 0} (g : Ghosts S) where
   -- the query shows these rows in a transaction that begins here
   abbrev pub AreShownFrom : Held S → List MetaRow → Type 0
-  AreShownFrom conn metas = (later : Held S) × AreShown (state g (record conn { in_transaction = true })) (state g later) metas
+  AreShownFrom conn metas = (later : Held S)
+      × AreShown (state g (record conn { in_transaction = true })) (state g later) metas
 
   -- the answer is what the tables and the rows say, unless the database fails or memory is wanting
   abbrev pub IsAnswered : Held S → Result Version OpenFault → Type 0
-  IsAnswered conn answer = ((metas : List MetaRow) × AreShownFrom conn metas × (answer ≡ taken conn.schema metas)) ⊎ ((answer ≡ Err Store) ⊎ (answer ≡ Err Memory))
+  IsAnswered conn answer =
+      ((metas : List MetaRow) × AreShownFrom conn metas × (answer ≡ taken conn.schema metas))
+      ⊎ ((answer ≡ Err Store) ⊎ (answer ≡ Err Memory))
 
 -- ---- what a look leaves
 
@@ -181,5 +216,6 @@ module _ {S : Type 0} (g : Ghosts S) where
 pub record IsAsBefore (old new : State) : Type 0 where
   pub clean : HasCleanDisk new → HasCleanDisk old
   pub was_open : HasCleanDisk new → IsTrue new.is_open → IsTrue old.is_open
-  pub seen : HasCleanDisk new → IsTrue new.is_open → old.committed ≡ old.now → (new.now ≡ old.now) × (new.committed ≡ old.now)
+  pub seen : HasCleanDisk new → IsTrue new.is_open → old.committed ≡ old.now
+      → (new.now ≡ old.now) × (new.committed ≡ old.now)
   pub left : HasCleanDisk new → (db : Trees) → new.may_leave db → old.may_leave db

@@ -18,11 +18,17 @@ use tb_sql_tables::run::run;
 /// Adds a person.
 fn insert_person<S: Alter>(tx: &mut Transaction<'_, S>, person: &PersonRow) -> Result<(), Error>
     ensures same_reference { tx.new.conn.ghost_name ≡ tx.old.conn.ghost_name }
-    ensures made { HasCleanDisk (state S.Store tx.new.conn.now) → IsTrue (state S.Store tx.old.conn.now).in_transaction
-        → OnOk result ((content : Content) → Turns (IsOldContent content) (IsOldContent (with_person person.now content)) (state S.Store tx.old.conn.now) (state S.Store tx.new.conn.now)) }
-    ensures kept { HasCleanDisk (state S.Store tx.new.conn.now) → IsTrue (state S.Store tx.old.conn.now).in_transaction
-        → OnErr result (KeepsCommit (state S.Store tx.old.conn.now) (state S.Store tx.new.conn.now)) }
-    ensures survives { Survives (state S.Store tx.old.conn.now) (state S.Store tx.new.conn.now) (λ _. ⊥) }
+    ensures made { HasCleanDisk (state S.Store tx.new.conn.now)
+        → IsTrue (state S.Store tx.old.conn.now).in_transaction
+        → OnOk result ((content : Content)
+        → Turns (IsOldContent content) (IsOldContent (with_person person.now content))
+        (state S.Store tx.old.conn.now) (state S.Store tx.new.conn.now)) }
+    ensures kept { HasCleanDisk (state S.Store tx.new.conn.now)
+        → IsTrue (state S.Store tx.old.conn.now).in_transaction
+        → OnErr result (KeepsCommit (state S.Store tx.old.conn.now)
+        (state S.Store tx.new.conn.now)) }
+    ensures survives { Survives (state S.Store tx.old.conn.now)
+        (state S.Store tx.new.conn.now) (λ _. ⊥) }
 {
     let name = person.name.as_str();
     let secret = person.secret.as_str();
@@ -36,11 +42,17 @@ fn insert_person<S: Alter>(tx: &mut Transaction<'_, S>, person: &PersonRow) -> R
 /// Adds a board.
 fn insert_board<S: Alter>(tx: &mut Transaction<'_, S>, board: &BoardRow) -> Result<(), Error>
     ensures same_reference { tx.new.conn.ghost_name ≡ tx.old.conn.ghost_name }
-    ensures made { HasCleanDisk (state S.Store tx.new.conn.now) → IsTrue (state S.Store tx.old.conn.now).in_transaction
-        → OnOk result ((content : Content) → Turns (IsOldContent content) (IsOldContent (with_board board.now content)) (state S.Store tx.old.conn.now) (state S.Store tx.new.conn.now)) }
-    ensures kept { HasCleanDisk (state S.Store tx.new.conn.now) → IsTrue (state S.Store tx.old.conn.now).in_transaction
-        → OnErr result (KeepsCommit (state S.Store tx.old.conn.now) (state S.Store tx.new.conn.now)) }
-    ensures survives { Survives (state S.Store tx.old.conn.now) (state S.Store tx.new.conn.now) (λ _. ⊥) }
+    ensures made { HasCleanDisk (state S.Store tx.new.conn.now)
+        → IsTrue (state S.Store tx.old.conn.now).in_transaction
+        → OnOk result ((content : Content)
+        → Turns (IsOldContent content) (IsOldContent (with_board board.now content))
+        (state S.Store tx.old.conn.now) (state S.Store tx.new.conn.now)) }
+    ensures kept { HasCleanDisk (state S.Store tx.new.conn.now)
+        → IsTrue (state S.Store tx.old.conn.now).in_transaction
+        → OnErr result (KeepsCommit (state S.Store tx.old.conn.now)
+        (state S.Store tx.new.conn.now)) }
+    ensures survives { Survives (state S.Store tx.old.conn.now)
+        (state S.Store tx.new.conn.now) (λ _. ⊥) }
 {
     let title = board.title.as_str();
     run(
@@ -53,11 +65,17 @@ fn insert_board<S: Alter>(tx: &mut Transaction<'_, S>, board: &BoardRow) -> Resu
 /// Adds the role of a person on a board.
 fn insert_role<S: Alter>(tx: &mut Transaction<'_, S>, role: &RoleRow) -> Result<(), Error>
     ensures same_reference { tx.new.conn.ghost_name ≡ tx.old.conn.ghost_name }
-    ensures made { HasCleanDisk (state S.Store tx.new.conn.now) → IsTrue (state S.Store tx.old.conn.now).in_transaction
-        → OnOk result ((content : Content) → Turns (IsOldContent content) (IsOldContent (with_role role.now content)) (state S.Store tx.old.conn.now) (state S.Store tx.new.conn.now)) }
-    ensures kept { HasCleanDisk (state S.Store tx.new.conn.now) → IsTrue (state S.Store tx.old.conn.now).in_transaction
-        → OnErr result (KeepsCommit (state S.Store tx.old.conn.now) (state S.Store tx.new.conn.now)) }
-    ensures survives { Survives (state S.Store tx.old.conn.now) (state S.Store tx.new.conn.now) (λ _. ⊥) }
+    ensures made { HasCleanDisk (state S.Store tx.new.conn.now)
+        → IsTrue (state S.Store tx.old.conn.now).in_transaction
+        → OnOk result ((content : Content)
+        → Turns (IsOldContent content) (IsOldContent (with_role role.now content))
+        (state S.Store tx.old.conn.now) (state S.Store tx.new.conn.now)) }
+    ensures kept { HasCleanDisk (state S.Store tx.new.conn.now)
+        → IsTrue (state S.Store tx.old.conn.now).in_transaction
+        → OnErr result (KeepsCommit (state S.Store tx.old.conn.now)
+        (state S.Store tx.new.conn.now)) }
+    ensures survives { Survives (state S.Store tx.old.conn.now)
+        (state S.Store tx.new.conn.now) (λ _. ⊥) }
 {
     run(
         tx,
@@ -74,11 +92,17 @@ fn put_first<S: Alter>(
     role: &RoleRow,
 ) -> Result<(), Error>
     ensures same_reference { tx.new.conn.ghost_name ≡ tx.old.conn.ghost_name }
-    ensures made { HasCleanDisk (state S.Store tx.new.conn.now) → IsTrue (state S.Store tx.old.conn.now).in_transaction
-        → OnOk result (Turns HasNoTables (IsOldContent (first_content person.now board.now role.now)) (state S.Store tx.old.conn.now) (state S.Store tx.new.conn.now)) }
-    ensures kept { HasCleanDisk (state S.Store tx.new.conn.now) → IsTrue (state S.Store tx.old.conn.now).in_transaction
-        → OnErr result (KeepsCommit (state S.Store tx.old.conn.now) (state S.Store tx.new.conn.now)) }
-    ensures survives { Survives (state S.Store tx.old.conn.now) (state S.Store tx.new.conn.now) (λ _. ⊥) }
+    ensures made { HasCleanDisk (state S.Store tx.new.conn.now)
+        → IsTrue (state S.Store tx.old.conn.now).in_transaction
+        → OnOk result (Turns HasNoTables
+        (IsOldContent (first_content person.now board.now role.now)) (state S.Store tx.old.conn.now)
+        (state S.Store tx.new.conn.now)) }
+    ensures kept { HasCleanDisk (state S.Store tx.new.conn.now)
+        → IsTrue (state S.Store tx.old.conn.now).in_transaction
+        → OnErr result (KeepsCommit (state S.Store tx.old.conn.now)
+        (state S.Store tx.new.conn.now)) }
+    ensures survives { Survives (state S.Store tx.old.conn.now)
+        (state S.Store tx.new.conn.now) (λ _. ⊥) }
 {
     create_old(tx)?;
     insert_person(tx, person)?;
@@ -95,9 +119,13 @@ pub fn create_v1<S: Alter>(
 ) -> Result<(), StoreFault>
     requires { conn.old.in_transaction ≡ false }
     ensures idle { conn.new.in_transaction ≡ false }
-    ensures done { OnOk result (StandsEmpty (state S.Store conn.old) → StandsOld (first_content person.now board.now role.now) (state S.Store conn.new)) }
-    ensures memory { result ≡ Err StoreFault.Memory → StandsEmpty (state S.Store conn.old) → StandsEmpty (state S.Store conn.new) }
-    ensures store { result ≡ Err StoreFault.Store → StandsEmpty (state S.Store conn.old) → StandsEmptyOrOld (first_content person.now board.now role.now) (state S.Store conn.new) }
+    ensures done { OnOk result
+        (StandsEmpty (state S.Store conn.old)
+        → StandsOld (first_content person.now board.now role.now) (state S.Store conn.new)) }
+    ensures memory { result ≡ Err StoreFault.Memory → StandsEmpty (state S.Store conn.old)
+        → StandsEmpty (state S.Store conn.new) }
+    ensures store { result ≡ Err StoreFault.Store → StandsEmpty (state S.Store conn.old)
+        → StandsEmptyOrOld (first_content person.now board.now role.now) (state S.Store conn.new) }
 {
     let mut making = conn.transaction();
     if let Err(error) = put_first(&mut making, person, board, role) {

@@ -87,7 +87,9 @@ fn is_role(table: &Table) -> bool
 }
 
 fn ends_task(columns: &[Column]) -> bool
-    ensures { result ≡ opening.are_columns ((codes "body", opening.is_text) ∷ (codes "mask", opening.is_text) ∷ []) columns.now }
+    ensures { result
+        ≡ opening.are_columns
+        ((codes "body", opening.is_text) ∷ (codes "mask", opening.is_text) ∷ []) columns.now }
 {
     let [body_column, mask_column] = columns else {
         return false;
@@ -152,7 +154,10 @@ fn is_gone(table: &Table) -> bool
 }
 
 fn ends_kept(columns: &[Column]) -> bool
-    ensures { result ≡ opening.are_columns ((codes "number", opening.is_integer) ∷ (codes "status", opening.is_integer) ∷ (codes "body", opening.is_text) ∷ []) columns.now }
+    ensures { result
+        ≡ opening.are_columns
+        ((codes "number", opening.is_integer) ∷ (codes "status", opening.is_integer)
+        ∷ (codes "body", opening.is_text) ∷ []) columns.now }
 {
     let [number_column, status_column, body_column] = columns else {
         return false;
@@ -200,7 +205,10 @@ pub(crate) fn has_meta(schema: &Schema) -> bool
 
 #[tactic(auto, using(crate::proofs::Opened::other_length))]
 fn are_last(tables: &[Table]) -> bool
-    ensures { result ≡ opening.are_tables (opening.is_instance ∷ opening.is_gone ∷ opening.is_kept ∷ opening.is_horizon ∷ []) tables.now }
+    ensures { result
+        ≡ opening.are_tables
+        (opening.is_instance ∷ opening.is_gone ∷ opening.is_kept ∷ opening.is_horizon ∷ [])
+        tables.now }
 {
     let [instance, gone, kept, horizon] = tables else {
         return false;
@@ -210,7 +218,10 @@ fn are_last(tables: &[Table]) -> bool
 
 #[tactic(auto, using(crate::proofs::Opened::other_length))]
 fn are_later(tables: &[Table]) -> bool
-    ensures { result ≡ opening.are_tables (opening.is_role ∷ opening.is_task ∷ opening.is_link ∷ opening.is_instance ∷ opening.is_gone ∷ opening.is_kept ∷ opening.is_horizon ∷ []) tables.now }
+    ensures { result
+        ≡ opening.are_tables
+        (opening.is_role ∷ opening.is_task ∷ opening.is_link ∷ opening.is_instance ∷ opening.is_gone
+        ∷ opening.is_kept ∷ opening.is_horizon ∷ []) tables.now }
 {
     let [role, task, link, last @ ..] = tables else {
         return false;
@@ -230,7 +241,9 @@ fn are_ours(tables: &[Table]) -> bool
 
 #[tactic(auto, using(crate::proofs::Opened::other_length))]
 fn are_old_last(tables: &[Table]) -> bool
-    ensures { result ≡ opening.are_tables (opening.is_instance ∷ opening.is_gone ∷ opening.is_kept ∷ []) tables.now }
+    ensures { result
+        ≡ opening.are_tables
+        (opening.is_instance ∷ opening.is_gone ∷ opening.is_kept ∷ []) tables.now }
 {
     let [instance, gone, kept] = tables else {
         return false;
@@ -240,7 +253,10 @@ fn are_old_last(tables: &[Table]) -> bool
 
 #[tactic(auto, using(crate::proofs::Opened::other_length))]
 fn are_old_later(tables: &[Table]) -> bool
-    ensures { result ≡ opening.are_tables (opening.is_role ∷ opening.is_task ∷ opening.is_link ∷ opening.is_instance ∷ opening.is_gone ∷ opening.is_kept ∷ []) tables.now }
+    ensures { result
+        ≡ opening.are_tables
+        (opening.is_role ∷ opening.is_task ∷ opening.is_link ∷ opening.is_instance ∷ opening.is_gone
+        ∷ opening.is_kept ∷ []) tables.now }
 {
     let [role, task, link, last @ ..] = tables else {
         return false;

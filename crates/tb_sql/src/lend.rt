@@ -17,8 +17,12 @@ pub fn task_rows<'conn, S: Alter>(
     board: u32,
 ) -> Result<Rows<'conn, S>, Error>
     ensures same_reference { IfOk result (λ rows. rows.conn.ghost_name ≡ conn.entry.ghost_name) }
-    ensures begun { IfOk result (λ rows. HasCleanDisk (state S.Store rows.conn.now) → (content : Content) → Stands content (state S.Store conn.old) → HasLent S.Store board content rows.conn.now []) }
-    ensures idle { IfOk result (λ rows. conn.old.in_transaction ≡ false → rows.conn.now.in_transaction ≡ false) }
+    ensures begun { IfOk result
+        (λ rows. HasCleanDisk (state S.Store rows.conn.now) → (content : Content)
+        → Stands content (state S.Store conn.old)
+        → HasLent S.Store board content rows.conn.now []) }
+    ensures idle { IfOk result
+        (λ rows. conn.old.in_transaction ≡ false → rows.conn.now.in_transaction ≡ false) }
 {
     conn.query(
         "SELECT board, place, uuid, body, mask FROM task WHERE board = ?1 ORDER BY place",
@@ -29,10 +33,14 @@ pub fn task_rows<'conn, S: Alter>(
 /// Lends the next task.
 pub fn next_task<S: Alter>(rows: &mut Rows<'_, S>) -> Result<Option<TaskRow>, Error>
     ensures same_reference { rows.new.conn.ghost_name ≡ rows.old.conn.ghost_name }
-    ensures lent { HasCleanDisk (state S.Store rows.new.conn.now) → IfOk result (λ next. (board : _) (content : Content) (lent : List Task)
-        → HasLent S.Store board content rows.old.conn.now lent → LendsOn S.Store board content rows.new.conn.now lent next) }
-    ensures idle { rows.old.conn.now.in_transaction ≡ false → rows.new.conn.now.in_transaction ≡ false }
-    ensures survives { Survives (state S.Store rows.old.conn.now) (state S.Store rows.new.conn.now) (λ _. ⊥) }
+    ensures lent { HasCleanDisk (state S.Store rows.new.conn.now)
+        → IfOk result (λ next. (board : _) (content : Content) (lent : List Task)
+        → HasLent S.Store board content rows.old.conn.now lent
+        → LendsOn S.Store board content rows.new.conn.now lent next) }
+    ensures idle { rows.old.conn.now.in_transaction ≡ false
+        → rows.new.conn.now.in_transaction ≡ false }
+    ensures survives { Survives (state S.Store rows.old.conn.now)
+        (state S.Store rows.new.conn.now) (λ _. ⊥) }
 {
     if let Err(error) = rows.advance() {
         return Err(error);

@@ -20,13 +20,20 @@ use tb_values::Items;
 pub fn select_meta<S: Alter>(tx: &mut Transaction<'_, S>) -> Result<Items<MetaRow>, Error>
     ensures same_reference { tx.new.conn.ghost_name ≡ tx.old.conn.ghost_name }
     ensures found { HasCleanDisk (state S.Store tx.new.conn.now)
-        → IfOk result (λ metas. Finds (λ _. metas ≡ our_meta ∷ []) (state S.Store tx.old.conn.now)) }
-    ensures told { HasCleanDisk (state S.Store tx.new.conn.now) → IfOk result (λ metas. AreMetas (state S.Store tx.old.conn.now).now metas) }
-    ensures shown { HasCleanDisk (state S.Store tx.new.conn.now) → IfOk result (λ metas. AreShown (state S.Store tx.old.conn.now) (state S.Store tx.new.conn.now) metas) }
-    ensures excused { HasCleanDisk (state S.Store tx.new.conn.now) → IfErr result (IsExcused (state S.Store tx.old.conn.now) (state S.Store tx.new.conn.now)) }
-    ensures kept { HasCleanDisk (state S.Store tx.new.conn.now) → IsTrue (state S.Store tx.old.conn.now).in_transaction
+        → IfOk result (λ metas. Finds (λ _. metas ≡ our_meta ∷ [])
+        (state S.Store tx.old.conn.now)) }
+    ensures told { HasCleanDisk (state S.Store tx.new.conn.now)
+        → IfOk result (λ metas. AreMetas (state S.Store tx.old.conn.now).now metas) }
+    ensures shown { HasCleanDisk (state S.Store tx.new.conn.now)
+        → IfOk result (λ metas. AreShown (state S.Store tx.old.conn.now)
+        (state S.Store tx.new.conn.now) metas) }
+    ensures excused { HasCleanDisk (state S.Store tx.new.conn.now)
+        → IfErr result (IsExcused (state S.Store tx.old.conn.now) (state S.Store tx.new.conn.now)) }
+    ensures kept { HasCleanDisk (state S.Store tx.new.conn.now)
+        → IsTrue (state S.Store tx.old.conn.now).in_transaction
         → KeepsCommit (state S.Store tx.old.conn.now) (state S.Store tx.new.conn.now) }
-    ensures survives { Survives (state S.Store tx.old.conn.now) (state S.Store tx.new.conn.now) (λ _. ⊥) }
+    ensures survives { Survives (state S.Store tx.old.conn.now)
+        (state S.Store tx.new.conn.now) (λ _. ⊥) }
 {
     let rows = find_rows(tx, "SELECT kind, version FROM meta", &[])?;
     read_all(*rows.allocator(), &rows)
@@ -35,11 +42,17 @@ pub fn select_meta<S: Alter>(tx: &mut Transaction<'_, S>) -> Result<Items<MetaRo
 /// Tells that the file is of the second version.
 pub(crate) fn update_version<S: Alter>(tx: &mut Transaction<'_, S>) -> Result<(), Error>
     ensures same_reference { tx.new.conn.ghost_name ≡ tx.old.conn.ghost_name }
-    ensures made { HasCleanDisk (state S.Store tx.new.conn.now) → IsTrue (state S.Store tx.old.conn.now).in_transaction
-        → OnOk result ((content : Content) → Turns (IsHalfway content) (IsContent (without_horizon content)) (state S.Store tx.old.conn.now) (state S.Store tx.new.conn.now)) }
-    ensures kept { HasCleanDisk (state S.Store tx.new.conn.now) → IsTrue (state S.Store tx.old.conn.now).in_transaction
-        → OnErr result (KeepsCommit (state S.Store tx.old.conn.now) (state S.Store tx.new.conn.now)) }
-    ensures survives { Survives (state S.Store tx.old.conn.now) (state S.Store tx.new.conn.now) (λ _. ⊥) }
+    ensures made { HasCleanDisk (state S.Store tx.new.conn.now)
+        → IsTrue (state S.Store tx.old.conn.now).in_transaction
+        → OnOk result ((content : Content)
+        → Turns (IsHalfway content) (IsContent (without_horizon content))
+        (state S.Store tx.old.conn.now) (state S.Store tx.new.conn.now)) }
+    ensures kept { HasCleanDisk (state S.Store tx.new.conn.now)
+        → IsTrue (state S.Store tx.old.conn.now).in_transaction
+        → OnErr result (KeepsCommit (state S.Store tx.old.conn.now)
+        (state S.Store tx.new.conn.now)) }
+    ensures survives { Survives (state S.Store tx.old.conn.now)
+        (state S.Store tx.new.conn.now) (λ _. ⊥) }
 {
     run(tx, "UPDATE meta SET version = 2", &[])
 }

@@ -44,11 +44,17 @@ fn horizon_changes(alloc: Global, boards: &[BoardRow]) -> Result<Items<RowChange
 /// Makes the table that is missing, and tells the version.
 fn widen<S: Alter>(tx: &mut Transaction<'_, S>) -> Result<(), Error>
     ensures same_reference { tx.new.conn.ghost_name ≡ tx.old.conn.ghost_name }
-    ensures made { HasCleanDisk (state S.Store tx.new.conn.now) → IsTrue (state S.Store tx.old.conn.now).in_transaction
-        → OnOk result ((content : Content) → Turns (IsOldContent content) (IsContent (without_horizon content)) (state S.Store tx.old.conn.now) (state S.Store tx.new.conn.now)) }
-    ensures kept { HasCleanDisk (state S.Store tx.new.conn.now) → IsTrue (state S.Store tx.old.conn.now).in_transaction
-        → OnErr result (KeepsCommit (state S.Store tx.old.conn.now) (state S.Store tx.new.conn.now)) }
-    ensures survives { Survives (state S.Store tx.old.conn.now) (state S.Store tx.new.conn.now) (λ _. ⊥) }
+    ensures made { HasCleanDisk (state S.Store tx.new.conn.now)
+        → IsTrue (state S.Store tx.old.conn.now).in_transaction
+        → OnOk result ((content : Content)
+        → Turns (IsOldContent content) (IsContent (without_horizon content))
+        (state S.Store tx.old.conn.now) (state S.Store tx.new.conn.now)) }
+    ensures kept { HasCleanDisk (state S.Store tx.new.conn.now)
+        → IsTrue (state S.Store tx.old.conn.now).in_transaction
+        → OnErr result (KeepsCommit (state S.Store tx.old.conn.now)
+        (state S.Store tx.new.conn.now)) }
+    ensures survives { Survives (state S.Store tx.old.conn.now)
+        (state S.Store tx.new.conn.now) (λ _. ⊥) }
 {
     create_horizon(tx)?;
     update_version(tx)
@@ -57,11 +63,17 @@ fn widen<S: Alter>(tx: &mut Transaction<'_, S>) -> Result<(), Error>
 /// Puts the row of each board into the table.
 fn fill<S: Alter>(alloc: Global, tx: &mut Transaction<'_, S>) -> Result<Counts, Error>
     ensures same_reference { tx.new.conn.ghost_name ≡ tx.old.conn.ghost_name }
-    ensures made { HasCleanDisk (state S.Store tx.new.conn.now) → IsTrue (state S.Store tx.old.conn.now).in_transaction
-        → IfOk result (λ counts. (content : Content) → Turns (IsContent (without_horizon content)) (IsMigrated content counts) (state S.Store tx.old.conn.now) (state S.Store tx.new.conn.now)) }
-    ensures kept { HasCleanDisk (state S.Store tx.new.conn.now) → IsTrue (state S.Store tx.old.conn.now).in_transaction
-        → OnErr result (KeepsCommit (state S.Store tx.old.conn.now) (state S.Store tx.new.conn.now)) }
-    ensures survives { Survives (state S.Store tx.old.conn.now) (state S.Store tx.new.conn.now) (λ _. ⊥) }
+    ensures made { HasCleanDisk (state S.Store tx.new.conn.now)
+        → IsTrue (state S.Store tx.old.conn.now).in_transaction
+        → IfOk result (λ counts. (content : Content)
+        → Turns (IsContent (without_horizon content)) (IsMigrated content counts)
+        (state S.Store tx.old.conn.now) (state S.Store tx.new.conn.now)) }
+    ensures kept { HasCleanDisk (state S.Store tx.new.conn.now)
+        → IsTrue (state S.Store tx.old.conn.now).in_transaction
+        → OnErr result (KeepsCommit (state S.Store tx.old.conn.now)
+        (state S.Store tx.new.conn.now)) }
+    ensures survives { Survives (state S.Store tx.old.conn.now)
+        (state S.Store tx.new.conn.now) (λ _. ⊥) }
 {
     let people = select_people(tx)?;
     let boards = select_boards(tx)?;
@@ -76,11 +88,17 @@ fn fill<S: Alter>(alloc: Global, tx: &mut Transaction<'_, S>) -> Result<Counts, 
 /// Makes the tables those of the second version, with the row of each board.
 fn put_second<S: Alter>(alloc: Global, tx: &mut Transaction<'_, S>) -> Result<Counts, Error>
     ensures same_reference { tx.new.conn.ghost_name ≡ tx.old.conn.ghost_name }
-    ensures made { HasCleanDisk (state S.Store tx.new.conn.now) → IsTrue (state S.Store tx.old.conn.now).in_transaction
-        → IfOk result (λ counts. (content : Content) → Turns (IsOldContent content) (IsMigrated content counts) (state S.Store tx.old.conn.now) (state S.Store tx.new.conn.now)) }
-    ensures kept { HasCleanDisk (state S.Store tx.new.conn.now) → IsTrue (state S.Store tx.old.conn.now).in_transaction
-        → OnErr result (KeepsCommit (state S.Store tx.old.conn.now) (state S.Store tx.new.conn.now)) }
-    ensures survives { Survives (state S.Store tx.old.conn.now) (state S.Store tx.new.conn.now) (λ _. ⊥) }
+    ensures made { HasCleanDisk (state S.Store tx.new.conn.now)
+        → IsTrue (state S.Store tx.old.conn.now).in_transaction
+        → IfOk result (λ counts. (content : Content)
+        → Turns (IsOldContent content) (IsMigrated content counts) (state S.Store tx.old.conn.now)
+        (state S.Store tx.new.conn.now)) }
+    ensures kept { HasCleanDisk (state S.Store tx.new.conn.now)
+        → IsTrue (state S.Store tx.old.conn.now).in_transaction
+        → OnErr result (KeepsCommit (state S.Store tx.old.conn.now)
+        (state S.Store tx.new.conn.now)) }
+    ensures survives { Survives (state S.Store tx.old.conn.now)
+        (state S.Store tx.new.conn.now) (λ _. ⊥) }
 {
     widen(tx)?;
     fill(alloc, tx)
@@ -91,10 +109,17 @@ pub fn migrate<S: Alter>(alloc: Global, conn: &mut Connection<S>) -> Result<Coun
     requires { conn.old.in_transaction ≡ false }
     ensures idle { conn.new.in_transaction ≡ false }
     ensures clean { HasCleanDisk (state S.Store conn.new) → HasCleanDisk (state S.Store conn.old) }
-    ensures usable { OnOk result (HasCleanDisk (state S.Store conn.new) → IsTrue (state S.Store conn.new).is_open) }
-    ensures done { IfOk result (λ counts. (content : Content) → StandsOld content (state S.Store conn.old) → StandsBy (IsMigrated content counts) (AreRows (migrated content)) (state S.Store conn.new)) }
-    ensures memory { result ≡ Err StoreFault.Memory → IsAsBefore (state S.Store conn.old) (state S.Store conn.new) }
-    ensures store { result ≡ Err StoreFault.Store → (content : Content) → StandsOld content (state S.Store conn.old) → StandsOldOr content (migrated content) (state S.Store conn.new) }
+    ensures usable { OnOk result
+        (HasCleanDisk (state S.Store conn.new) → IsTrue (state S.Store conn.new).is_open) }
+    ensures done { IfOk result
+        (λ counts. (content : Content) → StandsOld content (state S.Store conn.old)
+        → StandsBy (IsMigrated content counts) (AreRows (migrated content))
+        (state S.Store conn.new)) }
+    ensures memory { result ≡ Err StoreFault.Memory
+        → IsAsBefore (state S.Store conn.old) (state S.Store conn.new) }
+    ensures store { result ≡ Err StoreFault.Store → (content : Content)
+        → StandsOld content (state S.Store conn.old)
+        → StandsOldOr content (migrated content) (state S.Store conn.new) }
 {
     let mut tx = conn.transaction();
     let counts = match put_second(alloc, &mut tx) {

@@ -61,7 +61,8 @@ impl OpenFault {
 pub fn is_empty<S: Alter>(conn: &Connection<S>) -> bool
     ensures value { IsTrue result → (state S.Store conn.now).now.schema ≡ no_schema }
     ensures taken { result ≡ false → (state S.Store conn.now).now.schema ≡ no_schema → ⊥ }
-    ensures stands { IsTrue result → Opens (state S.Store conn.now) → StandsEmpty (state S.Store conn.now) }
+    ensures stands { IsTrue result → Opens (state S.Store conn.now)
+        → StandsEmpty (state S.Store conn.now) }
 {
     let schema = conn.schema();
     schema.tables.is_empty() && schema.indexes.is_empty() && schema.views.is_empty()
@@ -71,10 +72,17 @@ pub fn is_empty<S: Alter>(conn: &Connection<S>) -> bool
 fn read_meta<S: Alter>(conn: &mut Connection<S>) -> Result<Items<MetaRow>, StoreFault>
     requires { conn.old.in_transaction ≡ false }
     ensures idle { conn.new.in_transaction ≡ false }
-    ensures found { IfOk result (λ metas. HasCleanDisk (state S.Store conn.new) → (content : Content) → IsContent content (state S.Store conn.old).now → metas ≡ our_meta ∷ []) }
-    ensures told { IfOk result (λ metas. HasCleanDisk (state S.Store conn.new) → AreMetas (state S.Store conn.old).now metas) }
-    ensures shown { IfOk result (λ metas. HasCleanDisk (state S.Store conn.new) → AreShownFrom S.Store conn.old metas) }
-    ensures excused { result ≡ Err StoreFault.Store → FailsByFault (state S.Store conn.old) (state S.Store conn.new) (λ content. IsContent content (state S.Store conn.old).now) }
+    ensures found { IfOk result
+        (λ metas. HasCleanDisk (state S.Store conn.new) → (content : Content)
+        → IsContent content (state S.Store conn.old).now → metas ≡ our_meta ∷ []) }
+    ensures told { IfOk result
+        (λ metas. HasCleanDisk (state S.Store conn.new)
+        → AreMetas (state S.Store conn.old).now metas) }
+    ensures shown { IfOk result
+        (λ metas. HasCleanDisk (state S.Store conn.new) → AreShownFrom S.Store conn.old metas) }
+    ensures excused { result ≡ Err StoreFault.Store
+        → FailsByFault (state S.Store conn.old) (state S.Store conn.new)
+        (λ content. IsContent content (state S.Store conn.old).now) }
     ensures faults { KeepsFaults (state S.Store conn.old) (state S.Store conn.new) }
     ensures same { IsAsBefore (state S.Store conn.old) (state S.Store conn.new) }
 {
@@ -123,19 +131,36 @@ fn by_version(version: Version, first: bool, second: bool) -> bool
 pub fn accept<S: Alter>(conn: &mut Connection<S>) -> Result<Version, OpenFault>
     requires { conn.old.in_transaction ≡ false }
     ensures idle { conn.new.in_transaction ≡ false }
-    ensures shows { OnOk result (Opens (state S.Store conn.old) → (content : Content) → AreRows content (state S.Store conn.old).now.trees → Stands content (state S.Store conn.new)) }
-    ensures old { Opens (state S.Store conn.old) → (content : Content) → AreOldRows content (state S.Store conn.old).now.trees → StandsOld content (state S.Store conn.new) }
-    ensures second { IfOk result (λ version. Opens (state S.Store conn.old) → (content : Content) → AreRows content (state S.Store conn.old).now.trees → version ≡ Version.Second) }
-    ensures first { IfOk result (λ version. Opens (state S.Store conn.old) → (content : Content) → AreOldRows content (state S.Store conn.old).now.trees → version ≡ Version.First) }
+    ensures shows { OnOk result
+        (Opens (state S.Store conn.old) → (content : Content)
+        → AreRows content (state S.Store conn.old).now.trees
+        → Stands content (state S.Store conn.new)) }
+    ensures old { Opens (state S.Store conn.old) → (content : Content)
+        → AreOldRows content (state S.Store conn.old).now.trees
+        → StandsOld content (state S.Store conn.new) }
+    ensures second { IfOk result (λ version. Opens (state S.Store conn.old) → (content : Content)
+        → AreRows content (state S.Store conn.old).now.trees → version ≡ Version.Second) }
+    ensures first { IfOk result (λ version. Opens (state S.Store conn.old) → (content : Content)
+        → AreOldRows content (state S.Store conn.old).now.trees → version ≡ Version.First) }
     ensures refuses { (result ≡ Err OpenFault.NotOurs) ⊎ (result ≡ Err OpenFault.WrongVersion)
-        → HasCleanDisk (state S.Store conn.new) → Opens (state S.Store conn.old) → (content : Content) → AreRows content (state S.Store conn.old).now.trees ⊎ AreOldRows content (state S.Store conn.old).now.trees → ⊥ }
-    ensures tables { IfOk result (λ version. has_tables version (state S.Store conn.old).now.schema ≡ true) }
-    ensures foreign { has_meta (state S.Store conn.old).now.schema.tables ≡ false → result ≡ Err OpenFault.NotOurs }
-    ensures answered { HasCleanDisk (state S.Store conn.new) → has_meta (state S.Store conn.old).now.schema.tables ≡ true → IsAnswered S.Store conn.old result }
-    ensures told { HasCleanDisk (state S.Store conn.new) → IsOfStore (state S.Store conn.old).now.schema
-        → (metas : List Meta) → HasKeyed (map row_of_meta metas) ((state S.Store conn.old).now.trees meta_tree) → Answers (taken (state S.Store conn.old).now.schema metas) result }
+        → HasCleanDisk (state S.Store conn.new) → Opens (state S.Store conn.old)
+        → (content : Content) → AreRows content (state S.Store conn.old).now.trees
+        ⊎ AreOldRows content (state S.Store conn.old).now.trees → ⊥ }
+    ensures tables { IfOk result
+        (λ version. has_tables version (state S.Store conn.old).now.schema ≡ true) }
+    ensures foreign { has_meta (state S.Store conn.old).now.schema.tables ≡ false
+        → result ≡ Err OpenFault.NotOurs }
+    ensures answered { HasCleanDisk (state S.Store conn.new)
+        → has_meta (state S.Store conn.old).now.schema.tables ≡ true
+        → IsAnswered S.Store conn.old result }
+    ensures told { HasCleanDisk (state S.Store conn.new)
+        → IsOfStore (state S.Store conn.old).now.schema
+        → (metas : List Meta)
+        → HasKeyed (map row_of_meta metas) ((state S.Store conn.old).now.trees meta_tree)
+        → Answers (taken (state S.Store conn.old).now.schema metas) result }
     ensures excused { result ≡ Err OpenFault.Store → Opens (state S.Store conn.old)
-        → FailsByFault (state S.Store conn.old) (state S.Store conn.new) (λ content. AreRows content (state S.Store conn.old).now.trees) }
+        → FailsByFault (state S.Store conn.old) (state S.Store conn.new)
+        (λ content. AreRows content (state S.Store conn.old).now.trees) }
     ensures faults { KeepsFaults (state S.Store conn.old) (state S.Store conn.new) }
     ensures same { IsAsBefore (state S.Store conn.old) (state S.Store conn.new) }
 {

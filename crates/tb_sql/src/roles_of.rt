@@ -20,10 +20,14 @@ pub fn select_roles_of<S: Alter>(
 ) -> Result<Items<RoleRow>, Error>
     ensures same_reference { tx.new.conn.ghost_name ≡ tx.old.conn.ghost_name }
     ensures found { HasCleanDisk (state S.Store tx.new.conn.now)
-        → IfOk result (λ roles. Finds (λ content. AreFound IsBoardBefore (filter (λ role. role.person == person) content.roles) roles) (state S.Store tx.old.conn.now)) }
-    ensures kept { HasCleanDisk (state S.Store tx.new.conn.now) → IsTrue (state S.Store tx.old.conn.now).in_transaction
+        → IfOk result (λ roles. Finds
+        (λ content. AreFound IsBoardBefore (filter (λ role. role.person == person) content.roles)
+        roles) (state S.Store tx.old.conn.now)) }
+    ensures kept { HasCleanDisk (state S.Store tx.new.conn.now)
+        → IsTrue (state S.Store tx.old.conn.now).in_transaction
         → KeepsCommit (state S.Store tx.old.conn.now) (state S.Store tx.new.conn.now) }
-    ensures survives { Survives (state S.Store tx.old.conn.now) (state S.Store tx.new.conn.now) (λ _. ⊥) }
+    ensures survives { Survives (state S.Store tx.old.conn.now)
+        (state S.Store tx.new.conn.now) (λ _. ⊥) }
 {
     let rows = find_rows(
         tx,

@@ -26,7 +26,8 @@ pub enum StoreFault {
 impl StoreFault {
     /// The fault of a statement before the commit. An error of the commit is always `Store`.
     pub fn before_commit(error: &Error) -> StoreFault
-        ensures { (result ≡ StoreFault.Memory) ↔ (error.now ≡ Error.SqliteFailure ErrorCode.OutOfMemory) }
+        ensures { (result ≡ StoreFault.Memory)
+            ↔ (error.now ≡ Error.SqliteFailure ErrorCode.OutOfMemory) }
     {
         match error {
             Error::SqliteFailure(ErrorCode::OutOfMemory) => StoreFault::Memory,
@@ -42,11 +43,16 @@ fn put_rows<S: Alter>(
     kept: &KeptRow,
 ) -> Result<(), Error>
     ensures same_reference { tx.new.conn.ghost_name ≡ tx.old.conn.ghost_name }
-    ensures put { HasCleanDisk (state S.Store tx.new.conn.now) → IsTrue (state S.Store tx.old.conn.now).in_transaction
-        → OnOk result (Changes (written changes.now kept.now) (state S.Store tx.old.conn.now) (state S.Store tx.new.conn.now)) }
-    ensures kept { HasCleanDisk (state S.Store tx.new.conn.now) → IsTrue (state S.Store tx.old.conn.now).in_transaction
-        → OnErr result (KeepsCommit (state S.Store tx.old.conn.now) (state S.Store tx.new.conn.now)) }
-    ensures survives { Survives (state S.Store tx.old.conn.now) (state S.Store tx.new.conn.now) (λ _. ⊥) }
+    ensures put { HasCleanDisk (state S.Store tx.new.conn.now)
+        → IsTrue (state S.Store tx.old.conn.now).in_transaction
+        → OnOk result (Changes (written changes.now kept.now) (state S.Store tx.old.conn.now)
+        (state S.Store tx.new.conn.now)) }
+    ensures kept { HasCleanDisk (state S.Store tx.new.conn.now)
+        → IsTrue (state S.Store tx.old.conn.now).in_transaction
+        → OnErr result (KeepsCommit (state S.Store tx.old.conn.now)
+        (state S.Store tx.new.conn.now)) }
+    ensures survives { Survives (state S.Store tx.old.conn.now)
+        (state S.Store tx.new.conn.now) (λ _. ⊥) }
 {
     insert_kept(tx, kept)?;
     apply_changes(tx, changes)
@@ -61,9 +67,13 @@ pub fn write_rows<S: Alter>(
     requires { conn.old.in_transaction ≡ false }
     ensures idle { conn.new.in_transaction ≡ false }
     ensures clean { HasCleanDisk (state S.Store conn.new) → HasCleanDisk (state S.Store conn.old) }
-    ensures done { OnOk result ((content : Content) → Stands content (state S.Store conn.old) → Stands (written changes.now kept.now content) (state S.Store conn.new)) }
-    ensures memory { result ≡ Err StoreFault.Memory → (content : Content) → Stands content (state S.Store conn.old) → Stands content (state S.Store conn.new) }
-    ensures store { result ≡ Err StoreFault.Store → (content : Content) → Stands content (state S.Store conn.old) → StandsAsEither content (written changes.now kept.now content) (state S.Store conn.new) }
+    ensures done { OnOk result ((content : Content) → Stands content (state S.Store conn.old)
+        → Stands (written changes.now kept.now content) (state S.Store conn.new)) }
+    ensures memory { result ≡ Err StoreFault.Memory → (content : Content)
+        → Stands content (state S.Store conn.old) → Stands content (state S.Store conn.new) }
+    ensures store { result ≡ Err StoreFault.Store → (content : Content)
+        → Stands content (state S.Store conn.old)
+        → StandsAsEither content (written changes.now kept.now content) (state S.Store conn.new) }
 {
     let mut tx = conn.transaction();
     if let Err(error) = put_rows(&mut tx, changes, kept) {
@@ -78,11 +88,16 @@ pub fn write_rows<S: Alter>(
 /// Makes the tables, and puts the first rows in.
 fn put_tables<S: Alter>(tx: &mut Transaction<'_, S>, rows: &[RowChange]) -> Result<(), Error>
     ensures same_reference { tx.new.conn.ghost_name ≡ tx.old.conn.ghost_name }
-    ensures made { HasCleanDisk (state S.Store tx.new.conn.now) → IsTrue (state S.Store tx.old.conn.now).in_transaction
-        → OnOk result (Turns HasNoTables (IsContent (opening rows.now)) (state S.Store tx.old.conn.now) (state S.Store tx.new.conn.now)) }
-    ensures kept { HasCleanDisk (state S.Store tx.new.conn.now) → IsTrue (state S.Store tx.old.conn.now).in_transaction
-        → OnErr result (KeepsCommit (state S.Store tx.old.conn.now) (state S.Store tx.new.conn.now)) }
-    ensures survives { Survives (state S.Store tx.old.conn.now) (state S.Store tx.new.conn.now) (λ _. ⊥) }
+    ensures made { HasCleanDisk (state S.Store tx.new.conn.now)
+        → IsTrue (state S.Store tx.old.conn.now).in_transaction
+        → OnOk result (Turns HasNoTables (IsContent (opening rows.now))
+        (state S.Store tx.old.conn.now) (state S.Store tx.new.conn.now)) }
+    ensures kept { HasCleanDisk (state S.Store tx.new.conn.now)
+        → IsTrue (state S.Store tx.old.conn.now).in_transaction
+        → OnErr result (KeepsCommit (state S.Store tx.old.conn.now)
+        (state S.Store tx.new.conn.now)) }
+    ensures survives { Survives (state S.Store tx.old.conn.now)
+        (state S.Store tx.new.conn.now) (λ _. ⊥) }
 {
     create_all(tx)?;
     apply_changes(tx, rows)
@@ -92,9 +107,13 @@ fn put_tables<S: Alter>(tx: &mut Transaction<'_, S>, rows: &[RowChange]) -> Resu
 pub fn create<S: Alter>(conn: &mut Connection<S>, rows: &[RowChange]) -> Result<(), StoreFault>
     requires { conn.old.in_transaction ≡ false }
     ensures idle { conn.new.in_transaction ≡ false }
-    ensures done { OnOk result (StandsEmpty (state S.Store conn.old) → Stands (opening rows.now) (state S.Store conn.new)) }
-    ensures memory { result ≡ Err StoreFault.Memory → StandsEmpty (state S.Store conn.old) → StandsEmpty (state S.Store conn.new) }
-    ensures store { result ≡ Err StoreFault.Store → StandsEmpty (state S.Store conn.old) → StandsEmptyOr (opening rows.now) (state S.Store conn.new) }
+    ensures done { OnOk result
+        (StandsEmpty (state S.Store conn.old)
+        → Stands (opening rows.now) (state S.Store conn.new)) }
+    ensures memory { result ≡ Err StoreFault.Memory → StandsEmpty (state S.Store conn.old)
+        → StandsEmpty (state S.Store conn.new) }
+    ensures store { result ≡ Err StoreFault.Store → StandsEmpty (state S.Store conn.old)
+        → StandsEmptyOr (opening rows.now) (state S.Store conn.new) }
 {
     let mut making = conn.transaction();
     if let Err(error) = put_tables(&mut making, rows) {

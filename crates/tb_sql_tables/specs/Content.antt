@@ -35,7 +35,17 @@ pub record Content : Type 0 where
   pub horizon : List HorizonRow
 
 abbrev pub nothing : Content
-nothing = record { people = []; boards = []; roles = []; tasks = []; links = []; instances = []; gone = []; kept = []; horizon = [] }
+nothing = record {
+  people = [];
+  boards = [];
+  roles = [];
+  tasks = [];
+  links = [];
+  instances = [];
+  gone = [];
+  kept = [];
+  horizon = [];
+}
 
 -- each identifier is a number of 128 bits
 abbrev pub HaveIdentifiers : List TaskRow → Type 0
@@ -114,4 +124,6 @@ Stands content = StandsBy (IsContent content) (AreRows content)
 
 -- one of two contents stands
 abbrev pub StandsAsEither : Content → Content → State → Type 0
-StandsAsEither before after = StandsBy (λ db. IsContent before db ⊎ IsContent after db) (λ db. AreRows before db ⊎ AreRows after db)
+StandsAsEither before after =
+    StandsBy (λ db. IsContent before db ⊎ IsContent after db)
+    (λ db. AreRows before db ⊎ AreRows after db)

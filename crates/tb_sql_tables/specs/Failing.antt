@@ -24,8 +24,10 @@ pub record KeepsFaults (old new : State) : Type 0 where
 
 -- A look at a ready connection which sees a content fails for want of memory, or since the disk failed or refused a call.
 abbrev pub IsExcused : State → State → Error → Type 0
-IsExcused old new e = e ≢ SqliteFailure OutOfMemory → IsReady old → (content : Content) → IsContent content old.now → HasFaulted old new
+IsExcused old new e = e ≢ SqliteFailure OutOfMemory → IsReady old → (content : Content)
+    → IsContent content old.now → HasFaulted old new
 
 -- While the disk returns what was written, it has failed or refused a call, where the connection was ready and there is such a content.
 abbrev pub FailsByFault : State → State → (Content → Type 0) → Type 0
-FailsByFault old new P = HasCleanDisk new → IsReady old → (content : Content) → P content → HasFaulted old new
+FailsByFault old new P = HasCleanDisk new → IsReady old → (content : Content) → P content
+    → HasFaulted old new

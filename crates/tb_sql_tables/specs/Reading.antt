@@ -42,13 +42,27 @@ abbrev pub meta_of : Row → MetaRow
 meta_of cells = record { kind = words_of (column cells 0); version = number_of (column cells 1) }
 
 abbrev pub person_of : Row → PersonRow
-person_of cells = record { id = number_of (column cells 0); name = words_of (column cells 1); secret = words_of (column cells 2) }
+person_of cells =
+    record {
+      id = number_of (column cells 0);
+      name = words_of (column cells 1);
+      secret = words_of (column cells 2);
+    }
 
 abbrev pub board_of : Row → BoardRow
-board_of cells = record { id = number_of (column cells 0); title = words_of (column cells 1); low = number_of (column cells 2) }
+board_of cells =
+    record {
+      id = number_of (column cells 0);
+      title = words_of (column cells 1);
+      low = number_of (column cells 2);
+    }
 
 abbrev pub role_of : Row → RoleRow
-role_of cells = record { board = number_of (column cells 0); person = number_of (column cells 1); kind = number_of (column cells 2) }
+role_of cells = record {
+  board = number_of (column cells 0);
+  person = number_of (column cells 1);
+  kind = number_of (column cells 2);
+}
 
 abbrev pub task_of : Row → TaskRow
 task_of cells = record {
@@ -60,13 +74,28 @@ task_of cells = record {
 }
 
 abbrev pub link_of : Row → LinkRow
-link_of cells = record { board = number_of (column cells 0); place = number_of (column cells 1); target = number_of (column cells 2) }
+link_of cells = record {
+  board = number_of (column cells 0);
+  place = number_of (column cells 1);
+  target = number_of (column cells 2);
+}
 
 abbrev pub instance_of : Row → InstanceRow
-instance_of cells = record { board = number_of (column cells 0); template = number_of (column cells 1); imask = number_of (column cells 2); place = number_of (column cells 3) }
+instance_of cells =
+    record {
+      board = number_of (column cells 0);
+      template = number_of (column cells 1);
+      imask = number_of (column cells 2);
+      place = number_of (column cells 3);
+    }
 
 abbrev pub gone_of : Row → GoneRow
-gone_of cells = record { board = number_of (column cells 0); template = number_of (column cells 1); imask = number_of (column cells 2); mark = words_of (column cells 3) }
+gone_of cells = record {
+  board = number_of (column cells 0);
+  template = number_of (column cells 1);
+  imask = number_of (column cells 2);
+  mark = words_of (column cells 3);
+}
 
 abbrev pub kept_of : Row → KeptRow
 kept_of cells = record {

@@ -40,17 +40,21 @@ abbrev pub role_row : RoleRow → Row
 role_row role = Int (pos role.board) ∷ Int (pos role.person) ∷ Int (pos role.kind) ∷ []
 
 abbrev pub task_row : TaskRow → Row
-task_row task = Int (pos task.board) ∷ Int (pos task.place) ∷ Bytes (to_be_bytes w128 task.uuid) ∷ Words task.body ∷ or_null Words task.mask ∷ []
+task_row task = Int (pos task.board) ∷ Int (pos task.place) ∷ Bytes (to_be_bytes w128 task.uuid)
+    ∷ Words task.body ∷ or_null Words task.mask ∷ []
 
 abbrev pub link_row : LinkRow → Row
 link_row link = Int (pos link.board) ∷ Int (pos link.place) ∷ Int (pos link.target) ∷ []
 
 abbrev pub instance_row : InstanceRow → Row
-instance_row instance = Int (pos instance.board) ∷ Int (pos instance.template) ∷ Int (pos instance.imask) ∷ Int (pos instance.place) ∷ []
+instance_row instance = Int (pos instance.board) ∷ Int (pos instance.template)
+    ∷ Int (pos instance.imask) ∷ Int (pos instance.place) ∷ []
 
 abbrev pub gone_row : GoneRow → Row
-gone_row gone = Int (pos gone.board) ∷ Int (pos gone.template) ∷ Int (pos gone.imask) ∷ Words gone.mark ∷ []
+gone_row gone = Int (pos gone.board) ∷ Int (pos gone.template) ∷ Int (pos gone.imask)
+    ∷ Words gone.mark ∷ []
 
 abbrev pub kept_row : KeptRow → Row
 kept_row kept =
-    Int (pos kept.person) ∷ Bytes (to_be_bytes w128 kept.id) ∷ Bytes kept.content ∷ Int (pos kept.number) ∷ Int (pos kept.status) ∷ Words kept.body ∷ []
+    Int (pos kept.person) ∷ Bytes (to_be_bytes w128 kept.id) ∷ Bytes kept.content
+    ∷ Int (pos kept.number) ∷ Int (pos kept.status) ∷ Words kept.body ∷ []

@@ -23,7 +23,9 @@ StandsOld content = StandsBy (IsOldContent content) (AreOldRows content)
 
 -- the content of the first version stands, or another one in the tables of a store
 abbrev pub StandsOldOr : Content → Content → State → Type 0
-StandsOldOr before after = StandsBy (λ db. IsOldContent before db ⊎ IsContent after db) (λ db. AreOldRows before db ⊎ AreRows after db)
+StandsOldOr before after =
+    StandsBy (λ db. IsOldContent before db ⊎ IsContent after db)
+    (λ db. AreOldRows before db ⊎ AreRows after db)
 
 abbrev pub HasNoTables : Database → Type 0
 HasNoTables db = db.schema ≡ no_schema
@@ -34,8 +36,12 @@ StandsEmpty = StandsBy HasNoTables (IsSound no_schema)
 
 -- there is no table, or the content stands
 abbrev pub StandsEmptyOr : Content → State → Type 0
-StandsEmptyOr content = StandsBy (λ db. HasNoTables db ⊎ IsContent content db) (λ db. IsSound no_schema db ⊎ AreRows content db)
+StandsEmptyOr content =
+    StandsBy (λ db. HasNoTables db ⊎ IsContent content db)
+    (λ db. IsSound no_schema db ⊎ AreRows content db)
 
 -- there is no table, or the content stands in those of the first version
 abbrev pub StandsEmptyOrOld : Content → State → Type 0
-StandsEmptyOrOld content = StandsBy (λ db. HasNoTables db ⊎ IsOldContent content db) (λ db. IsSound no_schema db ⊎ AreOldRows content db)
+StandsEmptyOrOld content =
+    StandsBy (λ db. HasNoTables db ⊎ IsOldContent content db)
+    (λ db. IsSound no_schema db ⊎ AreOldRows content db)

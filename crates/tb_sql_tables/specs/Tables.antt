@@ -19,40 +19,68 @@ use Rattle.sqlite_catalog.specs.Listing.{automatic}
 -- ---- the texts that make the tables, in this order
 
 abbrev pub create_meta_text : List ℕ
-create_meta_text = codes "CREATE TABLE meta(one INTEGER PRIMARY KEY CHECK(one = 1), kind TEXT NOT NULL, version INTEGER NOT NULL) STRICT"
+create_meta_text =
+    codes
+    "CREATE TABLE meta(one INTEGER PRIMARY KEY CHECK(one = 1), kind TEXT NOT NULL, version INTEGER NOT NULL) STRICT"
 
 abbrev pub create_person_text : List ℕ
-create_person_text = codes "CREATE TABLE person(id INTEGER PRIMARY KEY, name TEXT NOT NULL UNIQUE, secret TEXT NOT NULL) STRICT"
+create_person_text =
+    codes
+    "CREATE TABLE person(id INTEGER PRIMARY KEY, name TEXT NOT NULL UNIQUE, secret TEXT NOT NULL) STRICT"
 
 abbrev pub create_board_text : List ℕ
-create_board_text = codes "CREATE TABLE board(id INTEGER PRIMARY KEY, title TEXT NOT NULL, low INTEGER NOT NULL) STRICT"
+create_board_text =
+    codes
+    "CREATE TABLE board(id INTEGER PRIMARY KEY, title TEXT NOT NULL, low INTEGER NOT NULL) STRICT"
 
 abbrev pub create_role_text : List ℕ
-create_role_text = codes "CREATE TABLE role(board INTEGER NOT NULL REFERENCES board(id), person INTEGER NOT NULL REFERENCES person(id), kind INTEGER NOT NULL, PRIMARY KEY(board, person)) STRICT"
+create_role_text =
+    codes
+    "CREATE TABLE role(board INTEGER NOT NULL REFERENCES board(id), person INTEGER NOT NULL REFERENCES person(id), kind INTEGER NOT NULL, PRIMARY KEY(board, person)) STRICT"
 
 abbrev pub create_task_text : List ℕ
-create_task_text = codes "CREATE TABLE task(board INTEGER NOT NULL REFERENCES board(id), place INTEGER NOT NULL, uuid BLOB NOT NULL, body TEXT NOT NULL, mask TEXT, PRIMARY KEY(board, place), UNIQUE(board, uuid)) STRICT"
+create_task_text =
+    codes
+    "CREATE TABLE task(board INTEGER NOT NULL REFERENCES board(id), place INTEGER NOT NULL, uuid BLOB NOT NULL, body TEXT NOT NULL, mask TEXT, PRIMARY KEY(board, place), UNIQUE(board, uuid)) STRICT"
 
 abbrev pub create_link_text : List ℕ
-create_link_text = codes "CREATE TABLE link(board INTEGER NOT NULL, place INTEGER NOT NULL, target INTEGER NOT NULL, PRIMARY KEY(board, place, target)) STRICT"
+create_link_text =
+    codes
+    "CREATE TABLE link(board INTEGER NOT NULL, place INTEGER NOT NULL, target INTEGER NOT NULL, PRIMARY KEY(board, place, target)) STRICT"
 
 abbrev pub create_instance_text : List ℕ
-create_instance_text = codes "CREATE TABLE instance(board INTEGER NOT NULL, template INTEGER NOT NULL, imask INTEGER NOT NULL, place INTEGER NOT NULL, PRIMARY KEY(board, template, imask), UNIQUE(board, place)) STRICT"
+create_instance_text =
+    codes
+    "CREATE TABLE instance(board INTEGER NOT NULL, template INTEGER NOT NULL, imask INTEGER NOT NULL, place INTEGER NOT NULL, PRIMARY KEY(board, template, imask), UNIQUE(board, place)) STRICT"
 
 abbrev pub create_gone_text : List ℕ
-create_gone_text = codes "CREATE TABLE gone(board INTEGER NOT NULL, template INTEGER NOT NULL, imask INTEGER NOT NULL, mark TEXT NOT NULL, PRIMARY KEY(board, template, imask)) STRICT"
+create_gone_text =
+    codes
+    "CREATE TABLE gone(board INTEGER NOT NULL, template INTEGER NOT NULL, imask INTEGER NOT NULL, mark TEXT NOT NULL, PRIMARY KEY(board, template, imask)) STRICT"
 
 abbrev pub create_kept_text : List ℕ
-create_kept_text = codes "CREATE TABLE kept(person INTEGER NOT NULL REFERENCES person(id), id BLOB NOT NULL, content BLOB NOT NULL, number INTEGER NOT NULL, status INTEGER NOT NULL, body TEXT NOT NULL, PRIMARY KEY(person, id)) STRICT"
+create_kept_text =
+    codes
+    "CREATE TABLE kept(person INTEGER NOT NULL REFERENCES person(id), id BLOB NOT NULL, content BLOB NOT NULL, number INTEGER NOT NULL, status INTEGER NOT NULL, body TEXT NOT NULL, PRIMARY KEY(person, id)) STRICT"
 
 abbrev pub create_horizon_text : List ℕ
-create_horizon_text = codes "CREATE TABLE horizon(board INTEGER PRIMARY KEY REFERENCES board(id), ahead INTEGER NOT NULL CHECK(ahead >= 1 AND ahead <= 12)) STRICT"
+create_horizon_text =
+    codes
+    "CREATE TABLE horizon(board INTEGER PRIMARY KEY REFERENCES board(id), ahead INTEGER NOT NULL CHECK(ahead >= 1 AND ahead <= 12)) STRICT"
 
 -- ---- the tables that they define
 
 -- a column of a STRICT table with no default
 abbrev pub column_of : List ℕ → Kind → Column
-column_of name kind = record { name = name; kind = kind; is_strict = true; not_null = true; default = Null; collation = Binary }
+column_of name kind =
+    record {
+      name = name;
+      kind = kind;
+      is_strict = true;
+      not_null = true;
+      default = Null;
+      collation = Binary;
+    }
 
 -- a table with no default, no AUTOINCREMENT and nothing that reads the time
 pub record Plain : Type 0 where
@@ -85,7 +113,14 @@ table_of plain = record {
 -- a column that refers to a column of another table, which refuses what would break it
 abbrev pub refers : ℕ → List ℕ → List ℕ → Reference
 refers place parent column =
-    record { columns = place ∷ []; parent = parent; parent_columns = column ∷ []; on_delete = NoAction; on_update = NoAction; is_deferred = false }
+    record {
+      columns = place ∷ [];
+      parent = parent;
+      parent_columns = column ∷ [];
+      on_delete = NoAction;
+      on_update = NoAction;
+      is_deferred = false;
+    }
 
 abbrev pub meta_tree : ℕ
 meta_tree = 0
@@ -94,7 +129,8 @@ abbrev pub meta_plain : Plain
 meta_plain = record {
   name = codes "meta";
   tree = meta_tree;
-  columns = record (column_of (codes "one") Integer) { not_null = false } ∷ column_of (codes "kind") Text ∷ column_of (codes "version") Integer ∷ [];
+  columns = record (column_of (codes "one") Integer) { not_null = false }
+      ∷ column_of (codes "kind") Text ∷ column_of (codes "version") Integer ∷ [];
   key = Some 0;
   primary = 0 ∷ [];
   uniques = [];
@@ -113,7 +149,8 @@ abbrev pub person_plain : Plain
 person_plain = record {
   name = codes "person";
   tree = person_tree;
-  columns = record (column_of (codes "id") Integer) { not_null = false } ∷ column_of (codes "name") Text ∷ column_of (codes "secret") Text ∷ [];
+  columns = record (column_of (codes "id") Integer) { not_null = false }
+      ∷ column_of (codes "name") Text ∷ column_of (codes "secret") Text ∷ [];
   key = Some 0;
   primary = 0 ∷ [];
   uniques = (2 ∷ []) ∷ [];
@@ -132,7 +169,8 @@ abbrev pub board_plain : Plain
 board_plain = record {
   name = codes "board";
   tree = board_tree;
-  columns = record (column_of (codes "id") Integer) { not_null = false } ∷ column_of (codes "title") Text ∷ column_of (codes "low") Integer ∷ [];
+  columns = record (column_of (codes "id") Integer) { not_null = false }
+      ∷ column_of (codes "title") Text ∷ column_of (codes "low") Integer ∷ [];
   key = Some 0;
   primary = 0 ∷ [];
   uniques = [];
@@ -151,7 +189,8 @@ abbrev pub role_plain : Plain
 role_plain = record {
   name = codes "role";
   tree = role_tree;
-  columns = column_of (codes "board") Integer ∷ column_of (codes "person") Integer ∷ column_of (codes "kind") Integer ∷ [];
+  columns = column_of (codes "board") Integer ∷ column_of (codes "person") Integer
+      ∷ column_of (codes "kind") Integer ∷ [];
   key = None;
   primary = 1 ∷ 2 ∷ [];
   uniques = (1 ∷ 2 ∷ []) ∷ [];
@@ -170,7 +209,9 @@ abbrev pub task_plain : Plain
 task_plain = record {
   name = codes "task";
   tree = task_tree;
-  columns = column_of (codes "board") Integer ∷ column_of (codes "place") Integer ∷ column_of (codes "uuid") Blob ∷ column_of (codes "body") Text ∷ record (column_of (codes "mask") Text) { not_null = false } ∷ [];
+  columns = column_of (codes "board") Integer ∷ column_of (codes "place") Integer
+      ∷ column_of (codes "uuid") Blob ∷ column_of (codes "body") Text
+      ∷ record (column_of (codes "mask") Text) { not_null = false } ∷ [];
   key = None;
   primary = 1 ∷ 2 ∷ [];
   uniques = (1 ∷ 2 ∷ []) ∷ (1 ∷ 3 ∷ []) ∷ [];
@@ -189,7 +230,8 @@ abbrev pub link_plain : Plain
 link_plain = record {
   name = codes "link";
   tree = link_tree;
-  columns = column_of (codes "board") Integer ∷ column_of (codes "place") Integer ∷ column_of (codes "target") Integer ∷ [];
+  columns = column_of (codes "board") Integer ∷ column_of (codes "place") Integer
+      ∷ column_of (codes "target") Integer ∷ [];
   key = None;
   primary = 1 ∷ 2 ∷ 3 ∷ [];
   uniques = (1 ∷ 2 ∷ 3 ∷ []) ∷ [];
@@ -208,7 +250,8 @@ abbrev pub instance_plain : Plain
 instance_plain = record {
   name = codes "instance";
   tree = instance_tree;
-  columns = column_of (codes "board") Integer ∷ column_of (codes "template") Integer ∷ column_of (codes "imask") Integer ∷ column_of (codes "place") Integer ∷ [];
+  columns = column_of (codes "board") Integer ∷ column_of (codes "template") Integer
+      ∷ column_of (codes "imask") Integer ∷ column_of (codes "place") Integer ∷ [];
   key = None;
   primary = 1 ∷ 2 ∷ 3 ∷ [];
   uniques = (1 ∷ 2 ∷ 3 ∷ []) ∷ (1 ∷ 4 ∷ []) ∷ [];
@@ -227,7 +270,8 @@ abbrev pub gone_plain : Plain
 gone_plain = record {
   name = codes "gone";
   tree = gone_tree;
-  columns = column_of (codes "board") Integer ∷ column_of (codes "template") Integer ∷ column_of (codes "imask") Integer ∷ column_of (codes "mark") Text ∷ [];
+  columns = column_of (codes "board") Integer ∷ column_of (codes "template") Integer
+      ∷ column_of (codes "imask") Integer ∷ column_of (codes "mark") Text ∷ [];
   key = None;
   primary = 1 ∷ 2 ∷ 3 ∷ [];
   uniques = (1 ∷ 2 ∷ 3 ∷ []) ∷ [];
@@ -246,7 +290,9 @@ abbrev pub kept_plain : Plain
 kept_plain = record {
   name = codes "kept";
   tree = kept_tree;
-  columns = column_of (codes "person") Integer ∷ column_of (codes "id") Blob ∷ column_of (codes "content") Blob ∷ column_of (codes "number") Integer ∷ column_of (codes "status") Integer ∷ column_of (codes "body") Text ∷ [];
+  columns = column_of (codes "person") Integer ∷ column_of (codes "id") Blob
+      ∷ column_of (codes "content") Blob ∷ column_of (codes "number") Integer
+      ∷ column_of (codes "status") Integer ∷ column_of (codes "body") Text ∷ [];
   key = None;
   primary = 1 ∷ 2 ∷ [];
   uniques = (1 ∷ 2 ∷ []) ∷ [];
@@ -265,12 +311,14 @@ abbrev pub horizon_plain : Plain
 horizon_plain = record {
   name = codes "horizon";
   tree = horizon_tree;
-  columns = record (column_of (codes "board") Integer) { not_null = false } ∷ column_of (codes "ahead") Integer ∷ [];
+  columns = record (column_of (codes "board") Integer) { not_null = false }
+      ∷ column_of (codes "ahead") Integer ∷ [];
   key = Some 0;
   primary = 0 ∷ [];
   uniques = [];
   orders = [];
-  checks = op2 And (op2 (Compare Ge Binary) (col 1 2) (lit (Int (pos 1)))) (op2 (Compare Le Binary) (col 1 2) (lit (Int (pos 12)))) ∷ [];
+  checks = op2 And (op2 (Compare Ge Binary) (col 1 2) (lit (Int (pos 1))))
+      (op2 (Compare Le Binary) (col 1 2) (lit (Int (pos 12)))) ∷ [];
   references = refers 0 (codes "board") (codes "id") ∷ [];
 }
 
@@ -313,41 +361,63 @@ role_schema = record {
 abbrev pub task_schema : Schema
 task_schema = record {
   tables = meta_table ∷ person_table ∷ board_table ∷ role_table ∷ task_table ∷ [];
-  indexes = automatic person_table 0 (2 ∷ []) 2 ∷ automatic role_table 0 (1 ∷ 2 ∷ []) 5 ∷ automatic task_table 0 (1 ∷ 2 ∷ []) 7 ∷ automatic task_table 1 (1 ∷ 3 ∷ []) 8 ∷ [];
+  indexes = automatic person_table 0 (2 ∷ []) 2 ∷ automatic role_table 0 (1 ∷ 2 ∷ []) 5
+      ∷ automatic task_table 0 (1 ∷ 2 ∷ []) 7 ∷ automatic task_table 1 (1 ∷ 3 ∷ []) 8 ∷ [];
   views = [];
 }
 
 abbrev pub link_schema : Schema
 link_schema = record {
   tables = meta_table ∷ person_table ∷ board_table ∷ role_table ∷ task_table ∷ link_table ∷ [];
-  indexes = automatic person_table 0 (2 ∷ []) 2 ∷ automatic role_table 0 (1 ∷ 2 ∷ []) 5 ∷ automatic task_table 0 (1 ∷ 2 ∷ []) 7 ∷ automatic task_table 1 (1 ∷ 3 ∷ []) 8 ∷ automatic link_table 0 (1 ∷ 2 ∷ 3 ∷ []) 10 ∷ [];
+  indexes = automatic person_table 0 (2 ∷ []) 2 ∷ automatic role_table 0 (1 ∷ 2 ∷ []) 5
+      ∷ automatic task_table 0 (1 ∷ 2 ∷ []) 7 ∷ automatic task_table 1 (1 ∷ 3 ∷ []) 8
+      ∷ automatic link_table 0 (1 ∷ 2 ∷ 3 ∷ []) 10 ∷ [];
   views = [];
 }
 
 abbrev pub instance_schema : Schema
 instance_schema = record {
-  tables = meta_table ∷ person_table ∷ board_table ∷ role_table ∷ task_table ∷ link_table ∷ instance_table ∷ [];
-  indexes = automatic person_table 0 (2 ∷ []) 2 ∷ automatic role_table 0 (1 ∷ 2 ∷ []) 5 ∷ automatic task_table 0 (1 ∷ 2 ∷ []) 7 ∷ automatic task_table 1 (1 ∷ 3 ∷ []) 8 ∷ automatic link_table 0 (1 ∷ 2 ∷ 3 ∷ []) 10 ∷ automatic instance_table 0 (1 ∷ 2 ∷ 3 ∷ []) 12 ∷ automatic instance_table 1 (1 ∷ 4 ∷ []) 13 ∷ [];
+  tables = meta_table ∷ person_table ∷ board_table ∷ role_table ∷ task_table ∷ link_table
+      ∷ instance_table ∷ [];
+  indexes = automatic person_table 0 (2 ∷ []) 2 ∷ automatic role_table 0 (1 ∷ 2 ∷ []) 5
+      ∷ automatic task_table 0 (1 ∷ 2 ∷ []) 7 ∷ automatic task_table 1 (1 ∷ 3 ∷ []) 8
+      ∷ automatic link_table 0 (1 ∷ 2 ∷ 3 ∷ []) 10 ∷ automatic instance_table 0 (1 ∷ 2 ∷ 3 ∷ []) 12
+      ∷ automatic instance_table 1 (1 ∷ 4 ∷ []) 13 ∷ [];
   views = [];
 }
 
 abbrev pub gone_schema : Schema
 gone_schema = record {
-  tables = meta_table ∷ person_table ∷ board_table ∷ role_table ∷ task_table ∷ link_table ∷ instance_table ∷ gone_table ∷ [];
-  indexes = automatic person_table 0 (2 ∷ []) 2 ∷ automatic role_table 0 (1 ∷ 2 ∷ []) 5 ∷ automatic task_table 0 (1 ∷ 2 ∷ []) 7 ∷ automatic task_table 1 (1 ∷ 3 ∷ []) 8 ∷ automatic link_table 0 (1 ∷ 2 ∷ 3 ∷ []) 10 ∷ automatic instance_table 0 (1 ∷ 2 ∷ 3 ∷ []) 12 ∷ automatic instance_table 1 (1 ∷ 4 ∷ []) 13 ∷ automatic gone_table 0 (1 ∷ 2 ∷ 3 ∷ []) 15 ∷ [];
+  tables = meta_table ∷ person_table ∷ board_table ∷ role_table ∷ task_table ∷ link_table
+      ∷ instance_table ∷ gone_table ∷ [];
+  indexes = automatic person_table 0 (2 ∷ []) 2 ∷ automatic role_table 0 (1 ∷ 2 ∷ []) 5
+      ∷ automatic task_table 0 (1 ∷ 2 ∷ []) 7 ∷ automatic task_table 1 (1 ∷ 3 ∷ []) 8
+      ∷ automatic link_table 0 (1 ∷ 2 ∷ 3 ∷ []) 10 ∷ automatic instance_table 0 (1 ∷ 2 ∷ 3 ∷ []) 12
+      ∷ automatic instance_table 1 (1 ∷ 4 ∷ []) 13
+      ∷ automatic gone_table 0 (1 ∷ 2 ∷ 3 ∷ []) 15 ∷ [];
   views = [];
 }
 
 abbrev pub old_schema : Schema
 old_schema = record {
-  tables = meta_table ∷ person_table ∷ board_table ∷ role_table ∷ task_table ∷ link_table ∷ instance_table ∷ gone_table ∷ kept_table ∷ [];
-  indexes = automatic person_table 0 (2 ∷ []) 2 ∷ automatic role_table 0 (1 ∷ 2 ∷ []) 5 ∷ automatic task_table 0 (1 ∷ 2 ∷ []) 7 ∷ automatic task_table 1 (1 ∷ 3 ∷ []) 8 ∷ automatic link_table 0 (1 ∷ 2 ∷ 3 ∷ []) 10 ∷ automatic instance_table 0 (1 ∷ 2 ∷ 3 ∷ []) 12 ∷ automatic instance_table 1 (1 ∷ 4 ∷ []) 13 ∷ automatic gone_table 0 (1 ∷ 2 ∷ 3 ∷ []) 15 ∷ automatic kept_table 0 (1 ∷ 2 ∷ []) 17 ∷ [];
+  tables = meta_table ∷ person_table ∷ board_table ∷ role_table ∷ task_table ∷ link_table
+      ∷ instance_table ∷ gone_table ∷ kept_table ∷ [];
+  indexes = automatic person_table 0 (2 ∷ []) 2 ∷ automatic role_table 0 (1 ∷ 2 ∷ []) 5
+      ∷ automatic task_table 0 (1 ∷ 2 ∷ []) 7 ∷ automatic task_table 1 (1 ∷ 3 ∷ []) 8
+      ∷ automatic link_table 0 (1 ∷ 2 ∷ 3 ∷ []) 10 ∷ automatic instance_table 0 (1 ∷ 2 ∷ 3 ∷ []) 12
+      ∷ automatic instance_table 1 (1 ∷ 4 ∷ []) 13 ∷ automatic gone_table 0 (1 ∷ 2 ∷ 3 ∷ []) 15
+      ∷ automatic kept_table 0 (1 ∷ 2 ∷ []) 17 ∷ [];
   views = [];
 }
 
 abbrev pub store_schema : Schema
 store_schema = record {
-  tables = meta_table ∷ person_table ∷ board_table ∷ role_table ∷ task_table ∷ link_table ∷ instance_table ∷ gone_table ∷ kept_table ∷ horizon_table ∷ [];
-  indexes = automatic person_table 0 (2 ∷ []) 2 ∷ automatic role_table 0 (1 ∷ 2 ∷ []) 5 ∷ automatic task_table 0 (1 ∷ 2 ∷ []) 7 ∷ automatic task_table 1 (1 ∷ 3 ∷ []) 8 ∷ automatic link_table 0 (1 ∷ 2 ∷ 3 ∷ []) 10 ∷ automatic instance_table 0 (1 ∷ 2 ∷ 3 ∷ []) 12 ∷ automatic instance_table 1 (1 ∷ 4 ∷ []) 13 ∷ automatic gone_table 0 (1 ∷ 2 ∷ 3 ∷ []) 15 ∷ automatic kept_table 0 (1 ∷ 2 ∷ []) 17 ∷ [];
+  tables = meta_table ∷ person_table ∷ board_table ∷ role_table ∷ task_table ∷ link_table
+      ∷ instance_table ∷ gone_table ∷ kept_table ∷ horizon_table ∷ [];
+  indexes = automatic person_table 0 (2 ∷ []) 2 ∷ automatic role_table 0 (1 ∷ 2 ∷ []) 5
+      ∷ automatic task_table 0 (1 ∷ 2 ∷ []) 7 ∷ automatic task_table 1 (1 ∷ 3 ∷ []) 8
+      ∷ automatic link_table 0 (1 ∷ 2 ∷ 3 ∷ []) 10 ∷ automatic instance_table 0 (1 ∷ 2 ∷ 3 ∷ []) 12
+      ∷ automatic instance_table 1 (1 ∷ 4 ∷ []) 13 ∷ automatic gone_table 0 (1 ∷ 2 ∷ 3 ∷ []) 15
+      ∷ automatic kept_table 0 (1 ∷ 2 ∷ []) 17 ∷ [];
   views = [];
 }

@@ -28,19 +28,22 @@ pub trait Stored: Drop + Sized {
 
     fn read(row: &Row) -> Result<Self, Error>
         ensures value { IfOk result (λ it. it ≡ read_as row.now) }
-        ensures refused { IfErr result (λ e. e ≢ Error.SqliteFailure OutOfMemory → ¬ is_readable row.now) };
+        ensures refused { IfErr result
+            (λ e. e ≢ Error.SqliteFailure OutOfMemory → ¬ is_readable row.now) };
 }
 
 fn number_at(row: &Row, at: usize) -> Result<u32, Error>
     ensures value { IfOk result (λ number. number ≡ number_of (column row.now at)) }
-    ensures refused { IfErr result (λ e. e ≢ Error.SqliteFailure OutOfMemory → at < length row.now → ¬ IsNumber (column row.now at)) }
+    ensures refused { IfErr result (λ e. e ≢ Error.SqliteFailure OutOfMemory → at < length row.now
+        → ¬ IsNumber (column row.now at)) }
 {
     row.get(at)
 }
 
 fn text_at(row: &Row, at: usize) -> Result<Text, Error>
     ensures value { IfOk result (λ text. text ≡ words_of (column row.now at)) }
-    ensures refused { IfErr result (λ e. e ≢ Error.SqliteFailure OutOfMemory → at < length row.now → ¬ IsText (column row.now at)) }
+    ensures refused { IfErr result (λ e. e ≢ Error.SqliteFailure OutOfMemory → at < length row.now
+        → ¬ IsText (column row.now at)) }
 {
     let text: String = row.get(at)?;
     Ok(Text::from_string(text))
@@ -205,7 +208,8 @@ impl Stored for HorizonRow {
 /// Each of the rows, in their order.
 pub fn read_all<T: Stored>(alloc: Global, rows: &[Row]) -> Result<Items<T>, Error>
     ensures value { IfOk result (λ items. items ≡ map T.Stored.read_as rows.now) }
-    ensures refused { IfErr result (λ e. e ≢ Error.SqliteFailure OutOfMemory → ¬ All T.Stored.is_readable rows.now) }
+    ensures refused { IfErr result
+        (λ e. e ≢ Error.SqliteFailure OutOfMemory → ¬ All T.Stored.is_readable rows.now) }
 {
     let mut items = Items::new(alloc);
     'rows: for row in rows {

@@ -16,11 +16,16 @@ pub fn run<S: Alter>(
     params: &[ValueRef<'_>],
 ) -> Result<(), Error>
     ensures same_reference { tx.new.conn.ghost_name ≡ tx.old.conn.ghost_name }
-    ensures ran { HasCleanDisk (state S.Store tx.new.conn.now) → IsTrue (state S.Store tx.old.conn.now).in_transaction
-        → OnOk result (Ran sql.now (bound params.now) (state S.Store tx.old.conn.now) (state S.Store tx.new.conn.now)) }
-    ensures kept { HasCleanDisk (state S.Store tx.new.conn.now) → IsTrue (state S.Store tx.old.conn.now).in_transaction
-        → OnErr result (KeepsCommit (state S.Store tx.old.conn.now) (state S.Store tx.new.conn.now)) }
-    ensures survives { Survives (state S.Store tx.old.conn.now) (state S.Store tx.new.conn.now) (λ _. ⊥) }
+    ensures ran { HasCleanDisk (state S.Store tx.new.conn.now)
+        → IsTrue (state S.Store tx.old.conn.now).in_transaction
+        → OnOk result (Ran sql.now (bound params.now) (state S.Store tx.old.conn.now)
+        (state S.Store tx.new.conn.now)) }
+    ensures kept { HasCleanDisk (state S.Store tx.new.conn.now)
+        → IsTrue (state S.Store tx.old.conn.now).in_transaction
+        → OnErr result (KeepsCommit (state S.Store tx.old.conn.now)
+        (state S.Store tx.new.conn.now)) }
+    ensures survives { Survives (state S.Store tx.old.conn.now)
+        (state S.Store tx.new.conn.now) (λ _. ⊥) }
 {
     tx.execute(sql, params)?;
     Ok(())
@@ -34,13 +39,18 @@ pub fn find_rows<S: Alter>(
 ) -> Result<Vec<Row>, Error>
     ensures same_reference { tx.new.conn.ghost_name ≡ tx.old.conn.ghost_name }
     ensures shown { HasCleanDisk (state S.Store tx.new.conn.now)
-        → IfOk result (λ rows. Shown sql.now (bound params.now) (state S.Store tx.old.conn.now) (state S.Store tx.new.conn.now) rows.items) }
+        → IfOk result (λ rows. Shown sql.now (bound params.now) (state S.Store tx.old.conn.now)
+        (state S.Store tx.new.conn.now) rows.items) }
     ensures refused { HasCleanDisk (state S.Store tx.new.conn.now)
-        → IfErr result (λ e. FailsToQuery sql.now (bound params.now) (state S.Store tx.old.conn.now) (state S.Store tx.new.conn.now) e
-        ⊎ IsTooLate sql.now (bound params.now) (state S.Store tx.old.conn.now) (state S.Store tx.new.conn.now) e) }
-    ensures kept { HasCleanDisk (state S.Store tx.new.conn.now) → IsTrue (state S.Store tx.old.conn.now).in_transaction
+        → IfErr result (λ e. FailsToQuery sql.now (bound params.now) (state S.Store tx.old.conn.now)
+        (state S.Store tx.new.conn.now) e
+        ⊎ IsTooLate sql.now (bound params.now) (state S.Store tx.old.conn.now)
+        (state S.Store tx.new.conn.now) e) }
+    ensures kept { HasCleanDisk (state S.Store tx.new.conn.now)
+        → IsTrue (state S.Store tx.old.conn.now).in_transaction
         → KeepsCommit (state S.Store tx.old.conn.now) (state S.Store tx.new.conn.now) }
-    ensures survives { Survives (state S.Store tx.old.conn.now) (state S.Store tx.new.conn.now) (λ _. ⊥) }
+    ensures survives { Survives (state S.Store tx.old.conn.now)
+        (state S.Store tx.new.conn.now) (λ _. ⊥) }
 {
     tx.query_all(sql, params)
 }

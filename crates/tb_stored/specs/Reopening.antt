@@ -13,7 +13,8 @@ OfContent old new P = HasCleanDisk new → (content : Content) → Stands conten
 
 -- this holds of each board of a world that is read there
 abbrev pub OfBoard : Database → Database → (World → Board → Type 0) → Type 0
-OfBoard old new P = HasCleanDisk new → (w : World) (content : Content) (b : Board) → IsBoardRead w content b → Stands content old → P w b
+OfBoard old new P = HasCleanDisk new → (w : World) (content : Content) (b : Board)
+    → IsBoardRead w content b → Stands content old → P w b
 
 -- this holds of each state whose rows are stored
 abbrev pub OfState : Database → Database → (State → Type 0) → Type 0

@@ -33,7 +33,10 @@ kept_row w e = record {
 
 -- what is kept by a row
 abbrev pub reply_in : KeptRow → KeptReply
-reply_in row = record { content = row.content; reply = record { number = row.number; status = row.status; body = row.body } }
+reply_in row = record {
+  content = row.content;
+  reply = record { number = row.number; status = row.status; body = row.body };
+}
 
 abbrev pub state_rows : State → Content
 state_rows s = record (world_rows s.world) { kept = map (kept_row s.world) (entries s.kept) }

@@ -63,9 +63,12 @@ pub fn person_row_at<S: Alter>(
 pub fn has_person_at<S: Alter>(conn: &mut Connection<S>, id: u32) -> Result<bool, StoreFault>
     requires { conn.old.in_transaction ≡ false }
     ensures idle { conn.new.in_transaction ≡ false }
-    ensures found { IfOk result (λ there. OfContent (state S.Store conn.old) (state S.Store conn.new)
+    ensures found { IfOk result
+        (λ there. OfContent (state S.Store conn.old) (state S.Store conn.new)
         (λ content. there ≡ list_any (is_person id) content.people)) }
-    ensures excused { result ≡ Err StoreFault.Store → FailsByFault (state S.Store conn.old) (state S.Store conn.new) (λ content. IsContent content (state S.Store conn.old).now) }
+    ensures excused { result ≡ Err StoreFault.Store
+        → FailsByFault (state S.Store conn.old) (state S.Store conn.new)
+        (λ content. IsContent content (state S.Store conn.old).now) }
     ensures faults { KeepsFaults (state S.Store conn.old) (state S.Store conn.new) }
     ensures same { IsAsBefore (state S.Store conn.old) (state S.Store conn.new) }
 {
@@ -82,9 +85,12 @@ pub fn has_person_at<S: Alter>(conn: &mut Connection<S>, id: u32) -> Result<bool
 pub fn has_board_at<S: Alter>(conn: &mut Connection<S>, id: u32) -> Result<bool, StoreFault>
     requires { conn.old.in_transaction ≡ false }
     ensures idle { conn.new.in_transaction ≡ false }
-    ensures found { IfOk result (λ there. OfContent (state S.Store conn.old) (state S.Store conn.new)
+    ensures found { IfOk result
+        (λ there. OfContent (state S.Store conn.old) (state S.Store conn.new)
         (λ content. there ≡ list_any (is_board id) content.boards)) }
-    ensures excused { result ≡ Err StoreFault.Store → FailsByFault (state S.Store conn.old) (state S.Store conn.new) (λ content. IsContent content (state S.Store conn.old).now) }
+    ensures excused { result ≡ Err StoreFault.Store
+        → FailsByFault (state S.Store conn.old) (state S.Store conn.new)
+        (λ content. IsContent content (state S.Store conn.old).now) }
     ensures faults { KeepsFaults (state S.Store conn.old) (state S.Store conn.new) }
     ensures same { IsAsBefore (state S.Store conn.old) (state S.Store conn.new) }
 {

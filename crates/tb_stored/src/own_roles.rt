@@ -21,7 +21,8 @@ pub fn role_rows_of<S: Alter>(
     requires { conn.old.in_transaction ≡ false }
     ensures idle { conn.new.in_transaction ≡ false }
     ensures found { IfOk result (λ rows. OfContent (state S.Store conn.old) (state S.Store conn.new)
-        (λ content. AreFound IsBoardBefore (filter (λ row. row.person == person) content.roles) rows)) }
+        (λ content. AreFound IsBoardBefore
+        (filter (λ row. row.person == person) content.roles) rows)) }
     ensures same { IsAsBefore (state S.Store conn.old) (state S.Store conn.new) }
 {
     let mut tx = conn.transaction();

@@ -60,7 +60,8 @@ pub fn role_rows<S: Alter>(
     requires { conn.old.in_transaction ≡ false }
     ensures idle { conn.new.in_transaction ≡ false }
     ensures found { IfOk result (λ rows. OfContent (state S.Store conn.old) (state S.Store conn.new)
-        (λ content. AreFound IsRoleBefore (filter (λ row. row.board == board) content.roles) rows)) }
+        (λ content. AreFound IsRoleBefore
+        (filter (λ row. row.board == board) content.roles) rows)) }
     ensures same { IsAsBefore (state S.Store conn.old) (state S.Store conn.new) }
 {
     let mut tx = conn.transaction();
@@ -80,7 +81,8 @@ pub fn task_rows<S: Alter>(
     requires { conn.old.in_transaction ≡ false }
     ensures idle { conn.new.in_transaction ≡ false }
     ensures found { IfOk result (λ rows. OfContent (state S.Store conn.old) (state S.Store conn.new)
-        (λ content. AreFound IsTaskBefore (filter (λ row. row.board == board) content.tasks) rows)) }
+        (λ content. AreFound IsTaskBefore
+        (filter (λ row. row.board == board) content.tasks) rows)) }
     ensures same { IsAsBefore (state S.Store conn.old) (state S.Store conn.new) }
 {
     let mut tx = conn.transaction();

@@ -10,6 +10,7 @@ use Rattle.tb_board.specs.declared.board.Board.{Board}
 use Rattle.tb_board.specs.Board.{wake}
 use Rattle.tb_board.specs.Templates.{count}
 use Rattle.tb_sweep.specs.Sweep.{more, sweep, with_instances}
+use Rattle.tb_task.specs.Limits.{most_at_once, most_tasks}
 
 -- the least place that isn't wanted by a template at m
 abbrev pub planned_at_once : Option Plan → ℕ → ℕ
@@ -19,13 +20,15 @@ planned_at_once (Some p) m = need_at_once p m
 abbrev pub need_of_at_once : Task → ℕ → ℕ
 need_of_at_once t m = planned_at_once (plan_of t) m
 
--- how many instances a template gets: those it needs beyond its count, but 64 at most and no more than there is room for
+-- how many instances a template gets: those it needs beyond its count, but so many at once at most and no more than there is room for
 abbrev pub batch_at_once : ℕ → Board → Task → ℕ
-batch_at_once m b t = min (min 64 (10000 - length b.tasks)) (need_of_at_once t m - count b t.id)
+batch_at_once m b t =
+    min (min most_at_once (most_tasks - length b.tasks)) (need_of_at_once t m - count b t.id)
 
 -- a template that recurs gets its instances
 abbrev pub grown_at_once : ℕ → Board → Task → Board
-grown_at_once m b t = if is_recurring t.status then with_instances m t (count b t.id) (batch_at_once m b t) b else b
+grown_at_once m b t = if is_recurring t.status
+    then with_instances m t (count b t.id) (batch_at_once m b t) b else b
 
 -- the templates among these tasks get their instances, in order
 abbrev pub all_at_once : ℕ → Board → List Task → Board

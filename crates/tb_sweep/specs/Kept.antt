@@ -12,7 +12,8 @@ SweepKeepsGood = (b : Board) (m : ℕ) → IsGood b → IsGood (sweep b m)
 
 -- each task stays at its place, whatever the moment, and the instances that are added go last
 abbrev pub SweepAddsLast : Type 0
-SweepAddsLast = (b : Board) (m : ℕ) → (new : List Task) × ((sweep b m).tasks ≡ (wake b m).tasks ++ new) × (length new ≡ added b m)
+SweepAddsLast = (b : Board) (m : ℕ)
+    → (new : List Task) × ((sweep b m).tasks ≡ (wake b m).tasks ++ new) × (length new ≡ added b m)
 
 -- where no template still lacks an instance, a further sweep at the same moment leaves the board
 abbrev pub SweepEnds : Type 0

@@ -10,6 +10,7 @@ use Rattle.tb_board.specs.declared.board.Board.{Board}
 use Rattle.tb_board.specs.Board.{wake, with_task}
 use Rattle.tb_board.specs.Numbers.{free_id}
 use Rattle.tb_board.specs.Templates.{count}
+use Rattle.tb_task.specs.Limits.{most_at_once, most_tasks}
 
 -- the least place that isn't wanted by a template at m on a board that looks so many ahead
 abbrev pub planned_need : Option Plan → ℕ → ℕ → ℕ
@@ -19,14 +20,16 @@ planned_need (Some p) ahead m = need p ahead m
 abbrev pub need_of : Task → ℕ → ℕ → ℕ
 need_of t ahead m = planned_need (plan_of t) ahead m
 
--- how many instances a template gets: those it needs beyond its count, but 64 at most and no more than there is room for
+-- how many instances a template gets: those it needs beyond its count, but so many at once at most and no more than there is room for
 abbrev pub batch : ℕ → Board → Task → ℕ
-batch m b t = min (min 64 (10000 - length b.tasks)) (need_of t b.ahead m - count b t.id)
+batch m b t = min (min most_at_once (most_tasks - length b.tasks))
+    (need_of t b.ahead m - count b t.id)
 
 -- the instances from k on, so many, one after the other, each under the least free number
 abbrev pub with_instances : ℕ → Task → ℕ → ℕ → Board → Board
 with_instances m t k zero b = b
-with_instances m t k (suc more) b = with_instances m t (k + 1) more (with_task b (instance t k (free_id b) m))
+with_instances m t k (suc more) b =
+    with_instances m t (k + 1) more (with_task b (instance t k (free_id b) m))
 
 -- a template that recurs gets its instances
 abbrev pub grown : ℕ → Board → Task → Board

@@ -47,7 +47,10 @@ impl Counts {
 
     /// One place more.
     pub fn add(&mut self, id: TaskId) -> Result<(), AllocError>
-        ensures { OnOk result ((q : ℕ) → number_at self.new q ≡ (if id == q then min 4294967295 (number_at self.old q + 1) else number_at self.old q)) }
+        ensures { OnOk result
+            ((q : ℕ) → number_at self.new q
+            ≡ (if id == q then min 4294967295 (number_at self.old q + 1)
+            else number_at self.old q)) }
     {
         let number = self.number(id).saturating_add(1);
         self.numbers.insert(id, number)?;
@@ -55,7 +58,9 @@ impl Counts {
     }
 
     fn add_gone(&mut self, gone: &[Gone]) -> Result<(), AllocError>
-        ensures { OnOk result ((q : ℕ) → min 2932898 (number_at self.new q) ≡ min 2932898 (number_at self.old q + length (gone_places q gone.now))) }
+        ensures { OnOk result
+            ((q : ℕ) → min 2932898 (number_at self.new q)
+            ≡ min 2932898 (number_at self.old q + length (gone_places q gone.now))) }
     {
         for place in gone {
             self.add(place.template)?;
@@ -64,7 +69,9 @@ impl Counts {
     }
 
     fn add_instances(&mut self, tasks: &[Shared<Task>]) -> Result<(), AllocError>
-        ensures { OnOk result ((q : ℕ) → min 2932898 (number_at self.new q) ≡ min 2932898 (number_at self.old q + length (instance_places q tasks.now))) }
+        ensures { OnOk result
+            ((q : ℕ) → min 2932898 (number_at self.new q)
+            ≡ min 2932898 (number_at self.old q + length (instance_places q tasks.now))) }
     {
         for task in tasks {
             self.add_task(task.get())?;
@@ -73,7 +80,9 @@ impl Counts {
     }
 
     fn add_task(&mut self, task: &Task) -> Result<(), AllocError>
-        ensures { OnOk result ((q : ℕ) → min 2932898 (number_at self.new q) ≡ min 2932898 (number_at self.old q + length (instance_places q (task.now ∷ [])))) }
+        ensures { OnOk result
+            ((q : ℕ) → min 2932898 (number_at self.new q)
+            ≡ min 2932898 (number_at self.old q + length (instance_places q (task.now ∷ [])))) }
     {
         match (task.parent, task.imask) {
             (Some(parent), Some(_)) => self.add(parent),
@@ -83,7 +92,8 @@ impl Counts {
 
     /// How many places a template has, if an instance can be due at the next one.
     pub fn next_place(&self, id: TaskId) -> Option<u32>
-        ensures { MatchOption result (2932898 ≤ number_at self.now id) (λ n. (n ≡ number_at self.now id) × (n < 2932898)) }
+        ensures { MatchOption result (2932898 ≤ number_at self.now id)
+            (λ n. (n ≡ number_at self.now id) × (n < 2932898)) }
     {
         let number = self.number(id);
         if number >= PLACES_END {

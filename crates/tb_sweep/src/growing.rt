@@ -10,16 +10,13 @@ ghost use Rattle.tb_sweep.specs.Growing.{IsGrowing};
 ghost use Rattle.tb_sweep.specs.Sweep.{batch, grown, with_instances, with_wanted};
 ghost use Rattle.tb_task.specs.TaskId.{made};
 ghost use Rattle.tb_task.specs.declared.task.Task.{Task};
+ghost use Rattle.tb_task.specs.Limits.{most_at_once, most_tasks};
 
 use crate::counts::Counts;
 use std::alloc::{AllocError, Global};
 use tb_board::{Ahead, Board, Draft, next_number};
 use tb_recur::{Plan, instance, plan_of};
-use tb_task::{Moment, Task, TaskId, is_recurring_status};
-
-const MOST_TASKS: usize = 10000;
-
-const MOST_AT_ONCE: usize = 64;
+use tb_task::{MOST_AT_ONCE, MOST_TASKS, Moment, Task, TaskId, is_recurring_status};
 
 /// A board that gets instances, the counts of its templates, and a number before which all are taken.
 #[derive(Drop)]
@@ -59,7 +56,9 @@ fn grown(
     requires growing { IsGrowing marks.now growing }
     requires place { place < length growing.draft.board.tasks }
     ensures growing { IfOk result (IsGrowing marks.now) }
-    ensures grown { IfOk result (λ g. (t : Task) → t ≡ slice_index_or growing.draft.board.tasks place t → g.draft.board ≡ grown at growing.draft.board t) }
+    ensures grown { IfOk result
+        (λ g. (t : Task) → t ≡ slice_index_or growing.draft.board.tasks place t
+        → g.draft.board ≡ grown at growing.draft.board t) }
     ensures follows { IfOk result (λ g. Follows growing.draft g.draft) }
 {
     let template = growing.draft.board.task_at(place);
@@ -90,7 +89,7 @@ fn batch(board: &Board, template: &Task, first: u32, at: Moment) -> usize
 fn wanted_from(plan: &Plan, ahead: Ahead, first: u32, most: usize, at: Moment) -> usize
     requires step { IsStep plan.now.step }
     requires first { first < 2932898 }
-    requires most { most ≤ 64 }
+    requires most { most ≤ most_at_once }
     ensures { result ≡ min most (need plan.now ahead at - first) }
 {
     let mut number = 0usize;
@@ -113,10 +112,12 @@ fn with_instances(
     requires growing { IsGrowing marks.now growing }
     requires place { place < length growing.draft.board.tasks }
     requires first { first < 2932898 }
-    requires number { number ≤ 64 }
-    requires room { number ≤ 10000 - length growing.draft.board.tasks }
+    requires number { number ≤ most_at_once }
+    requires room { number ≤ most_tasks - length growing.draft.board.tasks }
     ensures growing { IfOk result (IsGrowing marks.now) }
-    ensures instances { IfOk result (λ g. (t : Task) → t ≡ slice_index_or growing.draft.board.tasks place t → g.draft.board ≡ with_instances at t first number growing.draft.board) }
+    ensures instances { IfOk result
+        (λ g. (t : Task) → t ≡ slice_index_or growing.draft.board.tasks place t
+        → g.draft.board ≡ with_instances at t first number growing.draft.board) }
     ensures follows { IfOk result (λ g. Follows growing.draft g.draft) }
 {
     let mut growing = growing;
@@ -137,9 +138,12 @@ fn with_instance(
 ) -> Result<Growing, AllocError>
     requires growing { IsGrowing marks.now growing }
     requires place { place < length growing.draft.board.tasks }
-    requires room { length growing.draft.board.tasks < 10000 }
+    requires room { length growing.draft.board.tasks < most_tasks }
     ensures growing { IfOk result (IsGrowing marks.now) }
-    ensures added { IfOk result (λ g. (t : Task) → t ≡ slice_index_or growing.draft.board.tasks place t → g.draft.board ≡ with_task growing.draft.board (instance t k (free_id growing.draft.board) at)) }
+    ensures added { IfOk result
+        (λ g. (t : Task) → t ≡ slice_index_or growing.draft.board.tasks place t
+        → g.draft.board ≡ with_task growing.draft.board
+        (instance t k (free_id growing.draft.board) at)) }
     ensures follows { IfOk result (λ g. Follows growing.draft g.draft) }
 {
     let Growing {
@@ -168,8 +172,9 @@ fn instance_under(
 ) -> Result<Task, AllocError>
     requires place { place < length board.now.tasks }
     requires from { 1 ≤ number }
-    requires small { number ≤ 10000 }
-    ensures { IfOk result (λ u. (t : Task) → t ≡ slice_index_or board.now.tasks place t → u ≡ instance t k (made board.now.number number) at) }
+    requires small { number ≤ most_tasks }
+    ensures { IfOk result (λ u. (t : Task) → t ≡ slice_index_or board.now.tasks place t
+        → u ≡ instance t k (made board.now.number number) at) }
 {
     match TaskId::made(board.number, number) {
         Some(id) => instance(board.task_at(place), k, id, at),

@@ -62,7 +62,9 @@ fn blanks_for_instances(
     id: TaskId,
 ) -> Result<Vec<Option<Mark>>, AllocError>
     requires { AreBlank marks.items (length marks.items) }
-    ensures { IfOk result (λ later. AreBlank later.items (length marks.items + length (instance_places id tasks.now))) }
+    ensures { IfOk result
+        (λ later. AreBlank later.items
+        (length marks.items + length (instance_places id tasks.now))) }
 {
     for task in tasks {
         if place_of_instance(task.get(), id).is_some() {

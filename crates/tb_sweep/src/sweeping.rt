@@ -84,7 +84,8 @@ fn some_lacks(board: &Board, counts: &Counts, at: Moment) -> bool
 
 /// Whether the task is a template that recurs and its next place is wanted.
 fn is_lacking(task: &Task, counts: &Counts, ahead: Ahead, at: Moment) -> bool
-    ensures { (b : Board) → AreCounts b counts.now → b.ahead ≡ ahead → result ≡ lacks b at task.now }
+    ensures { (b : Board) → AreCounts b counts.now → b.ahead ≡ ahead
+        → result ≡ lacks b at task.now }
 {
     if !is_recurring_status(task.status) {
         return false;

@@ -34,17 +34,21 @@ is_first_digit c = nat_le 49 c && nat_le c 57
 -- the number that one to three digits write, the first of which is not 0
 unfoldable pub number_of : List ℕ → Option ℕ
 number_of (a ∷ []) = if is_first_digit a then Some (a - 48) else None
-number_of (a ∷ b ∷ []) = if is_first_digit a && is_digit b then Some ((a - 48) * 10 + (b - 48)) else None
+number_of (a ∷ b ∷ []) = if is_first_digit a && is_digit b
+    then Some ((a - 48) * 10 + (b - 48)) else None
 number_of (a ∷ b ∷ c ∷ []) =
-    if is_first_digit a && is_digit b && is_digit c then Some ((a - 48) * 100 + (b - 48) * 10 + (c - 48)) else None
+    if is_first_digit a && is_digit b && is_digit c
+    then Some ((a - 48) * 100 + (b - 48) * 10 + (c - 48)) else None
 number_of s = None
 
 abbrev pub without_front : List ℕ → List ℕ → Option (List ℕ)
-without_front front s = if bytes_eq (take (length front) s) front then Some (drop (length front) s) else None
+without_front front s = if bytes_eq (take (length front) s) front
+    then Some (drop (length front) s) else None
 
 abbrev pub without_back : List ℕ → List ℕ → Option (List ℕ)
 without_back back s =
-    if bytes_eq (drop (length s - length back) s) back then Some (take (length s - length back) s) else None
+    if bytes_eq (drop (length s - length back) s) back
+    then Some (take (length s - length back) s) else None
 
 abbrev pub then_by : {A B : Type 0} → Option A → (A → Option B) → Option B
 then_by None f = None
@@ -52,7 +56,8 @@ then_by (Some x) f = f x
 
 -- the number that stands between two texts
 unfoldable pub number_between : List ℕ → List ℕ → List ℕ → Option ℕ
-number_between front back s = then_by (without_front front s) (λ rest. then_by (without_back back rest) number_of)
+number_between front back s =
+    then_by (without_front front s) (λ rest. then_by (without_back back rest) number_of)
 
 abbrev pub first_of_two : {A : Type 0} → Option A → Option A → Option A
 first_of_two None b = b
@@ -60,7 +65,8 @@ first_of_two (Some a) b = Some a
 
 -- the number with the short letters behind it, or between P and the long ones
 unfoldable pub row_number : List ℕ → List ℕ → List ℕ → Option ℕ
-row_number short long s = first_of_two (number_between [] short s) (number_between (codes "P") long s)
+row_number short long s =
+    first_of_two (number_between [] short s) (number_between (codes "P") long s)
 
 unfoldable pub row_step : (ℕ → Step) → List ℕ → List ℕ → List ℕ → Option Step
 row_step step short long s = option_map step (row_number short long s)

@@ -38,7 +38,8 @@ fn day_number(parts: Parts) -> Option<u32>
     requires year { parts.year < 10000 }
     requires month { parts.month < 100 }
     requires day { parts.day < 100 }
-    ensures { MatchOption result ((n : ℕ) → IsDateOf parts n → ⊥) (λ n. IsDateOf parts n × (n ≤ 2932896)) }
+    ensures { MatchOption result ((n : ℕ) → IsDateOf parts n → ⊥)
+        (λ n. IsDateOf parts n × (n ≤ 2932896)) }
 {
     match Date::new(parts.year as i16, parts.month as i8, parts.day as i8) {
         Ok(date) => days_since_epoch(date),
@@ -47,7 +48,8 @@ fn day_number(parts: Parts) -> Option<u32>
 }
 
 fn days_since_epoch(date: Date) -> Option<u32>
-    ensures { MatchOption result ((n : ℕ) → epoch_day date ≡ pos n → ⊥) (λ n. (epoch_day date ≡ pos n) × (n ≤ 2932896)) }
+    ensures { MatchOption result ((n : ℕ) → epoch_day date ≡ pos n → ⊥)
+        (λ n. (epoch_day date ≡ pos n) × (n ≤ 2932896)) }
 {
     let day = date.to_unix_epoch_day();
     if day < 0 { None } else { Some(day as u32) }

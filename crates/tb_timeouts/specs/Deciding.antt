@@ -19,7 +19,8 @@ abbrev pub HasNone : (Stage → Option ℕ) → List Stage → Type 0
 HasNone moment stages = (place : ℕ) → moment_at moment stages place ≡ None
 
 -- This place has the least moment, and it is the first that has it.
-pub record IsEarliest (moment : Stage → Option ℕ) (stages : List Stage) (place least : ℕ) : Type 0 where
+pub record IsEarliest (moment : Stage → Option ℕ) (stages : List Stage)
+    (place least : ℕ) : Type 0 where
   pub here : moment_at moment stages place ≡ Some least
   pub no_earlier : (other later : ℕ) → moment_at moment stages other ≡ Some later → least ≤ later
   pub first : (other : ℕ) → moment_at moment stages other ≡ Some least → place ≤ other
@@ -34,7 +35,8 @@ abbrev pub earlier_of : Option Candidate → ℕ → Option ℕ → Option Candi
 earlier_of found place None = found
 earlier_of None place (Some moment) = Some (record { place = place; moment = moment })
 earlier_of (Some candidate) place (Some moment) =
-    if nat_lt moment candidate.moment then Some (record { place = place; moment = moment }) else Some candidate
+    if nat_lt moment candidate.moment then Some (record { place = place; moment = moment })
+    else Some candidate
 
 -- ---- who gives way, who is read, how long to wait
 
@@ -47,7 +49,8 @@ GivesWay limits now stages (Some place) =
     × ((begun : ℕ) × IsEarliest begun_at stages place begun × (begun + limits.spared < now)))
 GivesWay limits now stages None =
     HasNone idle_since stages
-    × ((place begun : ℕ) → moment_at begun_at stages place ≡ Some begun → now ≤ begun + limits.spared)
+    × ((place begun : ℕ) → moment_at begun_at stages place ≡ Some begun
+    → now ≤ begun + limits.spared)
 
 -- A message is read while there is room for bytes. Where there is none, the one that was begun first is read on.
 abbrev pub MayRead : Limits → List Stage → ℕ → ℕ → Type 0
@@ -56,7 +59,11 @@ MayRead limits stages place held =
     × ((held < limits.bytes) ⊎ ((begun : ℕ) × IsEarliest begun_at stages place begun))
 
 -- It is the longest time, at most so long, at whose end none has stayed longer than it may.
-pub record IsLongestWait (limits : Limits) (now most : ℕ) (stages : List Stage) (wait : ℕ) : Type 0 where
+pub record IsLongestWait (limits : Limits) (now most : ℕ) (stages : List Stage)
+    (wait : ℕ) : Type 0 where
   pub at_most : wait ≤ most
-  pub before_each : (place end : ℕ) → moment_at (end_of limits) stages place ≡ Some end → wait ≤ end - now
-  pub no_less : (wait ≡ most) ⊎ ((place : ℕ) × (end : ℕ) × (moment_at (end_of limits) stages place ≡ Some end) × (wait ≡ end - now))
+  pub before_each : (place end : ℕ) → moment_at (end_of limits) stages place ≡ Some end
+      → wait ≤ end - now
+  pub no_less : (wait ≡ most)
+      ⊎ ((place : ℕ) × (end : ℕ) × (moment_at (end_of limits) stages place ≡ Some end)
+      × (wait ≡ end - now))

@@ -47,7 +47,9 @@ has_read_enough limits stage = false
 
 -- it has stayed too long, or sent too much behind the last answer
 abbrev pub is_over : Limits → ℕ → Stage → Bool
-is_over limits now stage = has_read_enough limits stage || option_map_or (λ end. nat_le end now) (end_of limits stage) false
+is_over limits now stage =
+    has_read_enough limits stage
+    || option_map_or (λ end. nat_le end now) (end_of limits stage) false
 
 -- no connection is in this place
 abbrev pub is_vacant : Stage → Bool

@@ -36,7 +36,8 @@ impl MomentKind {
 /// The first place that has the least of the moments of this kind.
 pub(crate) fn earliest(stages: &[Stage], kind: MomentKind) -> Option<Candidate>
     ensures none { IfNone result (HasNone (moment_of kind) stages.now) }
-    ensures some { IfSome result (λ found. IsEarliest (moment_of kind) stages.now found.place found.moment) }
+    ensures some { IfSome result
+        (λ found. IsEarliest (moment_of kind) stages.now found.place found.moment) }
 {
     let mut found = None;
     for (place, stage) in stages.iter().enumerate() {

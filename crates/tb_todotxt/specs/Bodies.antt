@@ -33,7 +33,8 @@ due_text (Some due) = codes " due:" ++ day_text (due / 86400)
 
 -- the body of a task's line, with a space for each control character of the description
 abbrev pub body_of : Task → List ℕ
-body_of t = shown_text 32 t.description ++ project_text t.project ++ tags_text t.tags ++ due_text t.due ++ codes " uuid:" ++ id_text t.id
+body_of t = shown_text 32 t.description ++ project_text t.project ++ tags_text t.tags
+    ++ due_text t.due ++ codes " uuid:" ++ id_text t.id
 
 -- where the task is done, the day of its end, or of its entry where it has none
 abbrev pub completion_of : Bool → Task → Option ℕ

@@ -21,7 +21,8 @@ has_hyphens s = (length s == 10) && (slice_index s 4 == 45) && (slice_index s 7 
 -- the date's digits, as the text of a moment has them, at the beginning of the day
 abbrev pub first_second : List ℕ → List ℕ
 first_second s =
-    slice_index s 0 ∷ slice_index s 1 ∷ slice_index s 2 ∷ slice_index s 3 ∷ slice_index s 5 ∷ slice_index s 6 ∷ slice_index s 8 ∷ slice_index s 9
+    slice_index s 0 ∷ slice_index s 1 ∷ slice_index s 2 ∷ slice_index s 3 ∷ slice_index s 5
+    ∷ slice_index s 6 ∷ slice_index s 8 ∷ slice_index s 9
     ∷ codes "T000000Z"
 
 -- the day that a text writes

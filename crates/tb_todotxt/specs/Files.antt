@@ -9,6 +9,7 @@ use Rattle.tb_todotxt.specs.Reading.{line_of}
 use Rattle.tb_todotxt.specs.Tasks.{task_of}
 use Rattle.tb_todotxt.specs.declared.fault.FileFault.{FileFault}
 use Rattle.tb_todotxt.specs.declared.fault.FileFault.TheVariants.{TooMany, Memory}
+use Rattle.tb_task.specs.Limits.{most_items}
 
 -- The lines that aren't skipped, which are those of spaces and tabs alone. A carriage return before a line feed isn't the line's.
 abbrev pub kept_lines : List ℕ → List (List ℕ)
@@ -22,14 +23,16 @@ count_of line lines = length (filter (λ other. bytes_eq other line) lines)
 abbrev pub tasks_after : ℕ → ℕ → List (List ℕ) → List (List ℕ) → List Task
 tasks_after m board before [] = []
 tasks_after m board before (line ∷ lines) =
-    task_of (line_of line) m board (count_of line before) ∷ tasks_after m board (before ++ line ∷ []) lines
+    task_of (line_of line) m board (count_of line before)
+    ∷ tasks_after m board (before ++ line ∷ []) lines
 
 abbrev pub tasks_of : ℕ → ℕ → List (List ℕ) → List Task
 tasks_of m board lines = tasks_after m board [] lines
 
 -- at most 1,000 lines
 abbrev pub tasks_within : ℕ → ℕ → List (List ℕ) → Result (List Task) FileFault
-tasks_within m board lines = if nat_lt 1000 (length lines) then Err TooMany else Ok (tasks_of m board lines)
+tasks_within m board lines = if nat_lt most_items (length lines) then Err TooMany
+    else Ok (tasks_of m board lines)
 
 -- the tasks of a text on a board at a moment
 abbrev pub file_of : ℕ → ℕ → List ℕ → Result (List Task) FileFault

@@ -17,7 +17,8 @@ priority_word letter = 40 ∷ letter ∷ 41 ∷ []
 -- the letter of such a word
 unfoldable pub letter_of : List ℕ → Option ℕ
 letter_of word =
-    if (length word == 3) && (slice_index word 0 == 40) && (slice_index word 2 == 41) && is_letter (slice_index word 1) then Some (slice_index word 1)
+    if (length word == 3) && (slice_index word 0 == 40) && (slice_index word 2 == 41)
+    && is_letter (slice_index word 1) then Some (slice_index word 1)
     else None
 
 -- the letter that stands for a task's priority

@@ -43,7 +43,8 @@ spell l = with_done l.done (with_priority l.priority (dated l))
 
 -- the text begins with such a mark, and something other than spaces and tabs follows it
 abbrev pub Begins : (List ℕ → Type 0) → List ℕ → Type 0
-Begins IsMark text = (word : List ℕ) × (rest : List ℕ) × IsMark word × (text ≡ marked word rest) × (is_blank rest ≡ false)
+Begins IsMark text = (word : List ℕ) × (rest : List ℕ) × IsMark word × (text ≡ marked word rest)
+    × (is_blank rest ≡ false)
 
 abbrev pub IsDoneMark : List ℕ → Type 0
 IsDoneMark word = word ≡ done_word

@@ -57,7 +57,13 @@ line_of text =
     let rest = past done text in
     let letter = mark_of letter_of rest in
     let dates = dates_of done (past (is_some letter) rest) in
-    record { done = done; priority = letter; completion = dates.completion; creation = dates.creation; body = dates.body }
+    record {
+      done = done;
+      priority = letter;
+      completion = dates.completion;
+      creation = dates.creation;
+      body = dates.body;
+    }
 
 abbrev pub read_of : List ℕ → Result LineParts LineFault
 read_of text = if is_blank text then Err EmptyLine else Ok (line_of text)
@@ -77,4 +83,5 @@ AreRead = (l : LineParts) → IsLine l → read_of (spell l) ≡ Ok l
 
 -- and what is read, of a text without a line feed, is the line that is spelled so
 abbrev pub AreSpelled : Type 0
-AreSpelled = (text : List ℕ) (l : LineParts) → is_free_of 10 text ≡ true → read_of text ≡ Ok l → IsLine l × (text ≡ spell l)
+AreSpelled = (text : List ℕ) (l : LineParts) → is_free_of 10 text ≡ true → read_of text ≡ Ok l
+    → IsLine l × (text ≡ spell l)

@@ -25,7 +25,8 @@ has_sign sign word = nat_lt 1 (length word) && (slice_index word 0 == sign)
 
 -- what follows a key at the front of a word
 abbrev pub after_key : List ℕ → List ℕ → Option (List ℕ)
-after_key key word = if bytes_eq (take (length key) word) key then Some (drop (length key) word) else None
+after_key key word = if bytes_eq (take (length key) word) key
+    then Some (drop (length key) word) else None
 
 abbrev pub due_in : List ℕ → Option ℕ
 due_in word = option_and_then day_of (after_key (codes "due:") word)
@@ -61,9 +62,11 @@ with_plain b word = record b { description = joined b.description word }
 
 -- each tag is taken, and of a project, a due date and an identifier the first; the other words are the description's
 abbrev pub with_kind : BodyWords → List ℕ → Kind → BodyWords
-with_kind b word Project = if is_some b.project then with_plain b word else record b { project = Some (drop 1 word) }
+with_kind b word Project = if is_some b.project then with_plain b word
+    else record b { project = Some (drop 1 word) }
 with_kind b word Tag = record b { tags = b.tags ++ drop 1 word ∷ [] }
-with_kind b word (Due day) = if is_some b.due then with_plain b word else record b { due = Some day }
+with_kind b word (Due day) = if is_some b.due then with_plain b word
+    else record b { due = Some day }
 with_kind b word (Id id) = if is_some b.id then with_plain b word else record b { id = Some id }
 with_kind b word Plain = with_plain b word
 

@@ -5,17 +5,15 @@ ghost use Rattle.tb_todotxt.specs.Files.{kept_lines as kept, count_of, tasks_of 
 ghost use Rattle.tb_todotxt.specs.Lines.{is_blank as blank, is_free_of};
 ghost use Rattle.tb_todotxt.specs.Reading.{line_of};
 ghost use Rattle.tb_todotxt.specs.Tasks.{task_of};
+ghost use Rattle.tb_task.specs.Limits.{most_items};
 
 use crate::fault::FileFault;
 use crate::making::to_task;
 use crate::marks::is_blank;
 use crate::reading::parse_line;
 use std::alloc::{AllocError, Global};
-use tb_task::{Moment, Task};
+use tb_task::{MOST_ITEMS, Moment, Task};
 use tb_values::Items;
-
-/// The most lines of a file that aren't skipped.
-const MAX_LINES: usize = 1000;
 
 /// The lines of a text that aren't skipped.
 fn kept_lines(alloc: Global, text: &str) -> Result<Vec<&str>, AllocError>
@@ -26,7 +24,7 @@ fn kept_lines(alloc: Global, text: &str) -> Result<Vec<&str>, AllocError>
 
 /// How many of the lines are equal to one.
 fn occurrences(line: &str, lines: &[&str]) -> u32
-    requires { length lines.now ≤ 1000 }
+    requires { length lines.now ≤ most_items }
     ensures { result ≡ count_of line.now (map (λ other. other.now) lines.now) }
 {
     let mut count = 0;
@@ -48,8 +46,10 @@ fn task_at(
 ) -> Result<Task, AllocError>
     requires full { blank line.now ≡ false }
     requires one_line { is_free_of 10 line.now ≡ true }
-    requires few { length before.now ≤ 1000 }
-    ensures { IfOk result (λ task. task ≡ task_of (line_of line.now) moment board (count_of line.now (map (λ other. other.now) before.now))) }
+    requires few { length before.now ≤ most_items }
+    ensures { IfOk result
+        (λ task. task ≡ task_of (line_of line.now) moment board
+        (count_of line.now (map (λ other. other.now) before.now))) }
 {
     let line_read = parse_line(alloc, line)?;
     to_task(alloc, &line_read, moment, board, occurrences(line, before))
@@ -62,9 +62,11 @@ fn tasks_of(
     board: u32,
 ) -> Result<Items<Task>, AllocError>
     requires full { AllByRecursion (λ line. blank line ≡ false) (map (λ line. line.now) lines.now) }
-    requires one_line { AllByRecursion (λ line. is_free_of 10 line ≡ true) (map (λ line. line.now) lines.now) }
-    requires few { length lines.now ≤ 1000 }
-    ensures { IfOk result (λ tasks. tasks ≡ all_tasks moment board (map (λ line. line.now) lines.now)) }
+    requires one_line { AllByRecursion (λ line. is_free_of 10 line ≡ true)
+        (map (λ line. line.now) lines.now) }
+    requires few { length lines.now ≤ most_items }
+    ensures { IfOk result
+        (λ tasks. tasks ≡ all_tasks moment board (map (λ line. line.now) lines.now)) }
 {
     let mut tasks = Items::new(alloc);
     for (place, line) in lines.iter().enumerate() {
@@ -83,7 +85,7 @@ pub fn read_file(
     ensures { ReadsFile result (file_of moment board text.now) }
 {
     let lines = kept_lines(alloc, text)?;
-    if lines.len() > MAX_LINES {
+    if lines.len() > MOST_ITEMS {
         return Err(FileFault::TooMany);
     }
     Ok(tasks_of(alloc, &lines, moment, board)?)

@@ -23,7 +23,8 @@ pub(crate) fn is_blank(text: &str) -> bool
 /// The text up to the first space, and what comes after it, where that isn't blank.
 fn first_word(text: &str) -> Option<(&str, &str)>
     ensures { MatchOption result (has_more text.now ≡ false)
-        (λ parts. (has_more text.now ≡ true) × (parts.0.now ≡ word_of text.now) × (parts.1.now ≡ after_word text.now)) }
+        (λ parts. (has_more text.now ≡ true) × (parts.0.now ≡ word_of text.now)
+        × (parts.1.now ≡ after_word text.now)) }
 {
     let (word, rest) = text.split_once(' ')?;
     if is_blank(rest) {

@@ -76,7 +76,8 @@ pub fn write_line(alloc: Global, line: &Line) -> Result<Text, AllocError>
 }
 
 fn push_priority(text: &mut String, priority: Option<Letter>) -> Result<(), AllocError>
-    ensures { OnOk result (string_bytes text.new ≡ string_bytes text.old ++ with_priority priority []) }
+    ensures { OnOk result
+        (string_bytes text.new ≡ string_bytes text.old ++ with_priority priority []) }
 {
     if let Some(letter) = priority {
         text.push('(')?;

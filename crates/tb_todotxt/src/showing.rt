@@ -27,7 +27,8 @@ fn shown_char(character: char, instead: char) -> char
 /// Puts a text at the end, with another character for each space and control character.
 #[tactic(auto, unfolding(crate::specs::Bodies::shown_text))]
 fn push_shown(body: &mut String, text: &str, instead: char) -> Result<(), AllocError>
-    ensures { OnOk result (string_bytes body.new ≡ string_bytes body.old ++ shown_text instead text.now) }
+    ensures { OnOk result
+        (string_bytes body.new ≡ string_bytes body.old ++ shown_text instead text.now) }
 {
     for character in text.chars() {
         body.push(shown_char(character, instead))?;
@@ -36,7 +37,8 @@ fn push_shown(body: &mut String, text: &str, instead: char) -> Result<(), AllocE
 }
 
 fn push_project(body: &mut String, project: &Option<NonEmptyText>) -> Result<(), AllocError>
-    ensures { OnOk result (string_bytes body.new ≡ string_bytes body.old ++ project_text project.now) }
+    ensures { OnOk result
+        (string_bytes body.new ≡ string_bytes body.old ++ project_text project.now) }
 {
     if let Some(project) = project {
         body.push_str(" +")?;

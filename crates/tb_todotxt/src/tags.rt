@@ -12,7 +12,9 @@ use tb_values::{Items, Ordered, Text};
 
 /// Puts the tag at its place in byte order, unless it is there.
 fn add_tag(alloc: Global, set: &mut BTreeSet<String>, tag: &Text) -> Result<(), AllocError>
-    ensures { OnOk result (map string_bytes set.new.keys ≡ insert_key (slice_cmp nat_cmp) (map string_bytes set.old.keys) tag.now) }
+    ensures { OnOk result
+        (map string_bytes set.new.keys
+        ≡ insert_key (slice_cmp nat_cmp) (map string_bytes set.old.keys) tag.now) }
 {
     set.insert(String::from_str(alloc, tag.as_str())?)?;
     Ok(())

@@ -11,7 +11,8 @@ use tb_values::{Items, NonEmptyText, Text};
 
 /// The parts of a text around its spaces.
 fn parts_of(alloc: Global, text: &str) -> Result<Vec<&str>, AllocError>
-    ensures { IfOk result (λ v. map (λ part. part.now) v.items ≡ slice_split (λ b. b == 32) text.now) }
+    ensures { IfOk result
+        (λ v. map (λ part. part.now) v.items ≡ slice_split (λ b. b == 32) text.now) }
 {
     text.split(' ').collect(alloc)
 }

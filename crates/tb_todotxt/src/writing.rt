@@ -20,7 +20,8 @@ pub fn write_file(alloc: Global, tasks: &[Shown]) -> Result<Text, AllocError>
 }
 
 fn push_task(alloc: Global, text: &mut String, shown: &Shown) -> Result<(), AllocError>
-    ensures { OnOk result (string_bytes text.new ≡ string_bytes text.old ++ line_text shown.now.task) }
+    ensures { OnOk result
+        (string_bytes text.new ≡ string_bytes text.old ++ line_text shown.now.task) }
 {
     if check(shown.task.get()).is_err() {
         return Ok(());

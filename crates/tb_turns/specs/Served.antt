@@ -70,7 +70,8 @@ brought_to c (h ∷ hs) = (if h.0 == c then brought_by h.1 else []) ++ brought_t
 -- no bytes of a connection were let go of for want of memory
 abbrev pub NoneGone : {A M : Type 0} → ℕ → List (Step A M) → Type 0
 NoneGone c [] = Unit {0}
-NoneGone c (k ∷ ks) = ((if k.place == c then loses_bytes k.event else false) ≡ false) × NoneGone c ks
+NoneGone c (k ∷ ks) = ((if k.place == c then loses_bytes k.event else false) ≡ false)
+    × NoneGone c ks
 
 -- the messages that were taken of a connection
 abbrev pub taken_on : {A M : Type 0} → ℕ → List (Step A M) → List M
@@ -83,7 +84,8 @@ abbrev pub told_on : {S A M : Type 0} → Serving S A M → ℕ → S → ℕ �
 told_on v c s before [] = []
 told_on v c s before (k ∷ ks) =
     (if k.place == c then told_by v s before k.event else [])
-    ++ told_on v c (after_event v s k.event) (if k.place == c then count_by before k.event else before) ks
+    ++ told_on v c (after_event v s k.event)
+    (if k.place == c then count_by before k.event else before) ks
 
 -- what a connection was handed
 abbrev pub went_on : {A M : Type 0} → ℕ → List (Step A M) → List ℕ
@@ -105,7 +107,8 @@ led_to v s (m ∷ ms) = led_to v (v.after s m) ms
 -- a message stays at the front with more bytes behind it
 abbrev pub IsSteady : {S A M : Type 0} → Serving S A M → Type 0
 IsSteady {M = M} v =
-    (bytes : List ℕ) (m : M) (rest piece : List ℕ) → v.Begins bytes m rest → v.Begins (bytes ++ piece) m (rest ++ piece)
+    (bytes : List ℕ) (m : M) (rest piece : List ℕ) → v.Begins bytes m rest
+    → v.Begins (bytes ++ piece) m (rest ++ piece)
 
 -- bytes begin with these messages, and the rest is behind them
 abbrev pub Brings : {S A M : Type 0} → Serving S A M → List ℕ → List M → List ℕ → Type 0
@@ -115,12 +118,14 @@ Brings v bytes (m ∷ ms) rest = (behind : List ℕ) × v.Begins bytes m behind 
 -- none of these messages is behind one that closes, or behind the end
 abbrev pub NoneBehind : {S A M : Type 0} → Serving S A M → Bool → ℕ → List M → Type 0
 NoneBehind v is_closing before [] = Unit {0}
-NoneBehind v is_closing before (m ∷ ms) = (is_closing ≡ false) × NoneBehind v (v.closes before m) (before + 1) ms
+NoneBehind v is_closing before (m ∷ ms) = (is_closing ≡ false)
+    × NoneBehind v (v.closes before m) (before + 1) ms
 
 -- What a run has made of one connection: what came are the bytes that were brought to it; its messages are those that
 -- these bring, none behind one that closes; and what it was handed, with what it is still to be sent, is what they are
 -- told, in their order.
-pub record IsServed {S A M : Type 0} (v : Serving S A M) (c : ℕ) (s : S) (old : Talk) (ks : List (Step A M))
+pub record IsServed {S A M : Type 0} (v : Serving S A M) (c : ℕ) (s : S) (old : Talk)
+    (ks : List (Step A M))
     (new : Talk) : Type 0 where
   pub came : NoneGone c ks → came_on c ks ≡ brought_to c (done_in ks)
   pub brings : Brings v (old.bytes ++ came_on c ks) (taken_on c ks) new.bytes

@@ -90,8 +90,14 @@ Fits v old (goes count) e = e ≡ went (take count old.out)
 abbrev pub Moves : {S A M : Type 0} → Serving S A M → S → Event M → Talk → Talk → Type 0
 Moves v s opened old new = new ≡ silent
 Moves v s (came piece) old new =
-    new ≡ record { bytes = old.bytes ++ piece; messages = old.messages; is_closing = old.is_closing; out = old.out }
-Moves v s gone old new = new ≡ record { bytes = old.bytes; messages = old.messages; is_closing = true; out = old.out }
+    new ≡ record {
+      bytes = old.bytes ++ piece;
+      messages = old.messages;
+      is_closing = old.is_closing;
+      out = old.out;
+    }
+Moves v s gone old new = new
+    ≡ record { bytes = old.bytes; messages = old.messages; is_closing = true; out = old.out }
 Moves v s (took m is_whole) old new =
     (rest : List ℕ) × v.Begins old.bytes m rest × (old.is_closing ≡ false)
     × (new ≡ record {
@@ -102,14 +108,29 @@ Moves v s (took m is_whole) old new =
     })
 Moves v s (failed m text is_whole) old new =
     (rest : List ℕ) × v.Begins old.bytes m rest × (old.is_closing ≡ false) × v.Fails m text
-    × (new ≡ record { bytes = rest; messages = old.messages + 1; is_closing = true; out = old.out ++ sent_of is_whole text })
+    × (new ≡ record {
+      bytes = rest;
+      messages = old.messages + 1;
+      is_closing = true;
+      out = old.out ++ sent_of is_whole text;
+    })
 Moves v s (refused text is_whole) old new =
     v.Refuses old.bytes text × (old.is_closing ≡ false)
-    × (new ≡ record { bytes = old.bytes; messages = old.messages; is_closing = true; out = old.out ++ sent_of is_whole text })
+    × (new ≡ record {
+      bytes = old.bytes;
+      messages = old.messages;
+      is_closing = true;
+      out = old.out ++ sent_of is_whole text;
+    })
 Moves v s rested old new = ((old.is_closing ≡ true) ⊎ v.Waits old.bytes) × (new ≡ old)
 Moves v s (went front) old new =
     (rest : List ℕ) × (old.out ≡ front ++ rest)
-    × (new ≡ record { bytes = old.bytes; messages = old.messages; is_closing = old.is_closing; out = rest })
+    × (new ≡ record {
+      bytes = old.bytes;
+      messages = old.messages;
+      is_closing = old.is_closing;
+      out = rest;
+    })
 
 -- what it makes of a connection that is its own, or another
 abbrev pub MovesIf : {S A M : Type 0} → Serving S A M → Bool → S → Event M → Talk → Talk → Type 0
@@ -117,7 +138,8 @@ MovesIf v true s e old new = Moves v s e old new
 MovesIf v false s e old new = new ≡ old
 
 -- A run over steps, in the order in which they are made, from a state and the connections of all places.
-abbrev pub Run : {S A M : Type 0} → Serving S A M → S → (ℕ → Talk) → List (Step A M) → S → (ℕ → Talk) → Type 0
+abbrev pub Run : {S A M : Type 0} → Serving S A M → S → (ℕ → Talk) → List (Step A M) → S
+    → (ℕ → Talk) → Type 0
 Run v s talks [] end later = (end ≡ s) × ((c : ℕ) → later c ≡ talks c)
 Run v s talks (k ∷ ks) end later =
     Fits v (talks k.place) k.happening k.event

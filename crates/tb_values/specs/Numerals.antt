@@ -5,7 +5,8 @@ use Rattle.std.specs.Str.Parse.{digits_value}
 
 -- the number that digits write, the first of them above zero
 unfoldable pub numeral : List ℕ → Option ℕ
-numeral text = if nat_lt 48 (slice_index text 0) && all_ascii_digits text then Some (digits_value 10 text) else None
+numeral text = if nat_lt 48 (slice_index text 0) && all_ascii_digits text
+    then Some (digits_value 10 text) else None
 
 -- such a number, up to a limit
 abbrev pub number_to : ℕ → List ℕ → Option ℕ

@@ -141,7 +141,9 @@ fn place_of<T: Keyed>(items: &[T], item: &T) -> usize
 }
 
 fn is_key_at<T: Keyed>(items: &[T], place: usize, item: &T) -> bool
-    ensures { IsTrue result ↔ ((place < length items.now) × (T.order item.now (slice_index_or items.now place item.now) ≡ Equal)) }
+    ensures { IsTrue result
+        ↔ ((place < length items.now)
+        × (T.order item.now (slice_index_or items.now place item.now) ≡ Equal)) }
 {
     place < items.len() && item.compare(&items[place]) == Ordering::Equal
 }

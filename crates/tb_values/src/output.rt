@@ -12,7 +12,8 @@ pub struct WriteFault {
 /// Writes all the bytes, or a front of them that is known. A write that fails, or takes nothing, ends it, and so does
 /// one that was interrupted.
 pub fn write_whole<W: Write>(writer: &mut W, bytes: &[u8]) -> Result<(), WriteFault>
-    ensures whole { OnOk result (Appends (W.contents writer.old) (W.contents writer.new) bytes.now) }
+    ensures whole { OnOk result
+        (Appends (W.contents writer.old) (W.contents writer.new) bytes.now) }
     ensures cut { IfErr result (λ fault. (fault.written < length bytes.now)
         × Appends (W.contents writer.old) (W.contents writer.new) (take fault.written bytes.now)) }
 {

@@ -4,7 +4,7 @@ use Rattle.std.proofs.lemmas.Result.{IfOk-weaker}
 use Rattle.tb_board.specs.Changes.{changed}
 use Rattle.tb_rows.specs.Steps.{Leads}
 use Rattle.tb_rows.proofs.Parts.{few_people, part_leads, small_part}
-use Rattle.tb_rows.proofs.part.part_changes.Goals.{else-people-le-MOST-via-then-people-le-MOST+else-is_small, else-people-le-MOST-via-else-people-le-MOST}
+use Rattle.tb_rows.proofs.part.part_changes.Goals.{else-people-le-MOST_PEOPLE-via-then-people-le-MOST_PEOPLE+else-is_small, else-people-le-MOST_PEOPLE-via-else-people-le-MOST_PEOPLE}
 use Rattle.tb_rows.proofs.part.part_changes.Goals as goal
 
 pub returns-then-is_small : goal.returns-then-is_small
@@ -16,13 +16,13 @@ returns-then-is_small c = record {
 }
 
 pub returns : goal.returns
-returns c = elim c.else-people-le-MOST.branch [
-  | else-people-le-MOST-via-then-people-le-MOST+else-is_small u ↦ record {
+returns c = elim c.else-people-le-MOST_PEOPLE.branch [
+  | else-people-le-MOST_PEOPLE-via-then-people-le-MOST_PEOPLE+else-is_small u ↦ record {
     leads = λ w of. absurd (both_ways u.is_small.result u.if-is_small.false (u.is_small.ensures ∙ small_part w c.args.people c.args.part c.args.changes.now of));
     steps = λ few small. absurd (both_ways u.is_small.result u.if-is_small.false (u.is_small.ensures ∙ small));
   }
-  | else-people-le-MOST-via-else-people-le-MOST u ↦ record {
-    leads = λ w of. absurd (omega (arith, u.if-people-le-MOST.false, few_people w c.args.people c.args.part c.args.changes.now of));
-    steps = λ few small. absurd (omega (arith, u.if-people-le-MOST.false, few));
+  | else-people-le-MOST_PEOPLE-via-else-people-le-MOST_PEOPLE u ↦ record {
+    leads = λ w of. absurd (omega (arith, u.if-people-le-MOST_PEOPLE.false, few_people w c.args.people c.args.part c.args.changes.now of));
+    steps = λ few small. absurd (omega (arith, u.if-people-le-MOST_PEOPLE.false, few));
   }
 ]
