@@ -121,7 +121,7 @@ def check_crates():
             if other not in below:
                 tell(path, number, f"{names} don't stand on {other}")
     for crate in sorted(CRATES):
-        if crate not in seen or crate not in BELOW or f" {crate} " not in whole and "examples" not in crate:
+        if crate not in seen or crate not in BELOW or f" {crate} " not in whole and not crate.endswith("_tests"):
             tell(path, 0, f"{crate} lacks in the table of crates, in the layers or in crates.txt")
 
 
@@ -132,7 +132,7 @@ def all_below(name):
 def check_examples():
     """Each example that has a heading, or a row of messages, is a file of a crate's data."""
     path = TOP / "docs/EXAMPLES.md"
-    stems = {pathlib.Path(name).stem for paths in FILES.values() for name in paths if "examples/data/" in name}
+    stems = {pathlib.Path(name).stem for paths in FILES.values() for name in paths if "_tests/data/" in name}
     for number, line in lines_of(path):
         names = re.findall(r"^#+ ([a-z_]+)$|^\| `([a-z_]+)` \|", line)
         for name in [heading or row for heading, row in names]:

@@ -4,13 +4,13 @@
 set -eu
 
 top=$(cd "$(dirname "$0")/.." && pwd)
-data=$top/crates/examples/data
+data=$top/crates/scenario_tests/data
 folder=$(mktemp -d)
 trap 'rm -rf "$folder"' EXIT
 
 # Builds the program where it is proved.
-(cd "$top/crates/examples" && rt run -- --memory </dev/null)
-program=$top/crates/examples/out/examples
+(cd "$top/crates/scenario_tests" && rt run -- --memory </dev/null)
+program=$top/crates/scenario_tests/out/scenario_tests
 cd "$folder"
 
 run_line_by_line() {

@@ -24,7 +24,7 @@ from talking import Caller, body_of, message, status_of
 
 PROGRAM, PORT, LIBRARY, STEP, EXAMPLES = os.path.abspath(sys.argv[1]), int(sys.argv[2]), os.path.abspath(sys.argv[3]), int(sys.argv[4]), sys.argv[5:]
 TESTS = pathlib.Path(__file__).resolve().parent
-DATA = TESTS.parent / "crates/examples/data"
+DATA = TESTS.parent / "crates/scenario_tests/data"
 ROOT = b"x-member: root\r\nx-key: root-key-1\r\n"
 REFUSED = '{"name":"Memory"}'
 FAILED = '{"name":"Store"}'

@@ -10,7 +10,7 @@ import sys
 import time
 
 PROGRAM, NAMES = os.path.abspath(sys.argv[1]), sys.argv[2:]
-DATA = pathlib.Path(__file__).resolve().parent.parent / "crates/examples/data"
+DATA = pathlib.Path(__file__).resolve().parent.parent / "crates/scenario_tests/data"
 SECONDS, IS_ONCE = float(os.environ.get("SECONDS", "3600")), os.environ.get("ONCE") == "1"
 ONCE = ("log", "file", "log_once", "file_once")
 TWICE = ("log log", "log file", "file log", "file file")

@@ -8,8 +8,8 @@ folder=$(mktemp -d)
 trap 'rm -rf "$folder"' EXIT
 
 # Builds the program where it is proved.
-(cd "$top/crates/examples" && rt run -- --memory </dev/null)
-program=$top/crates/examples/out/examples
+(cd "$top/crates/scenario_tests" && rt run -- --memory </dev/null)
+program=$top/crates/scenario_tests/out/scenario_tests
 taskboard=$("$top/taskboard" --where)
 cd "$folder"
 

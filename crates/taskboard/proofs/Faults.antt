@@ -1,7 +1,7 @@
 -- Faults of the parts of an order are faults of it.
 use Rattle.std.proofs.Common.{◌≡◌, true, true≢false, refl, sym}
 use Rattle.tb_orders.specs.Telling as orders
-use Rattle.tb_outcome.specs.Faults.{is_of_opening, is_of_printing}
+use Rattle.tb_orders.specs.Faults.{is_of_opening, is_of_printing}
 use Rattle.tb_program.specs.declared.fault.Fault.{Fault}
 use Rattle.tb_program.specs.declared.fault.Fault.TheVariants.{Bad, BadBody, Memory, NoAnswer, NoClock, NoKey, NoListen, NoPage, NotEmpty, NotOurs, ReadFailed, Store, WriteFailed, WrongVersion}
 use Rattle.taskboard.specs.Telling.{is_of_checking, is_of_imports}

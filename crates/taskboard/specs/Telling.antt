@@ -2,7 +2,7 @@
 use Rattle.std.specs.Prelude.{ℕ, Bool, true, false, Option, Some, None}
 use Rattle.tb_command_line.specs.declared.order.Connections.{Connections}
 use Rattle.tb_command_line.specs.declared.order.Connections.TheVariants.{UpTo, Forever}
-use Rattle.tb_outcome.specs.Faults.{is_of_opening}
+use Rattle.tb_orders.specs.Faults.{is_of_opening}
 use Rattle.tb_program.specs.declared.fault.Fault.{Fault}
 use Rattle.tb_event_loop.specs.declared.fault.LoopFault.{LoopFault}
 use Rattle.tb_event_loop.specs.declared.fault.LoopFault.TheVariants as ending

@@ -3,8 +3,7 @@ ghost use Rattle.std.specs.Prelude.{◌≡◌, IfErr, true};
 ghost use Rattle.taskboard.specs.Telling.{is_of_checking};
 
 use crate::file::{close_keep, open_desk};
-use tb_orders::{Ending, fault_of_keep};
-use tb_outcome::print_audit;
+use tb_orders::{Ending, fault_of_keep, print_audit};
 use tb_program::Fault;
 use tb_values::Text;
 

@@ -1,7 +1,7 @@
 //! The file of boards.
 ghost use Rattle.std.specs.Prelude.{◌≡◌, false, IfErr, IfOk, true};
 ghost use Rattle.tb_program.specs.declared.fault.Fault.TheVariants.{Store};
-ghost use Rattle.tb_outcome.specs.Faults.{is_of_files, is_of_opening};
+ghost use Rattle.tb_orders.specs.Faults.{is_of_files, is_of_opening};
 
 use sqlite::{Connection, Error, ErrorCode, File, FileStore};
 use std::fs;
@@ -10,7 +10,7 @@ use std::os::unix::fs::OpenOptionsExt;
 use tb_desk::Desk;
 use tb_headline::session::resume;
 use tb_keeper::SqlKeep;
-use tb_outcome::fault_of_opening;
+use tb_orders::fault_of_opening;
 use tb_program::Fault;
 
 /// The mode of a file that its owner alone may read and write.

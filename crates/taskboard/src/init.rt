@@ -1,12 +1,11 @@
 //! A new file of boards.
 ghost use Rattle.std.specs.Prelude.{◌≡◌, IfErr, true};
-ghost use Rattle.tb_outcome.specs.Faults.{is_of_making};
+ghost use Rattle.tb_orders.specs.Faults.{is_of_making};
 
 use crate::file::{close_desk, make_private, open_file};
 use tb_command_line::InitOrder;
 use tb_headline::session::make;
-use tb_orders::Ending;
-use tb_outcome::fault_of_making;
+use tb_orders::{Ending, fault_of_making};
 use tb_program::Fault;
 
 /// Makes the tables of a file with one person, who owns its first board. A file that isn't there is made for its owner alone.

@@ -1,10 +1,10 @@
 //! The program `taskboard`: boards of tasks in a file, served to a team, and scripts over boards in memory.
-//! It owns the orders over a real file, the machine's clock and ports. It stands on `tb_orders` and `tb_outcome` for orders, on
+//! It owns the orders over a real file, the machine's clock and ports. It stands on `tb_orders` and `tb_orders` for orders, on
 //! `tb_keeper` for the file, and on `tb_server` and `tb_script` for messages and lines.
 #![tactic(auto)]
 
 ghost use Rattle.std.specs.Prelude.{◌≡◌, IfErr, true};
-ghost use Rattle.tb_outcome.specs.Faults.{is_of_scripts};
+ghost use Rattle.tb_orders.specs.Faults.{is_of_scripts};
 
 mod body;
 mod cause;
@@ -28,8 +28,7 @@ use crate::serve::serve_file;
 use crate::view::print_board;
 use std::process::ExitCode;
 use tb_command_line::Order;
-use tb_orders::{Ending, OrderFault, read_order};
-use tb_outcome::{fault_of_script, print_fault, status_of};
+use tb_orders::{Ending, OrderFault, fault_of_script, print_fault, read_order, status_of};
 use tb_program::{Fault, print_text};
 use tb_script::run_lines;
 

@@ -68,3 +68,7 @@ opening name key = record {
   boards = record { number = 1; title = codes "board"; tasks = []; gone = []; ahead = 1 } ∷ [];
   roles = record { board = 1; person = 1; role = Owner } ∷ [];
 }
+
+-- a new board of this number, which looks one ahead
+abbrev pub empty_board : ℕ → List ℕ → Board
+empty_board n title = record { number = n; title = title; tasks = []; gone = []; ahead = 1 }

@@ -1,6 +1,7 @@
 ghost use Rattle.std.specs.Prelude.{◌≡◌, ◌≤◌, [], ◌∷◌, ◌++◌, Some, None, IfOk, OnOk, insert, length, position};
 ghost use Rattle.tb_board.specs.Changes.{change_board, changed, changed_by, put, with_ahead, with_gone, with_task_at, without_gone};
 ghost use Rattle.tb_board.specs.Roles.{comes_before, set_role, with_new_role};
+ghost use Rattle.tb_board.specs.World.{empty_board};
 
 use crate::ahead::Ahead;
 use crate::board::Board;
@@ -70,11 +71,7 @@ fn add_board(
     title: &Title,
 ) -> Result<World, AllocError>
     ensures { IfOk result
-        (λ later. later ≡ record world {
-          boards = world.boards
-              ++ record { number = number; title = title.now; tasks = []; gone = [];
-        ahead = 1 } ∷ [];
-        }) }
+        (λ later. later ≡ record world { boards = world.boards ++ empty_board number title.now ∷ [] }) }
 {
     let board = Board::new(alloc, number, title.duplicate()?);
     world.boards.push(Shared::new(alloc, board)?)?;

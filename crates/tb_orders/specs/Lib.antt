@@ -1,7 +1,10 @@
+pub mod Audits
 pub mod Cutting
+pub mod Faults
 pub mod Inputs
 pub mod Items
 pub mod Messages
 pub mod Orders
 pub mod Running
+pub mod Status
 pub mod Telling

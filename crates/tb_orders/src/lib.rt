@@ -1,25 +1,32 @@
-//! The orders of the command line: the words as they come from the machine, what views and imports ask a desk, and what they print.
-//! Stands on `tb_command_line` for the orders, on `tb_asking` for what a message asks for, on `tb_desk` for its answer, and on
-//! `tb_program` for faults and printing.
+//! The orders of the command line: the words as they come from the machine, what views and imports ask a desk, what they print, and
+//! what comes of an order: its faults as they are told, the line of an audit, and the status at its end.
+//! Stands on `tb_command_line` for the orders, on `tb_asking` for what a message asks for, on `tb_desk` for its answer, on `tb_program`
+//! for faults and printing, and on the crates whose faults are told.
 #![tactic(auto)]
 
+mod auditing;
 mod cutting;
 mod ending;
+mod faults;
 mod importing;
 mod input;
 mod message;
 mod order_fault;
 mod running;
+mod status;
 mod viewing;
 mod whole;
 mod words;
 
+pub use auditing::print_audit;
 pub use ending::{Ending, fault_of_keep};
+pub use faults::{fault_of_making, fault_of_opening, fault_of_script};
 pub use importing::import_text;
 pub use input::import_input;
 pub use message::import_message;
 pub use order_fault::{BadItem, OrderFault};
 pub use running::Progress;
+pub use status::{print_fault, status_of};
 pub use viewing::print_view;
 pub use whole::import_all;
 pub use words::{order_of, read_order};

@@ -12,13 +12,13 @@ use Rattle.tb_board.specs.declared.world.Role.TheVariants.{Owner}
 use Rattle.tb_board.specs.declared.world.World.{World}
 use Rattle.tb_board.specs.Changes.{change_board, changed, changed_by, changed_on, replayed, IsOn}
 use Rattle.tb_board.specs.Good.{IsGood}
-use Rattle.tb_board.specs.World.{find_board, has_number}
+use Rattle.tb_board.specs.World.{find_board, has_number, empty_board}
 use Rattle.tb_board.proofs.Worlds.{changed-append, changed-one}
 use Rattle.tb_core.specs.GoodWorld.{numbers, IsGoodWorld}
 use Rattle.tb_core.specs.Shapes.{AreOfOne}
 use Rattle.tb_sql.specs.declared.changes.RowChange.TheVariants.{AddPerson, AddBoard, AddHorizon}
 use Rattle.tb_rows.specs.declared.part.BoardPart.{BoardPart}
-use Rattle.tb_rows.specs.Part.{board_in, board_of, empty_board, is_small_part, part_board, part_of, part_of_board, role_set, rows_of_part, single_changes, touched_board, IsPartOf}
+use Rattle.tb_rows.specs.Part.{board_in, board_of, is_small_part, part_board, part_of, part_of_board, role_set, rows_of_part, single_changes, touched_board, IsPartOf}
 use Rattle.tb_rows.specs.Rows.{board_row, horizon_row, person_row, rows_from}
 use Rattle.tb_rows.specs.Small.{has_few_tasks}
 use Rattle.tb_rows.specs.Steps.{is_of_board, kept_board, Leads}

@@ -8,7 +8,7 @@ use Rattle.tb_board.specs.declared.world.Role.{Role}
 use Rattle.tb_board.specs.declared.world.World.{World}
 use Rattle.tb_board.specs.Changes.{changed, replayed}
 use Rattle.tb_board.specs.Extends.{Extends}
-use Rattle.tb_board.specs.World.{find_board}
+use Rattle.tb_board.specs.World.{find_board, empty_board}
 use Rattle.tb_core.specs.GoodWorld.{IsGoodWorld}
 use Rattle.tb_core.specs.Shapes.{AreOfOne}
 use Rattle.tb_sql.specs.declared.changes.RowChange.{RowChange}
@@ -75,9 +75,6 @@ role_given m q (Some role) = AddRole (role_row (record { board = m; person = q; 
 -- of a person who has a number of 32 bits
 abbrev pub role_set : ℕ → ℕ → Option Role → List RowChange
 role_set m q role = if nat_lt q (2 ^ 32) then RemoveRole m q ∷ role_given m q role else []
-
-abbrev pub empty_board : ℕ → List ℕ → Board
-empty_board n title = record { number = n; title = title; tasks = []; gone = []; ahead = 1 }
 
 -- those that follow from a change by itself, where there were so many people
 abbrev pub single_changes : ℕ → Change → List RowChange

@@ -83,7 +83,7 @@ serves_then site between_site kept stopped first more talks middle later was_hon
       run = λ honest s held only.
           let count = length talks in
           subst (λ (done : List (ℕ × Happening (Option ℕ))). Makes site stopped s done
-            (talk_at talks)
+          (talk_at talks)
           (talk_at later) now stops)
           (sym (filter-append (λ place. nat_lt place.0 count) one.timed two.timed))
           (makes_then site stopped s (at_places count one.timed) (at_places count two.timed)

@@ -103,7 +103,7 @@ with_ahead board ahead content =
       horizon = map
           (λ (horizon : HorizonRow). if is_horizon board horizon
           then (let changed : HorizonRow = record horizon { ahead = ahead } in changed)
-                      else horizon)
+          else horizon)
           content.horizon;
     }
 

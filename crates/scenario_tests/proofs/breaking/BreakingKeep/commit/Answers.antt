@@ -1,6 +1,6 @@
 use Rattle.std.proofs.Common.{◌≡◌, false, subst, sym}
 use Rattle.std.proofs.lemmas.Bool.{or_parts}
-use Rattle.examples.proofs.breaking.BreakingKeep.commit.Goals as goal
+use Rattle.scenario_tests.proofs.breaking.BreakingKeep.commit.Goals as goal
 
 pub returns-then-is_ok-clause-store : goal.returns-then-is_ok-clause-store
 returns-then-is_ok-clause-store g c s held may fine =

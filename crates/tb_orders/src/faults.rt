@@ -1,6 +1,6 @@
 //! The faults of the crates below, as the program tells them.
 ghost use Rattle.std.specs.Prelude.{◌≡◌, true};
-ghost use Rattle.tb_outcome.specs.Faults.{fault_of_making, fault_of_opening, fault_of_script, is_of_making, is_of_opening, is_of_scripts};
+ghost use Rattle.tb_orders.specs.Faults.{fault_of_making, fault_of_opening, fault_of_script, is_of_making, is_of_opening, is_of_scripts};
 
 use tb_keeper::CreateFault;
 use tb_program::Fault;

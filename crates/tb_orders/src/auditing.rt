@@ -1,14 +1,14 @@
 //! What is told of an audit.
 ghost use Rattle.std.specs.Prelude.{◌≡◌, IfErr, IfOk, OnErr, OnOk, true};
 ghost use Rattle.std.specs.Io.KnownBytes.{Appends};
-ghost use Rattle.tb_outcome.specs.Audits.{audit_line, audit_text, ending_of_audit};
-ghost use Rattle.tb_outcome.specs.Faults.{is_of_printing};
+ghost use Rattle.tb_orders.specs.Audits.{audit_line, audit_text, ending_of_audit};
+ghost use Rattle.tb_orders.specs.Faults.{is_of_printing};
 ghost use Rattle.tb_values.specs.Appends.{AppendsFront};
 
+use crate::ending::Ending;
 use std::alloc::{AllocError, Global};
 use std::io::Write;
 use tb_keeper::Audit;
-use tb_orders::Ending;
 use tb_program::{Fault, print_line};
 use tb_values::Text;
 

@@ -1,12 +1,12 @@
 //! How the program ends.
 ghost use Rattle.std.specs.Prelude.{◌≡◌, IfErr, OnErr, OnOk};
 ghost use Rattle.std.specs.Io.KnownBytes.{Appends};
-ghost use Rattle.tb_outcome.specs.Status.{fault_line, status_at};
+ghost use Rattle.tb_orders.specs.Status.{fault_line, status_at};
 ghost use Rattle.tb_program.specs.declared.fault.Fault.TheVariants.{WriteFailed};
 ghost use Rattle.tb_values.specs.Appends.{AppendsFront};
 
+use crate::ending::Ending;
 use std::io::Write;
-use tb_orders::Ending;
 use tb_program::{Fault, print_line, print_text};
 
 /// 0 where the order was accepted, 2 where the words are no order, and else 1.

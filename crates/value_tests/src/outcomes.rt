@@ -4,9 +4,8 @@ use crate::finding::{Finding, ended, show};
 use crate::given::halves;
 use std::alloc::Global;
 use tb_keeper::{Audit, CreateFault};
-use tb_orders::Ending;
-use tb_outcome::{
-    fault_of_making, fault_of_opening, fault_of_script, print_audit, print_fault, status_of,
+use tb_orders::{
+    Ending, fault_of_making, fault_of_opening, fault_of_script, print_audit, print_fault, status_of,
 };
 use tb_program::Fault;
 use tb_script::LinesFault;
