@@ -1,4 +1,4 @@
-"""Stops sessions of worked scripts at each call of their files: python3 stops.py PROGRAM [NAME..], where the program is that of the crate examples.
+"""Stops sessions of worked scripts at each call of their files: python3 stops.py PROGRAM [NAME..], where the program is that of the crate scenario_tests.
 
 Each script is sent over a log and a database file in memory. Of these one stops at a call, or fails a call and goes on, for each call in turn; then the session
 behind a stop is stopped too. A line for each script says how often that was done. SECONDS is how long one way may take, and ONCE=1 leaves second stops out."""

@@ -2,7 +2,7 @@
 # Sends each worked script over two files in memory of which one stops, or fails once, at each of its calls in turn, and stops the session
 # behind that too; what was answered stands each time, and all sent again is answered as written (docs/TESTING.md). It needs python3 and
 # the Rattle kit; `sh tests/stops.sh NAME..` sends these scripts alone, and with ONCE=1 no session is
-# stopped behind a stop. SCENARIO_TESTS is the program of examples, where it is built already.
+# stopped behind a stop. SCENARIO_TESTS is the program of the crate scenario_tests, where it is built already.
 set -eu
 
 top=$(cd "$(dirname "$0")/.." && pwd)
