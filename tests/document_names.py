@@ -108,8 +108,8 @@ def check_contracts():
 
 def check_crates():
     """The table of crates has each, and each stands on what it's said to."""
-    path, seen = TOP / "docs/ARCHITECTURE.md", set()
-    whole = path.read_text()
+    path, seen = TOP / "docs/CRATES.md", set()
+    whole = (TOP / "docs/ARCHITECTURE.md").read_text()
     for number, line in lines_of(path):
         cells = line.strip("| ").split(" | ")
         names = [name for name in re.findall(r"`(\w+)`", cells[0]) if name in CRATES]
