@@ -1,12 +1,12 @@
 ghost use Rattle.std.specs.Prelude.{◌≡◌, ◌≢◌, ◌≤◌, ℕ, [], IfOk, OnErr, OnOk, Some, length, nat_eq};
 ghost use Rattle.std.specs.Map.{lookup};
 ghost use Rattle.std.specs.Option.{option_map};
-ghost use Rattle.lru.specs.LruCache.{lru_cache, promoted, put_entries, LruCache as Entries};
+ghost use Rattle.lru.specs.LruCache.{lru_cache, promoted, put_entries};
 ghost use Rattle.tb_board.specs.Changes.{changed, changed_by};
 ghost use Rattle.tb_board.specs.World.{find_board};
 ghost use Rattle.tb_board.specs.declared.world.World.{World as WorldValue};
 ghost use Rattle.tb_cache.specs.Cached.{AreOf};
-ghost use Rattle.tb_cache.specs.Followed.{touched as touched_by, TouchesNone, followed, followed_by};
+ghost use Rattle.tb_cache.specs.Followed.{TouchesNone, followed, followed_by, touched as touched_by};
 
 use crate::following::{follow, touched};
 use lru::LruCache;
@@ -26,6 +26,8 @@ pub struct BoardCache {
 }
 
 impl Model for BoardCache {
+    ghost use Rattle.std.specs.Prelude.{ℕ, ◌≡◌};
+    ghost use Rattle.lru.specs.LruCache.{LruCache as Entries};
     ghost use Rattle.tb_board.specs.declared.board.Board.{Board as BoardValue};
 
     ghost Value = { Entries ℕ BoardValue };

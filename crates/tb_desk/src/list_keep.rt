@@ -1,8 +1,8 @@
-ghost use Rattle.std.specs.Prelude.{◌≡◌, IfOk, map, false, refl, true};
+ghost use Rattle.std.specs.Prelude.{◌≡◌, IfOk, map};
 ghost use Rattle.std.specs.FinMap.{find};
 ghost use Rattle.tb_board.specs.World.{key_of};
 ghost use Rattle.tb_calls.specs.Calls.{name_cmp, opening};
-ghost use Rattle.tb_desk.specs.Listed.{call_name, named, IsListed, listed, only};
+ghost use Rattle.tb_desk.specs.Listed.{call_name, named};
 
 use std::alloc::{AllocError, Global};
 use std::collections::BTreeMap;
@@ -41,6 +41,9 @@ impl ListKeep {
 }
 
 impl Keep for ListKeep {
+    ghost use Rattle.std.specs.Prelude.{◌≡◌, false, refl, true};
+    ghost use Rattle.tb_desk.specs.Listed.{IsListed, listed, only};
+
     ghost holds = { λ k s. IsListed k.world k.kept.entries s };
 
     ghost after_stop = { λ k s. s ≡ listed k.world k.kept.entries };

@@ -6,7 +6,7 @@ ghost use Rattle.tb_http.specs.declared.begun.Begun.{Begun};
 ghost use Rattle.tb_http.specs.Inbox.{IsBegun};
 ghost use Rattle.tb_peers.specs.Following.{Follows, has_stopped};
 ghost use Rattle.tb_peers.specs.Happening.{HappensTo};
-ghost use Rattle.tb_turns.specs.Turns.{silent, turns, Talk};
+ghost use Rattle.tb_turns.specs.Turns.{silent, turns};
 
 use crate::exchanging::{answer_whole, outcome, takes_no_more};
 use crate::tools::Tools;
@@ -32,6 +32,9 @@ pub struct Peer {
 }
 
 impl Model for Peer {
+    ghost use Rattle.std.specs.Prelude.{◌≡◌, ◌≤◌, drop, false, length};
+    ghost use Rattle.tb_turns.specs.Turns.{Talk};
+
     ghost Value = { Talk };
 
     ghost view = { λ p. record {
