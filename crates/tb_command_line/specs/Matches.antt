@@ -43,8 +43,7 @@ serve_at rows = do
   file ← text_at (codes "file") rows
   p ← value_at port_in (codes "port") rows
   n ← connections_at rows
-  Ok
-  (order.Serve (record {
+  Ok (order.Serve (record {
     file = file;
     port = p;
     connections = n;

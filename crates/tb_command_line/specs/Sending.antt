@@ -69,8 +69,7 @@ sent_with id seconds (server ∷ member ∷ key ∷ word ∷ arguments) = do
   s ← or_bad (server_in server)
   n ← or_bad (read_name member)
   k ← or_bad (key_in key)
-  Ok
-  (order.Send (record {
+  Ok (order.Send (record {
     server = s;
     member = n;
     key = k;
