@@ -2,11 +2,11 @@
 use Rattle.std.specs.Prelude.{◌≡◌, ℕ, ◌+◌, ◌≤◌, Bool, List, Option, Some, None, Result, Ok, Err, IfSome}
 use Rattle.tb_event_loop.specs.Done.{Done, Did, opened, came, turned, went}
 use Rattle.tb_event_loop.specs.declared.event_loop.EventLoop.{EventLoop}
-use Rattle.tb_event_loop.specs.declared.service.Happening.{Happening}
-use Rattle.tb_event_loop.specs.declared.service.Happening.TheVariants.{Opened, Came, Turn, Went}
+use Rattle.tb_event_loop.specs.declared.service.SocketEvent.{SocketEvent}
+use Rattle.tb_event_loop.specs.declared.service.SocketEvent.TheVariants.{Opened, Came, Turn, Went}
 
 -- what was done, without where its bytes lie
-abbrev pub done_of : Happening → Done
+abbrev pub done_of : SocketEvent → Done
 done_of Opened = opened
 done_of (Came piece) = came piece.now
 done_of Turn = turned

@@ -9,7 +9,7 @@ use crate::arrivals::{Arrivals, LISTENER, RETRY};
 use crate::fault::LoopFault;
 use crate::journal::Journal;
 use crate::places::{Places, held_bytes};
-use crate::service::{Happening, Service, StoreFailed};
+use crate::service::{Service, SocketEvent, StoreFailed};
 use mio::net::TcpListener;
 use mio::{Events, Interest, Poll};
 use std::alloc::Global;
@@ -196,7 +196,7 @@ impl EventLoop {
         if !count_one(&mut self.still_to_end) {
             return Ok(()); // Never: no more connections come than are to end.
         }
-        service.happen(place, &Happening::Opened)
+        service.happen(place, &SocketEvent::Opened)
     }
 }
 

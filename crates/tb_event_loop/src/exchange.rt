@@ -3,7 +3,7 @@ ghost use Rattle.std.specs.Prelude.{◌≡◌, IsErr, is_err, true};
 ghost use Rattle.tb_event_loop.specs.Done.{Did};
 
 use crate::connection::{Connection, PIECE};
-use crate::service::{Happening, Service, StoreFailed};
+use crate::service::{Service, SocketEvent, StoreFailed};
 use std::io::{Read, Write};
 
 /// Reads once, and hands what came to the service.
@@ -23,7 +23,7 @@ pub(crate) fn read_some<V: Service>(
         }
         Ok(count) => {
             connection.bytes_came(count);
-            service.happen(place, &Happening::Came(&piece[..count]))
+            service.happen(place, &SocketEvent::Came(&piece[..count]))
         }
         Err(error) => {
             connection.read_failed(&error);
@@ -46,7 +46,7 @@ pub(crate) fn write_some<V: Service>(
             connection.is_gone = true;
             Ok(())
         }
-        Ok(count) => service.happen(place, &Happening::Went(count)),
+        Ok(count) => service.happen(place, &SocketEvent::Went(count)),
         Err(error) => {
             connection.write_failed(&error);
             Ok(())

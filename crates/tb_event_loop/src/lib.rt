@@ -20,4 +20,4 @@ pub use event_loop::EventLoop;
 pub use fault::LoopFault;
 pub use journal::Journal;
 pub use logging::{FailedMessage, LogEntry, failure_line, log_line};
-pub use service::{Happening, Service, StoreFailed};
+pub use service::{Service, SocketEvent, StoreFailed};

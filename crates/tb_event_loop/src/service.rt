@@ -9,7 +9,7 @@ pub struct StoreFailed;
 
 /// What may happen to the connection in a place.
 #[derive(Clone, Copy)]
-pub enum Happening<'a> {
+pub enum SocketEvent<'a> {
     /// The one that was there ended. Another that is opened has nothing of it.
     Opened,
     /// These bytes came.
@@ -45,7 +45,7 @@ pub trait Service {
         → follows stopped (first ++ more) a c };
 
     /// One thing happens to the connection in a place.
-    fn happen(&mut self, place: usize, happening: &Happening<'_>) -> Result<(), StoreFailed>
+    fn happen(&mut self, place: usize, happening: &SocketEvent<'_>) -> Result<(), StoreFailed>
         ensures after { follows (is_err result)
             ((place, done_of happening.now) ∷ []) self.old self.new }
         ensures failed { IsErr result → has_failed self.new ≡ true };

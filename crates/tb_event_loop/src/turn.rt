@@ -5,7 +5,7 @@ ghost use Rattle.tb_event_loop.specs.Done.{Did};
 use crate::exchange::{read_some, write_some};
 use crate::journal::Journal;
 use crate::places::Places;
-use crate::service::{Happening, Service, StoreFailed};
+use crate::service::{Service, SocketEvent, StoreFailed};
 use std::io::Write;
 use std::time::Clock;
 use tb_timeouts::{Need, Stage};
@@ -153,7 +153,7 @@ impl Places {
             _ => return Ok(()),
         }
         journal.begin(service.held(place));
-        if service.happen(place, &Happening::Turn).is_err() {
+        if service.happen(place, &SocketEvent::Turn).is_err() {
             journal.tell_failed();
             return Err(StoreFailed);
         }

@@ -7,7 +7,7 @@ use Rattle.tb_calls.specs.Calls.{State}
 use Rattle.tb_calls.specs.Leaving.{Only}
 use Rattle.tb_peers.specs.Following.{has_stopped}
 use Rattle.tb_peers.specs.Happening.{Comes, Happens, HappensTo, IsStopped, Plays, done_at, done_of, talk_at}
-use Rattle.tb_peers.specs.declared.happening.Happening.{Happening}
+use Rattle.tb_peers.specs.declared.happening.PeerEvent.{PeerEvent}
 use Rattle.tb_peers.specs.Server.{Timed, server}
 use Rattle.tb_serve.specs.declared.serving.ServeFault.{ServeFault}
 use Rattle.tb_serve.specs.declared.serving.ServeFault.TheVariants.{ReadFailed, WriteFailed, Store, Memory}
@@ -75,21 +75,21 @@ happens_plays site (Err Store) s place done talks later now stops is = record {
 pub plays_none : (site : Site) (s : State) (talks : ℕ → Talk) (now stops : State → Type 0) → now s → Only s stops → Plays site s [] talks talks now stops
 plays_none site s talks now stops held only = ([], s, refl, (refl, λ c. refl), record { held = held; stops = only })
 
-one_done : (count place : ℕ) (h : Happening) → place < count → done_at count ((place, h) ∷ []) ≡ (place, done_of h) ∷ []
+one_done : (count place : ℕ) (h : PeerEvent) → place < count → done_at count ((place, h) ∷ []) ≡ (place, done_of h) ∷ []
 one_done count place h inside = ap (λ b. if b then (place, done_of h) ∷ [] else []) (lt-ltb place count inside)
 
-none_done : (count place : ℕ) (h : Happening) → count ≤ place → done_at count ((place, h) ∷ []) ≡ []
+none_done : (count place : ℕ) (h : PeerEvent) → count ≤ place → done_at count ((place, h) ∷ []) ≡ []
 none_done count place h past = ap (λ b. if b then (place, done_of h) ∷ [] else []) (le-ltb place count past)
 
 -- what is done at a place that there is, and what is passed over
-pub entry_plays : {T : Type 0} (site : Site) (r : Result T ServeFault) (stopped : Bool) (s : State) (count place : ℕ) (h : Happening) (talks later : ℕ → Talk) (now stops : State → Type 0)
+pub entry_plays : {T : Type 0} (site : Site) (r : Result T ServeFault) (stopped : Bool) (s : State) (count place : ℕ) (h : PeerEvent) (talks later : ℕ → Talk) (now stops : State → Type 0)
     → place < count → has_stopped r ≡ stopped → Happens site r s place (done_of h) talks later now stops
     → PlaysIf site stopped s (done_at count ((place, h) ∷ [])) talks later now stops
 entry_plays site r stopped s count place h talks later now stops inside is happens =
     subst (λ (done : List (ℕ × turns.Happening (Option ℕ))). PlaysIf site stopped s done talks later now stops) (sym (one_done count place h inside))
     (subst (λ (b : Bool). PlaysIf site b s ((place, done_of h) ∷ []) talks later now stops) is (happens_plays site r s place (done_of h) talks later now stops happens))
 
-pub entry_passed : (site : Site) (s : State) (count place : ℕ) (h : Happening) (talks : ℕ → Talk) (now stops : State → Type 0) → count ≤ place → now s → Only s stops
+pub entry_passed : (site : Site) (s : State) (count place : ℕ) (h : PeerEvent) (talks : ℕ → Talk) (now stops : State → Type 0) → count ≤ place → now s → Only s stops
     → Plays site s (done_at count ((place, h) ∷ [])) talks talks now stops
 entry_passed site s count place h talks now stops past held only =
     subst (λ (done : List (ℕ × turns.Happening (Option ℕ))). Plays site s done talks talks now stops) (sym (none_done count place h past)) (plays_none site s talks now stops held only)
@@ -143,22 +143,22 @@ plays_stopped site s done more after talks middle later now stops next next_stop
 
 -- ---- what is done, in parts
 
-append_if : (b : Bool) (count : ℕ) (x : ℕ × Happening) (xs ys : List (ℕ × Happening)) → done_at count (xs ++ ys) ≡ done_at count xs ++ done_at count ys
+append_if : (b : Bool) (count : ℕ) (x : ℕ × PeerEvent) (xs ys : List (ℕ × PeerEvent)) → done_at count (xs ++ ys) ≡ done_at count xs ++ done_at count ys
     → (if b then (x.0, done_of x.1) ∷ done_at count (xs ++ ys) else done_at count (xs ++ ys))
     ≡ (if b then (x.0, done_of x.1) ∷ done_at count xs else done_at count xs) ++ done_at count ys
 append_if true count x xs ys more = ap (λ l. (x.0, done_of x.1) ∷ l) more
 append_if false count x xs ys more = more
 
-done_append : (count : ℕ) (xs ys : List (ℕ × Happening)) → done_at count (xs ++ ys) ≡ done_at count xs ++ done_at count ys
+done_append : (count : ℕ) (xs ys : List (ℕ × PeerEvent)) → done_at count (xs ++ ys) ≡ done_at count xs ++ done_at count ys
 done_append count [] ys = refl
 done_append count (x ∷ xs) ys = append_if (nat_lt x.0 count) count x xs ys (done_append count xs ys)
 
-front_more : (hs : List (ℕ × Happening)) (i : ℕ) (h : ℕ × Happening) → i < length hs → h ≡ get_or hs i h → take i hs ++ (h ∷ drop (i + 1) hs) ≡ hs
+front_more : (hs : List (ℕ × PeerEvent)) (i : ℕ) (h : ℕ × PeerEvent) → i < length hs → h ≡ get_or hs i h → take i hs ++ (h ∷ drop (i + 1) hs) ≡ hs
 front_more hs i h within is =
     ap (λ x. take i hs ++ (x ∷ drop (i + 1) hs)) is ∙ ap (λ l. take i hs ++ l) (sym (drop_more hs i h within)) ∙ take-append-drop i hs
 
 -- all that is done: what is before one, that one, and what is behind it
-pub done_split : (count : ℕ) (hs : List (ℕ × Happening)) (i : ℕ) (h : ℕ × Happening) → i < length hs → h ≡ get_or hs i h
+pub done_split : (count : ℕ) (hs : List (ℕ × PeerEvent)) (i : ℕ) (h : ℕ × PeerEvent) → i < length hs → h ≡ get_or hs i h
     → done_at count (take i hs) ++ (done_at count (h ∷ []) ++ done_at count (drop (i + 1) hs)) ≡ done_at count hs
 done_split count hs i h within is =
     ap (λ l. done_at count (take i hs) ++ l) (sym (done_append count (h ∷ []) (drop (i + 1) hs)))
@@ -166,7 +166,7 @@ done_split count hs i h within is =
     ∙ ap (done_at count) (front_more hs i h within is)
 
 -- all that is done up to one, and that one
-pub done_more : (count : ℕ) (hs : List (ℕ × Happening)) (i : ℕ) (h : ℕ × Happening) → i < length hs → h ≡ get_or hs i h
+pub done_more : (count : ℕ) (hs : List (ℕ × PeerEvent)) (i : ℕ) (h : ℕ × PeerEvent) → i < length hs → h ≡ get_or hs i h
     → done_at count (take i hs) ++ done_at count (h ∷ []) ≡ done_at count (take (i + 1) hs)
 done_more count hs i h within is =
     sym (done_append count (take i hs) (h ∷ []))

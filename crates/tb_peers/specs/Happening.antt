@@ -3,8 +3,8 @@ use Rattle.std.specs.Prelude.{◌≡◌, ℕ, ◌==◌, Bool, false, if◌then�
 use Rattle.tb_calls.specs.Calls.{State}
 use Rattle.tb_calls.specs.Leaving.{StandsAfter}
 use Rattle.tb_calls.specs.declared.fault.KeepFault.TheVariants as keep
-use Rattle.tb_peers.specs.declared.happening.Happening.{Happening}
-use Rattle.tb_peers.specs.declared.happening.Happening.TheVariants.{Opened, Came, Turn, Went}
+use Rattle.tb_peers.specs.declared.happening.PeerEvent.{PeerEvent}
+use Rattle.tb_peers.specs.declared.happening.PeerEvent.TheVariants.{Opened, Came, Turn, Went}
 use Rattle.tb_peers.specs.Server.{Timed, calls_at, server, server_at}
 use Rattle.tb_serve.specs.declared.serving.ServeFault.{ServeFault}
 use Rattle.tb_serve.specs.declared.serving.ServeFault.TheVariants.{ReadFailed, WriteFailed, Store, Memory}
@@ -14,7 +14,7 @@ use Rattle.tb_turns.specs.Turns.{Event, gone, took, failed, refused, Fits, Moves
 use Rattle.tb_site.specs.declared.site.Site.{Site}
 
 -- what is done
-abbrev pub done_of : Happening → turns.Happening (Option ℕ)
+abbrev pub done_of : PeerEvent → turns.Happening (Option ℕ)
 done_of Opened = turns.opens
 done_of (Came piece) = turns.comes piece.now
 done_of (Turn at) = turns.turns at
@@ -73,7 +73,7 @@ Happens site r s place done talks later now stops =
 -- ---- one thing after the other
 
 -- what is done, at places that there are
-abbrev pub done_at : ℕ → List (ℕ × Happening) → List (ℕ × turns.Happening (Option ℕ))
+abbrev pub done_at : ℕ → List (ℕ × PeerEvent) → List (ℕ × turns.Happening (Option ℕ))
 done_at count [] = []
 done_at count (h ∷ hs) = if nat_lt h.0 count then (h.0, done_of h.1) ∷ done_at count hs
     else done_at count hs

@@ -18,7 +18,7 @@ use tb_task::Moment;
 
 /// What is done to a connection.
 #[derive(Clone, Copy)]
-pub enum Happening<'a> {
+pub enum PeerEvent<'a> {
     /// It is opened, in the place of one that is gone.
     Opened,
     /// These bytes came.
@@ -64,7 +64,7 @@ fn happen_to<K: Keep>(
     paths: &Paths,
     peer: &mut Peer,
     desk: &mut Desk<K>,
-    happening: &Happening<'_>,
+    happening: &PeerEvent<'_>,
 ) -> Result<(), ServeFault>
     ensures happens { K.is_honest desk.new ≡ true → (s : State) → K.holds desk.old s
         → Only s (K.after_stop desk.old)
@@ -76,13 +76,13 @@ fn happen_to<K: Keep>(
     ensures failed { result ≡ Err ServeFault.Store → K.has_failed desk.new ≡ true }
 {
     match happening {
-        Happening::Opened => {
+        PeerEvent::Opened => {
             open(alloc, peer, desk);
             Ok(())
         }
-        Happening::Came(piece) => come(peer, desk, piece),
-        Happening::Turn(at) => peer.answer_next(alloc, tools, paths, desk, *at),
-        Happening::Went(count) => {
+        PeerEvent::Came(piece) => come(peer, desk, piece),
+        PeerEvent::Turn(at) => peer.answer_next(alloc, tools, paths, desk, *at),
+        PeerEvent::Went(count) => {
             go(alloc, peer, desk, *count);
             Ok(())
         }
@@ -99,7 +99,7 @@ pub fn happen<K: Keep>(
     peers: &mut [Peer],
     desk: &mut Desk<K>,
     place: usize,
-    happening: &Happening<'_>,
+    happening: &PeerEvent<'_>,
 ) -> Result<(), ServeFault>
     requires { place < length peers.old }
     ensures happens { K.is_honest desk.new ≡ true → (s : State) → K.holds desk.old s

@@ -10,7 +10,7 @@ mod peer;
 mod playing;
 mod tools;
 
-pub use happening::{Happening, happen, stops_all};
+pub use happening::{PeerEvent, happen, stops_all};
 pub use peer::Peer;
 pub use playing::play;
 pub use tools::Tools;

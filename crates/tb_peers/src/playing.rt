@@ -4,7 +4,7 @@ ghost use Rattle.tb_calls.specs.Calls.{State};
 ghost use Rattle.tb_calls.specs.Leaving.{Only};
 ghost use Rattle.tb_peers.specs.Happening.{IsStopped, Plays, done_at, talk_at};
 
-use crate::happening::{Happening, happen, stops_all};
+use crate::happening::{PeerEvent, happen, stops_all};
 use crate::peer::Peer;
 use crate::tools::Tools;
 use std::alloc::Global;
@@ -20,7 +20,7 @@ fn play_one<K: Keep>(
     paths: &Paths,
     peers: &mut [Peer],
     desk: &mut Desk<K>,
-    entry: &(usize, Happening<'_>),
+    entry: &(usize, PeerEvent<'_>),
 ) -> Result<(), ServeFault>
     ensures plays { K.is_honest desk.new ≡ true → (s : State) → K.holds desk.old s
         → Only s (K.after_stop desk.old)
@@ -56,7 +56,7 @@ pub fn play<K: Keep>(
     paths: &Paths,
     peers: &mut [Peer],
     desk: &mut Desk<K>,
-    happenings: &[(usize, Happening<'_>)],
+    happenings: &[(usize, PeerEvent<'_>)],
 ) -> Result<(), ServeFault>
     ensures plays { K.is_honest desk.new ≡ true → (s : State) → K.holds desk.old s
         → Only s (K.after_stop desk.old)

@@ -1,12 +1,12 @@
 use Rattle.std.proofs.Common.{None, sym, subst}
 use Rattle.tb_peers.proofs.Following.{memory_follows, unchanged}
 use Rattle.tb_peers.specs.Happening.{Comes, done_of}
-use Rattle.tb_peers.specs.declared.happening.Happening.{Happening}
+use Rattle.tb_peers.specs.declared.happening.PeerEvent.{PeerEvent}
 use Rattle.tb_peers.proofs.happening.happen_to.Goals as goal
 
 pub returns-in-Opened-clause-happens : goal.returns-in-Opened-clause-happens
 returns-in-Opened-clause-happens g c y s held only =
-    subst (λ (h : Happening). Comes c.args.paths.now.site None s (done_of h) c.args.peer.now c.open.new.peer
+    subst (λ (h : PeerEvent). Comes c.args.paths.now.site None s (done_of h) c.args.peer.now c.open.new.peer
     (g.K.Keep.holds c.args.desk.now) (g.K.Keep.after_stop c.args.desk.now)) (sym c.in-Opened.is)
     (c.open.ensures c.args.paths.now.site s held only)
 
@@ -19,7 +19,7 @@ returns-in-Came-clause-follows g c =
 
 pub returns-in-Went-clause-happens : goal.returns-in-Went-clause-happens
 returns-in-Went-clause-happens g c y s held only =
-    subst (λ (h : Happening). Comes c.args.paths.now.site None s (done_of h) c.args.peer.now c.go.new.peer
+    subst (λ (h : PeerEvent). Comes c.args.paths.now.site None s (done_of h) c.args.peer.now c.go.new.peer
     (g.K.Keep.holds c.args.desk.now) (g.K.Keep.after_stop c.args.desk.now)) (sym c.in-Went.is)
     (c.go.ensures c.args.paths.now.site s held only)
 
