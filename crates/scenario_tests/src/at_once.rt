@@ -6,8 +6,8 @@ use crate::store::Owner;
 use std::alloc::{AllocError, Global};
 use std::{io, mem};
 use tb_desk::{Desk, ListKeep};
-use tb_peers::{Happening, Peer, Tools, play};
-use tb_serve::{ListClock, serve};
+use tb_peers::{Peer, PeerEvent, Tools, play};
+use tb_serve::{ListClock, serve_reader};
 use tb_site::{Paths, Site};
 use tb_task::Moment;
 
@@ -163,19 +163,19 @@ impl Server {
                 let rest = sent.get(client.bytes..).unwrap_or(&[]);
                 let piece = rest.get(..most).unwrap_or(rest);
                 client.bytes = client.bytes.saturating_add(piece.len());
-                self.happen(&[(client.place, Happening::Came(piece))])
+                self.happen(&[(client.place, PeerEvent::Came(piece))])
             }
             "turn" => self.turn(client),
             "went" => self.go(client, most),
             "ends" => {
                 client.alone.truncate(client.told.len());
-                self.happen(&[(client.place, Happening::Opened)])
+                self.happen(&[(client.place, PeerEvent::Opened)])
             }
             _ => Err(unreadable()),
         }
     }
 
-    fn happen(&mut self, happenings: &[(usize, Happening<'_>)]) -> io::Result<()> {
+    fn happen(&mut self, happenings: &[(usize, PeerEvent<'_>)]) -> io::Result<()> {
         let peers = self.peers.as_mut_slice();
         match play(
             self.alloc,
@@ -200,13 +200,13 @@ impl Server {
         let front = unsent.get(..most).unwrap_or(unsent);
         client.told.extend_from_slice(front)?;
         let count = front.len();
-        self.happen(&[(client.place, Happening::Went(count))])
+        self.happen(&[(client.place, PeerEvent::Went(count))])
     }
 
     /// Lets a client have its turn. If a message of it is handled, it comes to the other boards too.
     fn turn(&mut self, client: &mut Client) -> io::Result<()> {
         let held = Vec::from_slice(self.alloc, self.peer(client)?.held())?;
-        self.happen(&[(client.place, Happening::Turn(Moment::read(USUAL)))])?;
+        self.happen(&[(client.place, PeerEvent::Turn(Moment::read(USUAL)))])?;
         let left = self.peer(client)?.held().len();
         let message = &held.as_slice()[..held.len().saturating_sub(left)];
         let (paths, told) = (&self.paths, &mut client.alone);
@@ -239,7 +239,7 @@ fn serve_alone(
 ) {
     if !bytes.is_empty() {
         let moments = [Moment::read(USUAL)];
-        let _ = serve(
+        let _ = serve_reader(
             alloc,
             paths,
             bytes,

@@ -8,7 +8,7 @@ use std::fs;
 use std::io::{self, Read, Write};
 use tb_calls::Keep;
 use tb_desk::Desk;
-use tb_serve::{ListClock, ServeEnd, serve};
+use tb_serve::{ListClock, ServeEnd, serve_reader};
 use tb_site::Paths;
 
 /// Plays the scenes of a file.
@@ -85,7 +85,7 @@ impl Connection<'_> {
         };
         let moments = self.moments(owner.alloc)?;
         let mut clock = ListClock::new(moments.as_slice());
-        let end = serve(owner.alloc, paths, source, &mut writer, desk, &mut clock);
+        let end = serve_reader(owner.alloc, paths, source, &mut writer, desk, &mut clock);
         self.expect(owner, way, writer.taken, end)
     }
 

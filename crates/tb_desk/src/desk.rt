@@ -5,7 +5,7 @@ ghost use Rattle.tb_calls.specs.Keeping.{IsStill, is_store};
 ghost use Rattle.tb_calls.specs.Leaving.{Only, StandsAfter};
 ghost use Rattle.tb_desk.specs.Views.{shown_in};
 
-use crate::serve::serve;
+use crate::handling::handle_call;
 use crate::viewing::show;
 use std::alloc::Global;
 use std::marker::Model;
@@ -68,7 +68,7 @@ impl<K: Keep> Desk<K> {
         ensures failed { K.has_failed self.new ≡ is_store result }
         ensures closed { K.has_failed self.old ≡ true → IsErrOf result Store }
     {
-        serve(&mut self.keep, alloc, call)
+        handle_call(&mut self.keep, alloc, call)
     }
 
     /// Handles calls in order, up to the first fault. The place of a reply is made before its call is handled, so a keeper that has

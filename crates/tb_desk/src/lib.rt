@@ -5,9 +5,9 @@
 #![tactic(auto)]
 
 mod desk;
+mod handling;
 pub mod laws;
 mod list_keep;
-mod serve;
 mod viewing;
 
 pub use desk::{Desk, RunEnd};

@@ -13,8 +13,8 @@ pub fn headline()
 
 /// The same where the calls come over many connections, whatever turns these take: the list is of
 /// all calls in the order in which they were handled first. Each connection is told what its own
-/// messages ask for, and the replies to its calls are those of that list. What `session::serve`
-/// leaves of a session is what the next of them begins with.
+/// messages ask for, and the replies to its calls are those of that list. What
+/// `session::serve_connections` leaves of a session is what the next of them begins with.
 pub fn headline_of_connections()
     ensures headline { HeadlineOfConnections }
     ensures join { StopsJoin }

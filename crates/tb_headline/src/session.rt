@@ -18,7 +18,7 @@ use tb_board::{Key, Name};
 use tb_calls::{Call, Keep};
 use tb_desk::{Desk, RunEnd};
 use tb_keeper::{CreateFault, SqlKeep};
-use tb_peers::{Happening, Peer, Tools, play};
+use tb_peers::{Peer, PeerEvent, Tools, play};
 use tb_serve::ServeFault;
 use tb_site::Paths;
 use tb_sql::opening::OpenFault;
@@ -106,13 +106,13 @@ pub fn run<S: Alter>(alloc: Global, desk: &mut Desk<SqlKeep<S>>, calls: &[Call])
 /// Each connection is told what its own messages ask for, and whenever the session stops then, what
 /// is left is the rows of the state after all calls that were answered, in the order in which they
 /// were handled, and after one more at most.
-pub fn serve<S: Alter>(
+pub fn serve_connections<S: Alter>(
     alloc: Global,
     tools: &mut Tools,
     paths: &Paths,
     peers: &mut [Peer],
     desk: &mut Desk<SqlKeep<S>>,
-    happenings: &[(usize, Happening<'_>)],
+    happenings: &[(usize, PeerEvent<'_>)],
 ) -> Result<(), ServeFault>
     ensures played { WhileHonest (state S.Store desk.new.conn) ((s : State)
         → IsAt s (⟦<SqlKeep<S> as Keep>⟧.holds desk.old)

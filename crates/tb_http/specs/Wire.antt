@@ -80,7 +80,7 @@ Faults bytes fault = RefusesHead bytes fault ⊎ Breaks bytes fault
 
 -- what a reader of messages still brings, where its bytes are known; how many messages it has brought; and
 -- whether the connection is closed after the last one
-pub record Incoming : Type 0 where
+pub record ReaderState : Type 0 where
   pub bytes : Option (List ℕ)
   pub messages : ℕ
   pub is_closing : Bool

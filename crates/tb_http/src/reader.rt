@@ -103,9 +103,9 @@ pub struct Reader<R: Read + Drop> {
 
 impl<R: Read + Drop> Model for Reader<R> {
     ghost use Rattle.std.specs.Io.KnownBytes.{prepend_known};
-    ghost use Rattle.tb_http.specs.Wire.{Incoming};
+    ghost use Rattle.tb_http.specs.Wire.{ReaderState};
 
-    ghost Value = { Incoming };
+    ghost Value = { ReaderState };
 
     ghost view = { λ r. record {
       bytes = prepend_known r.inbox.bytes (R.remaining r.source);

@@ -268,7 +268,7 @@ pub known_stopped_at_end : (first now later : State → Type 0) (known old new l
 known_stopped_at_end first now later None old new left left' line u eats ended held s h = tt
 known_stopped_at_end first now later (Some script) old new left left' line u eats ended held s h = stopped_at_end first now later old new left left' line script u eats ended held s h
 
--- ---- from what the session's calls ensure, where the text begins empty
+-- ---- from what the calls of a line's buffer ensure, where the text begins empty
 
 pub feeds_of : (now later : State → Type 0) (line line' chunk text before after : List ℕ) → before ≡ [] → text ≡ after
     → ((t : State) → line' ≡ (fed (from t line before) chunk).line) → ((t : State) → now t → after ≡ (fed (from t line before) chunk).told) → ((t : State) → now t → later (fed (from t line before) chunk).state)

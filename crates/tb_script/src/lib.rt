@@ -9,10 +9,10 @@ mod arguments;
 mod asked;
 mod body;
 mod fault;
+mod line_buffer;
 mod line_fault;
 mod reading;
 mod replies;
-mod session;
 mod words;
 
 ghost use Rattle.std.specs.Prelude.{◌≡◌, ◌≢◌, ◌||◌, false, true, Err, IfOk, OnOk, OnErr, IfSome};
@@ -26,7 +26,7 @@ ghost use Rattle.tb_script.specs.Runs.{LeavesSome, after_lines};
 ghost use Rattle.tb_script.specs.declared.fault.LinesFault.TheVariants.{Store};
 
 pub use fault::LinesFault;
-use session::Session;
+use line_buffer::LineBuffer;
 use std::alloc::{AllocError, Global};
 use std::io::{Read, Write};
 use tb_board::{Key, Name};
@@ -77,7 +77,7 @@ pub fn run_lines_on<R: Read + Drop, W: Write, K: Keep>(
     ensures honest { K.is_honest desk.new ≡ true → K.is_honest desk.old ≡ true }
     ensures failed { K.has_failed desk.new ≡ (is_store result || K.has_failed desk.old) }
 {
-    let mut session = Session::new(alloc);
+    let mut buffer = LineBuffer::new(alloc);
     let mut chunk = [0u8; 8192];
     'reads: for _ in 0..READ_LIMIT {
         let Ok(count) = reader.read(&mut chunk) else {
@@ -85,10 +85,10 @@ pub fn run_lines_on<R: Read + Drop, W: Write, K: Keep>(
         };
         let mut output = Vec::new(alloc);
         if count == 0 {
-            session.end_line(desk, &mut output)?;
+            buffer.end_line(desk, &mut output)?;
             return write_answers(writer, output.as_slice());
         }
-        session.feed(desk, &chunk[..count], &mut output)?;
+        buffer.feed(desk, &chunk[..count], &mut output)?;
         write_answers(writer, output.as_slice())?;
     }
     Err(LinesFault::ReadFailed)

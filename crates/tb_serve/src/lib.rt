@@ -11,4 +11,6 @@ mod telling;
 
 pub use clock::Clock;
 pub use list_clock::ListClock;
-pub use serving::{Exchange, ServeEnd, ServeFault, Turn, handle_message, send_unread, serve};
+pub use serving::{
+    Exchange, ServeEnd, ServeFault, Turn, handle_message, send_unread, serve_reader,
+};

@@ -320,7 +320,7 @@ fn serve_all<R: Read + Drop, W: Write, K: Keep, C: Clock>(
 
 /// Answers the messages of a connection in turn, each at the moment that the clock gives when it was read whole, which is the only one
 /// taken for it: at most 1,000, and none behind one that closes the connection. The desk handles a call before the first byte of its answer is written.
-pub fn serve<R: Read + Drop, W: Write, K: Keep, C: Clock>(
+pub fn serve_reader<R: Read + Drop, W: Write, K: Keep, C: Clock>(
     alloc: Global,
     paths: &Paths,
     source: R,

@@ -9,8 +9,8 @@ ghost use Rattle.tb_turns.specs.Turns.{silent};
 use std::alloc::{AllocError, Global};
 use tb_calls::Keep;
 use tb_desk::Desk;
-use tb_event_loop::{Happening, Service, StoreFailed};
-use tb_peers::{Happening as PeerHappening, Peer, Tools, happen, stops_all};
+use tb_event_loop::{Service, SocketEvent, StoreFailed};
+use tb_peers::{Peer, PeerEvent, Tools, happen, stops_all};
 use tb_serve::Clock;
 use tb_site::{Paths, Site};
 use tb_timeouts::CONNECTIONS;
@@ -76,14 +76,14 @@ fn silent_peers(alloc: Global) -> Result<Vec<Peer>, AllocError>
 }
 
 // What happens, at a moment where it is a turn.
-fn at_moment<'a, C: Clock>(clock: &mut C, happening: &Happening<'a>) -> PeerHappening<'a>
+fn at_moment<'a, C: Clock>(clock: &mut C, happening: &SocketEvent<'a>) -> PeerEvent<'a>
     ensures { IsTimed (done_to happening.now) (done_of result) }
 {
     match happening {
-        Happening::Opened => PeerHappening::Opened,
-        Happening::Came(piece) => PeerHappening::Came(*piece),
-        Happening::Turn => PeerHappening::Turn(clock.now()),
-        Happening::Went(count) => PeerHappening::Went(*count),
+        SocketEvent::Opened => PeerEvent::Opened,
+        SocketEvent::Came(piece) => PeerEvent::Came(*piece),
+        SocketEvent::Turn => PeerEvent::Turn(clock.now()),
+        SocketEvent::Went(count) => PeerEvent::Went(*count),
     }
 }
 
@@ -110,7 +110,7 @@ impl<K: Keep, C: Clock> Service for Server<K, C> {
         (K.holds a.desk) (K.after_stop a.desk) (K.holds b.desk) (K.after_stop b.desk)
         (K.holds c.desk) (K.after_stop c.desk) };
 
-    fn happen(&mut self, place: usize, happening: &Happening<'_>) -> Result<(), StoreFailed> {
+    fn happen(&mut self, place: usize, happening: &SocketEvent<'_>) -> Result<(), StoreFailed> {
         let what = at_moment(&mut self.clock, happening);
         if place >= self.peers.len() {
             return Ok(());

@@ -8,8 +8,8 @@ use Rattle.tb_desk.proofs.desk.Desk.handle.Goals as goal
 pub returns-clause-stands : goal.returns-clause-stands
 returns-clause-stands g c =
     subst
-    (λ k. (s : State) → g.K.Keep.holds k s → Only s (g.K.Keep.after_stop k) → StandsAfter s (c.args.call.now ∷ []) (if is_ok c.serve.result then 1 else 0) (g.K.Keep.holds c.serve.new.keep) (g.K.Keep.after_stop c.serve.new.keep))
+    (λ k. (s : State) → g.K.Keep.holds k s → Only s (g.K.Keep.after_stop k) → StandsAfter s (c.args.call.now ∷ []) (if is_ok c.handle_call.result then 1 else 0) (g.K.Keep.holds c.handle_call.new.keep) (g.K.Keep.after_stop c.handle_call.new.keep))
     c.self.view_is
     (λ s held only.
-    let e = c.serve.ensures in
-    stands_after s _ _ _ c.serve.result (e.left s held) (e.memory s held) (λ t now fine. g.met.K.Keep.alone _ t now (e.failed ∙ fine)) (e.store s held only))
+    let e = c.handle_call.ensures in
+    stands_after s _ _ _ c.handle_call.result (e.left s held) (e.memory s held) (λ t now fine. g.met.K.Keep.alone _ t now (e.failed ∙ fine)) (e.store s held only))

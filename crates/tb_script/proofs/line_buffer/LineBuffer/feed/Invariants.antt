@@ -1,7 +1,7 @@
 use Rattle.std.proofs.Common.{true, ◌≡◌, take}
 use Rattle.tb_calls.specs.Calls.{State}
 use Rattle.tb_script.specs.Runs.{Progress, fed, from}
-use Rattle.tb_script.proofs.session.Session.feed.Given as goal
+use Rattle.tb_script.proofs.line_buffer.LineBuffer.feed.Given as goal
 
 abbrev pub invariant-loop-byte : goal.invariant-loop-byte
 invariant-loop-byte g l =

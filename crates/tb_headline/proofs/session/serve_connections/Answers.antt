@@ -1,7 +1,7 @@
 use Rattle.sqlite.specs.Held.{state}
 use Rattle.tb_headline.proofs.Left.{clean_before, honest}
 use Rattle.tb_headline.proofs.Played.{cut, on_err, on_ok, played}
-use Rattle.tb_headline.proofs.session.serve.Goals as goal
+use Rattle.tb_headline.proofs.session.serve_connections.Goals as goal
 
 pub returns-clause-played : goal.returns-clause-played
 returns-clause-played g c clean s at =

@@ -3,7 +3,7 @@ use Rattle.std.proofs.lemmas.List.{take_all}
 use Rattle.tb_calls.specs.Calls.{State}
 use Rattle.tb_script.specs.Runs.{Progress, fed, from}
 use Rattle.tb_script.proofs.Feeding.{next_byte, next_line}
-use Rattle.tb_script.proofs.session.Session.feed.Goals as goal
+use Rattle.tb_script.proofs.line_buffer.LineBuffer.feed.Goals as goal
 
 pub returns-in_err-take_byte-clause-held : goal.returns-in_err-take_byte-clause-held
 returns-in_err-take_byte-clause-held g c y s h =

@@ -3,7 +3,7 @@ use Rattle.tb_calls.specs.Calls.{State, after_call}
 use Rattle.tb_desk.proofs.Commits.{known_is_some, may_commit, told_new, with_reply-after_call}
 use Rattle.tb_desk.proofs.Moves.{either_of, held_where_honest, still_either, where_honest}
 use Rattle.tb_desk.proofs.Repeats.{good_next}
-use Rattle.tb_desk.proofs.serve.answer_new.Goals as goal
+use Rattle.tb_desk.proofs.handling.answer_new.Goals as goal
 
 pub returns-clause-told : goal.returns-clause-told
 returns-clause-told g c honest s held new =

@@ -3,7 +3,7 @@ use Rattle.tb_calls.specs.Calls.{plain}
 use Rattle.tb_calls.specs.Keeping.{IsNew, IsSettled}
 use Rattle.tb_desk.proofs.Moves.{matched_some, still_either}
 use Rattle.tb_desk.proofs.Repeats.{good_all}
-use Rattle.tb_desk.proofs.serve.serve.Goals as goal
+use Rattle.tb_desk.proofs.handling.handle_call.Goals as goal
 
 pub returns-in_err-reply-clause-store : goal.returns-in_err-reply-clause-store
 returns-in_err-reply-clause-store g c s held only failed = still_either s _ _ _ _ _ c.in_err-reply.ensures.same held only

@@ -16,16 +16,16 @@ const LINE_FEED: u8 = b'\n';
 
 /// `line` has what came since the last line feed, of a line that is too long the first bytes alone.
 #[derive(Drop)]
-pub(crate) struct Session {
+pub(crate) struct LineBuffer {
     alloc: Global,
     line: Vec<u8>,
 }
 
-impl Session {
-    pub(crate) fn new(alloc: Global) -> Session
+impl LineBuffer {
+    pub(crate) fn new(alloc: Global) -> LineBuffer
         ensures { result.line.items ≡ [] }
     {
-        Session {
+        LineBuffer {
             alloc,
             line: Vec::new(alloc),
         }

@@ -12,7 +12,11 @@ use tb_core::{Refusal, decide};
 use tb_reply::{Reply, reply_to, reply_to_refused};
 
 /// Handles one call: it acts where its name is new, and is told what is kept for it otherwise.
-pub(crate) fn serve<K: Keep>(keep: &mut K, alloc: Global, call: &Call) -> Result<Reply, KeepFault>
+pub(crate) fn handle_call<K: Keep>(
+    keep: &mut K,
+    alloc: Global,
+    call: &Call,
+) -> Result<Reply, KeepFault>
     ensures told { K.is_honest keep.new ≡ true → (s : State) → K.holds keep.old s
         → IfOk result (λ r. r ≡ reply s [] call.now) }
     ensures left { (s : State) → K.holds keep.old s
