@@ -1,1 +1,3 @@
-pub mod Telling
+pub mod Orders
+pub mod Page
+pub mod Serving

@@ -1,8 +1,7 @@
 //! The moments of messages and calls.
-ghost use Rattle.std.specs.Prelude.{◌≡◌, None, IfErr};
-ghost use Rattle.tb_program.specs.declared.fault.Fault.TheVariants.{NoClock};
+ghost use Rattle.std.specs.Prelude.{None};
 
-use tb_program::{Fault, machine_moment};
+use tb_program::machine_moment;
 use tb_serve::Clock;
 use tb_task::Moment;
 
@@ -18,11 +17,4 @@ impl<'a> Clock for MachineClock<'a> {
     fn now(&mut self) -> Option<Moment> {
         machine_moment(self.rt)
     }
-}
-
-/// The moment now.
-pub(crate) fn moment_now(rt: &HostRuntime) -> Result<Moment, Fault>
-    ensures { IfErr result (λ fault. fault ≡ NoClock) }
-{
-    machine_moment(rt).ok_or(Fault::NoClock)
 }

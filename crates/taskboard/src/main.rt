@@ -1,36 +1,29 @@
 //! The program `taskboard`: boards of tasks in a file, served to a team, and scripts over boards in memory.
-//! It owns the orders over a real file, the machine's clock and ports. It stands on `tb_orders` and `tb_orders` for orders, on
-//! `tb_keeper` for the file, and on `tb_server` and `tb_script` for messages and lines.
+//! It owns which order is carried out by what, and serving on a port. It stands on `tb_orders` for the words, on `tb_files`, `tb_server`,
+//! `tb_sending` and `tb_script` for the orders, and on `tb_causes` for what is told of their faults.
 #![tactic(auto)]
 
-ghost use Rattle.std.specs.Prelude.{◌≡◌, IfErr, true};
+ghost use Rattle.std.specs.Io.KnownBytes.{Appends};
+ghost use Rattle.std.specs.Prelude.{◌≡◌, ◌≢◌, Err, IfErr, IfOk, IfSome, OnErr, true};
+ghost use Rattle.taskboard.specs.Orders.{is_of_order, is_of_telling, script_text};
 ghost use Rattle.tb_orders.specs.Faults.{is_of_scripts};
+ghost use Rattle.tb_program.specs.declared.fault.Fault.TheVariants.{Store};
+ghost use Rattle.tb_values.specs.Appends.{AppendsFront};
 
-mod body;
-mod cause;
-mod check;
 mod clock;
-mod file;
-mod import;
-mod init;
-mod key;
-mod send;
 mod serve;
-mod view;
-mod wrong;
 
-use crate::cause::{tell_cause, tell_words};
-use crate::check::check_file;
-use crate::import::{import_into_file, import_parts_into_file};
-use crate::init::make_file;
-use crate::send::{name_call, send_order};
 use crate::serve::serve_file;
-use crate::view::print_board;
+use std::alloc::Global;
+use std::io::{Read, Write};
 use std::process::ExitCode;
-use tb_command_line::Order;
+use tb_causes::{tell_cause, tell_words};
+use tb_command_line::{Order, Topic};
+use tb_files::{check_file, import_into_file, import_parts_into_file, make_file, print_board};
 use tb_orders::{Ending, OrderFault, fault_of_script, print_fault, read_order, status_of};
 use tb_program::{Fault, print_text};
 use tb_script::run_lines;
+use tb_sending::{name_call, send_order};
 
 /// Which program this is.
 const VERSION: &str = "\
@@ -44,7 +37,7 @@ fn main(rt: HostRuntime) -> ExitCode {
         Ok(order) => end_of(&rt, order),
         Err(fault) => {
             let _ = print_fault(fault, &mut rt.stderr());
-            tell_words(&rt, fault);
+            let _ = tell_words(&rt, &mut rt.stderr(), fault, Topic::Program.text());
             Err(fault)
         }
     };
@@ -52,7 +45,9 @@ fn main(rt: HostRuntime) -> ExitCode {
 }
 
 /// How an order ends, whose fault is told with its cause.
-fn end_of(rt: &HostRuntime, mut order: Order) -> Result<Ending, Fault> {
+fn end_of(rt: &HostRuntime, mut order: Order) -> Result<Ending, Fault>
+    ensures { IfErr result (λ fault. is_of_order order fault ≡ true) }
+{
     if let Order::Send(order) = &mut order {
         name_call(rt, order);
     }
@@ -60,40 +55,58 @@ fn end_of(rt: &HostRuntime, mut order: Order) -> Result<Ending, Fault> {
         Ok(ending) => Ok(ending),
         Err(failed) => {
             let _ = print_fault(failed.fault, &mut rt.stderr());
-            tell_cause(rt, &failed, &order);
+            let _ = tell_cause(rt, &mut rt.stderr(), &failed, &order);
             Err(failed.fault)
         }
     }
 }
 
 /// Carries out an order; of an import alone more than the fault may be told.
-fn carry_out(rt: &HostRuntime, order: &mut Order) -> Result<Ending, OrderFault> {
+fn carry_out(rt: &HostRuntime, order: &mut Order) -> Result<Ending, OrderFault>
+    ensures { IfErr result (λ failed. is_of_order order.old failed.fault ≡ true) }
+{
+    let out = &mut rt.stdout();
     match order {
         Order::Init(order) => Ok(make_file(rt, order)?),
         Order::Serve(order) => Ok(serve_file(rt, order)?),
-        Order::Run => Ok(run_script(rt)?),
-        Order::Import(order) => import_into_file(rt, order),
-        Order::ImportAll(order) => import_parts_into_file(rt, order),
-        Order::View(order) => Ok(print_board(rt, order)?),
-        Order::Check(file) => Ok(check_file(rt, file)?),
-        Order::Send(order) => Ok(send_order(rt, order)?),
-        Order::Help(topic) => Ok(tell(rt, topic.text())?),
-        Order::Version => Ok(tell(rt, VERSION)?),
+        Order::Run => Ok(run_script(rt.alloc(), rt.stdin(), out)?),
+        Order::Import(order) => import_into_file(rt, order, rt.stdin(), out),
+        Order::ImportAll(order) => import_parts_into_file(rt, order, rt.stdin(), out),
+        Order::View(order) => Ok(print_board(rt, order, out)?),
+        Order::Check(file) => Ok(check_file(rt, file, out)?),
+        Order::Send(order) => Ok(send_order(rt, order, out)?),
+        Order::Help(topic) => Ok(tell(out, topic.text())?),
+        Order::Version => Ok(tell(out, VERSION)?),
     }
 }
 
 /// Prints what the program tells of itself.
-fn tell(rt: &HostRuntime, text: &str) -> Result<Ending, Fault>
-    ensures { IfErr result (λ fault. fault ≡ Fault.WriteFailed) }
+fn tell<W: Write>(writer: &mut W, text: &str) -> Result<Ending, Fault>
+    ensures whole { IfOk result (λ ending. (ending ≡ Ending.Accepted)
+        × Appends (W.contents writer.old) (W.contents writer.new) text.now) }
+    ensures front { OnErr result (AppendsFront (W.contents writer.old)
+        (W.contents writer.new) text.now) }
+    ensures fault { IfErr result (λ fault. is_of_telling fault ≡ true) }
 {
-    print_text(&mut rt.stdout(), text)?;
+    print_text(writer, text)?;
     Ok(Ending::Accepted)
 }
 
-fn run_script(rt: &HostRuntime) -> Result<Ending, Fault>
-    ensures { IfErr result (λ fault. is_of_scripts fault ≡ true) }
+/// Answers the lines of an input over boards in memory.
+fn run_script<R: Read + Drop, W: Write>(
+    alloc: Global,
+    reader: R,
+    writer: &mut W,
+) -> Result<Ending, Fault>
+    ensures answers { IfOk result (λ ending. (ending ≡ Ending.Accepted)
+        × IfSome (R.remaining reader)
+        (λ script. Appends (W.contents writer.old) (W.contents writer.new) (script_text script))) }
+    ensures front { OnErr result (IfSome (R.remaining reader)
+        (λ script. AppendsFront (W.contents writer.old) (W.contents writer.new) (script_text script))) }
+    ensures fault { IfErr result (λ fault. is_of_scripts fault ≡ true) }
+    ensures no_store { result ≢ Err Store }
 {
-    match run_lines(rt.alloc(), rt.stdin(), &mut rt.stdout()) {
+    match run_lines(alloc, reader, writer) {
         Ok(()) => Ok(Ending::Accepted),
         Err(fault) => Err(fault_of_script(fault)),
     }

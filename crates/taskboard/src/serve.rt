@@ -1,15 +1,19 @@
 //! The server of a file, on the loopback.
-ghost use Rattle.std.specs.Prelude.{◌≡◌, IfErr, IfOk, IsSome, OnOk, true};
-ghost use Rattle.taskboard.specs.Telling.{fault_of_loop, is_of_serving, limit_of};
+ghost use Rattle.std.specs.Prelude.{◌≡◌, IfErr, IfOk, IsErrOf, IsSome, true};
+ghost use Rattle.taskboard.specs.Page.{IsPageOf};
+ghost use Rattle.taskboard.specs.Serving.{IsServed, fault_of_loop, is_of_serving, limit_of};
 ghost use Rattle.tb_event_loop.specs.History.{still_to_end};
+ghost use Rattle.tb_program.specs.declared.fault.Fault.TheVariants.{NoPage};
 
 use crate::clock::MachineClock;
-use crate::file::{close_desk, open_desk};
 use std::fs;
 use std::io::Write;
 use std::os::unix::fs::PermissionsExt;
+use tb_calls::Keep;
 use tb_command_line::{Connections, ServeOrder};
 use tb_event_loop::{EventLoop, Journal, LoopFault};
+use tb_files::{RealFile, close_desk, open_desk};
+use tb_keeper::SqlKeep;
 use tb_orders::Ending;
 use tb_program::{Fault, loopback};
 use tb_server::Server;
@@ -21,8 +25,9 @@ const OTHERS: u32 = 0o077;
 
 /// Serves a file on a port of the loopback, up to the number of connections, or without end: then it ends by a fault alone.
 pub(crate) fn serve_file(rt: &HostRuntime, order: &ServeOrder) -> Result<Ending, Fault>
+    ensures served { IfOk result (λ ending. (ending ≡ Ending.Accepted)
+        × IsServed ⟦<SqlKeep<RealFile> as Keep>⟧ order.now) }
     ensures fault { IfErr result (λ fault. is_of_serving fault ≡ true) }
-    ensures ends { OnOk result (IsSome (limit_of order.now.connections)) }
 {
     let page = page_of(rt, order)?;
     let desk = open_desk(rt, order.file.as_str())?;
@@ -30,17 +35,19 @@ pub(crate) fn serve_file(rt: &HostRuntime, order: &ServeOrder) -> Result<Ending,
     let mut server = Server::new(rt.alloc(), desk, MachineClock { rt }, page)?;
     tell_start(rt, order);
     let mut journal = Journal::new(rt.alloc(), rt, rt.stderr(), order.log);
-    if let Err(fault) = event_loop.serve(&mut server, &mut journal) {
-        return Err(fault_of_loop(fault));
+    match event_loop.serve(&mut server, &mut journal) {
+        Ok(()) => {
+            close_desk(server.into_desk())?;
+            Ok(Ending::Accepted)
+        }
+        Err(fault) => Err(fault_of_loop(fault)),
     }
-    close_desk(server.into_desk())?;
-    Ok(Ending::Accepted)
 }
 
 fn listen(rt: &HostRuntime, order: &ServeOrder) -> Result<EventLoop, Fault>
     ensures fault { IfErr result (λ fault. is_of_serving fault ≡ true) }
-    ensures limit { IfOk result
-        (λ event_loop. still_to_end event_loop ≡ limit_of order.now.connections) }
+    ensures limit { IfOk result (λ event_loop. still_to_end event_loop
+        ≡ limit_of order.now.connections) }
 {
     match EventLoop::listen(
         rt,
@@ -75,7 +82,9 @@ fn fault_of_loop(fault: LoopFault) -> Fault
 
 // The files that browsers are given, none where no folder is named.
 fn page_of(rt: &HostRuntime, order: &ServeOrder) -> Result<Site, Fault>
-    ensures { IfErr result (λ fault. is_of_serving fault ≡ true) }
+    ensures page { IfOk result (IsPageOf order.now.page) }
+    ensures folder { IsErrOf result NoPage → IsSome order.now.page }
+    ensures fault { IfErr result (λ fault. is_of_serving fault ≡ true) }
 {
     let Some(folder) = &order.page else {
         return Ok(Site::none(rt.alloc()));

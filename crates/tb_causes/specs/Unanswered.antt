@@ -1,0 +1,65 @@
+-- What is told where no answer came.
+use Rattle.std.specs.Prelude.{ℕ, ◌==◌, Bool, true, false, ◌&&◌, List, [], ◌∷◌, ◌++◌, codes, is_some, Option, Some, None, if◌then◌else◌}
+use Rattle.std.specs.List.{flat_map}
+use Rattle.tb_causes.specs.Told.{IsEither, Text}
+use Rattle.tb_causes.specs.declared.unanswered.TheConstants.{GO_ON, UNCHANGED}
+use Rattle.tb_client.specs.Messages.{request_of}
+use Rattle.tb_client.specs.Places.{places_of}
+use Rattle.tb_client.specs.declared.request.Request.{Request}
+use Rattle.tb_command_line.specs.declared.order.SendOrder.{SendOrder}
+use Rattle.tb_task.specs.TaskId.{id_text}
+
+-- ---- what may have come of it
+
+abbrev pub has_body : Option Request → Bool
+has_body None = false
+has_body (Some request) = is_some request.body
+
+abbrev pub are_none : List ℕ → Bool
+are_none [] = true
+are_none (place ∷ places) = false
+
+-- a call may have reached a server that didn't answer: a view changes nothing, and places are asked for first
+abbrev pub may_have_acted : List Text → Bool
+may_have_acted words = has_body (request_of words) && are_none (places_of words)
+
+-- ---- the words by which a call goes on
+
+-- a quote in a word ends it, stands for itself, and begins it again
+abbrev pub escaped_byte : ℕ → Text
+escaped_byte byte = if byte == 39 then codes "'\\''" else byte ∷ []
+
+abbrev pub escaped : Text → Text
+escaped word = flat_map escaped_byte word
+
+-- a blank and the word between quotes
+abbrev pub quoted_word : Text → Text
+quoted_word word = codes " '" ++ escaped word ++ codes "'"
+
+abbrev pub quoted_words : List Text → Text
+quoted_words words = flat_map quoted_word words
+
+abbrev pub id_words : Option ℕ → Text
+id_words None = []
+id_words (Some id) = codes " --id " ++ id_text id
+
+-- `taskboard send --id UUID SERVER MEMBER KEY 'WORD' ..`
+abbrev pub words_again : SendOrder → Text
+words_again order =
+    codes "taskboard send" ++ (id_words order.id
+    ++ (codes " " ++ (order.server
+    ++ (codes " " ++ (order.member ++ (codes " KEY" ++ quoted_words order.words))))))
+
+-- ---- what is told
+
+-- that the call is to go on, and on a line behind that by which words
+abbrev pub going_on : SendOrder → Text
+going_on order = GO_ON.now ++ (codes "\n" ++ words_again order)
+
+-- of a view that nothing was to change
+abbrev pub unanswered_text : SendOrder → Text
+unanswered_text order = if may_have_acted order.words then going_on order else UNCHANGED.now
+
+-- without memory to tell a view from a call, or for the words, that it is to go on
+abbrev pub IsUnanswered : SendOrder → Text → Type 0
+IsUnanswered order text = IsEither (unanswered_text order) GO_ON.now text

@@ -1,0 +1,265 @@
+//! What happened, and what to do: the line behind the name of a fault.
+ghost use Rattle.std.specs.Prelude.{◌≡◌, IfErr, IfOk, List, OnErr, OnOk, drop, map, option_map};
+ghost use Rattle.std.specs.String.{string_bytes};
+ghost use Rattle.std.specs.Vec.Iter.{into_iter_items};
+ghost use Rattle.tb_causes.specs.Causes.{IsCause, IsCauseOfBadWords, IsCauseOfSilence, IsCauseOfStore, IsCauseOfText, IsCauseOfWords, file_of, port_text, ports_text, send_text, text_of, words_text};
+ghost use Rattle.tb_causes.specs.Told.{AppendsFrontOfTold, AppendsTold, Text as TextValue, told_text};
+ghost use Rattle.tb_program.specs.declared.fault.Fault.TheVariants.{WriteFailed};
+
+use crate::arguments::{texts_of, words_behind_first};
+use crate::bad_text::{told_of_body, told_of_part};
+use crate::file_cause::cause_of_file;
+use crate::told::{Told, tell};
+use crate::unanswered::told_of_unanswered;
+use crate::wrong_word::wrong_word;
+use std::alloc::{AllocError, Global};
+use std::env::{self, Args};
+use std::io;
+use std::io::Write;
+use tb_command_line::Order;
+use tb_orders::{BadItem, OrderFault};
+use tb_program::{Fault, print_line};
+use tb_values::Text;
+
+/// The first port that any user may listen on.
+const FIRST_FREE_PORT: u16 = 1024;
+
+const BAD: &str =
+    "The words are no order: `taskboard --help` lists the orders, and `taskboard ORDER --help` what each takes.";
+
+const BAD_BODY: &str =
+    "The text is longer than 1,048,576 bytes, which no server takes. Nothing was sent.";
+
+const MEMORY: &str =
+    "There was no memory, and nothing was half done. End other programs, or let this one have more, and try again.";
+
+const NO_ANSWER: &str = "No answer came.";
+
+const NO_CLOCK: &str = "The machine's clock gives no moment: set it, and try again.";
+
+const NO_KEY: &str =
+    "The key can't be read: set the environment TASKBOARD_KEY, or write it into ~/.config/taskboard/key, which you alone may read (chmod 600). A key has 8 to 64 visible ASCII characters.";
+
+const NO_LISTEN: &str = "The port can't be listened on.";
+
+const NO_PAGE: &str =
+    "The folder of --page can't be read: write its name right, or let this user read it and its files.";
+
+const NOT_EMPTY: &str =
+    "The file has tables already, and is as it was: give a name that no file has.";
+
+const NOT_OURS: &str =
+    "The file is no file of boards: write its name right, or make another with `taskboard init`.";
+
+const READ_FAILED: &str =
+    "Standard input couldn't be read, or the machine gave no random bytes for an identifier.";
+
+const STORE: &str = "The file can't be used.";
+
+const WRITE_FAILED: &str =
+    "Standard output couldn't be written: what was asked for may have been done. Send a call again under its identifier.";
+
+const WRONG_VERSION: &str =
+    "The file is of another version of taskboard: use the program that made it.";
+
+const BAD_SEND: &str =
+    "The words behind KEY are no call and no view, or a board or a task among them isn't one: `taskboard send --help` has their forms.";
+
+const LOW_PORT: &str =
+    "Ports below 1,024 are the system's, or another program has this one: take a higher one, as 8080.";
+
+const TAKEN_PORT: &str =
+    "Another program has the port, as a server that still runs: end that one, or take another port.";
+
+/// Tells what happened, and what to do.
+pub fn tell_cause<W: Write>(
+    rt: &HostRuntime,
+    writer: &mut W,
+    failed: &OrderFault,
+    order: &Order,
+) -> Result<(), Fault>
+    ensures whole { OnOk result (AppendsTold (IsCause failed.now.fault failed.now.item order.now)
+        (W.contents writer.old) (W.contents writer.new)) }
+    ensures front { OnErr result
+        (AppendsFrontOfTold (IsCause failed.now.fault failed.now.item order.now)
+        (W.contents writer.old) (W.contents writer.new)) }
+    ensures fault { IfErr result (λ fault. fault ≡ WriteFailed) }
+{
+    let cause = cause_of(rt, failed, order);
+    tell(writer, &cause)
+}
+
+fn cause_of(rt: &HostRuntime, failed: &OrderFault, order: &Order) -> Told
+    ensures { IsCause failed.now.fault failed.now.item order.now (told_text result) }
+{
+    match failed.fault {
+        Fault::Store => Told::Fixed(cause_of_store(rt, order)),
+        Fault::NoAnswer => told_of_silence(rt.alloc(), order),
+        Fault::BadBody => told_of_text(rt.alloc(), &failed.item, order),
+        Fault::NoListen => Told::Fixed(ports_text(order)),
+        Fault::Bad => Told::Fixed(send_text(order)),
+        fault => Told::Fixed(text_of(fault)),
+    }
+}
+
+/// What is told of a fault, whatever the order was.
+fn text_of(fault: Fault) -> &'static str
+    ensures { result.now ≡ text_of fault }
+{
+    match fault {
+        Fault::Bad => BAD,
+        Fault::BadBody => BAD_BODY,
+        Fault::Memory => MEMORY,
+        Fault::NoAnswer => NO_ANSWER,
+        Fault::NoClock => NO_CLOCK,
+        Fault::NoKey => NO_KEY,
+        Fault::NoListen => NO_LISTEN,
+        Fault::NoPage => NO_PAGE,
+        Fault::NotEmpty => NOT_EMPTY,
+        Fault::NotOurs => NOT_OURS,
+        Fault::ReadFailed => READ_FAILED,
+        Fault::Store => STORE,
+        Fault::WriteFailed => WRITE_FAILED,
+        Fault::WrongVersion => WRONG_VERSION,
+    }
+}
+
+/// Why the file of an order can't be used.
+fn cause_of_store(rt: &HostRuntime, order: &Order) -> &'static str
+    ensures { IsCauseOfStore (file_of order.now) result.now }
+{
+    match file_of(order) {
+        Some(file) => cause_of_file(rt, file.as_str()),
+        None => STORE,
+    }
+}
+
+/// The file that an order is over.
+fn file_of(order: &Order) -> Option<&Text>
+    ensures { option_map (λ file. file.now) result ≡ file_of order.now }
+{
+    match order {
+        Order::Init(order) => Some(&order.file),
+        Order::Serve(order) => Some(&order.file),
+        Order::Import(order) | Order::ImportAll(order) => Some(&order.file),
+        Order::View(order) => Some(&order.file),
+        Order::Check(file) => Some(file),
+        Order::Run | Order::Send(_) | Order::Help(_) | Order::Version => None,
+    }
+}
+
+fn told_of_silence(alloc: Global, order: &Order) -> Told
+    ensures { IsCauseOfSilence order.now (told_text result) }
+{
+    match order {
+        Order::Send(order) => told_of_unanswered(alloc, order),
+        _ => Told::Fixed(NO_ANSWER),
+    }
+}
+
+fn told_of_text(alloc: Global, item: &Option<BadItem>, order: &Order) -> Told
+    ensures { IsCauseOfText item.now order.now (told_text result) }
+{
+    match order {
+        Order::Import(_) => told_of_body(alloc, item),
+        Order::ImportAll(_) => told_of_part(alloc, item),
+        _ => Told::Fixed(BAD_BODY),
+    }
+}
+
+/// Of words that are an order, but ask for nothing.
+fn send_text(order: &Order) -> &'static str
+    ensures { result.now ≡ send_text order.now }
+{
+    match order {
+        Order::Send(_) => BAD_SEND,
+        _ => BAD,
+    }
+}
+
+fn ports_text(order: &Order) -> &'static str
+    ensures { result.now ≡ ports_text order.now }
+{
+    match order {
+        Order::Serve(order) => port_text(order.port),
+        _ => NO_LISTEN,
+    }
+}
+
+fn port_text(port: u16) -> &'static str
+    ensures { result.now ≡ port_text port }
+{
+    if port < FIRST_FREE_PORT {
+        LOW_PORT
+    } else {
+        TAKEN_PORT
+    }
+}
+
+/// Tells why words are no order; where there are none, the help.
+pub fn tell_words<W: Write>(
+    rt: &HostRuntime,
+    writer: &mut W,
+    fault: Fault,
+    help: &'static str,
+) -> Result<(), Fault>
+    ensures whole { OnOk result (AppendsTold (IsCauseOfWords fault help.now)
+        (W.contents writer.old) (W.contents writer.new)) }
+    ensures front { OnErr result (AppendsFrontOfTold (IsCauseOfWords fault help.now)
+        (W.contents writer.old) (W.contents writer.new)) }
+    ensures fault { IfErr result (λ fault. fault ≡ WriteFailed) }
+{
+    let cause = cause_of_words(rt, fault, help);
+    print_line(writer, cause)
+}
+
+fn cause_of_words(rt: &HostRuntime, fault: Fault, help: &'static str) -> &'static str
+    ensures { IsCauseOfWords fault help.now result.now }
+{
+    match fault {
+        Fault::Bad => cause_of_bad_words(rt, help),
+        fault => text_of(fault),
+    }
+}
+
+/// Which word is wrong, where the words can be read once more.
+fn cause_of_bad_words(rt: &HostRuntime, help: &'static str) -> &'static str
+    ensures { IsCauseOfBadWords help.now result.now }
+{
+    match cause_of_arguments(rt, help) {
+        Ok(text) => text,
+        Err(_) => BAD,
+    }
+}
+
+fn cause_of_arguments(rt: &HostRuntime, help: &'static str) -> io::Result<&'static str>
+    ensures { IfOk result
+        (λ text. (words : List TextValue) × (text.now ≡ words_text words help.now)) }
+{
+    let words = env::args(rt)?;
+    Ok(cause_behind_first(rt.alloc(), words, help)?)
+}
+
+/// What is told of the words behind the first, which names the program.
+fn cause_behind_first(
+    alloc: Global,
+    words: Args,
+    help: &'static str,
+) -> Result<&'static str, AllocError>
+    ensures { IfOk result (λ text. text.now
+        ≡ words_text (map string_bytes (drop 1 (into_iter_items words))) help.now) }
+{
+    let words = words_behind_first(alloc, words)?;
+    let texts = texts_of(alloc, words.as_slice())?;
+    words_text(alloc, texts.as_slice(), help)
+}
+
+fn words_text(alloc: Global, words: &[&str], help: &'static str) -> Result<&'static str, AllocError>
+    ensures { IfOk result (λ text. text.now
+        ≡ words_text (map (λ word. word.now) words.entry.now) help.now) }
+{
+    if words.is_empty() {
+        return Ok(help);
+    }
+    wrong_word(alloc, words)
+}

@@ -1,0 +1,113 @@
+//! Why a file can't be used, as far as looking at it again says.
+ghost use Rattle.std.specs.Prelude.{◌≡◌};
+ghost use Rattle.tb_causes.specs.FileCauses.{IsFileText, access_text, file_text, look_text, opening_text};
+
+use sqlite::{Connection, Error, ErrorCode};
+use std::fs;
+use std::io::ErrorKind;
+
+const FOLDER: &str = "The file's name is that of a folder.";
+
+const NO_FILE: &str =
+    "There is no such file: write its name right, or make it with `taskboard init`.";
+
+const NO_LOOK: &str = "This user may not look at the file.";
+
+const LOOK_FAILED: &str = "The file can't be looked at.";
+
+const NO_ACCESS: &str = "This user may not read and write the file.";
+
+const OPEN_FAILED: &str = "The file can't be opened.";
+
+const BUSY: &str =
+    "Another program has the file, as a server that runs: ask that one, or end it first.";
+
+const NO_DATABASE: &str = "The file is no database: write its name right.";
+
+const DAMAGED: &str = "The file is damaged: keep it as it is, and go back to the newest good copy.";
+
+const NO_LOG: &str = "The file can't be opened as a database, or its log beside it can't.";
+
+const FAILED_LATER: &str =
+    "The file failed while it was used: its disk is full or fails, or another program changed its rows. Look at `taskboard check FILE`.";
+
+/// What a file is when it is looked at again.
+#[derive(Drop)]
+enum FileCause {
+    /// It can't be looked at.
+    Unseen(ErrorKind),
+    Folder,
+    /// It can't be read and written.
+    Closed(ErrorKind),
+    /// It is no database that can be used.
+    Unusable(Error),
+    /// It is one that can.
+    Usable,
+}
+
+/// Why the file at a path can't be used.
+pub(crate) fn cause_of_file(rt: &HostRuntime, path: &str) -> &'static str
+    ensures { IsFileText result.now }
+{
+    file_text(&look_at(rt, path))
+}
+
+fn look_at(rt: &HostRuntime, path: &str) -> FileCause {
+    match fs::metadata(rt, path) {
+        Err(error) => FileCause::Unseen(error.kind()),
+        Ok(found) if found.is_dir() => FileCause::Folder,
+        Ok(_) => open_at(rt, path),
+    }
+}
+
+fn open_at(rt: &HostRuntime, path: &str) -> FileCause {
+    if let Err(error) = fs::OpenOptions::new().read(true).write(true).open(rt, path) {
+        return FileCause::Closed(error.kind());
+    }
+    match Connection::open(rt, path) {
+        Err(error) => FileCause::Unusable(error),
+        Ok(_) => FileCause::Usable,
+    }
+}
+
+fn file_text(cause: &FileCause) -> &'static str
+    ensures { result.now ≡ file_text cause.now }
+{
+    match cause {
+        FileCause::Unseen(kind) => look_text(*kind),
+        FileCause::Folder => FOLDER,
+        FileCause::Closed(kind) => access_text(*kind),
+        FileCause::Unusable(error) => opening_text(error),
+        FileCause::Usable => FAILED_LATER,
+    }
+}
+
+fn look_text(kind: ErrorKind) -> &'static str
+    ensures { result.now ≡ look_text kind }
+{
+    match kind {
+        ErrorKind::NotFound => NO_FILE,
+        ErrorKind::PermissionDenied => NO_LOOK,
+        _ => LOOK_FAILED,
+    }
+}
+
+fn access_text(kind: ErrorKind) -> &'static str
+    ensures { result.now ≡ access_text kind }
+{
+    match kind {
+        ErrorKind::PermissionDenied => NO_ACCESS,
+        _ => OPEN_FAILED,
+    }
+}
+
+fn opening_text(error: &Error) -> &'static str
+    ensures { result.now ≡ opening_text error.now }
+{
+    match error {
+        Error::SqliteFailure(ErrorCode::DatabaseBusy) => BUSY,
+        Error::SqliteFailure(ErrorCode::NotADatabase) => NO_DATABASE,
+        Error::SqliteFailure(ErrorCode::DatabaseCorrupt) => DAMAGED,
+        _ => NO_LOG,
+    }
+}

@@ -1,0 +1,136 @@
+//! What to do where no answer came.
+ghost use Rattle.std.specs.Prelude.{◌≡◌, ◌++◌, IfOk, OnOk};
+ghost use Rattle.std.specs.String.{string_bytes};
+ghost use Rattle.tb_causes.specs.Told.{told_text};
+ghost use Rattle.tb_causes.specs.Unanswered.{IsUnanswered, are_none, escaped, going_on, has_body, id_words, may_have_acted, quoted_word, quoted_words, unanswered_text, words_again};
+
+use crate::told::Told;
+use std::alloc::{AllocError, Global};
+use tb_client::{Request, places_of, request_of};
+use tb_command_line::SendOrder;
+use tb_task::TaskId;
+use tb_values::{Items, Text};
+
+const UNCHANGED: &str =
+    "No answer came in the time, and nothing was to change: look whether a server runs at ADDRESS:PORT, and ask again.";
+
+const GO_ON: &str =
+    "No answer came, and the call may have acted. Go on with it under its identifier, with KEY as before: it acts once.";
+
+/// What is told where no answer came. Without memory it is told as a call, without the words to go on by.
+pub(crate) fn told_of_unanswered(alloc: Global, order: &SendOrder) -> Told
+    ensures { IsUnanswered order.now (told_text result) }
+{
+    match told_of_sent(alloc, order) {
+        Ok(told) => told,
+        Err(_) => Told::Fixed(GO_ON),
+    }
+}
+
+fn told_of_sent(alloc: Global, order: &SendOrder) -> Result<Told, AllocError>
+    ensures { IfOk result (λ told. told_text told ≡ unanswered_text order.now) }
+{
+    if may_have_acted(alloc, order.words.as_slice())? {
+        Ok(Told::Made(going_on(alloc, order)?))
+    } else {
+        Ok(Told::Fixed(UNCHANGED))
+    }
+}
+
+/// Whether a call may have reached the server. A view changes nothing, and places are looked up before their call is sent.
+fn may_have_acted(alloc: Global, words: &[Text]) -> Result<bool, AllocError>
+    ensures { IfOk result (λ may. may ≡ may_have_acted words.now) }
+{
+    let request = request_of(alloc, words)?;
+    let places = places_of(alloc, words)?;
+    Ok(has_body(&request) && are_none(places.as_slice()))
+}
+
+fn has_body(request: &Option<Request>) -> bool
+    ensures { result ≡ has_body request.now }
+{
+    match request {
+        Some(request) => request.body.is_some(),
+        None => false,
+    }
+}
+
+fn are_none(places: &[u32]) -> bool
+    ensures { result ≡ are_none places.now }
+{
+    match places {
+        [] => true,
+        [..] => false,
+    }
+}
+
+/// That a call is to go on which got no answer, and by which words.
+fn going_on(alloc: Global, order: &SendOrder) -> Result<Text, AllocError>
+    ensures { IfOk result (λ text. text ≡ going_on order.now) }
+{
+    let words = words_again(alloc, order)?;
+    let words = words.as_str();
+    let mut text = String::new(alloc);
+    write!(text, "{GO_ON}\n{words}")?;
+    Ok(Text::from_string(text))
+}
+
+fn words_again(alloc: Global, order: &SendOrder) -> Result<Text, AllocError>
+    ensures { IfOk result (λ text. text ≡ words_again order.now) }
+{
+    let id = id_words(alloc, order.id)?;
+    let id = id.as_str();
+    let server = order.server.as_str();
+    let member = order.member.as_str();
+    let words = quoted_words(alloc, &order.words)?;
+    let words = words.as_str();
+    let mut text = String::new(alloc);
+    write!(text, "taskboard send{id} {server} {member} KEY{words}")?;
+    Ok(Text::from_string(text))
+}
+
+fn id_words(alloc: Global, id: Option<TaskId>) -> Result<Text, AllocError>
+    ensures { IfOk result (λ text. text ≡ id_words id) }
+{
+    let Some(id) = id else {
+        return Ok(Text::new(alloc));
+    };
+    let id = id.text(alloc)?;
+    let id = id.as_str();
+    let mut text = String::new(alloc);
+    write!(text, " --id {id}")?;
+    Ok(Text::from_string(text))
+}
+
+fn quoted_words(alloc: Global, words: &Items<Text>) -> Result<Text, AllocError>
+    ensures { IfOk result (λ text. text ≡ quoted_words words.now) }
+{
+    let mut text = String::new(alloc);
+    for word in words.as_slice() {
+        push_quoted(&mut text, word.as_str())?;
+    }
+    Ok(Text::from_string(text))
+}
+
+/// Puts a blank and a word at the end, as a shell reads it.
+fn push_quoted(text: &mut String, word: &str) -> Result<(), AllocError>
+    ensures { OnOk result (string_bytes text.new ≡ string_bytes text.old ++ quoted_word word.now) }
+{
+    text.push_str(" '")?;
+    push_escaped(text, word)?;
+    text.push_str("'")
+}
+
+/// Puts a word at the end that stands between quotes: around one in it they end and begin again.
+fn push_escaped(text: &mut String, word: &str) -> Result<(), AllocError>
+    ensures { OnOk result (string_bytes text.new ≡ string_bytes text.old ++ escaped word.now) }
+{
+    let mut rest = word;
+    while let Some((part, behind)) = rest.split_once('\'') {
+        text.push_str(part)?;
+        text.push_str("'\\''")?;
+        rest = behind;
+    }
+    text.push_str(rest)?;
+    Ok(())
+}

@@ -1,0 +1,87 @@
+-- Faults of the parts of an order are faults of it.
+use Rattle.std.proofs.Common.{◌≡◌, true, true≢false, refl, sym}
+use Rattle.tb_orders.specs.Telling as orders
+use Rattle.tb_orders.specs.Faults.{is_of_opening, is_of_printing}
+use Rattle.tb_program.specs.declared.fault.Fault.{Fault}
+use Rattle.tb_program.specs.declared.fault.Fault.TheVariants.{Bad, BadBody, Memory, NoAnswer, NoClock, NoKey, NoListen, NoPage, NotEmpty, NotOurs, ReadFailed, Store, WriteFailed, WrongVersion}
+use Rattle.tb_files.specs.Faults.{is_of_checking, is_of_imports, is_of_views}
+
+pub of_input : (fault : Fault) → orders.is_of_inputs fault ≡ true → is_of_imports fault ≡ true
+of_input Bad is = absurd (true≢false (sym is))
+of_input BadBody is = refl
+of_input Memory is = refl
+of_input NoClock is = refl
+of_input NoListen is = absurd (true≢false (sym is))
+of_input NoAnswer is = absurd (true≢false (sym is))
+of_input NoKey is = absurd (true≢false (sym is))
+of_input NoPage is = absurd (true≢false (sym is))
+of_input NotEmpty is = absurd (true≢false (sym is))
+of_input NotOurs is = refl
+of_input ReadFailed is = refl
+of_input Store is = refl
+of_input WriteFailed is = refl
+of_input WrongVersion is = refl
+
+pub of_audit : (fault : Fault) → is_of_printing fault ≡ true → is_of_checking fault ≡ true
+of_audit Bad is = absurd (true≢false (sym is))
+of_audit BadBody is = absurd (true≢false (sym is))
+of_audit Memory is = refl
+of_audit NoClock is = absurd (true≢false (sym is))
+of_audit NoListen is = absurd (true≢false (sym is))
+of_audit NoAnswer is = absurd (true≢false (sym is))
+of_audit NoKey is = absurd (true≢false (sym is))
+of_audit NoPage is = absurd (true≢false (sym is))
+of_audit NotEmpty is = absurd (true≢false (sym is))
+of_audit NotOurs is = refl
+of_audit ReadFailed is = absurd (true≢false (sym is))
+of_audit Store is = refl
+of_audit WriteFailed is = refl
+of_audit WrongVersion is = refl
+
+pub of_keep : (fault : Fault) → orders.is_of_answers fault ≡ true → is_of_checking fault ≡ true
+of_keep Bad is = absurd (true≢false (sym is))
+of_keep BadBody is = absurd (true≢false (sym is))
+of_keep Memory is = refl
+of_keep NoClock is = absurd (true≢false (sym is))
+of_keep NoListen is = absurd (true≢false (sym is))
+of_keep NoAnswer is = absurd (true≢false (sym is))
+of_keep NoKey is = absurd (true≢false (sym is))
+of_keep NoPage is = absurd (true≢false (sym is))
+of_keep NotEmpty is = absurd (true≢false (sym is))
+of_keep NotOurs is = refl
+of_keep ReadFailed is = absurd (true≢false (sym is))
+of_keep Store is = refl
+of_keep WriteFailed is = refl
+of_keep WrongVersion is = refl
+
+pub of_view : (fault : Fault) → orders.is_of_answers fault ≡ true → is_of_views fault ≡ true
+of_view Bad is = absurd (true≢false (sym is))
+of_view BadBody is = absurd (true≢false (sym is))
+of_view Memory is = refl
+of_view NoClock is = absurd (true≢false (sym is))
+of_view NoListen is = absurd (true≢false (sym is))
+of_view NoAnswer is = absurd (true≢false (sym is))
+of_view NoKey is = absurd (true≢false (sym is))
+of_view NoPage is = absurd (true≢false (sym is))
+of_view NotEmpty is = absurd (true≢false (sym is))
+of_view NotOurs is = refl
+of_view ReadFailed is = absurd (true≢false (sym is))
+of_view Store is = refl
+of_view WriteFailed is = refl
+of_view WrongVersion is = refl
+
+pub of_opening : (fault : Fault) → is_of_opening fault ≡ true → is_of_imports fault ≡ true
+of_opening Bad is = absurd (true≢false (sym is))
+of_opening BadBody is = absurd (true≢false (sym is))
+of_opening Memory is = refl
+of_opening NoClock is = absurd (true≢false (sym is))
+of_opening NoListen is = absurd (true≢false (sym is))
+of_opening NoAnswer is = absurd (true≢false (sym is))
+of_opening NoKey is = absurd (true≢false (sym is))
+of_opening NoPage is = absurd (true≢false (sym is))
+of_opening NotEmpty is = absurd (true≢false (sym is))
+of_opening NotOurs is = refl
+of_opening ReadFailed is = absurd (true≢false (sym is))
+of_opening Store is = refl
+of_opening WriteFailed is = absurd (true≢false (sym is))
+of_opening WrongVersion is = refl

@@ -1,0 +1,21 @@
+-- Which faults come of an order over a file.
+use Rattle.std.specs.Prelude.{Bool, true}
+use Rattle.tb_orders.specs.Faults.{is_of_opening}
+use Rattle.tb_program.specs.declared.fault.Fault.{Fault}
+use Rattle.tb_program.specs.declared.fault.Fault.TheVariants.{BadBody, NoClock, ReadFailed, WriteFailed}
+
+-- of comparing what it stores
+abbrev pub is_of_checking : Fault → Bool
+is_of_checking WriteFailed = true
+is_of_checking fault = is_of_opening fault
+
+-- of a view of it
+abbrev pub is_of_views : Fault → Bool
+is_of_views NoClock = true
+is_of_views fault = is_of_checking fault
+
+-- of an import into it
+abbrev pub is_of_imports : Fault → Bool
+is_of_imports ReadFailed = true
+is_of_imports BadBody = true
+is_of_imports fault = is_of_views fault

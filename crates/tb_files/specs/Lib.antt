@@ -1,0 +1,7 @@
+pub mod Check
+pub mod Faults
+pub mod File
+pub mod Import
+pub mod Init
+pub mod Notice
+pub mod View

@@ -1,0 +1,135 @@
+//! The file of boards.
+ghost use Rattle.sqlite.specs.Files.{file_state};
+ghost use Rattle.sqlite.specs.State.{HasCleanDisk, Opens};
+ghost use Rattle.std.specs.Io.KnownBytes.{Appends};
+ghost use Rattle.std.specs.Prelude.{◌≡◌, false, IfErr, IfOk, OnErr, OnOk, true};
+ghost use Rattle.tb_files.specs.File.{IsBegun, IsSaved, IsUnopened};
+ghost use Rattle.tb_files.specs.Notice.{migrated_line, version_line};
+ghost use Rattle.tb_orders.specs.Faults.{is_of_files, is_of_opening};
+ghost use Rattle.tb_program.specs.declared.fault.Fault.TheVariants.{Store, WriteFailed};
+ghost use Rattle.tb_values.specs.Appends.{AppendsFront};
+
+use sqlite::{Connection, Error, ErrorCode, File, FileStore};
+use std::fs;
+use std::io::Write;
+use std::os::unix::fs::OpenOptionsExt;
+use tb_calls::Keep;
+use tb_desk::Desk;
+use tb_headline::session::resume;
+use tb_keeper::SqlKeep;
+use tb_orders::fault_of_opening;
+use tb_program::{Fault, print_line, print_text};
+
+/// The mode of a file that its owner alone may read and write.
+const PRIVATE: u32 = 0o600;
+
+/// The store of a real file.
+pub type RealFile = FileStore<File>;
+
+/// Opens the file at a path, or makes an empty one where none is.
+pub(crate) fn open_file(rt: &HostRuntime, path: &str) -> Result<Connection<RealFile>, Fault>
+    ensures fault { IfErr result (λ fault. is_of_files fault ≡ true) }
+    ensures idle { IfOk result (λ conn. conn.in_transaction ≡ false) }
+    ensures opens { IfOk result (λ conn. HasCleanDisk (file_state conn) → Opens (file_state conn)) }
+{
+    match Connection::open(rt, path) {
+        Ok(conn) if conn.is_autocommit() => Ok(conn),
+        Ok(_) => Err(Fault::Store), // Never: no transaction is open in a new connection.
+        Err(Error::SqliteFailure(ErrorCode::OutOfMemory)) => Err(Fault::Memory),
+        Err(_) => Err(Fault::Store),
+    }
+}
+
+/// Begins a session over the boards in the file at a path. A file that isn't there isn't made.
+pub fn open_desk(rt: &HostRuntime, path: &str) -> Result<Desk<SqlKeep<RealFile>>, Fault>
+    ensures begun { IfOk result (IsBegun ⟦<SqlKeep<RealFile> as Keep>⟧) }
+    ensures unopened { IfErr result (IsUnopened ⟦<SqlKeep<RealFile> as Keep>⟧) }
+    ensures fault { IfErr result (λ fault. is_of_opening fault ≡ true) }
+{
+    if fs::metadata(rt, path).is_err() {
+        return Err(Fault::Store);
+    }
+    match open_file(rt, path) {
+        Ok(conn) => match resume(rt.alloc(), conn) {
+            Ok(desk) => Ok(with_notice(rt, path, desk)),
+            Err((_, fault)) => Err(fault_of_opening(fault)),
+        },
+        Err(fault) => Err(fault),
+    }
+}
+
+/// The desk. Where its file was of version 1, that is told on standard error.
+fn with_notice(
+    rt: &HostRuntime,
+    path: &str,
+    desk: Desk<SqlKeep<RealFile>>,
+) -> Desk<SqlKeep<RealFile>>
+    ensures { result ≡ desk }
+{
+    let keep = desk.into_keep();
+    if keep.has_migrated() {
+        let _ = tell_migrated(&mut rt.stderr(), path);
+    }
+    Desk::new(keep)
+}
+
+/// Tells of a file that it is of version 2 from now on.
+fn tell_migrated<W: Write>(writer: &mut W, path: &str) -> Result<(), Fault>
+    ensures whole { OnOk result
+        (Appends (W.contents writer.old) (W.contents writer.new) (migrated_line path.now)) }
+    ensures front { OnErr result
+        (AppendsFront (W.contents writer.old) (W.contents writer.new) (migrated_line path.now)) }
+    ensures fault { IfErr result (λ fault. fault ≡ WriteFailed) }
+{
+    match print_text(writer, "taskboard: ") {
+        Ok(()) => tell_version(writer, path),
+        Err(fault) => Err(fault),
+    }
+}
+
+fn tell_version<W: Write>(writer: &mut W, path: &str) -> Result<(), Fault>
+    ensures whole { OnOk result
+        (Appends (W.contents writer.old) (W.contents writer.new) (version_line path.now)) }
+    ensures front { OnErr result
+        (AppendsFront (W.contents writer.old) (W.contents writer.new) (version_line path.now)) }
+    ensures fault { IfErr result (λ fault. fault ≡ WriteFailed) }
+{
+    match print_text(writer, path) {
+        Ok(()) => print_line(writer, " is now of version 2"),
+        Err(fault) => Err(fault),
+    }
+}
+
+/// Ends a session.
+pub fn close_desk(desk: Desk<SqlKeep<RealFile>>) -> Result<(), Fault>
+    ensures saved { OnOk result ((files : _) × IsSaved desk.conn files) }
+    ensures fault { IfErr result (λ fault. fault ≡ Store) }
+{
+    close_keep(desk.into_keep())
+}
+
+/// Copies what was committed into the database file, and closes it.
+pub(crate) fn close_keep(keep: SqlKeep<RealFile>) -> Result<(), Fault>
+    ensures saved { OnOk result ((files : _) × IsSaved keep.conn files) }
+    ensures fault { IfErr result (λ fault. fault ≡ Store) }
+{
+    match keep.close().close_files() {
+        Ok(files) => {
+            drop(files);
+            Ok(())
+        }
+        Err((_, store)) => {
+            drop(store.close());
+            Err(Fault::Store)
+        }
+    }
+}
+
+/// Makes an empty file that its owner alone may read, where none is at a path. Its log is made with the same mode.
+pub(crate) fn make_private(rt: &HostRuntime, path: &str) {
+    let _ = fs::OpenOptions::new()
+        .write(true)
+        .create_new(true)
+        .mode(PRIVATE)
+        .open(rt, path);
+}

@@ -1,0 +1,32 @@
+//! The identifier by which a server knows a call that is sent again.
+ghost use Rattle.std.specs.Prelude.{◌≡◌, IfSome, IsNone, IsSome};
+ghost use Rattle.tb_sending.specs.Identifiers.{IsRandom, random_id};
+
+use std::random::RandomSource;
+use tb_command_line::SendOrder;
+use tb_task::TaskId;
+
+/// Gives the call an identifier, if it has none: a random one of version 4. Where the machine gives no random bytes, it still has none.
+pub fn name_call(rt: &HostRuntime, order: &mut SendOrder)
+    ensures given { IsSome order.old.id → order.new ≡ order.old }
+    ensures random { IsNone order.old.id → IfSome order.new.id IsRandom }
+    ensures others { order.new ≡ record order.old { id = order.new.id } }
+{
+    if order.id.is_some() {
+        return;
+    }
+    let mut bytes = [0u8; 16];
+    if rt.fill_bytes(&mut bytes).is_ok() {
+        order.id = Some(random_id(bytes));
+    }
+}
+
+/// The identifier of version 4 that these bytes make.
+fn random_id(bytes: [u8; 16]) -> TaskId
+    ensures { result ≡ random_id bytes }
+{
+    let mut bytes = bytes;
+    bytes[6] = bytes[6] & 0x0f | 0x40;
+    bytes[8] = bytes[8] & 0x3f | 0x80;
+    TaskId::of_bytes(bytes)
+}

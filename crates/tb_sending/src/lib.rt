@@ -1,0 +1,14 @@
+//! A call or a view that is sent to a server until it is answered: under whose key and which identifier, with which tasks in place
+//! of their places, and what is printed of the reply. Stands on `tb_client` for messages and their answers, on `tb_command_line` for
+//! the order, on `tb_orders` for how it ends, and on `tb_program` for faults and printing.
+#![tactic(auto)]
+
+mod identifier;
+mod key;
+mod places;
+mod printing;
+mod sending;
+mod server_line;
+
+pub use identifier::name_call;
+pub use sending::send_order;

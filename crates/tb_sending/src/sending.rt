@@ -1,0 +1,179 @@
+//! Orders that are sent to a server until they are answered.
+ghost use Rattle.std.specs.Prelude.{◌≡◌, ◌⊎◌, IfErr, IfNone, IfOk, IfSome, OnErr, true};
+ghost use Rattle.tb_program.specs.declared.fault.Fault.TheVariants.{Memory};
+ghost use Rattle.tb_sending.specs.Faults.{is_of_sending};
+ghost use Rattle.tb_sending.specs.Sending.{AreNamed, AreRefused, AreUnnamed, ComesTo, Fails, IsMessage, IsNoMessage, IsReplied, IsSent, IsUnsent, Lacks, are_none, is_too_long};
+
+use crate::key::key_of;
+use crate::places::take_reply;
+use crate::printing::print_reply;
+use crate::server_line::ServerLine;
+use std::io::Write;
+use tb_client::{
+    AskFault, Line, Reply, Request, Sender, ask_until_answered, export_of, message_of, places_of,
+    request_of,
+};
+use tb_command_line::SendOrder;
+use tb_orders::Ending;
+use tb_program::Fault;
+use tb_task::LONGEST_BODY;
+use tb_values::{Duplicate, Text};
+
+/// Sends a call or a view until it is answered, and prints the reply. The server is first asked for the tasks of places, which stand
+/// in the order's words from then on. Which bytes reach a server isn't known, but which are sent to it is, and what comes of a reply.
+pub fn send_order<W: Write>(
+    rt: &HostRuntime,
+    order: &mut SendOrder,
+    writer: &mut W,
+) -> Result<Ending, Fault>
+    ensures sent { IfOk result (λ ending. (old : _) × (new : _)
+        × ComesTo ⟦<ServerLine<'static> as Line>⟧.follows W.contents
+        order.old order.new old new writer.old writer.new ending) }
+    ensures unsent { IfErr result (λ fault. ((old : _) × (new : _)
+        × Fails ⟦<ServerLine<'static> as Line>⟧.follows W.contents
+        order.old order.new old new writer.old writer.new fault)
+        ⊎ ((fault ≡ Memory) × (writer.new ≡ writer.old))) }
+    ensures others { order.new ≡ record order.old { words = order.new.words } }
+    ensures fault { IfErr result (λ fault. is_of_sending fault ≡ true) }
+{
+    let Ok(mut line) = ServerLine::new(rt, order) else {
+        return Err(Fault::Memory);
+    };
+    send_over(rt, order, &mut line, writer)
+}
+
+/// The same over a line to the server.
+fn send_over<L: Line, W: Write>(
+    rt: &HostRuntime,
+    order: &mut SendOrder,
+    line: &mut L,
+    writer: &mut W,
+) -> Result<Ending, Fault>
+    ensures sent { IfOk result (ComesTo L.follows W.contents
+        order.old order.new line.old line.new writer.old writer.new) }
+    ensures unsent { IfErr result (Fails L.follows W.contents
+        order.old order.new line.old line.new writer.old writer.new) }
+    ensures others { order.new ≡ record order.old { words = order.new.words } }
+{
+    let places = places_of(rt.alloc(), order.words.as_slice())?;
+    if are_none(places.as_slice()) {
+        return send_words(rt, order, line, writer);
+    }
+    match take_tasks(rt, order, line, places.as_slice(), writer) {
+        Ok(None) => send_words(rt, order, line, writer),
+        Ok(Some(ending)) => Ok(ending),
+        Err(fault) => Err(fault),
+    }
+}
+
+fn are_none(places: &[u32]) -> bool
+    ensures { result ≡ are_none places.now }
+{
+    match places {
+        [] => true,
+        [..] => false,
+    }
+}
+
+/// Asks for the tasks of the board, and takes what they make of the order.
+fn take_tasks<L: Line, W: Write>(
+    rt: &HostRuntime,
+    order: &mut SendOrder,
+    line: &mut L,
+    places: &[u32],
+    writer: &mut W,
+) -> Result<Option<Ending>, Fault>
+    ensures named { IfOk result
+        (λ end. IfNone end (AreNamed L.follows order.old order.new line.old line.new)) }
+    ensures still { IfOk result (λ end. IfNone end (writer.new ≡ writer.old)) }
+    ensures refused { IfOk result (λ end. IfSome end (AreRefused L.follows W.contents order.old
+        line.old line.new writer.old writer.new)) }
+    ensures same { IfOk result (λ end. IfSome end (λ ending. order.new ≡ order.old)) }
+    ensures unnamed { IfErr result (AreUnnamed L.follows W.contents order.old
+        line.old line.new writer.old writer.new) }
+    ensures kept { OnErr result (order.new ≡ order.old) }
+{
+    let Some(request) = export_of(rt.alloc(), order.words.as_slice())? else {
+        return Err(Fault::Bad);
+    };
+    match ask(rt, order, line, &request) {
+        Ok(reply) => take_reply(rt, order, places, &reply, writer),
+        Err(fault) => Err(fault),
+    }
+}
+
+/// Sends what the words ask for.
+fn send_words<L: Line, W: Write>(
+    rt: &HostRuntime,
+    order: &SendOrder,
+    line: &mut L,
+    writer: &mut W,
+) -> Result<Ending, Fault>
+    ensures sent { IfOk result (IsSent L.follows W.contents order.now
+        line.old line.new writer.old writer.new) }
+    ensures unsent { IfErr result (IsUnsent L.follows W.contents order.now
+        line.old line.new writer.old writer.new) }
+{
+    let Some(request) = request_of(rt.alloc(), order.words.as_slice())? else {
+        return Err(Fault::Bad);
+    };
+    match ask(rt, order, line, &request) {
+        Ok(reply) => print_reply(writer, order.words.as_slice(), &reply),
+        Err(fault) => Err(fault),
+    }
+}
+
+/// Sends the message of a request until it is answered.
+fn ask<L: Line>(
+    rt: &HostRuntime,
+    order: &SendOrder,
+    line: &mut L,
+    request: &Request,
+) -> Result<Reply, Fault>
+    ensures replied { IfOk result
+        (IsReplied L.follows order.now request.now line.old line.new) }
+    ensures lacks { IfErr result (Lacks L.follows order.now request.now line.old line.new) }
+{
+    match message_for(rt, order, request) {
+        Ok(message) => match ask_until_answered(rt.alloc(), line, message.as_bytes()) {
+            Ok(reply) => Ok(reply),
+            Err(AskFault::NoAnswer) => Err(Fault::NoAnswer),
+            Err(AskFault::Memory) => Err(Fault::Memory),
+        },
+        Err(fault) => Err(fault),
+    }
+}
+
+/// The message of a request, from the order's sender and under its identifier.
+fn message_for(rt: &HostRuntime, order: &SendOrder, request: &Request) -> Result<Text, Fault>
+    ensures is { IfOk result (IsMessage order.now request.now) }
+    ensures none { IfErr result (IsNoMessage order.now request.now) }
+{
+    if is_too_long(request) {
+        return Err(Fault::BadBody);
+    }
+    let Some(id) = order.id else {
+        return Err(Fault::ReadFailed); // The machine gave no random bytes.
+    };
+    let Some(key) = key_of(rt, order)? else {
+        return Err(Fault::NoKey);
+    };
+    let server = order.server.duplicate()?;
+    let member = order.member.duplicate()?;
+    let sender = Sender {
+        server,
+        member,
+        key,
+    };
+    Ok(message_of(rt.alloc(), &sender, id, request)?)
+}
+
+/// Whether no server takes the body.
+fn is_too_long(request: &Request) -> bool
+    ensures { result ≡ is_too_long request.now }
+{
+    match &request.body {
+        Some(body) => body.len() > LONGEST_BODY,
+        None => false,
+    }
+}
