@@ -1,3 +1,3 @@
 pub mod Orders
 pub mod Page
-pub mod Serving
+pub mod Serve

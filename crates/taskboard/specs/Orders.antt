@@ -6,10 +6,10 @@ use Rattle.tb_files.specs.Faults.{is_of_checking, is_of_imports, is_of_views}
 use Rattle.tb_orders.specs.Faults.{is_of_making, is_of_scripts}
 use Rattle.tb_program.specs.declared.fault.Fault.{Fault}
 use Rattle.tb_program.specs.declared.fault.Fault.TheVariants.{WriteFailed}
-use Rattle.tb_script.specs.Answer.{answer, first_state}
+use Rattle.tb_script.specs.Answering.{answer, first_state}
 use Rattle.tb_script.specs.Lines.{answers_from}
 use Rattle.tb_sending.specs.Faults.{is_of_sending}
-use Rattle.taskboard.specs.Serving.{is_of_serving}
+use Rattle.taskboard.specs.Serve.{is_of_serving}
 
 -- the answers to the lines of a script
 abbrev pub script_text : List ℕ → List ℕ

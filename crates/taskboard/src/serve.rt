@@ -1,7 +1,7 @@
 //! The server of a file, on the loopback.
 ghost use Rattle.std.specs.Prelude.{◌≡◌, IfErr, IfOk, IsErrOf, IsSome, true};
 ghost use Rattle.taskboard.specs.Page.{IsPageOf};
-ghost use Rattle.taskboard.specs.Serving.{IsServed, fault_of_loop, is_of_serving, limit_of};
+ghost use Rattle.taskboard.specs.Serve.{IsServed, fault_of_loop, is_of_serving, limit_of};
 ghost use Rattle.tb_event_loop.specs.History.{still_to_end};
 ghost use Rattle.tb_program.specs.declared.fault.Fault.TheVariants.{NoPage};
 

@@ -9,7 +9,7 @@ use Rattle.tb_http.specs.declared.message.Message.{Message}
 use Rattle.tb_http.specs.declared.resource.Resource.{Resource}
 use Rattle.tb_http.specs.declared.resource.RouteFault.{RouteFault}
 use Rattle.tb_http.specs.Message.{content_of}
-use Rattle.tb_http.specs.Resources.{resource_asked}
+use Rattle.tb_http.specs.Resource.{resource_asked}
 use Rattle.tb_http.specs.Sender.{key_of, member_of, request_id_of}
 use Rattle.tb_asking.specs.declared.asked.Asked.{Asked}
 use Rattle.tb_asking.specs.declared.asked.Asked.TheVariants as asked
@@ -19,9 +19,9 @@ use Rattle.tb_asking.specs.declared.form.Target.{Target}
 use Rattle.tb_asking.specs.declared.form.Target.TheVariants as target
 use Rattle.tb_asking.specs.declared.rejection.Rejection.{Rejection}
 use Rattle.tb_asking.specs.declared.rejection.Rejection.TheVariants.{Route, NoId}
-use Rattle.tb_asking.specs.Commands.{command_in}
-use Rattle.tb_asking.specs.Forms.{target_of}
-use Rattle.tb_asking.specs.Rejections.{or_rejected}
+use Rattle.tb_asking.specs.Command.{command_in}
+use Rattle.tb_asking.specs.Form.{target_of}
+use Rattle.tb_asking.specs.Rejection.{or_rejected}
 
 -- ---- who sends it
 

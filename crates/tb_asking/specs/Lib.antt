@@ -1,4 +1,4 @@
-pub mod Rejections
-pub mod Forms
-pub mod Commands
+pub mod Rejection
+pub mod Form
+pub mod Command
 pub mod Asking

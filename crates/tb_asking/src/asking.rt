@@ -1,7 +1,7 @@
 //! What a message asks for, by its route, its fields and its body.
 ghost use Rattle.std.specs.Prelude.{◌≡◌, IfOk, option_map};
 ghost use Rattle.tb_asking.specs.Asking.{asked_at, asked_by, asked_of, call_from, key_in, name_in, sender_of, view_from};
-ghost use Rattle.tb_asking.specs.Rejections.{Asks};
+ghost use Rattle.tb_asking.specs.Rejection.{Asks};
 
 use crate::asked::{Asked, Sender};
 use crate::command::read_command;

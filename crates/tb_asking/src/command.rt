@@ -4,7 +4,7 @@ ghost use Rattle.serde_json.specs.Read.{read};
 ghost use Rattle.serde_json.specs.View.{view};
 ghost use Rattle.tb_body.specs.Fault.{Reads};
 ghost use Rattle.tb_body.specs.Reading.{text_in};
-ghost use Rattle.tb_asking.specs.Commands as commands;
+ghost use Rattle.tb_asking.specs.Command as commands;
 
 use crate::form::{Bare, Form, Small};
 use serde_json::Value;

@@ -1,6 +1,6 @@
 //! What a message's path asks for: a view, or a call whose body has a form.
 ghost use Rattle.std.specs.Prelude.{◌≡◌};
-ghost use Rattle.tb_asking.specs.Forms.{action_form, target_of as target_of_so};
+ghost use Rattle.tb_asking.specs.Form.{action_form, target_of as target_of_so};
 
 use tb_calls::View;
 use tb_http::{Resource, TaskAction};

@@ -1,7 +1,7 @@
 //! Why a message asks for no call and no view.
 ghost use Rattle.std.specs.Prelude.{◌≡◌, IfOk};
 ghost use Rattle.tb_asking.specs.declared.rejection.CallFault.TheVariants.{Memory};
-ghost use Rattle.tb_asking.specs.Rejections.{allowed_by, body_of, fault_of};
+ghost use Rattle.tb_asking.specs.Rejection.{allowed_by, body_of, fault_of};
 
 use std::alloc::{AllocError, AllocFailed, Global};
 use tb_body::BadBody;

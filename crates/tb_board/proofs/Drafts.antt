@@ -8,7 +8,7 @@ use Rattle.tb_board.specs.declared.change.Change.{Change}
 use Rattle.tb_board.specs.declared.change.Change.TheVariants.{PutTask, SetGone, TakeGone, SetAhead}
 use Rattle.tb_board.specs.declared.draft.Draft.{Draft}
 use Rattle.tb_board.specs.declared.gone.Gone.{Gone}
-use Rattle.tb_board.specs.Changes.{put, with_task_at, changed_on, replayed, with_gone, without_gone, with_ahead, IsOn, Follows}
+use Rattle.tb_board.specs.Changing.{put, with_task_at, changed_on, replayed, with_gone, without_gone, with_ahead, IsOn, Follows}
 
 all_push : (n : ℕ) (cs : List Change) (c : Change) → AllByRecursion (IsOn n) cs → IsOn n c → AllByRecursion (IsOn n) (cs ++ c ∷ [])
 all_push n [] c all on = (on, tt)

@@ -6,7 +6,7 @@ use Rattle.tb_task.specs.declared.task.Task.{Task}
 use Rattle.tb_board.specs.declared.board.Board.{Board}
 use Rattle.tb_board.specs.declared.world.World.{World}
 use Rattle.tb_board.specs.Board.{wake, woken}
-use Rattle.tb_board.specs.Changes.{change_board}
+use Rattle.tb_board.specs.Changing.{change_board}
 use Rattle.tb_board.specs.Extends.{Extends, ExtendsBoard, ExtendsTask, IsFrontOf}
 use Rattle.tb_board.specs.First.{change_first}
 use Rattle.tb_board.specs.World.{has_number}

@@ -11,7 +11,7 @@ use Rattle.tb_task.specs.declared.task.Task.{Task}
 use Rattle.tb_board.specs.declared.board.Board.{Board}
 use Rattle.tb_board.specs.Board.{lacks_depends}
 use Rattle.tb_board.specs.Board.{ids, is_on, wake, woken, with_task}
-use Rattle.tb_board.specs.Changes.{with_ahead}
+use Rattle.tb_board.specs.Changing.{with_ahead}
 use Rattle.tb_board.specs.Good.{IsGood, IsSound, IsLinkedOn}
 use Rattle.tb_board.specs.First.{change_first}
 use Rattle.tb_board.proofs.Fresh.{on_ids, among-swapped}

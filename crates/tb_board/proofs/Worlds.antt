@@ -8,7 +8,7 @@ use Rattle.tb_board.specs.declared.change.Change.TheVariants.{PutTask, AddPerson
 use Rattle.tb_board.specs.declared.draft.Draft.{Draft}
 use Rattle.tb_board.specs.declared.world.World.{World}
 use Rattle.tb_board.specs.World.{has_number}
-use Rattle.tb_board.specs.Changes.{change_board, changed, changed_by, changed_on, replayed, with_task_at, with_gone, without_gone, with_ahead, IsOn, IsDraft}
+use Rattle.tb_board.specs.Changing.{change_board, changed, changed_by, changed_on, replayed, with_task_at, with_gone, without_gone, with_ahead, IsOn, IsDraft}
 
 change_board-none : (n : ℕ) (bs : List Board) → change_board n (λ b. b) bs ≡ bs
 change_board-none n [] = refl

@@ -5,7 +5,7 @@ use Rattle.std.specs.List.Sorted.{IsStrictlySortedBy}
 use Rattle.tb_task.specs.declared.task.Task.{Task}
 use Rattle.tb_task.specs.declared.status.Status.{Status}
 use Rattle.tb_task.specs.declared.status.Status.TheVariants.{Pending, Waiting, Recurring, Completed, Deleted}
-use Rattle.tb_task.specs.Check.{fault_of, is_recurring, is_step}
+use Rattle.tb_task.specs.Checks.{fault_of, is_recurring, is_step}
 use Rattle.tb_board.specs.declared.board.Board.{Board}
 use Rattle.tb_board.specs.Board.{lacks_depends}
 use Rattle.tb_board.specs.Board.{ids}

@@ -1,7 +1,7 @@
 pub mod Ahead
 pub mod Blocked
 pub mod Board
-pub mod Changes
+pub mod Changing
 pub mod Extends
 pub mod First
 pub mod Good

@@ -1,5 +1,5 @@
 ghost use Rattle.std.specs.Prelude.{◌≡◌, ◌≤◌, [], ◌∷◌, ◌++◌, Some, None, IfOk, OnOk, insert, length, position};
-ghost use Rattle.tb_board.specs.Changes.{change_board, changed, changed_by, put, with_ahead, with_gone, with_task_at, without_gone};
+ghost use Rattle.tb_board.specs.Changing.{change_board, changed, changed_by, put, with_ahead, with_gone, with_task_at, without_gone};
 ghost use Rattle.tb_board.specs.Roles.{comes_before, set_role, with_new_role};
 ghost use Rattle.tb_board.specs.World.{empty_board};
 

@@ -1,5 +1,5 @@
 ghost use Rattle.std.specs.Prelude.{◌≡◌, ◌<◌, [], ◌∷◌, ◌++◌, length, IfOk, slice_set};
-ghost use Rattle.tb_board.specs.Changes.{IsDraft, Follows, with_ahead, with_gone, without_gone};
+ghost use Rattle.tb_board.specs.Changing.{IsDraft, Follows, with_ahead, with_gone, without_gone};
 ghost use Rattle.tb_board.specs.declared.change.Change.TheVariants.{PutTask};
 
 use crate::ahead::Ahead;

@@ -1,5 +1,5 @@
 ghost use Rattle.std.specs.Prelude.{◌≡◌, IfOk};
-ghost use Rattle.tb_board.specs.Changes.{without_place};
+ghost use Rattle.tb_board.specs.Changing.{without_place};
 ghost use Rattle.tb_board.specs.Templates.{is_gone_at};
 
 use std::alloc::{AllocError, Global};

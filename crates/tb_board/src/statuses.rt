@@ -1,7 +1,7 @@
 ghost use Rattle.std.specs.Prelude.{◌≡◌, ◌||◌};
 ghost use Rattle.tb_board.specs.Good.{has_template_form, is_deleted};
 ghost use Rattle.tb_board.specs.Statuses.{is_open, is_pending, is_pending_or_waiting, is_template, settled};
-ghost use Rattle.tb_task.specs.Check.{is_recurring};
+ghost use Rattle.tb_task.specs.Checks.{is_recurring};
 
 use tb_task::{Moment, Status, Task, is_recurring_status, is_step};
 

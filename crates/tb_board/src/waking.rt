@@ -1,6 +1,6 @@
 ghost use Rattle.std.specs.Prelude.{◌≡◌, ◌<◌, length, IfOk, slice_index_or, slice_set};
 ghost use Rattle.tb_board.specs.Board.{wake, wakes, woken, has_come, is_waiting};
-ghost use Rattle.tb_board.specs.Changes.{Follows};
+ghost use Rattle.tb_board.specs.Changing.{Follows};
 ghost use Rattle.tb_task.specs.declared.status.Status.TheVariants.{Pending};
 ghost use Rattle.tb_task.specs.declared.task.Task.{Task};
 

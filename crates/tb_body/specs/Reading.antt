@@ -6,7 +6,7 @@ use Rattle.serde_json.specs.Read.{read}
 use Rattle.tb_task.specs.declared.edit.Edit.{Edit}
 use Rattle.tb_task.specs.declared.incoming.Incoming.{Incoming}
 use Rattle.tb_task.specs.declared.task.Task.{Task}
-use Rattle.tb_todotxt.specs.Files.{file_of}
+use Rattle.tb_todotxt.specs.File.{file_of}
 use Rattle.tb_todotxt.specs.declared.fault.FileFault.{FileFault}
 use Rattle.tb_todotxt.specs.declared.fault.FileFault.TheVariants as file
 use Rattle.tb_json.specs.declared.fault.JsonFault.{JsonFault}

@@ -14,7 +14,7 @@ use Rattle.lru.proofs.CallerLemmas.{Contains-promoted, Contains-put_entries, Con
 use Rattle.tb_board.specs.declared.board.Board.{Board}
 use Rattle.tb_board.specs.declared.world.World.{World}
 use Rattle.tb_board.specs.World.{find_board}
-use Rattle.tb_cache.specs.Cached.{AreOf}
+use Rattle.tb_cache.specs.BoardCache.{AreOf}
 
 pub of_promoted : (w : World) (test : ℕ → Bool) (es : List (ℕ × Board)) → AreOf w es → AreOf w (promoted test es)
 of_promoted w test es are e there = are e (Contains-promoted test es e there)

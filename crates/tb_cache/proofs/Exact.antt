@@ -14,8 +14,8 @@ use Rattle.lru.proofs.CallerLemmas.{Contains-lookup_entry, lookup-put_entries}
 use Rattle.lru.proofs.Pairs.{lookup-lookup_entry}
 use Rattle.tb_board.specs.declared.board.Board.{Board}
 use Rattle.tb_board.specs.declared.change.Change.{Change}
-use Rattle.tb_board.specs.Changes.{changed_on}
-use Rattle.tb_cache.specs.Followed.{touched, changed_at, followed, followed_by}
+use Rattle.tb_board.specs.Changing.{changed_on}
+use Rattle.tb_cache.specs.Following.{touched, changed_at, followed, followed_by}
 
 apart_tests : (n m : ℕ) → Some n ≢ Some m → nat_eq m n ≡ false
 apart_tests n m apart = elim (cases_Bool (nat_eq m n)) [

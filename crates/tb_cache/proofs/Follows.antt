@@ -11,10 +11,10 @@ use Rattle.tb_board.specs.declared.change.Change.{Change}
 use Rattle.tb_board.specs.declared.change.Change.TheVariants.{PutTask, AddPerson, AddBoard, SetRole, SetGone, TakeGone, SetAhead}
 use Rattle.tb_board.specs.declared.world.World.{World}
 use Rattle.tb_board.specs.World.{find_board, has_number}
-use Rattle.tb_board.specs.Changes.{change_board, changed, changed_by, changed_on, with_task_at, with_ahead, with_gone, without_gone}
+use Rattle.tb_board.specs.Changing.{change_board, changed, changed_by, changed_on, with_task_at, with_ahead, with_gone, without_gone}
 use Rattle.lru.specs.LruCache.{LruCache, lru_cache}
-use Rattle.tb_cache.specs.Cached.{AreOf}
-use Rattle.tb_cache.specs.Followed.{touched}
+use Rattle.tb_cache.specs.BoardCache.{AreOf}
+use Rattle.tb_cache.specs.Following.{touched}
 use Rattle.tb_cache.proofs.Entries.{apart_removed}
 use Rattle.lru.proofs.CallerLemmas.{Contains-remove_entry}
 use Rattle.std.proofs.lemmas.Map.Views.{Contains-from_lookup}

@@ -2,11 +2,11 @@ ghost use Rattle.std.specs.Prelude.{◌≡◌, ◌≢◌, ◌≤◌, ℕ, [], If
 ghost use Rattle.std.specs.Map.{lookup};
 ghost use Rattle.std.specs.Option.{option_map};
 ghost use Rattle.lru.specs.LruCache.{lru_cache, promoted, put_entries};
-ghost use Rattle.tb_board.specs.Changes.{changed, changed_by};
+ghost use Rattle.tb_board.specs.Changing.{changed, changed_by};
 ghost use Rattle.tb_board.specs.World.{find_board};
 ghost use Rattle.tb_board.specs.declared.world.World.{World as WorldValue};
-ghost use Rattle.tb_cache.specs.Cached.{AreOf};
-ghost use Rattle.tb_cache.specs.Followed.{TouchesNone, followed, followed_by, touched as touched_by};
+ghost use Rattle.tb_cache.specs.BoardCache.{AreOf};
+ghost use Rattle.tb_cache.specs.Following.{TouchesNone, followed, followed_by, touched as touched_by};
 
 use crate::following::{follow, touched};
 use lru::LruCache;

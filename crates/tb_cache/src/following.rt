@@ -1,6 +1,6 @@
 ghost use Rattle.std.specs.Prelude.{◌≡◌, IfOk};
-ghost use Rattle.tb_board.specs.Changes.{changed_on};
-ghost use Rattle.tb_cache.specs.Followed.{touched};
+ghost use Rattle.tb_board.specs.Changing.{changed_on};
+ghost use Rattle.tb_cache.specs.Following.{touched};
 
 use crate::replaying::changed_on;
 use std::alloc::{AllocError, Global};

@@ -1,5 +1,5 @@
 ghost use Rattle.std.specs.Prelude.{◌≡◌, IfOk, OnOk};
-ghost use Rattle.tb_board.specs.Changes.{changed_on, put, replayed};
+ghost use Rattle.tb_board.specs.Changing.{changed_on, put, replayed};
 
 use std::alloc::{AllocError, Global};
 use tb_board::{Board, Change, gone_without};

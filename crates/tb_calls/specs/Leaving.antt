@@ -1,7 +1,7 @@
 -- What a stop may leave of calls that were sent.
 use Rattle.std.specs.Prelude.{◌≡◌, ℕ, ◌+◌, ◌≤◌, List, take}
 use Rattle.tb_calls.specs.declared.call.Call.{Call}
-use Rattle.tb_calls.specs.Calls.{State, plain, once}
+use Rattle.tb_calls.specs.Call.{State, plain, once}
 
 -- a stop leaves this state and no other
 abbrev pub Only : State → (State → Type 0) → Type 0

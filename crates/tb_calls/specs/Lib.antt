@@ -1,4 +1,4 @@
-pub mod Calls
-pub mod Keeping
+pub mod Call
+pub mod Keep
 pub mod Leaving
 pub mod Roles

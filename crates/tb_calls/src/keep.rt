@@ -4,8 +4,8 @@ ghost use Rattle.tb_core.specs.Apply.{seen_of};
 ghost use Rattle.tb_core.specs.GoodWorld.{IsGoodWorld};
 ghost use Rattle.tb_board.specs.World.{key_of};
 ghost use Rattle.tb_calls.specs.declared.fault.KeepFault.TheVariants.{Memory, Store};
-ghost use Rattle.tb_calls.specs.Calls.{State};
-ghost use Rattle.tb_calls.specs.Keeping.{HoldsEither, IsStill, MayCommit, is_store, with_reply};
+ghost use Rattle.tb_calls.specs.Call.{State};
+ghost use Rattle.tb_calls.specs.Keep.{HoldsEither, IsStill, MayCommit, is_store, with_reply};
 ghost use Rattle.tb_calls.specs.Leaving.{Only};
 ghost use Rattle.tb_calls.specs.Roles.{boards_of, people_for};
 

@@ -1,7 +1,7 @@
-pub mod BadTexts
-pub mod Causes
-pub mod FileCauses
+pub mod BadText
+pub mod Cause
+pub mod FileCause
 pub mod Shell
 pub mod Told
 pub mod Unanswered
-pub mod WrongWords
+pub mod WrongWord

@@ -3,7 +3,7 @@ use Rattle.std.specs.Prelude.{ℕ, ◌==◌, Bool, true, false, ◌&&◌, List, 
 use Rattle.std.specs.List.{flat_map}
 use Rattle.tb_causes.specs.Told.{IsEither, Text}
 use Rattle.tb_causes.specs.declared.unanswered.TheConstants.{GO_ON, UNCHANGED}
-use Rattle.tb_client.specs.Messages.{request_of}
+use Rattle.tb_client.specs.Request.{request_of}
 use Rattle.tb_client.specs.Places.{places_of}
 use Rattle.tb_client.specs.declared.request.Request.{Request}
 use Rattle.tb_command_line.specs.declared.order.SendOrder.{SendOrder}

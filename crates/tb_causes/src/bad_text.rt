@@ -1,7 +1,7 @@
 //! What is told of a text that can't be imported.
 ghost use Rattle.std.specs.Prelude.{◌≡◌, ◌++◌, ◌∷◌, [], IfOk, OnOk, map};
 ghost use Rattle.std.specs.String.{string_bytes};
-ghost use Rattle.tb_causes.specs.BadTexts.{IsBodyText, IsPartText, body_item_text, is_shown, member_text, named_text, number_of, part_item_text, shown_byte};
+ghost use Rattle.tb_causes.specs.BadText.{IsBodyText, IsPartText, body_item_text, is_shown, member_text, named_text, number_of, part_item_text, shown_byte};
 ghost use Rattle.tb_causes.specs.Told.{IsEither, told_text};
 
 use crate::told::Told;

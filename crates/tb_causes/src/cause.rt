@@ -2,7 +2,7 @@
 ghost use Rattle.std.specs.Prelude.{◌≡◌, IfErr, IfOk, List, OnErr, OnOk, drop, map, option_map};
 ghost use Rattle.std.specs.String.{string_bytes};
 ghost use Rattle.std.specs.Vec.Iter.{into_iter_items};
-ghost use Rattle.tb_causes.specs.Causes.{IsCause, IsCauseOfBadWords, IsCauseOfSilence, IsCauseOfStore, IsCauseOfText, IsCauseOfWords, file_of, port_text, ports_text, send_text, text_of, words_text};
+ghost use Rattle.tb_causes.specs.Cause.{IsCause, IsCauseOfBadWords, IsCauseOfSilence, IsCauseOfStore, IsCauseOfText, IsCauseOfWords, file_of, port_text, ports_text, send_text, text_of, words_text};
 ghost use Rattle.tb_causes.specs.Told.{AppendsFrontOfTold, AppendsTold, Text as TextValue, told_text};
 ghost use Rattle.tb_program.specs.declared.fault.Fault.TheVariants.{WriteFailed};
 

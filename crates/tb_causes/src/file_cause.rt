@@ -1,6 +1,6 @@
 //! Why a file can't be used, as far as looking at it again says.
 ghost use Rattle.std.specs.Prelude.{◌≡◌};
-ghost use Rattle.tb_causes.specs.FileCauses.{IsFileText, access_text, file_text, look_text, opening_text};
+ghost use Rattle.tb_causes.specs.FileCause.{IsFileText, access_text, file_text, look_text, opening_text};
 
 use sqlite::{Connection, Error, ErrorCode};
 use std::fs;

@@ -1,6 +1,6 @@
 //! Which word is wrong of words that are no order, and what it may be.
 ghost use Rattle.std.specs.Prelude.{◌≡◌, IfOk, OnOk, map, option_map};
-ghost use Rattle.tb_causes.specs.WrongWords.{behind, first_wrong, form_text, is_of, is_wrong_option, order_text, others_of, with_other, wrong_of, wrong_of_import, wrong_of_send, wrong_of_sent, wrong_text};
+ghost use Rattle.tb_causes.specs.WrongWord.{behind, first_wrong, form_text, is_of, is_wrong_option, order_text, others_of, with_other, wrong_of, wrong_of_import, wrong_of_send, wrong_of_sent, wrong_text};
 ghost use Rattle.tb_command_line.specs.Sending.{option_value};
 
 use std::alloc::{AllocError, Global};

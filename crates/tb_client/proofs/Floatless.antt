@@ -6,9 +6,9 @@ use Rattle.serde_json.specs.Data.{Data, Members, no_members, member, put}
 use Rattle.serde_json.specs.Written.{has_float, items_have_float, members_have_float}
 use Rattle.tb_json.specs.Writing.{Field, with_field, with_fields, items_of_texts, texts_data}
 use Rattle.tb_task.specs.declared.task.Task.{Task}
-use Rattle.tb_todotxt.specs.Tasks.{task_of}
+use Rattle.tb_todotxt.specs.Making.{task_of}
 use Rattle.tb_todotxt.specs.declared.line.LineParts.{LineParts}
-use Rattle.tb_client.specs.Lines.{early_fields, late_fields, line_data, line_members, status_said}
+use Rattle.tb_client.specs.Line.{early_fields, late_fields, line_data, line_members, status_said}
 
 left_false : (a b : Bool) → a || b ≡ false → a ≡ false
 left_false true b h = h

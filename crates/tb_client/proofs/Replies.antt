@@ -12,7 +12,7 @@ use Rattle.httparse.proofs.GrammarLemmas.{response_unique}
 use Rattle.tb_client.specs.declared.answer.Reply.{Reply}
 use Rattle.std.proofs.lemmas.Str.{IsUtf8-from_is_utf8, is_utf8-from_IsUtf8}
 use Rattle.std.specs.Str.{IsUtf8, is_utf8}
-use Rattle.tb_client.specs.Answers.{IsWholeAnswer, asks_again, fields_of, size_of, text_in}
+use Rattle.tb_client.specs.Answer.{IsWholeAnswer, asks_again, fields_of, size_of, text_in}
 use Rattle.tb_client.specs.Asking.{BringsNone}
 
 -- the fields of the tree are those that the spans cover

@@ -5,7 +5,7 @@ use Rattle.std.proofs.lemmas.List.{length_push}
 use Rattle.std.proofs.lemmas.List.Elements.{All-append, All-cons, All-nil}
 use Rattle.tb_client.specs.declared.answer.Reply.{Reply}
 use Rattle.tb_client.specs.declared.asking.AskFault.TheVariants.{NoAnswer, Memory}
-use Rattle.tb_client.specs.Answers.{IsWholeAnswer, asks_again}
+use Rattle.tb_client.specs.Answer.{IsWholeAnswer, asks_again}
 use Rattle.tb_client.proofs.Replies.{brings_none, brings_again}
 use Rattle.tb_client.specs.Asking.{Event, asked, waited, late, IsTry, EndsBy, next_pause, turns_of, with_pauses}
 

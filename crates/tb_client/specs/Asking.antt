@@ -3,7 +3,7 @@ use Rattle.std.specs.Prelude.{◌≡◌, ◌<◌, ◌⊎◌, ℕ, ◌*◌, min, 
 use Rattle.tb_client.specs.declared.answer.Reply.{Reply}
 use Rattle.tb_client.specs.declared.asking.AskFault.{AskFault}
 use Rattle.tb_client.specs.declared.asking.AskFault.TheVariants.{NoAnswer, Memory}
-use Rattle.tb_client.specs.Answers.{IsWholeAnswer, asks_again}
+use Rattle.tb_client.specs.Answer.{IsWholeAnswer, asks_again}
 
 -- one thing that happened between a client and a server
 pub data Event : Type 0 where

@@ -1,5 +1,5 @@
-pub mod Answers
+pub mod Answer
 pub mod Asking
-pub mod Lines
-pub mod Messages
+pub mod Line
+pub mod Request
 pub mod Places

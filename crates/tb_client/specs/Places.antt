@@ -7,8 +7,8 @@ use Rattle.serde_json.specs.Find.{as_str, get}
 use Rattle.serde_json.specs.Read.{read}
 use Rattle.tb_task.specs.TaskId.{id_text, read_id}
 use Rattle.tb_values.specs.Numerals.{number_to}
-use Rattle.tb_client.specs.Answers.{text_in}
-use Rattle.tb_client.specs.Messages.{Text, board_target, view_at}
+use Rattle.tb_client.specs.Answer.{text_in}
+use Rattle.tb_client.specs.Request.{Text, board_target, view_at}
 use Rattle.tb_client.specs.declared.places.BoardTask.{BoardTask}
 use Rattle.tb_client.specs.declared.request.Request.{Request}
 

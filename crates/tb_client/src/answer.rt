@@ -2,7 +2,7 @@
 ghost use Rattle.std.specs.Prelude.{◌≡◌, All, IfNone, IfOk, IfSome, OnOk, length, map, option_map};
 ghost use Rattle.std.specs.Str.{str_eq_ignore_ascii_case};
 ghost use Rattle.httparse.specs.Spans.{IsHeaderWithin, header_bytes};
-ghost use Rattle.tb_client.specs.Answers.{IsWholeAnswer, only_size, size_in, size_of, size_text, text_in, values_named, with_field};
+ghost use Rattle.tb_client.specs.Answer.{IsWholeAnswer, only_size, size_in, size_of, size_text, text_in, values_named, with_field};
 
 use httparse::Status;
 use httparse::spans::{EMPTY_HEADER_SPAN, HeaderSpan, parse_response};

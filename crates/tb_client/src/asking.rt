@@ -1,6 +1,6 @@
 //! A message that is sent until it is answered.
 ghost use Rattle.std.specs.Prelude.{◌≡◌, List, [], ◌∷◌, ◌++◌, false, true, IfNone, IfOk, IfSome, OnErr, ℕ};
-ghost use Rattle.tb_client.specs.Answers.{IsWholeAnswer, asks_again};
+ghost use Rattle.tb_client.specs.Answer.{IsWholeAnswer, asks_again};
 ghost use Rattle.tb_client.specs.Asking.{Event, EndsBy, IsFront, IsTry, asked, late, torn, waited};
 ghost use Rattle.tb_client.specs.declared.asking.AskFault.TheVariants.{Memory};
 

@@ -1,7 +1,7 @@
 //! The identifier that a line of todo.txt gives its task.
 ghost use Rattle.std.specs.Prelude.{◌≡◌, ◌==◌, IfOk, map};
 ghost use Rattle.std.specs.List.{slice_split};
-ghost use Rattle.tb_client.specs.Lines.{given_id, id_among};
+ghost use Rattle.tb_client.specs.Line.{given_id, id_among};
 ghost use Rattle.tb_todotxt.specs.Words.{filled_parts, id_in, words_of};
 
 use std::alloc::{AllocError, Global};

@@ -2,11 +2,11 @@
 ghost use Rattle.std.specs.Prelude.{◌≡◌, IfOk, OnOk, option_map};
 ghost use Rattle.serde_json.specs.View.{members_view, view};
 ghost use Rattle.serde_json.specs.Written.{compact_text};
-ghost use Rattle.tb_client.specs.Lines.{add_body, early_fields, is_object, is_object_alone, late_fields, line_body, line_data, spaced};
+ghost use Rattle.tb_client.specs.Line.{add_body, early_fields, is_object, is_object_alone, late_fields, line_body, line_data, spaced};
 ghost use Rattle.tb_json.specs.Writing.{with_fields};
-ghost use Rattle.tb_todotxt.specs.Days.{start_of};
-ghost use Rattle.tb_todotxt.specs.Lines.{is_free_of};
-ghost use Rattle.tb_todotxt.specs.Tasks.{task_of};
+ghost use Rattle.tb_todotxt.specs.Day.{start_of};
+ghost use Rattle.tb_todotxt.specs.Line.{is_free_of};
+ghost use Rattle.tb_todotxt.specs.Making.{task_of};
 
 use crate::given::given_id;
 use crate::members::{put_id, put_moment, put_priority, put_tags, put_text, put_text_if_some};

@@ -1,7 +1,7 @@
 //! The bytes of a message.
 ghost use Rattle.std.specs.Prelude.{◌≡◌, IfOk};
 ghost use Rattle.std.specs.String.{string_bytes};
-ghost use Rattle.tb_client.specs.Messages.{call_message, message_of, sender_lines, view_message};
+ghost use Rattle.tb_client.specs.Request.{call_message, message_of, sender_lines, view_message};
 
 use crate::request::Request;
 use std::alloc::{AllocError, Global};

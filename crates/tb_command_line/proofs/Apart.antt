@@ -5,9 +5,9 @@ use Rattle.std.specs.Str.{bytes_eq}
 use Rattle.std.proofs.lemmas.Bool.{and_parts}
 use Rattle.std.proofs.lemmas.Slice.Eq.{bytes_eq-Decides}
 use Rattle.tb_command_line.specs.declared.order.Order.{Order}
-use Rattle.tb_command_line.specs.Pages.{without_page}
+use Rattle.tb_command_line.specs.Page.{without_page}
 use Rattle.tb_command_line.specs.declared.order.ViewKind.TheVariants as view
-use Rattle.tb_command_line.specs.Orders.{Request, Text, Init, Serve, Run, Import, View, Check, is_plain, texts_of, words_of}
+use Rattle.tb_command_line.specs.Order.{Request, Text, Init, Serve, Run, Import, View, Check, is_plain, texts_of, words_of}
 use Rattle.tb_command_line.specs.Sending.{told_of}
 
 not_byte : (b : Bool) → not b ≡ true → b ≡ false

@@ -5,7 +5,7 @@ use Rattle.clap.specs.Walk.{Names, Rule, Text, Walk, answers_to, idle, finished,
 use Rattle.clap.specs.Simple.{App, Shape, built, built_leaf, entered, inherited, is_simple, label_of, marked_built, names_of, subcommand_of, with_leaf_noted}
 use Rattle.clap.specs.Takes.{default_passes, entered_passes, is_valid, level_passes, settle_passes, takes, turn_passes, walk_passes}
 use Rattle.clap.proofs.OnLiterals.{clap_on_literals}
-use Rattle.tb_command_line.specs.Grammar.{program_app}
+use Rattle.tb_command_line.specs.Words.{program_app}
 
 pub simple : is_simple program_app ≡ true
 unfolding clap_on_literals

@@ -7,8 +7,8 @@ use Rattle.clap.specs.Simple.{Shape, filled, with_index}
 use Rattle.clap.specs.Takes.{default_passes, is_valid, level_passes, settle_passes, turn_passes, walk_passes}
 use Rattle.clap.specs.declared.parser.matches.ValueSource.TheVariants.{CommandLine, DefaultValue}
 use Rattle.clap.proofs.OnLiterals.{clap_on_literals}
-use Rattle.tb_command_line.specs.Grammar.{serve_app, flag_rule, needed}
-use Rattle.tb_command_line.specs.Orders.{Serve, flag_words, is_plain, option_words, texts_of}
+use Rattle.tb_command_line.specs.Words.{serve_app, flag_rule, needed}
+use Rattle.tb_command_line.specs.Order.{Serve, flag_words, is_plain, option_words, texts_of}
 use Rattle.tb_command_line.proofs.Entering.{leaf}
 use Rattle.tb_command_line.proofs.Positionals.{IsWord, at, is_word, passes_more}
 

@@ -4,9 +4,9 @@ use Rattle.std.proofs.lemmas.List.{map-append, take-map, drop-map, take_all, len
 use Rattle.tb_command_line.specs.declared.order.Order.{Order}
 use Rattle.tb_command_line.specs.declared.order.WordsFault.{WordsFault}
 use Rattle.tb_command_line.specs.declared.order.WordsFault.TheVariants.{Bad, Memory}
-use Rattle.tb_command_line.specs.Orders.{Text}
+use Rattle.tb_command_line.specs.Order.{Text}
 use Rattle.tb_command_line.specs.Outcome.{Fails}
-use Rattle.tb_command_line.specs.Pages.{has_page, is_page_front, page_place, with_page, without_page}
+use Rattle.tb_command_line.specs.Page.{has_page, is_page_front, page_place, with_page, without_page}
 
 -- a fault stays with a folder
 pub fails_paged : (page : Option Text) (fault : WordsFault) (expected : Result Order WordsFault) → Fails fault expected → Fails fault (with_page page expected)

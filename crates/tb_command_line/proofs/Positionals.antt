@@ -9,7 +9,7 @@ use Rattle.clap.specs.Lexer.{strip_byte}
 use Rattle.clap.specs.Walk.{Row, Rule, Text, Held, Walk, idle, walked, arg_by_index, is_multiple, positional_held, next_position, nothing_held, rows_after, finished}
 use Rattle.clap.specs.Simple.{Shape}
 use Rattle.clap.specs.Takes.{walk_passes, turn_passes, positional_passes, settle_passes, default_passes, is_valid, level_passes}
-use Rattle.tb_command_line.specs.Orders.{is_plain}
+use Rattle.tb_command_line.specs.Order.{is_plain}
 
 -- no flag and no `--`
 pub record IsWord (word : Text) : Type 0 where

@@ -9,9 +9,9 @@ use Rattle.tb_command_line.specs.declared.order.Order.{Order}
 use Rattle.tb_command_line.specs.declared.order.ViewKind.{ViewKind}
 use Rattle.tb_command_line.specs.declared.order.ViewKind.TheVariants as view
 use Rattle.tb_command_line.specs.declared.order.WordsFault.{WordsFault}
-use Rattle.tb_command_line.specs.Grammar.{program_app, init_app, serve_app, import_app, view_app, check_app}
-use Rattle.tb_command_line.specs.Matches.{named_at, order_at}
-use Rattle.tb_command_line.specs.Orders.{Request, Init, Serve, Run, Import, View, Check, is_plain, order_of, texts_of, words_of}
+use Rattle.tb_command_line.specs.Words.{program_app, init_app, serve_app, import_app, view_app, check_app}
+use Rattle.tb_command_line.specs.Reading.{named_at, order_at}
+use Rattle.tb_command_line.specs.Order.{Request, Init, Serve, Run, Import, View, Check, is_plain, order_of, texts_of, words_of}
 use Rattle.tb_command_line.proofs.Entering.{Enters, leaf, taken_below, found_below}
 use Rattle.tb_command_line.proofs.Options.{are_words, options_have, options_pass, serve_rows, serve_words, serving}
 use Rattle.tb_command_line.proofs.Positionals.{fits, takes_words, takes_then, reached_then, rows_of_words, rows_taken, rows_then, level_taken, level_then}

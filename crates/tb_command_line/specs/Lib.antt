@@ -1,6 +1,6 @@
-pub mod Grammar
-pub mod Matches
-pub mod Orders
+pub mod Words
+pub mod Reading
+pub mod Order
 pub mod Outcome
-pub mod Pages
+pub mod Page
 pub mod Sending

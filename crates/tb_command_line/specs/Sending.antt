@@ -14,7 +14,7 @@ use Rattle.tb_command_line.specs.declared.order.Topic.TheVariants as topic
 use Rattle.tb_command_line.specs.declared.order.WordsFault.{WordsFault}
 use Rattle.tb_command_line.specs.declared.order.WordsFault.TheVariants.{Bad}
 use Rattle.tb_values.specs.Numerals.{number_to}
-use Rattle.tb_command_line.specs.Orders.{Text, port_in}
+use Rattle.tb_command_line.specs.Order.{Text, port_in}
 use Rattle.tb_command_line.specs.Outcome.{or_bad}
 
 -- ---- `send [--id UUID] [--for SECONDS] ADDRESS:PORT MEMBER KEY WORD ARGUMENTS..`

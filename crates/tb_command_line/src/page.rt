@@ -1,9 +1,9 @@
 //! The option `--page FOLDER` of a server, which may stand anywhere behind its order.
 ghost use Rattle.std.specs.Prelude.{◌≡◌, ◌++◌, ◌+◌, ◌≤◌, ◌<◌, IfOk, Bool, List, codes, drop, false, length, map, option_map, slice_get, take, true, ℕ};
 ghost use Rattle.std.specs.List.{list_all};
-ghost use Rattle.tb_command_line.specs.Orders.{Request, is_plain, order_of, texts_of, words_of};
+ghost use Rattle.tb_command_line.specs.Order.{Request, is_plain, order_of, texts_of, words_of};
 ghost use Rattle.tb_command_line.specs.Outcome.{Reads};
-ghost use Rattle.tb_command_line.specs.Pages.{has_page, is_page_front, page_in, page_place, paged, serves, with_page, without_page};
+ghost use Rattle.tb_command_line.specs.Page.{has_page, is_page_front, page_in, page_place, paged, serves, with_page, without_page};
 
 use crate::order::{Order, ServeOrder, WordsFault};
 use crate::words::read_listed;

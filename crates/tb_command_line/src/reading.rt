@@ -4,8 +4,8 @@ ghost use Rattle.clap.specs.Matches.{found_of};
 ghost use Rattle.clap.specs.Simple.{subcommand_rows_of};
 ghost use Rattle.clap.specs.Walk.{first_of, rows_of};
 ghost use Rattle.tb_board.specs.Names.{read_key, read_name};
-ghost use Rattle.tb_command_line.specs.Matches.{check_at, connections_at, flag_at, import_at, init_at, named_at, order_at, serve_at, text_at, value_at, view_at};
-ghost use Rattle.tb_command_line.specs.Orders.{board_in, kind_in, port_in};
+ghost use Rattle.tb_command_line.specs.Reading.{check_at, connections_at, flag_at, import_at, init_at, named_at, order_at, serve_at, text_at, value_at, view_at};
+ghost use Rattle.tb_command_line.specs.Order.{board_in, kind_in, port_in};
 ghost use Rattle.tb_command_line.specs.Outcome.{Reads};
 ghost use Rattle.tb_task.specs.TaskId.{read_id};
 

@@ -3,10 +3,10 @@ ghost use Rattle.std.specs.Prelude.{◌≡◌, ◌∷◌, IfOk, Bool, List, None
 ghost use Rattle.std.specs.List.{list_all};
 ghost use Rattle.clap.specs.Simple.{app_of, new_app};
 ghost use Rattle.clap.specs.Walk.{rule_of};
-ghost use Rattle.tb_command_line.specs.Grammar.{IsShaped, bare, check_app, counted_serve_app, file_app, flag_rule, import_app, init_app, input_app, member_app, needed, one_import_app, option_rule, program_app, serve_app, view_app};
-ghost use Rattle.tb_command_line.specs.Orders.{Request, is_plain, order_of, texts_of, words_of};
+ghost use Rattle.tb_command_line.specs.Words.{IsShaped, bare, check_app, counted_serve_app, file_app, flag_rule, import_app, init_app, input_app, member_app, needed, one_import_app, option_rule, program_app, serve_app, view_app};
+ghost use Rattle.tb_command_line.specs.Order.{Request, is_plain, order_of, texts_of, words_of};
 ghost use Rattle.tb_command_line.specs.Outcome.{Reads};
-ghost use Rattle.tb_command_line.specs.Pages.{page_in, with_page, without_page};
+ghost use Rattle.tb_command_line.specs.Page.{page_in, with_page, without_page};
 ghost use Rattle.tb_command_line.specs.Sending.{send_of, told_of};
 ghost use Rattle.tb_command_line.specs.declared.order.Order.{Order};
 

@@ -10,11 +10,11 @@ use Rattle.tb_board.specs.declared.board.Board.{Board}
 use Rattle.tb_board.specs.declared.world.Role.{Role}
 use Rattle.tb_board.specs.declared.world.World.{World}
 use Rattle.tb_board.specs.Board.{has_id, wake}
-use Rattle.tb_board.specs.Changes.{change_board}
+use Rattle.tb_board.specs.Changing.{change_board}
 use Rattle.tb_board.specs.World.{find_board, has_number, may_change, number_of, role_of}
 use Rattle.tb_board.proofs.Goodness.{ids-wake, on-same}
 use Rattle.tb_board.proofs.Worlds.{number_found}
-use Rattle.tb_sweep.specs.Sweep.{more, sweep}
+use Rattle.tb_sweep.specs.Sweeping.{more, sweep}
 use Rattle.tb_sweep.proofs.Adding.{number-sweep}
 use Rattle.tb_sweep.proofs.Settled.{adds_last, sweep_ends, sweep_fits, wake_swept}
 use Rattle.tb_core.specs.declared.command.Answer.{Answer}

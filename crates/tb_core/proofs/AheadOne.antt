@@ -16,10 +16,10 @@ use Rattle.tb_board.proofs.Goodness.{all_push}
 use Rattle.tb_import.specs.declared.refusal.ImportRefusal.{ImportRefusal}
 use Rattle.tb_import.specs.Entering.{with_all, with_new}
 use Rattle.tb_import.specs.Import.{board_after, counts_after, with_masks}
-use Rattle.tb_import.specs.New as import_new
-use Rattle.tb_import.specs.Refusals as import
+use Rattle.tb_import.specs.News as import_new
+use Rattle.tb_import.specs.Refusal as import
 use Rattle.tb_sweep.specs.AtOnce.{sweep_at_once}
-use Rattle.tb_sweep.specs.Sweep.{more, sweep}
+use Rattle.tb_sweep.specs.Sweeping.{more, sweep}
 use Rattle.tb_sweep.proofs.Adding.{ahead-sweep}
 use Rattle.tb_sweep.proofs.AtOnce.{more_same, sweep_same}
 use Rattle.tb_core.specs.declared.command.Answer.{Answer}
@@ -31,13 +31,13 @@ use Rattle.tb_core.specs.declared.command.AnswerDetail.{AnswerDetail}
 use Rattle.tb_core.specs.declared.command.AnswerDetail.TheVariants.{Swept}
 use Rattle.tb_core.specs.declared.look.Seen.{Seen}
 use Rattle.tb_core.specs.declared.refusal.Refusal.{Refusal}
-use Rattle.tb_core.specs.Actions.{action_refusals}
+use Rattle.tb_core.specs.Action.{action_refusals}
 use Rattle.tb_core.specs.Add.{add_refusals}
 use Rattle.tb_core.specs.AheadOne.{answers_by, is_first_command, is_first_role, world_by, AheadOne, IsFirstRequest, IsFirstWorld, IsNoReader, LooksOne, Request}
 use Rattle.tb_core.specs.Allowed.{allows}
 use Rattle.tb_core.specs.Apply.{answered, applied, apply, board_answer, board_for, decided, if_allowed, judged, outcome, role_answer, role_given, role_refusals, seen_of, seen_with, with_role}
 use Rattle.tb_core.specs.AtOnce.{answer_at_once, answered_at_once, apply_at_once, decided_at_once, outcome_at_once, role_at_once}
-use Rattle.tb_core.specs.Depends.{depend_refusals, undepend_refusals}
+use Rattle.tb_core.specs.Linking.{depend_refusals, undepend_refusals}
 use Rattle.tb_core.specs.ImportJson.{told_of}
 use Rattle.tb_core.specs.ImportTodo.{import_todo_refusals}
 use Rattle.tb_core.specs.Modify.{modify_refusals}

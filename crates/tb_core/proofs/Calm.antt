@@ -3,26 +3,26 @@ use Rattle.std.proofs.Common.{◌≡◌, ℕ, zero, suc, Bool, true, false, ◌|
 use Rattle.std.specs.List.{AllByRecursion, list_any}
 use Rattle.std.proofs.lemmas.Bool.{lt-ltb, le-ltb}
 use Rattle.tb_task.specs.declared.task.Task.{Task}
-use Rattle.tb_task.specs.Check.{is_recurring}
+use Rattle.tb_task.specs.Checks.{is_recurring}
 use Rattle.tb_board.specs.declared.board.Board.{Board}
 use Rattle.tb_board.specs.declared.draft.Draft.{Draft}
 use Rattle.tb_board.specs.Board.{wake, wakes, woken}
-use Rattle.tb_board.specs.Changes.{IsDraft, IsOn, replayed}
+use Rattle.tb_board.specs.Changing.{IsDraft, IsOn, replayed}
 use Rattle.tb_board.proofs.Awake.{not_woken}
-use Rattle.tb_sweep.specs.Sweep.{added, more, sweep}
+use Rattle.tb_sweep.specs.Sweeping.{added, more, sweep}
 use Rattle.tb_sweep.proofs.Adding.{sweep_none, added_none, more_none}
 use Rattle.tb_core.specs.declared.command.BoardAnswer.{BoardAnswer}
 use Rattle.tb_core.specs.declared.command.Command.{Command}
 use Rattle.tb_core.specs.declared.command.AnswerDetail.{AnswerDetail}
 use Rattle.tb_core.specs.declared.effect.Step.{Step}
 use Rattle.tb_core.specs.declared.effect.Step.TheVariants.{Set, Push, Stay, LookAhead}
-use Rattle.tb_core.specs.declared.judged.Stop.{Stop}
-use Rattle.tb_core.specs.declared.judged.Stop.TheVariants.{Memory, Refused}
+use Rattle.tb_core.specs.declared.judged.CommandFailure.{CommandFailure}
+use Rattle.tb_core.specs.declared.judged.CommandFailure.TheVariants.{Memory, Refused}
 use Rattle.tb_core.specs.declared.refusal.Refusal.{Refusal}
 use Rattle.tb_core.specs.Apply.{answered, judged, outcome}
 use Rattle.tb_core.specs.Calm.{step_stirs, stirs}
-use Rattle.tb_core.specs.Decisions.{IsAccepted}
-use Rattle.tb_core.specs.Effects.{after, Fits, step_changes}
+use Rattle.tb_core.specs.Deciding.{IsAccepted}
+use Rattle.tb_core.specs.Effect.{after, Fits, step_changes}
 use Rattle.tb_core.specs.Refusals.{Fails}
 
 neither : (a b : Bool) → (a || b) ≡ false → (a ≡ false) × (b ≡ false)
@@ -127,18 +127,18 @@ calm_accepts b c m s told calm here fits judges =
           ∙ ap (λ x. told_of x (answer_of b.number 0 false told)) (sym (made_by b s fits));
     }
 
-fails_answered : (m : ℕ) (stop : Stop) (expected : Result (Board × AnswerDetail) Refusal) → Fails stop expected → Fails stop (answered m expected)
+fails_answered : (m : ℕ) (failure : CommandFailure) (expected : Result (Board × AnswerDetail) Refusal) → Fails failure expected → Fails failure (answered m expected)
 fails_answered m Memory expected h = tt
 fails_answered m (Refused refusal) expected h = ap (answered m) h
 
-calm_refuses : (b : Board) (c : Command) (m : ℕ) (stop : Stop) → list_any (stirs m) b.tasks ≡ false → Fails stop (judged b c m) → Fails stop (outcome b c m)
-calm_refuses b c m stop calm fails =
-    subst (λ x. Fails stop (answered m (judged x c m))) (sym (calm_awake b m calm)) (fails_answered m stop (judged b c m) fails)
+calm_refuses : (b : Board) (c : Command) (m : ℕ) (failure : CommandFailure) → list_any (stirs m) b.tasks ≡ false → Fails failure (judged b c m) → Fails failure (outcome b c m)
+calm_refuses b c m failure calm fails =
+    subst (λ x. Fails failure (answered m (judged x c m))) (sym (calm_awake b m calm)) (fails_answered m failure (judged b c m) fails)
 
-pub refused_calm : {X : Type 0} (b : Board) (c : Command) (m : ℕ) (r : Result X Stop) → list_any (stirs m) b.tasks ≡ false
-    → IfErr r (λ stop. Fails stop (judged b c m)) → IfErr r (λ stop. Fails stop (outcome b c m))
+pub refused_calm : {X : Type 0} (b : Board) (c : Command) (m : ℕ) (r : Result X CommandFailure) → list_any (stirs m) b.tasks ≡ false
+    → IfErr r (λ failure. Fails failure (judged b c m)) → IfErr r (λ failure. Fails failure (outcome b c m))
 refused_calm b c m (Ok x) calm fails = tt
-refused_calm b c m (Err stop) calm fails = calm_refuses b c m stop calm fails
+refused_calm b c m (Err failure) calm fails = calm_refuses b c m failure calm fails
 
 -- ---- the changes of a draft
 

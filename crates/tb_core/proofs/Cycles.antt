@@ -10,9 +10,9 @@ use Rattle.tb_board.specs.Walks.{DependsOn, IsTaskWalk}
 use Rattle.tb_board.proofs.Walking.{leads_by_walks}
 use Rattle.tb_core.specs.declared.command.AnswerDetail.{AnswerDetail}
 use Rattle.tb_core.specs.declared.refusal.Refusal.TheVariants.{Cycle, NoTask, WrongStatus}
-use Rattle.tb_core.specs.Actions.{of_task}
+use Rattle.tb_core.specs.Action.{of_task}
 use Rattle.tb_core.specs.Cycles.{AreCyclesRefused}
-use Rattle.tb_core.specs.Depends.{closes_walk, depends_on, is_open_task, lacks_either}
+use Rattle.tb_core.specs.Linking.{closes_walk, depends_on, is_open_task, lacks_either}
 use Rattle.tb_core.specs.Refusals.{least, unless_refused, where_holds}
 
 -- the last of three refusals is answered exactly where it alone holds

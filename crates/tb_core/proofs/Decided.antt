@@ -14,10 +14,10 @@ use Rattle.tb_board.specs.declared.world.Role.{Role}
 use Rattle.tb_board.specs.declared.world.World.{World}
 use Rattle.tb_core.specs.Allowed.{allows}
 use Rattle.tb_core.specs.Apply.{apply, board_for, board_of, decided, on_board, outcome, role_answer, role_given, role_refusals, with_role, seen_of, seen_with, IsDecision}
-use Rattle.tb_sweep.specs.Sweep.{sweep}
+use Rattle.tb_sweep.specs.Sweeping.{sweep}
 use Rattle.tb_sweep.proofs.Adding.{number-sweep}
-use Rattle.tb_board.specs.Changes.{change_board, changed, replayed}
-use Rattle.tb_core.specs.Decisions.{IsAccepted}
+use Rattle.tb_board.specs.Changing.{change_board, changed, replayed}
+use Rattle.tb_core.specs.Deciding.{IsAccepted}
 use Rattle.tb_core.specs.Giving.{IsRoleDecision}
 use Rattle.tb_core.specs.Outcomes.{given}
 use Rattle.tb_core.specs.Refusals.{least}

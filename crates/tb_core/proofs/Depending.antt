@@ -8,7 +8,7 @@ use Rattle.tb_board.specs.declared.board.Board.{Board}
 use Rattle.tb_board.specs.Board.{has_id}
 use Rattle.tb_board.proofs.Places.{changed_there}
 use Rattle.tb_core.specs.declared.command.AnswerDetail.TheVariants.{Changed}
-use Rattle.tb_core.specs.Depends.{closes_walk, depend_refusals, depends_on, IsPlaceToLink, judged_depend, judged_undepend, linked, undepend_refusals, unlinked}
+use Rattle.tb_core.specs.Linking.{closes_walk, depend_refusals, depends_on, IsPlaceToLink, judged_depend, judged_undepend, linked, undepend_refusals, unlinked}
 use Rattle.tb_core.specs.Refusals.{least}
 
 found_there : (b : Board) (id on place : ℕ) (t : Task) → IsPlaceToLink b id on place → t ≡ get_or b.tasks place t → find (has_id id) b.tasks ≡ Some t

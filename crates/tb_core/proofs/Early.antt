@@ -8,7 +8,7 @@ use Rattle.tb_core.specs.declared.command.Command.{Command}
 use Rattle.tb_core.specs.declared.command.Command.TheVariants.{Add}
 use Rattle.tb_core.specs.declared.refusal.Refusal.{Refusal}
 use Rattle.tb_core.specs.Add.{add_refusals}
-use Rattle.tb_core.specs.Decisions.{IsRefused, TakesAdded}
+use Rattle.tb_core.specs.Deciding.{IsRefused, TakesAdded}
 use Rattle.tb_core.specs.Refusals.{least}
 use Rattle.tb_task.specs.declared.incoming.Incoming.{Incoming}
 

@@ -8,16 +8,16 @@ use Rattle.tb_board.specs.declared.board.Board.{Board}
 use Rattle.tb_board.specs.declared.world.Role.{Role}
 use Rattle.tb_board.specs.declared.world.World.{World}
 use Rattle.tb_board.specs.Board.{has_id, wake, with_task}
-use Rattle.tb_board.specs.Changes.{change_board}
+use Rattle.tb_board.specs.Changing.{change_board}
 use Rattle.tb_board.specs.Extends.{Extends, ExtendsBoard, ExtendsTask, IsFrontOf}
 use Rattle.tb_board.specs.World.{find_board, has_number, number_of, role_of}
 use Rattle.tb_board.proofs.Extending.{board-append, board-change, board-refl, board-trans, board-wake, extends-board, extends-refl, front-append, front-refl}
 use Rattle.tb_board.proofs.Worlds.{number_found}
-use Rattle.tb_sweep.specs.Sweep.{sweep}
+use Rattle.tb_sweep.specs.Sweeping.{sweep}
 use Rattle.tb_sweep.proofs.Extending.{extends-sweep}
 use Rattle.tb_import.specs.declared.imported.ImportCounts.{ImportCounts}
 use Rattle.tb_import.specs.declared.refusal.ImportRefusal.{ImportRefusal}
-use Rattle.tb_import.specs.Refusals.{judged_import}
+use Rattle.tb_import.specs.Refusal.{judged_import}
 use Rattle.tb_import.proofs.Extending.{extends-import}
 use Rattle.tb_core.specs.declared.action.Action.{Action}
 use Rattle.tb_core.specs.declared.action.Action.TheVariants.{Done, Delete, Reopen, Start, Stop, Annotate, Denotate}
@@ -29,11 +29,11 @@ use Rattle.tb_core.specs.declared.command.Command.TheVariants.{Add, OnTask, Modi
 use Rattle.tb_core.specs.declared.command.AnswerDetail.{AnswerDetail}
 use Rattle.tb_core.specs.declared.look.Seen.{Seen}
 use Rattle.tb_core.specs.declared.refusal.Refusal.{Refusal}
-use Rattle.tb_core.specs.Actions.{acted, action_refusals}
+use Rattle.tb_core.specs.Action.{acted, action_refusals}
 use Rattle.tb_core.specs.Add.{add_refusals, entered}
 use Rattle.tb_core.specs.Allowed.{allows}
 use Rattle.tb_core.specs.Apply.{answered, applied, board_for, decided, if_allowed, judged, outcome, role_answer, role_given, role_refusals, seen_of, seen_with, with_role}
-use Rattle.tb_core.specs.Depends.{depend_refusals, depends_on, linked, undepend_refusals, unlinked}
+use Rattle.tb_core.specs.Linking.{depend_refusals, depends_on, linked, undepend_refusals, unlinked}
 use Rattle.tb_core.specs.Edits.{modified}
 use Rattle.tb_core.specs.GoodLaws.{AlwaysExtends}
 use Rattle.tb_core.specs.ImportJson.{told_of}

@@ -7,7 +7,7 @@ use Rattle.tb_task.specs.declared.checks.Field.{Field}
 use Rattle.tb_task.specs.declared.status.Status.{Status}
 use Rattle.tb_task.specs.declared.status.Status.TheVariants.{Pending, Waiting, Recurring, Completed, Deleted}
 use Rattle.tb_task.specs.declared.task.Task.{Task}
-use Rattle.tb_task.specs.Check.{fault_of, is_recurring}
+use Rattle.tb_task.specs.Checks.{fault_of, is_recurring}
 use Rattle.tb_board.specs.declared.board.Board.{Board}
 use Rattle.tb_board.specs.Board.{has_id, is_on, lacks_depends, with_task}
 use Rattle.tb_board.specs.Good.{IsGood, IsSound}

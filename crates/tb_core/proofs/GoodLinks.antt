@@ -4,7 +4,7 @@ use Rattle.std.specs.BTreeSet.{replace_key}
 use Rattle.std.specs.Ordering.{nat_cmp}
 use Rattle.std.proofs.lemmas.Bool.{cases_Bool}
 use Rattle.tb_task.specs.declared.task.Task.{Task}
-use Rattle.tb_task.specs.Check.{fault_of, has_bad_pair, has_bad_recurrence, has_bad_text}
+use Rattle.tb_task.specs.Checks.{fault_of, has_bad_pair, has_bad_recurrence, has_bad_text}
 use Rattle.tb_board.specs.declared.board.Board.{Board}
 use Rattle.tb_board.specs.Board.{has_id, is_on}
 use Rattle.tb_board.specs.First.{change_first}
@@ -12,7 +12,7 @@ use Rattle.tb_board.specs.Good.{IsGood, IsSound}
 use Rattle.tb_board.proofs.Runs.{KeepsLinks}
 use Rattle.tb_board.proofs.Relinked.{good-less, good-more, HasOneMore}
 use Rattle.tb_board.proofs.Relinking.{or_false}
-use Rattle.tb_core.specs.Depends.{closes_walk, depends_on, linked, unlinked}
+use Rattle.tb_core.specs.Linking.{closes_walk, depends_on, linked, unlinked}
 
 sound_unlinked : (m on : ℕ) (t : Task) → IsSound t → IsSound (unlinked m on t)
 unfolding fault_of has_bad_text has_bad_pair has_bad_recurrence

@@ -5,7 +5,7 @@ use Rattle.std.proofs.lemmas.Bool.{cases_Bool, eqb-true}
 use Rattle.tb_board.specs.declared.board.Board.{Board}
 use Rattle.tb_board.specs.declared.world.RoleOn.{RoleOn}
 use Rattle.tb_board.specs.declared.world.World.{World}
-use Rattle.tb_board.specs.Changes.{change_board}
+use Rattle.tb_board.specs.Changing.{change_board}
 use Rattle.tb_board.specs.Good.{IsGood}
 use Rattle.tb_core.specs.GoodWorld.{IsGoodWorld, HasOwner, IsRoleIn, numbers}
 use Rattle.tb_board.specs.World.{has_number}

@@ -10,7 +10,7 @@ use Rattle.tb_core.specs.Modify.{is_fixed, is_misplaced, judged_modify}
 use Rattle.tb_task.specs.declared.checks.Field.{Field}
 use Rattle.tb_task.specs.declared.edit.Edit.{Edit}
 use Rattle.tb_task.specs.declared.task.Task.{Task}
-use Rattle.tb_task.specs.Check.{checked, fault_of, refused}
+use Rattle.tb_task.specs.Checks.{checked, fault_of, refused}
 
 -- a task that is taken has no fault
 pub taken : (t : Task) (x : Unit {0}) → Ok x ≡ checked t → fault_of t ≡ None

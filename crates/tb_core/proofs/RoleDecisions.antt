@@ -5,11 +5,11 @@ use Rattle.tb_board.specs.declared.change.Change.{Change}
 use Rattle.tb_board.specs.declared.change.Change.TheVariants.{SetRole}
 use Rattle.tb_board.specs.declared.draft.Draft.{Draft}
 use Rattle.tb_board.specs.declared.world.Role.{Role}
-use Rattle.tb_board.specs.Changes.{IsDraft}
+use Rattle.tb_board.specs.Changing.{IsDraft}
 use Rattle.tb_core.specs.declared.command.Answer.TheVariants.{OnBoard}
 use Rattle.tb_core.specs.declared.command.AnswerDetail.TheVariants.{Swept}
 use Rattle.tb_core.specs.Giving.{IsRoleDecision}
-use Rattle.tb_sweep.specs.Sweep.{added, more, sweep}
+use Rattle.tb_sweep.specs.Sweeping.{added, more, sweep}
 
 pub role_decided : (b start : Board) (person : ℕ) (role : Option Role) (m : ℕ) (draft : Draft) (number : ℕ) (still : Bool) (before changes : List Change)
     → start ≡ b → IsDraft b draft → draft.board ≡ sweep start m → number ≡ added start m → still ≡ more (sweep start m) m

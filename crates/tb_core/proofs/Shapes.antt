@@ -5,7 +5,7 @@ use Rattle.tb_board.specs.declared.board.Board.{Board}
 use Rattle.tb_board.specs.declared.change.Change.{Change}
 use Rattle.tb_board.specs.declared.draft.Draft.{Draft}
 use Rattle.tb_board.specs.declared.world.Role.{Role}
-use Rattle.tb_board.specs.Changes.{IsDraft, IsOn}
+use Rattle.tb_board.specs.Changing.{IsDraft, IsOn}
 use Rattle.tb_core.specs.declared.command.Answer.{Answer}
 use Rattle.tb_core.specs.declared.deciding.Decision.{Decision}
 use Rattle.tb_core.specs.declared.look.Seen.{Seen}

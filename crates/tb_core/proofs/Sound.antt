@@ -9,10 +9,10 @@ use Rattle.tb_task.specs.declared.checks.Field.{Field}
 use Rattle.tb_task.specs.declared.checks.Field.TheVariants.{EmptyDescription, BadText}
 use Rattle.tb_task.specs.declared.task.Annotation.{Annotation}
 use Rattle.tb_task.specs.declared.task.Task.{Task}
-use Rattle.tb_task.specs.Check.{has_bad_recurrence, has_bad_text, is_bad_extra, is_bad_text, is_empty, is_recurring, is_step, some_is_bad}
+use Rattle.tb_task.specs.Checks.{has_bad_recurrence, has_bad_text, is_bad_extra, is_bad_text, is_empty, is_recurring, is_step, some_is_bad}
 use Rattle.tb_core.specs.declared.action.Action.{Action}
 use Rattle.tb_core.specs.declared.action.Action.TheVariants.{Done, Delete, Reopen, Start, Stop, Annotate, Denotate}
-use Rattle.tb_core.specs.Actions.{acted, action_fault, takes}
+use Rattle.tb_core.specs.Action.{acted, action_fault, takes}
 use Rattle.tb_board.specs.Good.{has_template_form, is_deleted, IsSound}
 use Rattle.tb_core.specs.Notes.{annotated, denotated, note_fault, says}
 use Rattle.tb_core.specs.Transitions.{completed, deleted, reopened, started, stopped}

@@ -10,7 +10,7 @@ use Rattle.tb_core.specs.Edits.{edited, edited_by, extended, modified, names}
 use Rattle.tb_core.specs.Modify.{is_fixed, is_misplaced}
 use Rattle.tb_core.proofs.Sound.{settled_plain}
 use Rattle.tb_task.specs.Attributes.{is_attribute}
-use Rattle.tb_task.specs.Check.{fault_of, is_recurring}
+use Rattle.tb_task.specs.Checks.{fault_of, is_recurring}
 use Rattle.tb_task.specs.declared.edit.Edit.{Edit}
 use Rattle.tb_task.specs.declared.status.Status.{Status}
 use Rattle.tb_task.specs.declared.task.Task.{Task}

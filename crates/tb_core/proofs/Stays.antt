@@ -6,7 +6,7 @@ use Rattle.tb_task.specs.declared.task.Task.{Task}
 use Rattle.tb_task.specs.declared.checks.Field.{Field}
 use Rattle.tb_task.specs.declared.checks.Field.TheVariants.{BadPair}
 use Rattle.tb_task.specs.declared.edit.Edit.{Edit}
-use Rattle.tb_task.specs.Check.{fault_of, has_bad_text, has_bad_pair, has_bad_recurrence}
+use Rattle.tb_task.specs.Checks.{fault_of, has_bad_text, has_bad_pair, has_bad_recurrence}
 use Rattle.tb_board.specs.declared.board.Board.{Board}
 use Rattle.tb_core.specs.declared.command.Answer.{Answer}
 use Rattle.tb_core.specs.declared.command.Answer.TheVariants as Answers
@@ -24,10 +24,10 @@ use Rattle.tb_board.specs.declared.world.Role.{Role}
 use Rattle.tb_board.specs.declared.world.World.{World}
 use Rattle.tb_core.specs.declared.action.Action.{Action}
 use Rattle.tb_core.specs.declared.action.Action.TheVariants.{Done, Delete, Reopen, Start, Stop, Annotate, Denotate}
-use Rattle.tb_core.specs.Actions.{acted, action_fault, action_refusals, of_task, takes}
+use Rattle.tb_core.specs.Action.{acted, action_fault, action_refusals, of_task, takes}
 use Rattle.tb_core.specs.Edits.{modified}
 use Rattle.tb_core.specs.Modify.{is_fixed, is_misplaced, modify_fault, modify_refusals}
-use Rattle.tb_core.specs.Depends.{closes_walk, depend_refusals, is_open_task, lacks_either, linked, undepend_refusals, unlinked}
+use Rattle.tb_core.specs.Linking.{closes_walk, depend_refusals, is_open_task, lacks_either, linked, undepend_refusals, unlinked}
 use Rattle.tb_core.specs.ImportTodo.{first_bad, import_todo_refusals, imported, new_tasks}
 use Rattle.tb_core.proofs.GoodImports.{good-new, plain_all}
 use Rattle.tb_core.proofs.GoodLinks.{good-linked, good-unlinked}
@@ -35,7 +35,7 @@ use Rattle.tb_core.specs.Add.{add_fault, add_refusals, entered, entered_id, firs
 use Rattle.tb_board.specs.Board.{lacks_depends, has_id, is_on, wake, with_task}
 use Rattle.tb_core.specs.Allowed.{allows}
 use Rattle.tb_core.specs.Apply.{answered, applied, board_for, decided, if_allowed, outcome, person_for, role_answer, role_given, role_refusals, seen_of, seen_with, with_role}
-use Rattle.tb_board.specs.Changes.{with_ahead}
+use Rattle.tb_board.specs.Changing.{with_ahead}
 use Rattle.tb_board.specs.First.{change_first}
 use Rattle.tb_board.specs.Statuses.{is_open}
 use Rattle.tb_board.specs.Good.{has_template_form, IsGood, IsSound}
@@ -53,12 +53,12 @@ use Rattle.tb_import.specs.declared.imported.ImportCounts.{ImportCounts}
 use Rattle.tb_import.specs.declared.refusal.ImportRefusal.{ImportRefusal}
 use Rattle.tb_import.specs.Entering.{with_all, with_new}
 use Rattle.tb_import.specs.Import.{board_after, counts_after, with_masks}
-use Rattle.tb_import.specs.New as import_new
-use Rattle.tb_import.specs.Refusals as import
-use Rattle.tb_import.specs.Refusals.{import_refusals, judged_import}
+use Rattle.tb_import.specs.News as import_new
+use Rattle.tb_import.specs.Refusal as import
+use Rattle.tb_import.specs.Refusal.{import_refusals, judged_import}
 use Rattle.tb_import.proofs.Keeping.{import_keeps_good}
 use Rattle.tb_core.specs.ImportJson.{told_of}
-use Rattle.tb_sweep.specs.Sweep.{sweep}
+use Rattle.tb_sweep.specs.Sweeping.{sweep}
 use Rattle.tb_sweep.proofs.Adding.{number-sweep}
 use Rattle.tb_sweep.proofs.Keeping.{sweep_kept}
 use Rattle.tb_core.proofs.GoodPeople.{good-new_board, good-person, good-role, number_in}

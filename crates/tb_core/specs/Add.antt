@@ -3,7 +3,7 @@ use Rattle.std.specs.Prelude.{ℕ, Bool, not, ◌&&◌, ◌||◌, List, [], ◌�
 use Rattle.tb_task.specs.declared.task.Task.{Task}
 use Rattle.tb_task.specs.declared.checks.Field.{Field}
 use Rattle.tb_task.specs.declared.checks.Field.TheVariants.{BadPair}
-use Rattle.tb_task.specs.Check.{fault_of}
+use Rattle.tb_task.specs.Checks.{fault_of}
 use Rattle.tb_board.specs.declared.board.Board.{Board}
 use Rattle.tb_core.specs.declared.command.AnswerDetail.{AnswerDetail}
 use Rattle.tb_core.specs.declared.command.AnswerDetail.TheVariants.{Added}

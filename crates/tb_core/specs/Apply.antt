@@ -16,12 +16,12 @@ use Rattle.tb_core.specs.declared.refusal.Refusal.{Refusal}
 use Rattle.tb_core.specs.declared.refusal.Refusal.TheVariants.{UnknownCaller, NoBoard, NotAllowed, NoPerson, LastOwner}
 use Rattle.tb_board.specs.declared.world.Role.{Role}
 use Rattle.tb_board.specs.declared.world.World.{World}
-use Rattle.tb_core.specs.Actions.{judged_action}
+use Rattle.tb_core.specs.Action.{judged_action}
 use Rattle.tb_core.specs.Add.{judged_add}
 use Rattle.tb_core.specs.Allowed.{allows}
-use Rattle.tb_core.specs.Depends.{judged_depend, judged_undepend}
+use Rattle.tb_core.specs.Linking.{judged_depend, judged_undepend}
 use Rattle.tb_board.specs.Board.{wake}
-use Rattle.tb_board.specs.Changes.{change_board, changed, with_ahead}
+use Rattle.tb_board.specs.Changing.{change_board, changed, with_ahead}
 use Rattle.tb_core.specs.ImportJson.{judged_import_json}
 use Rattle.tb_core.specs.ImportTodo.{judged_import_todo}
 use Rattle.tb_core.specs.Modify.{judged_modify}
@@ -30,7 +30,7 @@ use Rattle.tb_core.specs.People.{new_board, new_person}
 use Rattle.tb_core.specs.Refusals.{least, where_holds}
 use Rattle.tb_core.specs.Owners.{leaves_none, person_number}
 use Rattle.tb_board.specs.Roles.{set_role}
-use Rattle.tb_sweep.specs.Sweep.{added, more, sweep}
+use Rattle.tb_sweep.specs.Sweeping.{added, more, sweep}
 use Rattle.tb_board.specs.World.{find_board, is_owner, number_of, owners, role_of}
 
 -- the board that a command names

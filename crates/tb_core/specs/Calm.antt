@@ -1,7 +1,7 @@
 -- Boards on which no task wakes at a moment, and none recurs.
 use Rattle.std.specs.Prelude.{ℕ, Bool, true, false, ◌||◌}
 use Rattle.tb_task.specs.declared.task.Task.{Task}
-use Rattle.tb_task.specs.Check.{is_recurring}
+use Rattle.tb_task.specs.Checks.{is_recurring}
 use Rattle.tb_board.specs.Board.{wakes}
 use Rattle.tb_core.specs.declared.command.Command.{Command}
 use Rattle.tb_core.specs.declared.command.Command.TheVariants.{Add, OnTask, Modify, ImportJson, ImportTodo, Sweep, SetRole, NewPerson, NewBoard, Depend, Undepend, SetAhead}

@@ -6,7 +6,7 @@ use Rattle.std.specs.List.{list_any}
 use Rattle.std.specs.Set.{remove_key}
 use Rattle.tb_board.specs.Statuses.{is_pending_or_waiting, settled}
 use Rattle.tb_task.specs.Attributes.{is_attribute}
-use Rattle.tb_task.specs.Extras.{by_name}
+use Rattle.tb_task.specs.Extra.{by_name}
 use Rattle.tb_task.specs.declared.edit.Edit.{Edit}
 use Rattle.tb_task.specs.declared.edit.Given.{Given}
 use Rattle.tb_task.specs.declared.edit.Given.TheVariants.{Text, Moment, Priority, Tags, Number, Truth}

@@ -6,8 +6,8 @@ use Rattle.tb_core.specs.declared.deciding.Decision.{Decision}
 use Rattle.tb_board.specs.declared.draft.Draft.{Draft}
 use Rattle.tb_board.specs.declared.world.Role.{Role}
 use Rattle.tb_core.specs.Apply.{role_answer}
-use Rattle.tb_sweep.specs.Sweep.{sweep}
-use Rattle.tb_board.specs.Changes.{IsDraft}
+use Rattle.tb_sweep.specs.Sweeping.{sweep}
+use Rattle.tb_board.specs.Changing.{IsDraft}
 
 -- the changes of the sweep, and then the role
 pub record IsRoleDecision (b : Board) (person : ℕ) (role : Option Role) (m : ℕ)

@@ -5,7 +5,7 @@ use Rattle.tb_board.specs.declared.board.Board.{Board}
 use Rattle.tb_import.specs.declared.imported.ImportCounts.{ImportCounts}
 use Rattle.tb_import.specs.declared.refusal.ImportRefusal.{ImportRefusal}
 use Rattle.tb_import.specs.declared.refusal.ImportRefusal.TheVariants as import
-use Rattle.tb_import.specs.Refusals.{judged_import}
+use Rattle.tb_import.specs.Refusal.{judged_import}
 use Rattle.tb_core.specs.declared.command.AnswerDetail.{AnswerDetail}
 use Rattle.tb_core.specs.declared.command.AnswerDetail.TheVariants.{Imported}
 use Rattle.tb_core.specs.declared.refusal.Refusal.{Refusal}

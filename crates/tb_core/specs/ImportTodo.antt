@@ -7,7 +7,7 @@ use Rattle.tb_task.specs.declared.status.Status.{Status}
 use Rattle.tb_task.specs.declared.status.Status.TheVariants.{Pending, Waiting, Recurring, Completed, Deleted}
 use Rattle.tb_task.specs.declared.task.Task.{Task}
 use Rattle.tb_task.specs.declared.checks.Field.{Field}
-use Rattle.tb_task.specs.Check.{fault_of}
+use Rattle.tb_task.specs.Checks.{fault_of}
 use Rattle.tb_board.specs.declared.board.Board.{Board}
 use Rattle.tb_board.specs.Board.{has_id}
 use Rattle.tb_core.specs.declared.command.AnswerDetail.{AnswerDetail}

@@ -1,4 +1,4 @@
-pub mod Actions
+pub mod Action
 pub mod Add
 pub mod AheadOne
 pub mod Allowed
@@ -6,10 +6,10 @@ pub mod Apply
 pub mod AtOnce
 pub mod Calm
 pub mod Cycles
-pub mod Decisions
-pub mod Depends
+pub mod Deciding
+pub mod Linking
 pub mod Edits
-pub mod Effects
+pub mod Effect
 pub mod Giving
 pub mod GoodLaws
 pub mod GoodWorld

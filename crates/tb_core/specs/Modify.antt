@@ -8,14 +8,14 @@ use Rattle.tb_core.specs.declared.command.AnswerDetail.{AnswerDetail}
 use Rattle.tb_core.specs.declared.command.AnswerDetail.TheVariants.{Changed}
 use Rattle.tb_core.specs.declared.refusal.Refusal.{Refusal}
 use Rattle.tb_core.specs.declared.refusal.Refusal.TheVariants.{NoTask, WrongStatus, TemplateFixed}
-use Rattle.tb_core.specs.Actions.{of_task}
+use Rattle.tb_core.specs.Action.{of_task}
 use Rattle.tb_core.specs.Edits.{modified, names}
 use Rattle.tb_core.specs.Refusals.{bad_task, least, unless_refused, where_holds}
 use Rattle.tb_task.specs.declared.checks.Field.{Field}
 use Rattle.tb_task.specs.declared.checks.Field.TheVariants.{BadPair}
 use Rattle.tb_task.specs.declared.edit.Edit.{Edit}
 use Rattle.tb_task.specs.declared.task.Task.{Task}
-use Rattle.tb_task.specs.Check.{fault_of}
+use Rattle.tb_task.specs.Checks.{fault_of}
 
 -- only a template's step can be named
 abbrev pub is_misplaced : List Edit → Task → Bool

@@ -7,7 +7,7 @@ use Rattle.tb_task.specs.declared.task.Annotation.{Annotation}
 use Rattle.tb_task.specs.declared.task.Task.{Task}
 use Rattle.tb_task.specs.declared.checks.Field.{Field}
 use Rattle.tb_task.specs.declared.checks.Field.TheVariants.{EmptyDescription, BadText}
-use Rattle.tb_task.specs.Check.{is_bad_text, is_empty}
+use Rattle.tb_task.specs.Checks.{is_bad_text, is_empty}
 
 -- an annotation without text, or with a bad one
 abbrev pub note_fault : List ℕ → Option Field

@@ -1,11 +1,11 @@
--- How refusals are chosen, and what a step that can stop gives.
+-- How refusals are chosen, and what a step that can fail gives.
 use Rattle.std.specs.Prelude.{◌≡◌, Bool, if◌then◌else◌, List, [], ◌∷◌, Option, Some, None, Result, Ok, Err}
 use Rattle.tb_task.specs.declared.checks.Field.{Field}
 use Rattle.tb_board.specs.declared.board.Board.{Board}
 use Rattle.tb_core.specs.declared.command.AnswerDetail.{AnswerDetail}
 use Rattle.tb_core.specs.declared.judged.Judged.{Judged}
-use Rattle.tb_core.specs.declared.judged.Stop.{Stop}
-use Rattle.tb_core.specs.declared.judged.Stop.TheVariants.{Memory, Refused}
+use Rattle.tb_core.specs.declared.judged.CommandFailure.{CommandFailure}
+use Rattle.tb_core.specs.declared.judged.CommandFailure.TheVariants.{Memory, Refused}
 use Rattle.tb_core.specs.declared.refusal.Refusal.{Refusal}
 use Rattle.tb_core.specs.declared.refusal.Refusal.TheVariants.{BadTask}
 
@@ -28,12 +28,12 @@ abbrev pub unless_refused : Option Refusal → Board → AnswerDetail
 unless_refused None b told = Ok (b, told)
 unless_refused (Some r) b told = Err r
 
--- a stop is the refusal that is expected, unless memory ran out
-abbrev pub Fails : {Y : Type 0} → Stop → Result Y Refusal → Type 0
+-- a failure is the refusal that is expected, unless memory ran out
+abbrev pub Fails : {Y : Type 0} → CommandFailure → Result Y Refusal → Type 0
 Fails Memory expected = Unit {0}
 Fails (Refused r) expected = expected ≡ Err r
 
 -- what a command made of a draft is what is expected of its board
-abbrev pub Gives : Result Judged Stop → Result (Board × AnswerDetail) Refusal → Type 0
+abbrev pub Gives : Result Judged CommandFailure → Result (Board × AnswerDetail) Refusal → Type 0
 Gives (Ok j) expected = expected ≡ Ok (j.draft.board, j.told)
 Gives (Err e) expected = Fails e expected

@@ -5,7 +5,7 @@ use Rattle.tb_board.specs.declared.change.Change.{Change}
 use Rattle.tb_board.specs.declared.change.Change.TheVariants.{AddPerson, AddBoard, SetRole}
 use Rattle.tb_board.specs.declared.world.Role.{Role}
 use Rattle.tb_board.specs.declared.world.Role.TheVariants.{Owner}
-use Rattle.tb_board.specs.Changes.{IsOn}
+use Rattle.tb_board.specs.Changing.{IsOn}
 
 -- all are changes of one board
 pub record AreOnOneBoard (cs : List Change) : Type 0 where

@@ -1,10 +1,10 @@
 ghost use Rattle.std.specs.Prelude.{◌≡◌, IfOk};
-ghost use Rattle.tb_core.specs.Actions.{acted, action_fault, judged_action, lacks, takes};
-ghost use Rattle.tb_core.specs.Effects.{Fits, GivesEffect};
+ghost use Rattle.tb_core.specs.Action.{acted, action_fault, judged_action, lacks, takes};
+ghost use Rattle.tb_core.specs.Effect.{Fits, GivesEffect};
 
 use crate::command::AnswerDetail;
 use crate::effect::{Effect, Step};
-use crate::judged::Stop;
+use crate::judged::CommandFailure;
 use crate::notes::{annotated_task, denotated_task, fault_in_note, has_note_of};
 use crate::refusal::Refusal;
 use crate::transitions::{completed_task, deleted_task, reopened_task, started_task, stopped_task};
@@ -28,22 +28,22 @@ pub enum Action {
 }
 
 /// What it makes of a task of a board that is awake.
-pub fn act(board: &Board, id: TaskId, action: &Action, at: Moment) -> Result<Effect, Stop>
+pub fn act(board: &Board, id: TaskId, action: &Action, at: Moment) -> Result<Effect, CommandFailure>
     ensures gives { GivesEffect board.now result (judged_action board.now id action.now at) }
     ensures fits { IfOk result (λ effect. Fits board.now effect.step) }
 {
     let Some(place) = place_of_task(board.tasks.as_slice(), id) else {
-        return Err(Stop::Refused(Refusal::NoTask));
+        return Err(CommandFailure::Refused(Refusal::NoTask));
     };
     let task = board.task_at(place);
     if !is_taken_by(action, task) {
-        return Err(Stop::Refused(Refusal::WrongStatus));
+        return Err(CommandFailure::Refused(Refusal::WrongStatus));
     }
     if let Some(fault) = fault_in(action) {
-        return Err(Stop::Refused(Refusal::BadTask(fault)));
+        return Err(CommandFailure::Refused(Refusal::BadTask(fault)));
     }
     if is_lacking(action, task) {
-        return Err(Stop::Refused(Refusal::NoLink));
+        return Err(CommandFailure::Refused(Refusal::NoLink));
     }
     let task = acted_task(task, action, at)?;
     Ok(Effect {

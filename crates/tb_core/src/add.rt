@@ -2,13 +2,13 @@ ghost use Rattle.std.specs.Prelude.{◌≡◌, ◌<◌, Some, None, length, is_s
 ghost use Rattle.std.specs.List.{list_any};
 ghost use Rattle.tb_core.specs.Add.{add_fault, add_refusals, entered_id, is_full, is_linked, judged_add, is_misread};
 ghost use Rattle.tb_board.specs.Board.{lacks_depends};
-ghost use Rattle.tb_core.specs.Effects.{Fits, GivesEffect};
+ghost use Rattle.tb_core.specs.Effect.{Fits, GivesEffect};
 ghost use Rattle.tb_core.specs.Refusals.{least};
 ghost use Rattle.tb_task.specs.Limits.{most_tasks};
 
 use crate::command::AnswerDetail;
 use crate::effect::{Effect, Step};
-use crate::judged::Stop;
+use crate::judged::CommandFailure;
 use crate::refusal::Refusal;
 use std::alloc::{AllocError, Global};
 use tb_board::{Board, has_template_form, next_number, taken_numbers};
@@ -35,7 +35,7 @@ pub fn add_refusal(board: &Board, incoming: &Incoming) -> Option<Refusal>
 }
 
 /// Adds a task to a board that is awake, and that takes it.
-pub fn add(alloc: Global, board: &Board, incoming: &Incoming, at: Moment) -> Result<Effect, Stop>
+pub fn add(alloc: Global, board: &Board, incoming: &Incoming, at: Moment) -> Result<Effect, CommandFailure>
     requires { least (add_refusals board.now incoming.now) ≡ None }
     ensures gives { GivesEffect board.now result (judged_add board.now incoming.now at) }
     ensures fits { IfOk result (λ effect. Fits board.now effect.step) }

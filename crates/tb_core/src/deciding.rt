@@ -1,10 +1,10 @@
 ghost use Rattle.std.specs.Prelude.{◌≡◌, ℕ, [], List, IfErr, IfOk, IfSome, Ok, Err, MatchOption, false};
 ghost use Rattle.tb_core.specs.Apply.{apply, judged, on_board, outcome, role_given, seen_of, IsDecision};
-ghost use Rattle.tb_board.specs.Changes.{Follows, IsDraft};
+ghost use Rattle.tb_board.specs.Changing.{Follows, IsDraft};
 ghost use Rattle.tb_core.specs.Calm.{is_import};
-ghost use Rattle.tb_core.specs.Effects.{Fits, GivesEffect};
+ghost use Rattle.tb_core.specs.Effect.{Fits, GivesEffect};
 ghost use Rattle.tb_core.specs.Refusals.{Fails, Gives};
-ghost use Rattle.tb_core.specs.Decisions.{GivesDraft, GivesOutcome, IsAccepted, IsRefused, TakesAdded};
+ghost use Rattle.tb_core.specs.Deciding.{GivesDraft, GivesOutcome, IsAccepted, IsRefused, TakesAdded};
 ghost use Rattle.tb_core.specs.Shapes.{AreOfOne};
 ghost use Rattle.tb_core.specs.declared.command.Answer.TheVariants.{OnBoard};
 ghost use Rattle.tb_core.specs.declared.command.Command.TheVariants.{SetRole};
@@ -18,7 +18,7 @@ use crate::effect::{Effect, Step, is_stirred};
 use crate::giving::{is_last_owner, role_decision};
 use crate::import_json::import_json;
 use crate::import_todo::import_todo;
-use crate::judged::{Judged, Stop};
+use crate::judged::{CommandFailure, Judged};
 use crate::linking::{depend, undepend};
 use crate::look::Seen;
 use crate::modify::modify;
@@ -115,8 +115,8 @@ fn decide_on_board(
     }
     match judge_board(alloc, found.board.get(), command, at) {
         Ok(accepted) => Ok(accepted.into_decision()),
-        Err(Stop::Refused(refusal)) => Ok(refused(alloc, refusal)),
-        Err(Stop::Memory) => Err(AllocError),
+        Err(CommandFailure::Refused(refusal)) => Ok(refused(alloc, refusal)),
+        Err(CommandFailure::Memory) => Err(AllocError),
     }
 }
 
@@ -168,11 +168,11 @@ fn judge_board(
     board: &Board,
     command: &Command,
     at: Moment,
-) -> Result<Accepted, Stop>
+) -> Result<Accepted, CommandFailure>
     ensures { GivesOutcome board.now command.now at result }
 {
     if let Some(refusal) = early_refusal(board, command) {
-        return Err(Stop::Refused(refusal));
+        return Err(CommandFailure::Refused(refusal));
     }
     if let Some(accepted) = judge_calm(alloc, board, command, at)? {
         return Ok(accepted);
@@ -189,11 +189,11 @@ fn judge_calm(
     board: &Board,
     command: &Command,
     at: Moment,
-) -> Result<Option<Accepted>, Stop>
+) -> Result<Option<Accepted>, CommandFailure>
     requires { TakesAdded board.now command.now }
     ensures gives { IfOk result
         (λ found. IfSome found (λ accepted. IsAccepted board.now command.now at accepted)) }
-    ensures refused { IfErr result (λ stop. Fails stop (outcome board.now command.now at)) }
+    ensures refused { IfErr result (λ failure. Fails failure (outcome board.now command.now at)) }
 {
     if is_import(command) {
         return Ok(None);
@@ -217,7 +217,7 @@ fn judge_calm(
 }
 
 /// What a command makes of any board, which is copied for that.
-fn judge_draft(alloc: Global, board: &Board, command: &Command, at: Moment) -> Result<Drafted, Stop>
+fn judge_draft(alloc: Global, board: &Board, command: &Command, at: Moment) -> Result<Drafted, CommandFailure>
     requires { TakesAdded board.now command.now }
     ensures gives { GivesDraft result (outcome board.now command.now at) }
     ensures made { IfOk result (λ drafted. IsDraft board.now drafted.draft) }
@@ -248,7 +248,7 @@ fn early_refusal(board: &Board, command: &Command) -> Option<Refusal>
 }
 
 /// What a command makes of a board that is awake.
-fn judge(alloc: Global, draft: Draft, command: &Command, at: Moment) -> Result<Judged, Stop>
+fn judge(alloc: Global, draft: Draft, command: &Command, at: Moment) -> Result<Judged, CommandFailure>
     requires { TakesAdded draft.board command.now }
     ensures gives { Gives result (judged draft.board command.now at) }
     ensures follows { IfOk result (λ judged. Follows draft judged.draft) }
@@ -269,7 +269,7 @@ fn judge(alloc: Global, draft: Draft, command: &Command, at: Moment) -> Result<J
     }
 }
 
-fn judge_one(alloc: Global, draft: Draft, command: &Command, at: Moment) -> Result<Judged, Stop>
+fn judge_one(alloc: Global, draft: Draft, command: &Command, at: Moment) -> Result<Judged, CommandFailure>
     requires takes { TakesAdded draft.board command.now }
     requires few { is_import command.now ≡ false }
     ensures gives { Gives result (judged draft.board command.now at) }
@@ -280,7 +280,7 @@ fn judge_one(alloc: Global, draft: Draft, command: &Command, at: Moment) -> Resu
 }
 
 /// What a command that isn't an import makes of a board that is awake.
-fn effect_of(alloc: Global, board: &Board, command: &Command, at: Moment) -> Result<Effect, Stop>
+fn effect_of(alloc: Global, board: &Board, command: &Command, at: Moment) -> Result<Effect, CommandFailure>
     requires takes { TakesAdded board.now command.now }
     requires few { is_import command.now ≡ false }
     ensures gives { GivesEffect board.now result (judged board.now command.now at) }

@@ -1,9 +1,9 @@
 ghost use Rattle.std.specs.Prelude.{◌≡◌, ◌∷◌, [], IfOk};
 ghost use Rattle.std.specs.List.{list_any};
-ghost use Rattle.tb_board.specs.Changes.{Follows};
+ghost use Rattle.tb_board.specs.Changing.{Follows};
 ghost use Rattle.tb_board.specs.declared.change.Change.TheVariants.{PutTask, SetAhead};
 ghost use Rattle.tb_core.specs.Calm.{step_stirs, stirs};
-ghost use Rattle.tb_core.specs.Effects.{after, Fits, step_changes};
+ghost use Rattle.tb_core.specs.Effect.{after, Fits, step_changes};
 
 use crate::command::AnswerDetail;
 use crate::judged::Judged;

@@ -1,13 +1,13 @@
 ghost use Rattle.std.specs.Prelude.{◌≡◌, ◌∷◌, [], ◌++◌, List, map, not, IfOk, OnOk};
 ghost use Rattle.std.specs.List.{list_any};
 ghost use Rattle.tb_board.specs.Board.{has_id, with_task};
-ghost use Rattle.tb_board.specs.Changes.{Follows};
+ghost use Rattle.tb_board.specs.Changing.{Follows};
 ghost use Rattle.tb_core.specs.ImportTodo.{first_bad, judged_import_todo, line_fault, new_beside, HasIdsOf, is_of_no_line, is_pending_or_completed, is_tied};
 ghost use Rattle.tb_core.specs.Refusals.{Gives};
 ghost use Rattle.tb_task.specs.declared.task.Task.{Task};
 
 use crate::command::AnswerDetail;
-use crate::judged::{Judged, Stop};
+use crate::judged::{CommandFailure, Judged};
 use crate::refusal::Refusal;
 use std::alloc::{AllocError, Global};
 use std::collections::BTreeSet;
@@ -16,16 +16,16 @@ use tb_task::{Field, MOST_TASKS, Status, Task, TaskId, check};
 use tb_values::{Duplicate, Shared};
 
 /// Adds the tasks to a board that is awake whose identifiers are new to it.
-pub fn import_todo(alloc: Global, draft: Draft, tasks: &[Task]) -> Result<Judged, Stop>
+pub fn import_todo(alloc: Global, draft: Draft, tasks: &[Task]) -> Result<Judged, CommandFailure>
     ensures gives { Gives result (judged_import_todo draft.board tasks.now) }
     ensures follows { IfOk result (λ judged. Follows draft judged.draft) }
 {
     if let Some(refusal) = first_bad(tasks) {
-        return Err(Stop::Refused(refusal));
+        return Err(CommandFailure::Refused(refusal));
     }
     let new = new_tasks(alloc, draft.board.tasks.as_slice(), tasks)?;
     if draft.board.tasks.len().saturating_add(new.len()) > MOST_TASKS {
-        return Err(Stop::Refused(Refusal::Full));
+        return Err(CommandFailure::Refused(Refusal::Full));
     }
     let told = AnswerDetail::TodoImported {
         known: tasks.len().saturating_sub(new.len()),

@@ -10,20 +10,20 @@ pub struct Judged {
     pub told: AnswerDetail,
 }
 
-/// Why a command stopped before its end.
+/// Why a command failed: it is refused, or memory ran out.
 #[derive(Clone, Copy, Debug, PartialEq, Eq)]
-pub enum Stop {
+pub enum CommandFailure {
     Memory,
     Refused(Refusal),
 }
 
-impl From<AllocError> for Stop {
+impl From<AllocError> for CommandFailure {
     ghost use Rattle.std.specs.Prelude.{◌≡◌};
-    ghost use Rattle.tb_core.specs.declared.judged.Stop.TheVariants.{Memory};
+    ghost use Rattle.tb_core.specs.declared.judged.CommandFailure.TheVariants.{Memory};
 
-    ghost from_gives = { λ _ stop. stop ≡ Memory };
+    ghost from_gives = { λ _ failure. failure ≡ Memory };
 
-    fn from(_error: AllocError) -> Stop {
-        Stop::Memory
+    fn from(_error: AllocError) -> CommandFailure {
+        CommandFailure::Memory
     }
 }

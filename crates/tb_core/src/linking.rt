@@ -3,8 +3,8 @@ ghost use Rattle.std.specs.BTreeSet.{replace_key};
 ghost use Rattle.std.specs.List.{list_any};
 ghost use Rattle.std.specs.Ordering.{nat_cmp};
 ghost use Rattle.tb_board.specs.Links.{leads_on};
-ghost use Rattle.tb_core.specs.Depends.{closes_walk, depends_on, IsPlaceToLink, judged_depend, judged_undepend, link_refusals, unlinked};
-ghost use Rattle.tb_core.specs.Effects.{Fits, GivesEffect};
+ghost use Rattle.tb_core.specs.Linking.{closes_walk, depends_on, IsPlaceToLink, judged_depend, judged_undepend, link_refusals, unlinked};
+ghost use Rattle.tb_core.specs.Effect.{Fits, GivesEffect};
 ghost use Rattle.tb_core.specs.Refusals.{Fails, least, unless_refused};
 ghost use Rattle.tb_core.specs.declared.command.AnswerDetail.{AnswerDetail};
 ghost use Rattle.tb_core.specs.declared.refusal.Refusal.{Refusal};
@@ -12,7 +12,7 @@ ghost use Rattle.tb_board.specs.declared.board.Board.{Board};
 
 use crate::command::AnswerDetail;
 use crate::effect::{Effect, Step};
-use crate::judged::Stop;
+use crate::judged::CommandFailure;
 use crate::refusal::Refusal;
 use std::alloc::{AllocError, Global};
 use tb_board::{Board, is_led, is_open_status, place_of_task};
@@ -26,14 +26,14 @@ pub fn depend(
     id: TaskId,
     on: TaskId,
     at: Moment,
-) -> Result<Effect, Stop>
+) -> Result<Effect, CommandFailure>
     ensures gives { GivesEffect board.now result (judged_depend board.now id on at) }
     ensures fits { IfOk result (λ effect. Fits board.now effect.step) }
 {
     let place = place_to_link(board, id, on)?;
     let task = board.task_at(place);
     if is_cycle(alloc, board, id, on)? {
-        return Err(Stop::Refused(Refusal::Cycle));
+        return Err(CommandFailure::Refused(Refusal::Cycle));
     }
     if is_linked_to(task, on) {
         return Ok(Effect {
@@ -49,14 +49,14 @@ pub fn depend(
 }
 
 /// A task depends no more on another one, on a board that is awake.
-pub fn undepend(board: &Board, id: TaskId, on: TaskId, at: Moment) -> Result<Effect, Stop>
+pub fn undepend(board: &Board, id: TaskId, on: TaskId, at: Moment) -> Result<Effect, CommandFailure>
     ensures gives { GivesEffect board.now result (judged_undepend board.now id on at) }
     ensures fits { IfOk result (λ effect. Fits board.now effect.step) }
 {
     let place = place_to_link(board, id, on)?;
     let task = board.task_at(place);
     if !is_linked_to(task, on) {
-        return Err(Stop::Refused(Refusal::NoLink));
+        return Err(CommandFailure::Refused(Refusal::NoLink));
     }
     let task = unlinked_task(task, on, at)?;
     Ok(Effect {
@@ -66,20 +66,20 @@ pub fn undepend(board: &Board, id: TaskId, on: TaskId, at: Moment) -> Result<Eff
 }
 
 /// The place of a task that is open, where the other task is on the board too.
-fn place_to_link(board: &Board, id: TaskId, on: TaskId) -> Result<usize, Stop>
+fn place_to_link(board: &Board, id: TaskId, on: TaskId) -> Result<usize, CommandFailure>
     ensures place { IfOk result (IsPlaceToLink board.now id on) }
     ensures refused { IfErr result
-        (λ stop. (last : Option Refusal) (later : Board) (told : AnswerDetail)
-        → Fails stop (unless_refused (least (link_refusals board.now id on last)) later told)) }
+        (λ failure. (last : Option Refusal) (later : Board) (told : AnswerDetail)
+        → Fails failure (unless_refused (least (link_refusals board.now id on last)) later told)) }
 {
     let Some(place) = place_of_task(board.tasks.as_slice(), id) else {
-        return Err(Stop::Refused(Refusal::NoTask));
+        return Err(CommandFailure::Refused(Refusal::NoTask));
     };
     if !board.has(on) {
-        return Err(Stop::Refused(Refusal::NoTask));
+        return Err(CommandFailure::Refused(Refusal::NoTask));
     }
     if !is_open_status(board.task_at(place).status) {
-        return Err(Stop::Refused(Refusal::WrongStatus));
+        return Err(CommandFailure::Refused(Refusal::WrongStatus));
     }
     Ok(place)
 }

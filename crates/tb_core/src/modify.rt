@@ -1,11 +1,11 @@
 ghost use Rattle.std.specs.Prelude.{◌≡◌, IfOk};
-ghost use Rattle.tb_core.specs.Effects.{Fits, GivesEffect};
+ghost use Rattle.tb_core.specs.Effect.{Fits, GivesEffect};
 ghost use Rattle.tb_core.specs.Modify.{is_fixed, is_misplaced, judged_modify};
 
 use crate::command::AnswerDetail;
 use crate::edits::{is_named, modified_task};
 use crate::effect::{Effect, Step};
-use crate::judged::Stop;
+use crate::judged::CommandFailure;
 use crate::refusal::Refusal;
 use std::alloc::Global;
 use tb_board::{Board, is_open_status, is_template_task, place_of_task};
@@ -18,26 +18,26 @@ pub fn modify(
     id: TaskId,
     edits: &[Edit],
     at: Moment,
-) -> Result<Effect, Stop>
+) -> Result<Effect, CommandFailure>
     ensures gives { GivesEffect board.now result (judged_modify board.now id edits.now at) }
     ensures fits { IfOk result (λ effect. Fits board.now effect.step) }
 {
     let Some(place) = place_of_task(board.tasks.as_slice(), id) else {
-        return Err(Stop::Refused(Refusal::NoTask));
+        return Err(CommandFailure::Refused(Refusal::NoTask));
     };
     let task = board.task_at(place);
     if !is_open_status(task.status) {
-        return Err(Stop::Refused(Refusal::WrongStatus));
+        return Err(CommandFailure::Refused(Refusal::WrongStatus));
     }
     if has_misplaced_step(edits, task) {
-        return Err(Stop::Refused(Refusal::BadTask(Field::BadPair)));
+        return Err(CommandFailure::Refused(Refusal::BadTask(Field::BadPair)));
     }
     let later = modified_task(alloc, task, edits, at)?;
     if let Err(fault) = check(&later) {
-        return Err(Stop::Refused(Refusal::BadTask(fault)));
+        return Err(CommandFailure::Refused(Refusal::BadTask(fault)));
     }
     if is_template_fixed(edits, task) {
-        return Err(Stop::Refused(Refusal::TemplateFixed));
+        return Err(CommandFailure::Refused(Refusal::TemplateFixed));
     }
     Ok(Effect {
         step: Step::Set { place, task: later },

@@ -6,7 +6,7 @@ use Rattle.tb_board.specs.declared.change.Change.{Change}
 use Rattle.tb_core.specs.declared.deciding.Decision.{Decision}
 use Rattle.tb_board.specs.declared.world.World.{World}
 use Rattle.tb_core.specs.Apply.{IsDecision, apply}
-use Rattle.tb_board.specs.Changes.{changed}
+use Rattle.tb_board.specs.Changing.{changed}
 use Rattle.tb_board.specs.Extends.{Extends}
 use Rattle.tb_core.specs.GoodWorld.{IsGoodWorld}
 use Rattle.tb_core.specs.Shapes.{AreOfOne}
@@ -15,9 +15,9 @@ use Rattle.tb_core.proofs.Extending.{extends}
 use Rattle.tb_core.proofs.Stays.{stays_good}
 use Rattle.tb_calls.specs.declared.call.Call.{Call}
 use Rattle.tb_reply.specs.declared.reply.Reply.{Reply}
-use Rattle.tb_calls.specs.Calls.{State, after_call, has_key, is_known, name_of, outcome}
-use Rattle.tb_reply.specs.Replies.{reply_of}
-use Rattle.tb_calls.specs.Keeping.{IsNew, MayCommit, with_reply}
+use Rattle.tb_calls.specs.Call.{State, after_call, has_key, is_known, name_of, outcome}
+use Rattle.tb_reply.specs.Reply.{reply_of}
+use Rattle.tb_calls.specs.Keep.{IsNew, MayCommit, with_reply}
 
 someone : (key : Option (List ℕ)) (shown : List ℕ) → has_key key shown ≡ true → IsSome key
 someone None shown h = absurd (cc)

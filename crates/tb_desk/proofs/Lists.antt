@@ -8,7 +8,7 @@ use Rattle.std.specs.Ordering.{eq_by_cmp, is_eq}
 use Rattle.std.specs.declared.cmp.Ordering.TheVariants.{Less, Equal, Greater}
 use Rattle.tb_board.specs.declared.change.Change.{Change}
 use Rattle.tb_board.specs.declared.world.World.{World}
-use Rattle.tb_board.specs.Changes.{changed}
+use Rattle.tb_board.specs.Changing.{changed}
 use Rattle.tb_board.specs.World.{opening as opening_world}
 use Rattle.tb_core.proofs.Opening.{opens}
 use Rattle.tb_calls.specs.declared.call.Call.{Call}
@@ -16,9 +16,9 @@ use Rattle.tb_calls.specs.declared.call.KeptReply.{KeptReply}
 use Rattle.tb_desk.specs.contracts.list_keep.KeptUnderOrd.TheImpl as kept_under_ord
 use Rattle.tb_desk.specs.declared.list_keep.KeptUnder.{KeptUnder}
 use Rattle.tb_reply.specs.declared.reply.Reply.{Reply}
-use Rattle.tb_calls.specs.Calls.{CallName, State, name_cmp, name_of, opening}
-use Rattle.tb_calls.specs.Keeping.{HoldsEither, MayCommit, with_reply}
-use Rattle.tb_desk.specs.Listed.{IsListed, call_name, listed, named}
+use Rattle.tb_calls.specs.Call.{CallName, State, name_cmp, name_of, opening}
+use Rattle.tb_calls.specs.Keep.{HoldsEither, MayCommit, with_reply}
+use Rattle.tb_desk.specs.ListKeep.{IsListed, call_name, listed, named}
 use Rattle.tb_calls.proofs.Names.{names_exact, names_total, tied}
 
 -- the order of the keys is that of the names

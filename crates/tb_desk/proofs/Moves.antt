@@ -5,9 +5,9 @@ use Rattle.tb_calls.specs.declared.call.Call.{Call}
 use Rattle.tb_reply.specs.declared.reply.Reply.{Reply}
 use Rattle.tb_calls.specs.declared.fault.KeepFault.{KeepFault}
 use Rattle.tb_calls.specs.declared.fault.KeepFault.TheVariants.{Memory, Store}
-use Rattle.tb_calls.specs.Calls.{State, plain, once}
+use Rattle.tb_calls.specs.Call.{State, plain, once}
 use Rattle.tb_desk.proofs.Runs.{after_all, after_all-more}
-use Rattle.tb_calls.specs.Keeping.{HoldsEither, IsStill, is_store}
+use Rattle.tb_calls.specs.Keep.{HoldsEither, IsStill, is_store}
 use Rattle.tb_calls.specs.Leaving.{IsAfterSome, Only, StandsAfter}
 
 pub either_of : {a b : State} {now : State → Type 0} {stops : State → Type 0} (c : State) → b ≡ c → HoldsEither a b now stops → HoldsEither a c now stops

@@ -10,7 +10,7 @@ use Rattle.tb_core.proofs.Stays.{stays_good, stay_known}
 use Rattle.tb_calls.specs.declared.call.Call.{Call}
 use Rattle.tb_reply.specs.declared.reply.Reply.{Reply}
 use Rattle.tb_calls.specs.declared.call.KeptReply.{KeptReply}
-use Rattle.tb_calls.specs.Calls.{State, after_call, counts, has_key, id_reused, is_known, kept_for, kept_or_new, outcome, plain, same_name, told_in, unknown_caller}
+use Rattle.tb_calls.specs.Call.{State, after_call, counts, has_key, id_reused, is_known, kept_for, kept_or_new, outcome, plain, same_name, told_in, unknown_caller}
 use Rattle.tb_calls.proofs.Names.{kept_for-after_call, kept_for-same_name, kept_of, same_name_self}
 use Rattle.tb_desk.specs.Sessions.{IsAgain}
 use Rattle.tb_desk.proofs.Runs.{after_all, after_all-append}

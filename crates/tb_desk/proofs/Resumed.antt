@@ -8,7 +8,7 @@ use Rattle.std.proofs.lemmas.Bool.Decides.{nat_tests}
 use Rattle.tb_calls.specs.declared.call.Call.{Call}
 use Rattle.tb_reply.specs.declared.reply.Reply.{Reply}
 use Rattle.tb_calls.specs.declared.call.KeptReply.{KeptReply}
-use Rattle.tb_calls.specs.Calls.{State, id_reused, is_known, kept_for, once, plain, replies_after, replies_to, reply, told_in}
+use Rattle.tb_calls.specs.Call.{State, id_reused, is_known, kept_for, once, plain, replies_after, replies_to, reply, told_in}
 use Rattle.tb_desk.specs.Sessions.{IsAgain, Sending, Sent, WasKnown, calls_of, next_after, replies_at, replies_of, reply_at, stands}
 use Rattle.tb_desk.specs.Resuming.{ComeInOrder, ComesAgain, Resume, SessionsJoin, SessionsResume, ToldIsKept, led_to, sessions_of, standing, told}
 use Rattle.tb_desk.proofs.Runs.{after_all, after_all-append}

@@ -1,4 +1,4 @@
-pub mod Listed
+pub mod ListKeep
 pub mod Resuming
 pub mod Sessions
-pub mod Views
+pub mod Viewing

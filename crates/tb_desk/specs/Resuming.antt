@@ -3,7 +3,7 @@ use Rattle.std.specs.Prelude.{◌≡◌, ◌⊎◌, ℕ, ◌+◌, ◌<◌, ◌�
 use Rattle.tb_calls.specs.declared.call.Call.{Call}
 use Rattle.tb_reply.specs.declared.reply.Reply.{Reply}
 use Rattle.tb_calls.specs.declared.call.KeptReply.{KeptReply}
-use Rattle.tb_calls.specs.Calls.{State, kept_for, plain, once, reply, replies_to}
+use Rattle.tb_calls.specs.Call.{State, kept_for, plain, once, reply, replies_to}
 use Rattle.tb_desk.specs.Sessions.{IsAgain, Sent, calls_of, Sending, stands, replies_at, WasKnown, next_after}
 
 -- The calls sent until a stop, how many were answered, and how many stand.

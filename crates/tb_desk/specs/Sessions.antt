@@ -4,7 +4,7 @@ use Rattle.std.specs.List.{filter_map}
 use Rattle.std.specs.Option.{option_map}
 use Rattle.tb_calls.specs.declared.call.Call.{Call}
 use Rattle.tb_reply.specs.declared.reply.Reply.{Reply}
-use Rattle.tb_calls.specs.Calls.{State, is_known, plain, once, reply}
+use Rattle.tb_calls.specs.Call.{State, is_known, plain, once, reply}
 
 -- ---- a list that is sent in sessions
 

@@ -1,9 +1,9 @@
 ghost use Rattle.std.specs.Prelude.{◌≡◌, ◌≢◌, ◌⊎◌, ◌+◌, ◌++◌, ◌∷◌, ◌<◌, ◌≤◌, [], Some, None, IfOk, IsErr, IsErrOf, IsSome, OnErr, OnOk, false, if◌then◌else◌, is_ok, length, take, true};
 ghost use Rattle.tb_calls.specs.declared.fault.KeepFault.TheVariants.{Memory, Store};
-ghost use Rattle.tb_calls.specs.Calls.{State, once, plain, replies_to, reply};
-ghost use Rattle.tb_calls.specs.Keeping.{IsStill, is_store};
+ghost use Rattle.tb_calls.specs.Call.{State, once, plain, replies_to, reply};
+ghost use Rattle.tb_calls.specs.Keep.{IsStill, is_store};
 ghost use Rattle.tb_calls.specs.Leaving.{Only, StandsAfter};
-ghost use Rattle.tb_desk.specs.Views.{shown_in};
+ghost use Rattle.tb_desk.specs.Viewing.{shown_in};
 
 use crate::handling::handle_call;
 use crate::viewing::show;

@@ -1,9 +1,9 @@
 //! How one call is handled, over any keeper.
 ghost use Rattle.std.specs.Prelude.{◌≡◌, ◌⊎◌, ◌∷◌, [], true, IfOk, OnOk, IsErrOf, MatchOption};
 ghost use Rattle.tb_calls.specs.declared.fault.KeepFault.TheVariants.{Memory, Store};
-ghost use Rattle.tb_calls.specs.Calls.{State, after_call, once, outcome, plain, reply};
-ghost use Rattle.tb_reply.specs.Replies.{reply_of};
-ghost use Rattle.tb_calls.specs.Keeping.{HoldsEither, IsNew, IsSettled, IsStill, is_store};
+ghost use Rattle.tb_calls.specs.Call.{State, after_call, once, outcome, plain, reply};
+ghost use Rattle.tb_reply.specs.Reply.{reply_of};
+ghost use Rattle.tb_calls.specs.Keep.{HoldsEither, IsNew, IsSettled, IsStill, is_store};
 ghost use Rattle.tb_calls.specs.Leaving.{Only};
 
 use std::alloc::Global;

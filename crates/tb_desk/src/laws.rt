@@ -2,7 +2,7 @@
 ghost use Rattle.std.specs.Prelude.{List};
 ghost use Rattle.tb_core.specs.GoodWorld.{IsGoodWorld};
 ghost use Rattle.tb_calls.specs.declared.call.Call.{Call};
-ghost use Rattle.tb_calls.specs.Calls.{State, once, plain};
+ghost use Rattle.tb_calls.specs.Call.{State, once, plain};
 ghost use Rattle.tb_desk.specs.Resuming.{SessionsJoin, SessionsResume, ToldIsKept};
 
 /// A client that was interrupted may send its calls again, from the first that was not answered, and any of them once more.

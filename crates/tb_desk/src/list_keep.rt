@@ -1,8 +1,8 @@
 ghost use Rattle.std.specs.Prelude.{◌≡◌, IfOk, map};
 ghost use Rattle.std.specs.FinMap.{find};
 ghost use Rattle.tb_board.specs.World.{key_of};
-ghost use Rattle.tb_calls.specs.Calls.{name_cmp, opening};
-ghost use Rattle.tb_desk.specs.Listed.{call_name, named};
+ghost use Rattle.tb_calls.specs.Call.{name_cmp, opening};
+ghost use Rattle.tb_desk.specs.ListKeep.{call_name, named};
 
 use std::alloc::{AllocError, Global};
 use std::collections::BTreeMap;
@@ -42,7 +42,7 @@ impl ListKeep {
 
 impl Keep for ListKeep {
     ghost use Rattle.std.specs.Prelude.{◌≡◌, false, refl, true};
-    ghost use Rattle.tb_desk.specs.Listed.{IsListed, listed, only};
+    ghost use Rattle.tb_desk.specs.ListKeep.{IsListed, listed, only};
 
     ghost holds = { λ k s. IsListed k.world k.kept.entries s };
 

@@ -4,13 +4,13 @@ ghost use Rattle.tb_board.specs.Board.{has_id};
 ghost use Rattle.tb_board.specs.World.{key_of, number_of};
 ghost use Rattle.tb_core.specs.Apply.{board_for};
 ghost use Rattle.tb_json.specs.Writing.{shown_text};
-ghost use Rattle.tb_report.specs.Listing.{listing as listing_of};
-ghost use Rattle.tb_report.specs.Shown.{shown as shown_tasks, shown_task as shown_task_of};
+ghost use Rattle.tb_report.specs.Lists.{listing as listing_of};
+ghost use Rattle.tb_report.specs.Showing.{shown as shown_tasks, shown_task as shown_task_of};
 ghost use Rattle.tb_todotxt.specs.FileTexts.{file_text};
 ghost use Rattle.tb_calls.specs.declared.fault.KeepFault.TheVariants.{Store};
-ghost use Rattle.tb_calls.specs.Calls.{State};
-ghost use Rattle.tb_calls.specs.Keeping.{IsStill, is_store};
-ghost use Rattle.tb_desk.specs.Views.{export_text, one_text, people_shown, seen_on, shown_in, view_of, view_reply};
+ghost use Rattle.tb_calls.specs.Call.{State};
+ghost use Rattle.tb_calls.specs.Keep.{IsStill, is_store};
+ghost use Rattle.tb_desk.specs.Viewing.{export_text, one_text, people_shown, seen_on, shown_in, view_of, view_reply};
 
 use std::alloc::{AllocError, Global};
 use tb_board::{Board, Key, Name};

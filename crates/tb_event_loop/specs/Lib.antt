@@ -1,4 +1,4 @@
 pub mod Done
 pub mod Ending
 pub mod History
-pub mod LogLine
+pub mod Logging

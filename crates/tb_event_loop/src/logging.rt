@@ -1,7 +1,7 @@
 //! Lines that tell of messages.
 ghost use Rattle.std.specs.Prelude.{◌≡◌, ◌<◌, ◌++◌, codes, decimal, IfOk, OnOk};
 ghost use Rattle.std.specs.Option.{option_copied};
-ghost use Rattle.tb_event_loop.specs.LogLine.{escaped, escaped_byte, failure_text, hex_digit, is_plain, known_moment, known_text, log_text, member_text};
+ghost use Rattle.tb_event_loop.specs.Logging.{escaped, escaped_byte, failure_text, hex_digit, is_plain, known_moment, known_text, log_text, member_text};
 
 use itoa::Buffer;
 use std::alloc::{AllocError, Global};

@@ -3,7 +3,7 @@ use Rattle.sqlite.specs.Files.{over_files}
 use Rattle.sqlite.specs.Held.{Held}
 use Rattle.sqlite_disk.specs.declared.Disk.{Ghosts as DiskGhosts}
 use Rattle.sqlite_store.specs.declared.store.FileStore.{FileStore}
-use Rattle.tb_calls.specs.Calls.{State}
+use Rattle.tb_calls.specs.Call.{State}
 use Rattle.tb_calls.specs.declared.keep.Keep.{Ghosts}
 use Rattle.tb_keeper.specs.declared.creating.CreateFault.{CreateFault}
 use Rattle.tb_keeper.specs.declared.creating.CreateFault.TheVariants as making

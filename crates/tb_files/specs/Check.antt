@@ -9,7 +9,7 @@ use Rattle.tb_keeper.specs.declared.sql_keep.SqlKeep.{SqlKeep}
 use Rattle.tb_files.specs.File.{IsSession}
 use Rattle.tb_keeper.specs.Auditing.{IsCountOf}
 use Rattle.tb_keeper.specs.declared.auditing.Audit.{Audit}
-use Rattle.tb_orders.specs.Audits.{audit_line, ending_of_audit}
+use Rattle.tb_orders.specs.Auditing.{audit_line, ending_of_audit}
 use Rattle.tb_orders.specs.declared.ending.Ending.{Ending}
 use Rattle.tb_stored.specs.Reopening.{OfContent}
 

@@ -4,11 +4,11 @@ use Rattle.sqlite_disk.specs.declared.Disk.{Ghosts as DiskGhosts}
 use Rattle.sqlite_store.specs.declared.store.FileStore.{FileStore}
 use Rattle.tb_calls.specs.declared.keep.Keep.{Ghosts}
 use Rattle.tb_keeper.specs.declared.sql_keep.SqlKeep.{SqlKeep}
-use Rattle.tb_calls.specs.Calls.{State}
+use Rattle.tb_calls.specs.Call.{State}
 use Rattle.tb_calls.specs.Leaving.{Only}
 use Rattle.tb_command_line.specs.declared.order.ImportOrder.{ImportOrder}
 use Rattle.tb_files.specs.File.{IsSession}
-use Rattle.tb_orders.specs.Inputs.{IsMade}
+use Rattle.tb_orders.specs.Input.{IsMade}
 use Rattle.tb_orders.specs.Running.{IsRunOf}
 use Rattle.tb_orders.specs.declared.ending.Ending.{Ending}
 

@@ -5,8 +5,8 @@ use Rattle.sqlite_disk.specs.declared.Disk.{Ghosts as DiskGhosts}
 use Rattle.sqlite_store.specs.declared.store.FileStore.{FileStore}
 use Rattle.tb_calls.specs.declared.keep.Keep.{Ghosts}
 use Rattle.tb_keeper.specs.declared.sql_keep.SqlKeep.{SqlKeep}
-use Rattle.tb_calls.specs.Calls.{State}
-use Rattle.tb_calls.specs.Keeping.{IsStill}
+use Rattle.tb_calls.specs.Call.{State}
+use Rattle.tb_calls.specs.Keep.{IsStill}
 use Rattle.tb_command_line.specs.declared.order.ViewOrder.{ViewOrder}
 use Rattle.tb_files.specs.File.{IsBegun, IsSession}
 use Rattle.tb_orders.specs.Orders.{ending_of, shown_by, view_text}

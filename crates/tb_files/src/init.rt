@@ -1,6 +1,6 @@
 //! A new file of boards.
 ghost use Rattle.std.specs.Prelude.{◌≡◌, IfErr, IfOk, true};
-ghost use Rattle.tb_calls.specs.Calls.{opening};
+ghost use Rattle.tb_calls.specs.Call.{opening};
 ghost use Rattle.tb_files.specs.Init.{IsMade, IsNotMade};
 ghost use Rattle.tb_orders.specs.Faults.{is_of_making};
 

@@ -6,7 +6,7 @@ use Rattle.std.specs.Ordering.{is_lt, nat_cmp, ordering_then}
 use Rattle.std.specs.List.Sorted.{IsStrictlySortedBy}
 use Rattle.std.specs.Str.{bytes_eq}
 use Rattle.tb_task.specs.declared.task.Task.{Task}
-use Rattle.tb_task.specs.Check.{fault_of}
+use Rattle.tb_task.specs.Checks.{fault_of}
 use Rattle.tb_board.specs.declared.board.Board.{Board}
 use Rattle.tb_board.specs.declared.gone.Gone.{Gone}
 use Rattle.tb_board.specs.declared.world.RoleOn.{RoleOn}

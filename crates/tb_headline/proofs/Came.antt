@@ -4,7 +4,7 @@ use Rattle.std.specs.Prelude.{slice_get}
 use Rattle.std.proofs.lemmas.Bool.{cases_lt}
 use Rattle.std.proofs.lemmas.List.{append-nil, length-append}
 use Rattle.tb_calls.specs.declared.call.Call.{Call}
-use Rattle.tb_calls.specs.Calls.{State}
+use Rattle.tb_calls.specs.Call.{State}
 use Rattle.tb_desk.specs.Sessions.{IsAgain, Sending, Sent, WasKnown, next_after, stands}
 use Rattle.tb_desk.specs.Resuming.{ComeInOrder, ComesAgain, Resume}
 use Rattle.tb_desk.proofs.Resumed.{apart, is_next, is_past, take_next, take_whole, within}

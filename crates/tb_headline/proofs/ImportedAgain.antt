@@ -9,21 +9,21 @@ use Rattle.tb_board.specs.declared.board.Board.{Board}
 use Rattle.tb_board.specs.declared.world.Role.{Role}
 use Rattle.tb_board.specs.declared.world.World.{World}
 use Rattle.tb_board.specs.Board.{has_id, is_on, wake}
-use Rattle.tb_board.specs.Changes.{change_board}
+use Rattle.tb_board.specs.Changing.{change_board}
 use Rattle.tb_board.specs.Good.{IsGood}
 use Rattle.tb_board.specs.Links.{links}
 use Rattle.tb_board.specs.World.{find_board, has_number, may_change, number_of, role_of}
 use Rattle.tb_board.proofs.Goodness.{ids-wake, on-same}
 use Rattle.tb_board.proofs.Worlds.{number_found}
-use Rattle.tb_sweep.specs.Sweep.{more, sweep}
+use Rattle.tb_sweep.specs.Sweeping.{more, sweep}
 use Rattle.tb_sweep.proofs.Adding.{number-sweep}
 use Rattle.tb_sweep.proofs.Settled.{adds_last, sweep_ends, wake_swept}
 use Rattle.tb_import.specs.declared.imported.ImportCounts.{ImportCounts}
 use Rattle.tb_import.specs.declared.refusal.ImportRefusal.{ImportRefusal}
 use Rattle.tb_import.proofs.Known.{AreKnown}
 use Rattle.tb_import.specs.Import.{board_after, counts_after, with_masks}
-use Rattle.tb_import.specs.New.{new_tasks}
-use Rattle.tb_import.specs.Refusals.{bad_task, import_refusals, is_cyclic, is_too_full, least, unless_refused}
+use Rattle.tb_import.specs.News.{new_tasks}
+use Rattle.tb_import.specs.Refusal.{bad_task, import_refusals, is_cyclic, is_too_full, least, unless_refused}
 use Rattle.tb_import.proofs.Again.{counts_again, known_after, same_after}
 use Rattle.tb_import.proofs.Templates.{shape}
 use Rattle.tb_core.specs.declared.command.Answer.{Answer}

@@ -2,13 +2,13 @@
 use Rattle.std.proofs.Common.{◌≡◌, List, [], ◌∷◌, length, take, refl, sym, ap, ◌∙◌}
 use Rattle.std.proofs.lemmas.List.{take_at}
 use Rattle.tb_calls.specs.declared.call.Call.{Call}
-use Rattle.tb_calls.specs.Calls.{State, replies_to}
+use Rattle.tb_calls.specs.Call.{State, replies_to}
 use Rattle.tb_desk.specs.Sessions.{calls_of}
 use Rattle.tb_headline.proofs.Lives.{headline}
 use Rattle.tb_headline.proofs.Replies.{replies_are, replies_front}
 use Rattle.tb_headline.specs.Connections.{HeadlineOfConnections, ServeInTurn, ServedInTurn, Serves, Service, StopsJoin, left_by, sendings}
 use Rattle.tb_headline.specs.Headline.{Lives}
-use Rattle.tb_headline.specs.Sessions.{calls_handled}
+use Rattle.tb_headline.specs.Session.{calls_handled}
 use Rattle.tb_peers.proofs.Serving.{any_turns}
 use Rattle.tb_reply.specs.declared.reply.Reply.{Reply}
 use Rattle.tb_serve.specs.Telling.{after}

@@ -5,14 +5,14 @@ use Rattle.sqlite_trees.specs.Tree.{Trees}
 use Rattle.sqlite_trees.proofs.Doubt.{clean_of, no_doubt}
 use Rattle.tb_board.specs.declared.board.Board.{Board}
 use Rattle.tb_calls.specs.declared.call.Call.{Call}
-use Rattle.tb_calls.specs.Calls.{State, replies_to}
+use Rattle.tb_calls.specs.Call.{State, replies_to}
 use Rattle.tb_calls.specs.Leaving.{StandsAfter}
 use Rattle.tb_core.specs.GoodWorld.{IsGoodWorld}
 use Rattle.tb_keeper.specs.Holds.{Holds, Kept}
 use Rattle.tb_keeper.specs.Laws.{alone}
 use Rattle.tb_reply.specs.declared.reply.Reply.{Reply}
 use Rattle.tb_stored.specs.Stored.{AreOldTreesOf, AreTreesOf, MayLeave}
-use Rattle.tb_headline.specs.Sessions.{IsAt, IsFileOf, IsSession, Leaves, StopLeaves}
+use Rattle.tb_headline.specs.Session.{IsAt, IsFileOf, IsSession, Leaves, StopLeaves}
 
 -- a keeper is honest while its disk returns what was written
 pub honest : (d : Database) → HasCleanDisk d → d.is_clean ≡ true

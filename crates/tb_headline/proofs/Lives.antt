@@ -1,6 +1,6 @@
 -- Sessions in a row, whenever they stop, are sessions that resume.
 use Rattle.std.proofs.Common.{◌≡◌, List, [], ◌∷◌, refl, sym, ap₂, ◌∙◌, subst}
-use Rattle.tb_calls.specs.Calls.{State, once, plain}
+use Rattle.tb_calls.specs.Call.{State, once, plain}
 use Rattle.tb_core.specs.GoodWorld.{IsGoodWorld}
 use Rattle.tb_desk.specs.Sessions.{Sending}
 use Rattle.tb_desk.specs.Resuming.{led_to, sessions_of, told}

@@ -4,11 +4,11 @@ use Rattle.std.specs.Prelude.{OnErr, OnOk}
 use Rattle.sqlite.specs.State.{HasCleanDisk, State as Database}
 use Rattle.tb_board.specs.declared.board.Board.{Board}
 use Rattle.tb_calls.specs.declared.call.Call.{Call}
-use Rattle.tb_calls.specs.Calls.{State}
+use Rattle.tb_calls.specs.Call.{State}
 use Rattle.tb_calls.specs.Leaving.{StandsAfter}
 use Rattle.tb_desk.proofs.Resumed.{take_whole}
 use Rattle.tb_headline.proofs.Left.{leaves}
-use Rattle.tb_headline.specs.Sessions.{IsCut, IsPlayed, calls_handled}
+use Rattle.tb_headline.specs.Session.{IsCut, IsPlayed, calls_handled}
 use Rattle.tb_keeper.specs.Holds.{Holds}
 use Rattle.tb_stored.specs.Stored.{MayLeave}
 use Rattle.tb_peers.proofs.Following.{stands_behind}

@@ -6,7 +6,7 @@ use Rattle.sqlite.specs.State.{HasCleanDisk, Opens, State as Database}
 use Rattle.sqlite_schema.specs.declared.schema.Schema.{Schema}
 use Rattle.sqlite_schema.specs.declared.schema.Table.{Table}
 use Rattle.sqlite_trees.specs.declared.store.Store.{Ghosts}
-use Rattle.tb_calls.specs.Calls.{State}
+use Rattle.tb_calls.specs.Call.{State}
 use Rattle.tb_keeper.specs.declared.creating.CreateFault.{CreateFault}
 use Rattle.tb_keeper.specs.declared.creating.CreateFault.TheVariants.{NotEmpty, Store as MakingFailed, Memory as MakingMemory}
 use Rattle.tb_sql.specs.declared.opening.OpenFault.{OpenFault}
@@ -19,7 +19,7 @@ use Rattle.tb_sql_tables.specs.Standing.{StandsEmpty}
 use Rattle.tb_sql_tables.specs.Failing.{FailsByFault}
 use Rattle.tb_stored.specs.Migrating.{IsEmptyOrStored}
 use Rattle.tb_headline.specs.Refusals.{HasMeta, IsFilled, IsRefused, IsUnmade, Says}
-use Rattle.tb_headline.specs.Sessions.{IsFileOf}
+use Rattle.tb_headline.specs.Session.{IsFileOf}
 
 -- ---- the first table
 

@@ -1,7 +1,7 @@
 -- The replies to calls, in parts.
 use Rattle.std.proofs.Common.{◌≡◌, ℕ, zero, suc, List, [], ◌∷◌, ◌++◌, take, refl, sym, ap, ◌∙◌}
 use Rattle.tb_calls.specs.declared.call.Call.{Call}
-use Rattle.tb_calls.specs.Calls.{State, replies_after, replies_to, reply}
+use Rattle.tb_calls.specs.Call.{State, replies_after, replies_to, reply}
 use Rattle.tb_desk.proofs.Runs.{after_all-append, replies_after-append}
 use Rattle.tb_headline.specs.Connections.{replies_among}
 use Rattle.tb_peers.specs.Server.{Timed, calls_among, calls_at}

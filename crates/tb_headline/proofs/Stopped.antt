@@ -3,7 +3,7 @@ use Rattle.std.proofs.Common.{◌≡◌, ◌≢◌, ◌⊎◌, ◌∙◌, Bool, 
 use Rattle.sqlite.specs.Effect.{Database as Contents}
 use Rattle.sqlite.specs.State.{IsLive, Opens, State as Database}
 use Rattle.sqlite_trees.specs.Tree.{Trees}
-use Rattle.tb_calls.specs.Calls.{State}
+use Rattle.tb_calls.specs.Call.{State}
 use Rattle.tb_sql.specs.declared.opening.OpenFault.{OpenFault}
 use Rattle.tb_sql.specs.declared.opening.OpenFault.TheVariants.{Store}
 use Rattle.tb_sql.specs.declared.opening.Version.TheVariants.{First, Second}
@@ -12,7 +12,7 @@ use Rattle.tb_sql.proofs.Opened.{rows_second}
 use Rattle.tb_sql_tables.specs.Content.{AreRows, Content}
 use Rattle.tb_stored.specs.Stored.{AreOldTreesOf, AreTreesOf}
 use Rattle.tb_stored.specs.Migrating.{IsStoredInEither}
-use Rattle.tb_headline.specs.Sessions.{IsFileOf, StopLeaves}
+use Rattle.tb_headline.specs.Session.{IsFileOf, StopLeaves}
 
 -- the tables of this version aren't those of the first
 not_old : (d : Database) (content : Content) → Opens d → IsLive d → AreRows content d.now.trees → (old : Bool) → is_old d.now.schema ≡ old → is_old d.now.schema ≡ false

@@ -2,12 +2,12 @@
 -- the list of their calls.
 use Rattle.std.specs.Prelude.{◌≡◌, ℕ, ◌+◌, ◌≤◌, List, [], ◌∷◌, ◌++◌, Option, length, take}
 use Rattle.tb_calls.specs.declared.call.Call.{Call}
-use Rattle.tb_calls.specs.Calls.{State, replies_to, reply}
+use Rattle.tb_calls.specs.Call.{State, replies_to, reply}
 use Rattle.tb_calls.specs.Leaving.{IsAfterSome}
 use Rattle.tb_core.specs.GoodWorld.{IsGoodWorld}
 use Rattle.tb_desk.specs.Sessions.{Sending, Sent, calls_of}
 use Rattle.tb_headline.specs.Headline.{IsAsUnstopped, SendsAll, WereKnown, all_standing, as_came}
-use Rattle.tb_headline.specs.Sessions.{AllServed, calls_handled}
+use Rattle.tb_headline.specs.Session.{AllServed, calls_handled}
 use Rattle.tb_http.specs.declared.answer.ContentType.TheVariants.{Json}
 use Rattle.tb_http.specs.Message.{takes_body}
 use Rattle.tb_http.specs.Wire.{is_last}

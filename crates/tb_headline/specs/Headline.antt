@@ -1,7 +1,7 @@
 -- The life of a file: sessions in a row, each of which ends by a stop or by itself.
 use Rattle.std.specs.Prelude.{◌≡◌, ◌⊎◌, ℕ, ◌+◌, ◌<◌, ◌≤◌, ◌==◌, if◌then◌else◌, List, [], ◌∷◌, ◌++◌, Some, length, take, slice_get}
 use Rattle.tb_calls.specs.declared.call.Call.{Call}
-use Rattle.tb_calls.specs.Calls.{State, once, plain, replies_to}
+use Rattle.tb_calls.specs.Call.{State, once, plain, replies_to}
 use Rattle.tb_core.specs.GoodWorld.{IsGoodWorld}
 use Rattle.tb_desk.specs.Sessions.{IsAgain, Sending, Sent, WasKnown, calls_of, next_after, replies_at, stands}
 use Rattle.tb_reply.specs.declared.reply.Reply.{Reply}

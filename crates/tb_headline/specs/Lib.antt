@@ -2,4 +2,4 @@ pub mod Connections
 pub mod Headline
 pub mod ImportAgain
 pub mod Refusals
-pub mod Sessions
+pub mod Session

@@ -3,7 +3,7 @@ use Rattle.std.specs.Prelude.{◌≡◌, true, List, Result, Err}
 use Rattle.sqlite.specs.Held.{Held, state}
 use Rattle.sqlite.specs.State.{Opens, State as Database}
 use Rattle.sqlite_trees.specs.declared.store.Store.{Ghosts}
-use Rattle.tb_calls.specs.Calls.{State}
+use Rattle.tb_calls.specs.Call.{State}
 use Rattle.tb_keeper.specs.declared.creating.CreateFault.{CreateFault}
 use Rattle.tb_keeper.specs.declared.creating.CreateFault.TheVariants.{NotEmpty, Store as MakingFailed, Memory as MakingMemory}
 use Rattle.tb_sql.specs.declared.opening.OpenFault.{OpenFault}
@@ -16,7 +16,7 @@ use Rattle.tb_sql_tables.specs.Failing.{HasFaulted, IsReady}
 use Rattle.tb_sql_tables.specs.Tables.{no_schema}
 use Rattle.tb_stored.specs.Stored.{AreTreesOf}
 use Rattle.tb_stored.specs.Migrating.{IsEmptyOrStored}
-use Rattle.tb_headline.specs.Sessions.{IsFileOf, WhileHonest}
+use Rattle.tb_headline.specs.Session.{IsFileOf, WhileHonest}
 
 -- ---- a database that should be a store
 

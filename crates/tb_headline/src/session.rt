@@ -4,9 +4,9 @@ ghost use Rattle.std.specs.Prelude.{◌≡◌, ◌≢◌, ◌⊎◌, false, leng
 ghost use Rattle.sqlite.specs.Held.{state};
 ghost use Rattle.sqlite.specs.State.{HasCleanDisk, IsLive, Opens};
 ghost use Rattle.tb_calls.specs.declared.fault.KeepFault.TheVariants.{Store};
-ghost use Rattle.tb_calls.specs.Calls.{State, once, plain, opening};
+ghost use Rattle.tb_calls.specs.Call.{State, once, plain, opening};
 ghost use Rattle.tb_headline.specs.Refusals.{IsFilled, IsRefused, IsUnmade, Says};
-ghost use Rattle.tb_headline.specs.Sessions.{IsAt, IsCut, IsFileOf, IsPlayed, IsSession, StopLeaves, WhileHonest};
+ghost use Rattle.tb_headline.specs.Session.{IsAt, IsCut, IsFileOf, IsPlayed, IsSession, StopLeaves, WhileHonest};
 ghost use Rattle.tb_keeper.specs.Versions.{version_taken};
 ghost use Rattle.tb_sql.specs.Opening.{has_tables, is_old, IsAsBefore};
 ghost use Rattle.tb_stored.specs.Stored.{AreTreesOf};

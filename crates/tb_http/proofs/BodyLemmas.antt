@@ -4,7 +4,7 @@ use Rattle.std.specs.Prelude.{String}
 use Rattle.std.specs.declared.alloc.Global.{Global}
 use Rattle.serde_json.specs.View.{members_view}
 use Rattle.serde_json.specs.declared.value.Value.{Value}
-use Rattle.tb_http.specs.Bodies.{count_members}
+use Rattle.tb_http.specs.Body.{count_members}
 
 pub members_counted : (entries : List (String Global × Value)) → count_members (members_view entries) ≡ length entries
 members_counted [] = refl

@@ -13,7 +13,7 @@ use Rattle.tb_http.specs.Wire.{head_limit, BeginsWithHead, BeginsWithMessage, Re
 use Rattle.tb_http.specs.Framing.{body_length}
 use Rattle.tb_http.specs.Closing.{asks_to_close}
 use Rattle.tb_http.specs.Head.{HasBadLine}
-use Rattle.tb_http.specs.Reading.{OneMessage, IsOutside, NoOtherFault, OneFault}
+use Rattle.tb_http.specs.Laws.{OneMessage, IsOutside, NoOtherFault, OneFault}
 use Rattle.tb_http.proofs.HeadLemmas.{head_has_no_bad_line}
 
 head_unique : (bytes : List ℕ) (h k : Head) (b c : List ℕ) → BeginsWithHead bytes h b → BeginsWithHead bytes k c → (h ≡ k) × (b ≡ c)

@@ -5,7 +5,7 @@ use Rattle.matchit.specs.Router.{RouteOf, InsertsRead, nearest}
 use Rattle.matchit.specs.declared.error.InsertError.{InsertError}
 use Rattle.matchit.specs.declared.error.InsertError.TheVariants.{Conflict, InvalidParam, InvalidParamSegment, InvalidCatchAll, OutOfMemory}
 use Rattle.tb_http.specs.declared.route.Route.{Route}
-use Rattle.tb_http.specs.Routes.{RouteRows, with_row, with_route, row_fits, fits}
+use Rattle.tb_http.specs.Route.{RouteRows, with_row, with_route, row_fits, fits}
 
 row_inserted : (scan : Result Scan InsertError) (route : Route) (old new : RouteRows) (result : Result (Unit {0}) InsertError)
     → InsertsRead scan route old new result → OnOk result (new ≡ with_row scan route old)

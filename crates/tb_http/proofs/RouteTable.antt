@@ -2,7 +2,7 @@
 use Rattle.std.proofs.Common.{ℕ, List, [], ◌∷◌, IsTrue, refl}
 use Rattle.matchit.proofs.OnLiterals.{matchit_on_literals}
 use Rattle.tb_http.specs.declared.route.Route.{Route}
-use Rattle.tb_http.specs.Routes.{RouteRows, with_route, fits, route_table}
+use Rattle.tb_http.specs.Route.{RouteRows, with_route, fits, route_table}
 
 -- each route of a table fits the rows and those before it
 abbrev AllFit : List (List ℕ × Route) → RouteRows → Type 0

@@ -6,7 +6,7 @@ use Rattle.tb_http.specs.declared.message.Message.{Message}
 use Rattle.tb_http.specs.Message.{message_from}
 use Rattle.tb_http.specs.Wire.{BeginsWithMessage}
 use Rattle.tb_http.specs.Inbox.{IsUnfinished}
-use Rattle.tb_http.specs.Reading.{IsOutside}
+use Rattle.tb_http.specs.Laws.{IsOutside}
 use Rattle.tb_http.specs.Stream.{Brings, BringsMore, OneStream, Received}
 use Rattle.tb_http.proofs.ReadingLemmas.{no_other_fault, one_message}
 use Rattle.tb_http.proofs.WireLemmas.{begins_more}

@@ -8,7 +8,7 @@ use Rattle.tb_http.specs.declared.answer.Answer.{Answer}
 use Rattle.tb_http.specs.declared.route.Verb.{Verb}
 use Rattle.tb_http.specs.declared.fault.WireFault.{WireFault}
 use Rattle.tb_http.specs.Fault.{status_of, closes_connection}
-use Rattle.tb_http.specs.Routes.{verb_name}
+use Rattle.tb_http.specs.Route.{verb_name}
 
 -- the phrase of a status that the server answers
 unfoldable pub phrase_of : ℕ → List ℕ

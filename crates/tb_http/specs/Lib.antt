@@ -9,9 +9,9 @@ pub mod Wire
 pub mod OpenHead
 pub mod Inbox
 pub mod Stream
-pub mod Reading
-pub mod Routes
-pub mod Resources
+pub mod Laws
+pub mod Route
+pub mod Resource
 pub mod Answer
 pub mod Sender
-pub mod Bodies
+pub mod Body

@@ -1,7 +1,7 @@
 //! The small JSON objects that are the bodies of calls. Each has exactly the members that are named here.
 ghost use Rattle.std.specs.Prelude.{◌≡◌, codes, option_map};
 ghost use Rattle.serde_json.specs.View.{view};
-ghost use Rattle.tb_http.specs.Bodies as bodies;
+ghost use Rattle.tb_http.specs.Body as bodies;
 
 use serde_json::Value;
 use tb_task::TaskId;

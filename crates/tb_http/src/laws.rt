@@ -1,5 +1,5 @@
 //! Laws of the wire.
-ghost use Rattle.tb_http.specs.Reading.{OneMessage, NoOtherFault, OneFault};
+ghost use Rattle.tb_http.specs.Laws.{OneMessage, NoOtherFault, OneFault};
 ghost use Rattle.tb_http.specs.Stream.{BringsMore, OneStream};
 
 /// What a connection brings is determined by its bytes, however they are cut.

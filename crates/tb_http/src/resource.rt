@@ -1,7 +1,7 @@
 //! What a request's path names, with its numbers and identifiers read.
 ghost use Rattle.std.specs.Prelude.{◌≡◌, ◌==◌, codes, option_map};
 ghost use Rattle.std.specs.Str.{bytes_eq};
-ghost use Rattle.tb_http.specs.Resources as resources;
+ghost use Rattle.tb_http.specs.Resource as resources;
 
 use crate::fault::WireFault;
 use crate::route::{Route, Routes, Verb};

@@ -1,7 +1,7 @@
 //! The routes of the server: which resource a request's method and target ask for.
 ghost use Rattle.std.specs.Prelude.{◌≡◌, ◌≤◌, length, IfOk, IfErr, OnOk, IsTrue, Some, None, option_map, codes};
 ghost use Rattle.matchit.specs.Seek.{first};
-ghost use Rattle.tb_http.specs.Routes as routes;
+ghost use Rattle.tb_http.specs.Route as routes;
 
 use matchit::{InsertError, Router};
 use std::alloc::{AllocError, Global};

@@ -17,8 +17,8 @@ use Rattle.tb_import.specs.declared.refusal.ImportRefusal.TheVariants.{Cycle, Fu
 use Rattle.tb_import.specs.Again.{AreClosedWalksFound, ImportAgainChangesNothing}
 use Rattle.tb_import.proofs.Known.{AreKnown}
 use Rattle.tb_import.specs.Import.{board_after, counts_after, counts_of, with_masks, with_new_tasks}
-use Rattle.tb_import.specs.New.{found_new, has_own_id, is_there, new_tasks}
-use Rattle.tb_import.specs.Refusals.{bad_task, import_refusals, is_cyclic, is_too_full, judged_import, least, unless_refused, where_holds}
+use Rattle.tb_import.specs.News.{found_new, has_own_id, is_there, new_tasks}
+use Rattle.tb_import.specs.Refusal.{bad_task, import_refusals, is_cyclic, is_too_full, judged_import, least, unless_refused, where_holds}
 use Rattle.tb_import.proofs.Moving.{or_left, or_right}
 use Rattle.tb_import.proofs.Templates.{shape, there_after}
 

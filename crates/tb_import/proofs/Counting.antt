@@ -6,7 +6,7 @@ use Rattle.tb_import.specs.declared.ids.Ids.{Ids}
 use Rattle.tb_import.specs.declared.imported.ImportCounts.{ImportCounts}
 use Rattle.tb_import.specs.Entering.{orphans}
 use Rattle.tb_import.specs.Import.{counts_of, with_masks}
-use Rattle.tb_import.specs.New.{is_there}
+use Rattle.tb_import.specs.News.{is_there}
 use Rattle.tb_import.specs.Sets.{has}
 
 sums_same : {A : Type 0} (f g : A → ℕ) → ((x : A) → f x ≡ g x) → (n : ℕ) (xs : List A) → fold (λ a x. a + f x) n xs ≡ fold (λ a x. a + g x) n xs

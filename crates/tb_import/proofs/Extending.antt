@@ -6,8 +6,8 @@ use Rattle.tb_board.specs.Extends.{ExtendsBoard}
 use Rattle.tb_board.proofs.Extending.{board-append}
 use Rattle.tb_import.specs.declared.refusal.ImportRefusal.{ImportRefusal}
 use Rattle.tb_import.specs.Import.{board_after, counts_after, with_masks}
-use Rattle.tb_import.specs.New.{new_tasks}
-use Rattle.tb_import.specs.Refusals.{import_refusals, judged_import, least, unless_refused}
+use Rattle.tb_import.specs.News.{new_tasks}
+use Rattle.tb_import.specs.Refusal.{import_refusals, judged_import, least, unless_refused}
 use Rattle.tb_import.proofs.Templates.{entered_tasks, shape}
 
 extends-after : (b : Board) (is : List Incoming) → ExtendsBoard b (board_after b is)

@@ -24,8 +24,8 @@ use Rattle.tb_import.specs.declared.refusal.ImportRefusal.TheVariants.{Cycle, Fu
 use Rattle.tb_import.specs.Entering.{is_new_template_with, left_by, mask_places, takes, with_all}
 use Rattle.tb_import.specs.Good.{ImportKeepsGood}
 use Rattle.tb_import.specs.Import.{board_after, counts_after, with_masks}
-use Rattle.tb_import.specs.New.{has_own_id, is_there, new_tasks}
-use Rattle.tb_import.specs.Refusals.{bad_task, bad_task_or, import_fault, import_refusals, is_cyclic, is_too_full, least, unless_refused, where_holds}
+use Rattle.tb_import.specs.News.{has_own_id, is_there, new_tasks}
+use Rattle.tb_import.specs.Refusal.{bad_task, bad_task_or, import_fault, import_refusals, is_cyclic, is_too_full, least, unless_refused, where_holds}
 use Rattle.tb_import.proofs.Moving.{apart_from, or_left, or_right, run_range}
 use Rattle.tb_import.proofs.Numbering.{gone_places-append, masks_none, masks_range, on_own, own_ids, runs_all}
 use Rattle.tb_import.proofs.Ordering.{left_sorted}

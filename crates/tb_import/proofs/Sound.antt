@@ -7,14 +7,14 @@ use Rattle.tb_task.specs.declared.checks.Field.{Field}
 use Rattle.tb_task.specs.declared.incoming.Incoming.{Incoming}
 use Rattle.tb_task.specs.declared.task.Annotation.{Annotation}
 use Rattle.tb_task.specs.declared.task.Task.{Task}
-use Rattle.tb_task.specs.Check.{fault_of, has_bad_recurrence, has_bad_text, has_half_link, is_bad_extra, is_bad_text, is_recurring, some_is_bad}
+use Rattle.tb_task.specs.Checks.{fault_of, has_bad_recurrence, has_bad_text, has_half_link, is_bad_extra, is_bad_text, is_recurring, some_is_bad}
 use Rattle.tb_board.specs.declared.board.Board.{Board}
 use Rattle.tb_board.specs.declared.gone.Gone.{Gone}
 use Rattle.tb_board.specs.Good.{has_template_form, IsSound}
 use Rattle.tb_board.specs.Statuses.{is_template}
 use Rattle.tb_board.proofs.Fits.{IsFit, fit_if, taken_if}
 use Rattle.tb_import.specs.Entering.{entered, is_linked, is_orphan, is_taken, kept_depends, takes}
-use Rattle.tb_import.specs.Refusals.{first_fault, import_fault, is_misformed, is_misread}
+use Rattle.tb_import.specs.Refusal.{first_fault, import_fault, is_misformed, is_misread}
 use Rattle.tb_import.proofs.Moving.{or_parts}
 
 -- the task with these links

@@ -2,7 +2,7 @@
 use Rattle.std.proofs.Common.{◌≡◌, ℕ, ◌==◌, ◌&&◌, ◌||◌, not, Bool, true, false, true≢false, List, [], ◌∷◌, refl, sym, ◌∙◌, ap, inl, inr}
 use Rattle.std.proofs.lemmas.Bool.{cases_Bool, eqb-true}
 use Rattle.tb_board.specs.declared.gone.Gone.{Gone}
-use Rattle.tb_board.specs.Changes.{without_place}
+use Rattle.tb_board.specs.Changing.{without_place}
 use Rattle.tb_board.specs.Templates.{is_gone_at}
 use Rattle.tb_board.proofs.Fits.{and_true}
 use Rattle.tb_import.specs.declared.places.Places.{Places}

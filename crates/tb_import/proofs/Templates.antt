@@ -11,14 +11,14 @@ use Rattle.tb_task.specs.declared.task.Task.{Task}
 use Rattle.tb_board.specs.declared.board.Board.{Board}
 use Rattle.tb_board.specs.declared.gone.Gone.{Gone}
 use Rattle.tb_board.specs.Board.{has_id, ids, is_on, lacks_depends}
-use Rattle.tb_board.specs.Changes.{without_place}
+use Rattle.tb_board.specs.Changing.{without_place}
 use Rattle.tb_board.specs.Instances.{has_template, is_template_with, IsGoneOn}
 use Rattle.tb_board.specs.Statuses.{is_template}
 use Rattle.tb_board.specs.Templates.{is_gone_at}
 use Rattle.tb_board.proofs.Fits.{and_true, not_true}
 use Rattle.tb_board.proofs.Fresh.{among-swapped, on_ids}
 use Rattle.tb_import.specs.Entering.{entered, is_gone, is_linked, is_new_template, is_new_template_with, is_parent, is_taken, left_by, mask_in, mask_places, marked_from, takes, with_all, with_new, without_taken}
-use Rattle.tb_import.specs.New.{found_new, has_own_id, is_there}
+use Rattle.tb_import.specs.News.{found_new, has_own_id, is_there}
 use Rattle.tb_import.proofs.Moving.{is_number, or_left, or_parts, or_right}
 use Rattle.tb_import.proofs.Numbering.{on_own, own_ids}
 use Rattle.tb_import.proofs.Sound.{takes_none}

@@ -4,7 +4,7 @@ use Rattle.tb_task.specs.declared.incoming.Incoming.{Incoming}
 use Rattle.tb_board.specs.declared.board.Board.{Board}
 use Rattle.tb_board.specs.Walks.{DependsOn}
 use Rattle.tb_import.specs.declared.imported.ImportCounts.{ImportCounts}
-use Rattle.tb_import.specs.Refusals.{is_cyclic, judged_import}
+use Rattle.tb_import.specs.Refusal.{is_cyclic, judged_import}
 
 -- an accepted import that comes again finds all tasks known, and changes nothing
 abbrev pub ImportAgainChangesNothing : Type 0

@@ -5,10 +5,10 @@ use Rattle.tb_task.specs.declared.incoming.Incoming.{Incoming}
 use Rattle.tb_task.specs.declared.task.Task.{Task}
 use Rattle.tb_board.specs.declared.board.Board.{Board}
 use Rattle.tb_board.specs.declared.gone.Gone.{Gone}
-use Rattle.tb_board.specs.Changes.{without_place}
+use Rattle.tb_board.specs.Changing.{without_place}
 use Rattle.tb_board.specs.Instances.{is_template_with}
 use Rattle.tb_board.specs.Templates.{is_gone_at}
-use Rattle.tb_import.specs.New.{has_own_id, is_there}
+use Rattle.tb_import.specs.News.{has_own_id, is_there}
 
 -- it came with a parent or with a place in a parent's mask
 abbrev pub is_linked : Incoming → Bool

@@ -3,7 +3,7 @@ use Rattle.std.specs.Prelude.{List, IfOk}
 use Rattle.tb_task.specs.declared.incoming.Incoming.{Incoming}
 use Rattle.tb_board.specs.declared.board.Board.{Board}
 use Rattle.tb_board.specs.Good.{IsGood}
-use Rattle.tb_import.specs.Refusals.{judged_import}
+use Rattle.tb_import.specs.Refusal.{judged_import}
 
 -- an import that is accepted leaves a good board good
 abbrev pub ImportKeepsGood : Type 0

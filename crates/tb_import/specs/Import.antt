@@ -4,7 +4,7 @@ use Rattle.tb_task.specs.declared.incoming.Incoming.{Incoming}
 use Rattle.tb_board.specs.declared.board.Board.{Board}
 use Rattle.tb_import.specs.declared.imported.ImportCounts.{ImportCounts}
 use Rattle.tb_import.specs.Entering.{mask_places, orphans, with_all}
-use Rattle.tb_import.specs.New.{is_there, new_tasks}
+use Rattle.tb_import.specs.News.{is_there, new_tasks}
 
 -- the board with the places of the new templates' masks, all gone
 abbrev pub with_masks : Board → List Incoming → Board

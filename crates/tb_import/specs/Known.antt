@@ -7,7 +7,7 @@ use Rattle.tb_import.specs.declared.entering.Entering.{Entering}
 use Rattle.tb_import.specs.declared.entering.Known.{Known}
 use Rattle.tb_import.specs.declared.places.Places.{Places}
 use Rattle.tb_import.specs.Entering.{is_gone, is_orphan, is_parent, one_if, takes, with_new}
-use Rattle.tb_import.specs.New.{is_there}
+use Rattle.tb_import.specs.News.{is_there}
 use Rattle.tb_import.specs.Sets.{has, has_place}
 
 -- of the board and the new tasks

@@ -3,6 +3,6 @@ pub mod Entering
 pub mod Good
 pub mod Import
 pub mod Known
-pub mod New
-pub mod Refusals
+pub mod News
+pub mod Refusal
 pub mod Sets

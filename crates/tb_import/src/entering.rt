@@ -1,5 +1,5 @@
 ghost use Rattle.std.specs.Prelude.{◌≡◌, ◌+◌, ℕ, List, IfOk, None, filter, if◌then◌else◌};
-ghost use Rattle.tb_board.specs.Changes.{Follows};
+ghost use Rattle.tb_board.specs.Changing.{Follows};
 ghost use Rattle.tb_board.specs.declared.board.Board.{Board};
 ghost use Rattle.tb_board.specs.declared.gone.Gone.{Gone};
 ghost use Rattle.tb_import.specs.Entering.{entered, is_orphan, kept_depends, one_if, orphans, takes, with_all, without_taken};

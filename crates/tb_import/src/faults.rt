@@ -1,7 +1,7 @@
 ghost use Rattle.std.specs.Prelude.{◌≡◌, ◌||◌, not, is_some, length, nat_lt, unwrap_or, []};
 ghost use Rattle.tb_board.specs.Good.{has_template_form};
 ghost use Rattle.tb_import.specs.Entering.{is_linked};
-ghost use Rattle.tb_import.specs.Refusals.{bad_task, import_fault, is_misread};
+ghost use Rattle.tb_import.specs.Refusal.{bad_task, import_fault, is_misread};
 ghost use Rattle.tb_task.specs.Limits.{longest_text};
 
 use crate::refusal::ImportRefusal;

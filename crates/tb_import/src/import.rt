@@ -1,9 +1,9 @@
 ghost use Rattle.std.specs.Prelude.{◌≡◌, ◌+◌, not, ℕ, IfOk, sum_by, count_by};
-ghost use Rattle.tb_board.specs.Changes.{Follows};
+ghost use Rattle.tb_board.specs.Changing.{Follows};
 ghost use Rattle.tb_import.specs.Import.{board_after, counts_after, counts_of, with_new_tasks};
 ghost use Rattle.tb_import.specs.Known.{IsKnown};
-ghost use Rattle.tb_import.specs.New.{is_there};
-ghost use Rattle.tb_import.specs.Refusals.{Gives, is_cyclic, is_too_full, judged_import};
+ghost use Rattle.tb_import.specs.News.{is_there};
+ghost use Rattle.tb_import.specs.Refusal.{Gives, is_cyclic, is_too_full, judged_import};
 ghost use Rattle.tb_import.specs.Sets.{has};
 ghost use Rattle.tb_task.specs.declared.incoming.Incoming.{Incoming};
 
@@ -15,26 +15,26 @@ use crate::masks::set_masks;
 use crate::news::NewTasks;
 use crate::parents::parents_of;
 use crate::places::Places;
-use crate::refusal::{ImportRefusal, ImportStop};
+use crate::refusal::{ImportFailure, ImportRefusal};
 use std::alloc::{AllocError, Global};
 use tb_board::{Board, Draft, is_acyclic_board};
 use tb_task::{Incoming, MOST_TASKS, TaskId};
 
 /// Puts the new tasks of a list on a board that is awake, in time that grows little faster than the board and the list but for
 /// one pass over the gone places for each instance.
-pub fn import_tasks(alloc: Global, draft: Draft, list: &[Incoming]) -> Result<Imported, ImportStop>
+pub fn import_tasks(alloc: Global, draft: Draft, list: &[Incoming]) -> Result<Imported, ImportFailure>
     ensures gives { Gives result (judged_import draft.board list.now) }
     ensures follows { IfOk result (λ imported. Follows draft imported.draft) }
 {
     if let Some(refusal) = first_bad_task(list) {
-        return Err(ImportStop::Refused(refusal));
+        return Err(ImportFailure::Refused(refusal));
     }
     let imported = with_new(alloc, draft, list)?;
     if is_cyclic(alloc, &imported.draft.board)? {
-        return Err(ImportStop::Refused(ImportRefusal::Cycle));
+        return Err(ImportFailure::Refused(ImportRefusal::Cycle));
     }
     if is_too_full(&imported.draft.board) {
-        return Err(ImportStop::Refused(ImportRefusal::Full));
+        return Err(ImportFailure::Refused(ImportRefusal::Full));
     }
     Ok(imported)
 }

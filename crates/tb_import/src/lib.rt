@@ -18,4 +18,4 @@ mod refusal;
 
 pub use import::import_tasks;
 pub use imported::{ImportCounts, Imported};
-pub use refusal::{ImportRefusal, ImportStop};
+pub use refusal::{ImportFailure, ImportRefusal};

@@ -1,5 +1,5 @@
 ghost use Rattle.std.specs.Prelude.{◌≡◌, ◌++◌, ◌∷◌, [], IfOk};
-ghost use Rattle.tb_board.specs.Changes.{Follows};
+ghost use Rattle.tb_board.specs.Changing.{Follows};
 ghost use Rattle.tb_import.specs.Entering.{is_new_template, marked_from, mask_in};
 ghost use Rattle.tb_import.specs.Import.{with_masks};
 

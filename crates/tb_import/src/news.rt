@@ -1,5 +1,5 @@
 ghost use Rattle.std.specs.Prelude.{◌≡◌, ◌==◌, ◌||◌, ℕ, [], ◌∷◌, ◌++◌, IfOk, OnOk};
-ghost use Rattle.tb_import.specs.New.{is_there, new_tasks};
+ghost use Rattle.tb_import.specs.News.{is_there, new_tasks};
 ghost use Rattle.tb_import.specs.Sets.{has};
 
 use crate::ids::Ids;

@@ -14,18 +14,18 @@ pub enum ImportRefusal {
 
 /// Why an import stopped before its end.
 #[derive(Clone, Copy, Debug, PartialEq, Eq)]
-pub enum ImportStop {
+pub enum ImportFailure {
     Memory,
     Refused(ImportRefusal),
 }
 
-impl From<AllocError> for ImportStop {
+impl From<AllocError> for ImportFailure {
     ghost use Rattle.std.specs.Prelude.{◌≡◌};
-    ghost use Rattle.tb_import.specs.declared.refusal.ImportStop.TheVariants.{Memory};
+    ghost use Rattle.tb_import.specs.declared.refusal.ImportFailure.TheVariants.{Memory};
 
-    ghost from_gives = { λ _ stop. stop ≡ Memory };
+    ghost from_gives = { λ _ failure. failure ≡ Memory };
 
-    fn from(_error: AllocError) -> ImportStop {
-        ImportStop::Memory
+    fn from(_error: AllocError) -> ImportFailure {
+        ImportFailure::Memory
     }
 }

@@ -5,7 +5,7 @@ use Rattle.std.specs.List.Sorted.{IsStrictlySortedBy}
 use Rattle.serde_json.specs.Data.{Data, string, Members, no_members}
 use Rattle.serde_json.specs.Find.{get, get_member}
 use Rattle.tb_task.specs.Attributes.{is_attribute}
-use Rattle.tb_task.specs.Extras.{by_name}
+use Rattle.tb_task.specs.Extra.{by_name}
 use Rattle.tb_task.specs.Storable.{IsStorable}
 use Rattle.tb_task.specs.TaskId.{IsRead}
 use Rattle.tb_task.specs.declared.extra.Extra.{Extra}

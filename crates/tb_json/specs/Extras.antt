@@ -4,7 +4,7 @@ use Rattle.std.specs.BTreeSet.{replace_key}
 use Rattle.serde_json.specs.Data.{Data, null, boolean, number, string, array, object, Members, no_members, member}
 use Rattle.serde_json.specs.Find.{as_i64}
 use Rattle.tb_task.specs.Attributes.{is_attribute}
-use Rattle.tb_task.specs.Extras.{by_name}
+use Rattle.tb_task.specs.Extra.{by_name}
 use Rattle.tb_task.specs.declared.extra.Extra.{Extra}
 use Rattle.tb_task.specs.declared.extra.ExtraValue.{ExtraValue}
 use Rattle.tb_task.specs.declared.extra.ExtraValue.TheVariants.{Text, Whole, Truth, Null}

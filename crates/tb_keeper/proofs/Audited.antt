@@ -10,7 +10,7 @@ use Rattle.tb_task.specs.TaskId.{IsRead}
 use Rattle.tb_board.specs.declared.board.Board.{Board}
 use Rattle.tb_board.specs.declared.world.World.{World}
 use Rattle.tb_core.specs.GoodWorld.{IsGoodWorld}
-use Rattle.tb_calls.specs.Calls.{State}
+use Rattle.tb_calls.specs.Call.{State}
 use Rattle.tb_reopen.specs.Forms.{HasForm}
 use Rattle.tb_reopen.proofs.Joined.{numbered_from, own_rows}
 use Rattle.tb_reopen.proofs.ReadBoards.{own_horizon, own_tasks}

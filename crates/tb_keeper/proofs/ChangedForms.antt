@@ -10,7 +10,7 @@ use Rattle.tb_board.specs.declared.board.Board.{Board}
 use Rattle.tb_board.specs.declared.change.Change.{Change}
 use Rattle.tb_board.specs.declared.change.Change.TheVariants.{PutTask, AddPerson, AddBoard, SetRole, SetGone, TakeGone, SetAhead}
 use Rattle.tb_board.specs.declared.world.World.{World}
-use Rattle.tb_board.specs.Changes.{changed, changed_by, change_board, put, with_ahead, with_gone, with_task_at, without_gone}
+use Rattle.tb_board.specs.Changing.{changed, changed_by, change_board, put, with_ahead, with_gone, with_task_at, without_gone}
 use Rattle.tb_board.specs.Names.{is_key, is_name, is_title, read_key, read_name, read_title}
 use Rattle.tb_reopen.specs.Forms.{HasBoardForm, HasForm, HasMark, HasPersonForm, HasTaskForm}
 use Rattle.tb_keeper.specs.Forms.{HasChangeForm}

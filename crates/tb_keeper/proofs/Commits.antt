@@ -7,14 +7,14 @@ use Rattle.sqlite.specs.State.{HasCleanDisk, State as Database}
 use Rattle.tb_board.specs.declared.board.Board.{Board}
 use Rattle.tb_board.specs.declared.change.Change.{Change}
 use Rattle.tb_board.specs.declared.world.World.{World}
-use Rattle.tb_board.specs.Changes.{changed}
+use Rattle.tb_board.specs.Changing.{changed}
 use Rattle.tb_board.specs.World.{number_of}
-use Rattle.tb_cache.specs.Cached.{AreOf}
+use Rattle.tb_cache.specs.BoardCache.{AreOf}
 use Rattle.tb_core.specs.GoodWorld.{IsGoodWorld}
 use Rattle.tb_calls.specs.declared.call.Call.{Call}
 use Rattle.tb_calls.specs.declared.call.KeptReply.{KeptReply}
-use Rattle.tb_calls.specs.Calls.{State, name_of}
-use Rattle.tb_calls.specs.Keeping.{HoldsEither, MayCommit, with_reply}
+use Rattle.tb_calls.specs.Call.{State, name_of}
+use Rattle.tb_calls.specs.Keep.{HoldsEither, MayCommit, with_reply}
 use Rattle.tb_reply.specs.declared.reply.Reply.{Reply}
 use Rattle.tb_reopen.specs.Forms.{HasForm}
 use Rattle.tb_rows.specs.Part.{IsPartOf, part_of}

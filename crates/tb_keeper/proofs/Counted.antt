@@ -8,9 +8,9 @@ use Rattle.tb_board.specs.declared.board.Board.{Board}
 use Rattle.tb_board.specs.declared.change.Change.{Change}
 use Rattle.tb_board.specs.declared.change.Change.TheVariants.{PutTask, AddPerson, AddBoard, SetRole, SetGone, TakeGone, SetAhead}
 use Rattle.tb_board.specs.declared.world.World.{World}
-use Rattle.tb_board.specs.Changes.{changed, changed_by, with_ahead, with_gone, with_task_at, without_gone}
+use Rattle.tb_board.specs.Changing.{changed, changed_by, with_ahead, with_gone, with_task_at, without_gone}
 use Rattle.tb_board.specs.First.{change_first}
-use Rattle.tb_cache.specs.Cached.{AreOf}
+use Rattle.tb_cache.specs.BoardCache.{AreOf}
 use Rattle.tb_core.specs.GoodWorld.{IsGoodWorld}
 use Rattle.tb_keeper.specs.Counts.{is_new_board, is_new_person, one_if}
 use Rattle.tb_keeper.specs.Holds.{IsAtHand}

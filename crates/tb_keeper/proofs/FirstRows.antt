@@ -7,7 +7,7 @@ use Rattle.tb_board.specs.Names.{is_key, is_name, is_title}
 use Rattle.tb_board.specs.World.{opening as opening_world}
 use Rattle.tb_core.proofs.Opening.{opens}
 use Rattle.tb_calls.specs.declared.call.KeptReply.{KeptReply}
-use Rattle.tb_calls.specs.Calls.{CallName, name_cmp, opening}
+use Rattle.tb_calls.specs.Call.{CallName, name_cmp, opening}
 use Rattle.tb_reopen.specs.Laws.{AreApart}
 use Rattle.tb_rows.specs.Rows.{world_rows, HaveSameRows, IsSameContent}
 use Rattle.tb_sql.specs.Migrating.{without_horizon}

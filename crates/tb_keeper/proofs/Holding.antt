@@ -4,9 +4,9 @@ use Rattle.sqlite.specs.State.{HasCleanDisk, State as Database}
 use Rattle.sqlite_trees.proofs.Doubt.{clean_of, no_doubt}
 use Rattle.tb_board.specs.declared.board.Board.{Board}
 use Rattle.tb_board.specs.declared.world.World.{World}
-use Rattle.tb_calls.specs.Calls.{State}
-use Rattle.tb_calls.specs.Keeping.{IsStill}
-use Rattle.tb_cache.specs.Cached.{AreOf}
+use Rattle.tb_calls.specs.Call.{State}
+use Rattle.tb_calls.specs.Keep.{IsStill}
+use Rattle.tb_cache.specs.BoardCache.{AreOf}
 use Rattle.tb_sql.specs.Opening.{IsAsBefore}
 use Rattle.tb_sql_tables.specs.Content.{Content, Stands}
 use Rattle.tb_stored.specs.Reopening.{OfState}

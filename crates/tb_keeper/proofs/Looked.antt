@@ -14,11 +14,11 @@ use Rattle.tb_board.specs.declared.change.Change.{Change}
 use Rattle.tb_board.specs.declared.world.Role.{Role}
 use Rattle.tb_board.specs.declared.world.World.{World}
 use Rattle.tb_board.specs.World.{find_board, key_of, number_of, role_of}
-use Rattle.tb_board.specs.Changes.{replayed}
+use Rattle.tb_board.specs.Changing.{replayed}
 use Rattle.tb_board.proofs.Worlds.{number_found}
-use Rattle.tb_cache.specs.Cached.{AreOf}
+use Rattle.tb_cache.specs.BoardCache.{AreOf}
 use Rattle.tb_calls.specs.declared.call.KeptReply.{KeptReply}
-use Rattle.tb_calls.specs.Calls.{CallName, State, name_cmp}
+use Rattle.tb_calls.specs.Call.{CallName, State, name_cmp}
 use Rattle.tb_calls.proofs.Names.{names_exact}
 use Rattle.tb_core.specs.Apply.{board_for, board_of, owners_for, person_for, seen_of, seen_with}
 use Rattle.tb_core.specs.declared.command.Command.{Command}

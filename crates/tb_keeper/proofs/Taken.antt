@@ -5,7 +5,7 @@ use Rattle.std.proofs.lemmas.List.Sorted.{length_permutation}
 use Rattle.sqlite.specs.State.{HasCleanDisk, State as Database}
 use Rattle.tb_board.specs.declared.board.Board.{Board}
 use Rattle.tb_board.specs.declared.world.Person.{Person}
-use Rattle.tb_calls.specs.Calls.{State}
+use Rattle.tb_calls.specs.Call.{State}
 use Rattle.tb_rows.specs.Rows.{board_row, person_row, rows_from}
 use Rattle.tb_sql.specs.declared.migrating.Counts.{Counts}
 use Rattle.tb_sql.specs.Migrating.{migrated, IsMigrated}

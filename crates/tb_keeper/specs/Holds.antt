@@ -4,8 +4,8 @@ use Rattle.sqlite.specs.State.{HasCleanDisk, State as Database}
 use Rattle.tb_board.specs.declared.board.Board.{Board}
 use Rattle.tb_board.specs.declared.world.World.{World}
 use Rattle.tb_core.specs.GoodWorld.{IsGoodWorld}
-use Rattle.tb_calls.specs.Calls.{State}
-use Rattle.tb_cache.specs.Cached.{AreOf}
+use Rattle.tb_calls.specs.Call.{State}
+use Rattle.tb_cache.specs.BoardCache.{AreOf}
 use Rattle.tb_stored.specs.Stored.{IsStored, IsStoredAsEither}
 
 -- what a keeper has at hand is the world's: how many people and boards there are, and boards by their numbers

@@ -1,7 +1,7 @@
 -- What a keeper tells of the version of a store.
 use Rattle.std.specs.Prelude.{Bool, true, false}
 use Rattle.sqlite.specs.State.{HasCleanDisk, State as Database}
-use Rattle.tb_calls.specs.Calls.{State}
+use Rattle.tb_calls.specs.Call.{State}
 use Rattle.tb_sql.specs.declared.opening.Version.{Version}
 use Rattle.tb_sql.specs.declared.opening.Version.TheVariants.{First, Second}
 use Rattle.tb_stored.specs.Migrating.{IsStoredOld}

@@ -4,11 +4,11 @@ ghost use Rattle.std.specs.Prelude.{◌≡◌, ◌+◌, ◌≤◌, ℕ, None, So
 ghost use Rattle.std.specs.List.{count_by};
 ghost use Rattle.std.specs.Map.{lookup};
 ghost use Rattle.sqlite.specs.Held.{state};
-ghost use Rattle.tb_board.specs.Changes.{changed};
+ghost use Rattle.tb_board.specs.Changing.{changed};
 ghost use Rattle.tb_board.specs.World.{find_board};
 ghost use Rattle.tb_board.specs.declared.world.World.{World};
-ghost use Rattle.tb_cache.specs.Cached.{AreOf};
-ghost use Rattle.tb_cache.specs.Followed.{TouchesNone};
+ghost use Rattle.tb_cache.specs.BoardCache.{AreOf};
+ghost use Rattle.tb_cache.specs.Following.{TouchesNone};
 ghost use Rattle.tb_core.specs.GoodWorld.{IsGoodWorld};
 ghost use Rattle.tb_sql.specs.Opening.{IsAsBefore};
 ghost use Rattle.tb_stored.specs.Reopening.{OfState};

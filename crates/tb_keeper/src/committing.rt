@@ -3,11 +3,11 @@
 ghost use Rattle.std.specs.Prelude.{◌≡◌, Err, IfOk, OnErr, OnOk, false, length};
 ghost use Rattle.std.specs.List.{AllByRecursion};
 ghost use Rattle.sqlite.specs.Held.{state};
-ghost use Rattle.tb_board.specs.Changes.{changed, replayed};
-ghost use Rattle.tb_calls.specs.Calls.{name_of};
-ghost use Rattle.tb_calls.specs.Keeping.{MayCommit};
+ghost use Rattle.tb_board.specs.Changing.{changed, replayed};
+ghost use Rattle.tb_calls.specs.Call.{name_of};
+ghost use Rattle.tb_calls.specs.Keep.{MayCommit};
 ghost use Rattle.tb_calls.specs.declared.call.Call.{Call as CallValue};
-ghost use Rattle.tb_cache.specs.Cached.{AreOf};
+ghost use Rattle.tb_cache.specs.BoardCache.{AreOf};
 ghost use Rattle.tb_rows.specs.Part.{part_of};
 ghost use Rattle.tb_rows.specs.Steps.{Leads};
 ghost use Rattle.tb_sql.specs.Opening.{IsAsBefore};

@@ -3,7 +3,7 @@
 ghost use Rattle.std.specs.Prelude.{◌≡◌, false, IfErr, IfOk, MatchResult};
 ghost use Rattle.sqlite.specs.Held.{state};
 ghost use Rattle.sqlite.specs.State.{Opens};
-ghost use Rattle.tb_calls.specs.Calls.{opening};
+ghost use Rattle.tb_calls.specs.Call.{opening};
 ghost use Rattle.tb_sql.specs.FirstVersion.{first_content};
 ghost use Rattle.tb_sql_tables.specs.Standing.{StandsEmpty};
 ghost use Rattle.tb_sql_tables.specs.Tables.{no_schema};

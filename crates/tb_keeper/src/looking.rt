@@ -5,7 +5,7 @@ ghost use Rattle.std.specs.FinMap.{get};
 ghost use Rattle.std.specs.Option.{option_map};
 ghost use Rattle.sqlite.specs.Held.{state};
 ghost use Rattle.tb_board.specs.World.{find_board, key_of, number_of};
-ghost use Rattle.tb_cache.specs.Cached.{AreOf};
+ghost use Rattle.tb_cache.specs.BoardCache.{AreOf};
 ghost use Rattle.tb_core.specs.Apply.{board_of, number_for, other_of, seen_with};
 ghost use Rattle.tb_sql.specs.Opening.{IsAsBefore};
 ghost use Rattle.tb_stored.specs.Reopening.{OfState};

@@ -1,7 +1,7 @@
 ghost use Rattle.std.specs.Prelude.{◌≡◌, ◌≢◌, ◌⊎◌, Err, IfErr, IfOk, MatchResult, Ok, false, true};
 ghost use Rattle.sqlite.specs.Held.{state};
 ghost use Rattle.sqlite.specs.State.{HasCleanDisk, Opens};
-ghost use Rattle.tb_calls.specs.Calls.{State};
+ghost use Rattle.tb_calls.specs.Call.{State};
 ghost use Rattle.tb_sql.specs.Opening.{has_meta, has_tables, is_old, IsAnswered, IsAsBefore};
 ghost use Rattle.tb_sql_tables.specs.Content.{AreOldRows, AreRows, Content, Stands};
 ghost use Rattle.tb_sql_tables.specs.Failing.{FailsByFault, KeepsFaults};

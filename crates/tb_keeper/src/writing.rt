@@ -3,8 +3,8 @@
 ghost use Rattle.std.specs.Prelude.{◌≡◌, ◌⊎◌, Err, OnOk};
 ghost use Rattle.sqlite.specs.Held.{state};
 ghost use Rattle.sqlite.specs.State.{HasCleanDisk};
-ghost use Rattle.tb_calls.specs.Keeping.{MayCommit, with_reply};
-ghost use Rattle.tb_cache.specs.Cached.{AreOf};
+ghost use Rattle.tb_calls.specs.Keep.{MayCommit, with_reply};
+ghost use Rattle.tb_cache.specs.BoardCache.{AreOf};
 ghost use Rattle.tb_stored.specs.Reopening.{OfState};
 ghost use Rattle.tb_stored.specs.Stored.{IsStored, IsStoredAsEither};
 ghost use Rattle.tb_keeper.specs.Holds.{IsAtHand};

@@ -4,7 +4,7 @@ use Rattle.std.specs.List.{filter_map}
 use Rattle.std.proofs.lemmas.List.{take_more}
 use Rattle.std.proofs.lemmas.List.Elements.{filter_map-append}
 use Rattle.sqlite.specs.State.{State as Database}
-use Rattle.tb_calls.specs.Calls.{State}
+use Rattle.tb_calls.specs.Call.{State}
 use Rattle.tb_sql.specs.Opening.{IsAsBefore}
 use Rattle.tb_stored.specs.Reopening.{OfState}
 use Rattle.tb_stored.proofs.Standing.{stored_again}

@@ -12,7 +12,7 @@ use Rattle.std.proofs.lemmas.Slice.Eq.{bytes_eq-Decides}
 use Rattle.tb_board.specs.declared.world.World.{World}
 use Rattle.tb_board.specs.World.{number_of}
 use Rattle.tb_calls.specs.declared.call.KeptReply.{KeptReply}
-use Rattle.tb_calls.specs.Calls.{CallName, State, name_cmp}
+use Rattle.tb_calls.specs.Call.{CallName, State, name_cmp}
 use Rattle.tb_calls.proofs.Names.{names_total, ties}
 use Rattle.tb_sql.specs.Changes.{is_kept}
 use Rattle.tb_sql_tables.specs.Content.{Content}

@@ -11,7 +11,7 @@ use Rattle.tb_board.specs.declared.board.Board.{Board}
 use Rattle.tb_board.specs.declared.world.RoleOn.{RoleOn}
 use Rattle.tb_board.specs.Names.{is_title, read_title}
 use Rattle.tb_board.specs.World.{find_board}
-use Rattle.tb_calls.specs.Calls.{State}
+use Rattle.tb_calls.specs.Call.{State}
 use Rattle.tb_calls.specs.Roles.{board_role, is_of, with_title}
 use Rattle.tb_reopen.specs.declared.fault.ReopenFault.{ReopenFault}
 use Rattle.tb_reopen.specs.Reading.{roles_in}
@@ -22,7 +22,7 @@ use Rattle.tb_reopen.proofs.RoleRows.{RoleRises}
 use Rattle.tb_reply.specs.declared.roles.BoardRole.{BoardRole}
 use Rattle.tb_rows.specs.Rows.{board_row, role_row}
 use Rattle.tb_sql.specs.Changes.{is_board}
-use Rattle.tb_sql.specs.OwnRoles.{IsBoardBefore}
+use Rattle.tb_sql.specs.RolesOf.{IsBoardBefore}
 use Rattle.tb_sql_tables.specs.declared.rows.BoardRow.{BoardRow}
 use Rattle.tb_sql_tables.specs.declared.rows.RoleRow.{RoleRow}
 use Rattle.tb_sql_tables.specs.Content.{Content}

@@ -7,7 +7,7 @@ use Rattle.std.proofs.lemmas.List.{length-map}
 use Rattle.sqlite.specs.State.{State as Database}
 use Rattle.tb_board.specs.declared.board.Board.{Board}
 use Rattle.tb_board.specs.World.{find_board, has_number}
-use Rattle.tb_calls.specs.Calls.{State}
+use Rattle.tb_calls.specs.Call.{State}
 use Rattle.tb_reopen.specs.Laws.{AreFoundAgain, IsBoardRead}
 use Rattle.tb_reopen.proofs.Joined.{numbered_from, AreNumberedFrom}
 use Rattle.tb_reopen.proofs.Lists.{differ}

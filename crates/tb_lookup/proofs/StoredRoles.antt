@@ -11,7 +11,7 @@ use Rattle.sqlite_trees.proofs.ListLemmas.{filter-filter}
 use Rattle.tb_board.specs.declared.world.RoleOn.{RoleOn}
 use Rattle.tb_board.specs.declared.world.World.{World}
 use Rattle.tb_board.specs.World.{is_owner, is_role_of, owners, owns, role_of}
-use Rattle.tb_calls.specs.Calls.{State}
+use Rattle.tb_calls.specs.Call.{State}
 use Rattle.tb_reopen.specs.declared.fault.ReopenFault.{ReopenFault}
 use Rattle.tb_reopen.specs.Reading.{roles_in}
 use Rattle.tb_reopen.proofs.Orders.{in_order}

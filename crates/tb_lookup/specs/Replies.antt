@@ -3,7 +3,7 @@ use Rattle.std.specs.Prelude.{◌≡◌, ℕ, List, Option, Some}
 use Rattle.std.specs.FinMap.{get}
 use Rattle.tb_board.specs.World.{number_of}
 use Rattle.tb_calls.specs.declared.call.KeptReply.{KeptReply}
-use Rattle.tb_calls.specs.Calls.{State}
+use Rattle.tb_calls.specs.Call.{State}
 
 -- this is kept under the identifier for the person of that number
 abbrev pub IsReplyFound : State → ℕ → ℕ → Option KeptReply → Type 0

@@ -5,13 +5,13 @@ use Rattle.tb_asking.specs.Asking.{asked_of}
 use Rattle.tb_asking.specs.declared.asked.Asked.{Asked}
 use Rattle.tb_asking.specs.declared.asked.Asked.TheVariants as asked
 use Rattle.tb_asking.specs.declared.rejection.Rejection.{Rejection}
-use Rattle.tb_calls.specs.Calls.{State, once, plain, reply}
+use Rattle.tb_calls.specs.Call.{State, once, plain, reply}
 use Rattle.tb_calls.specs.Leaving.{Only, StandsAfter}
 use Rattle.tb_calls.specs.declared.call.Call.{Call}
 use Rattle.tb_command_line.specs.declared.order.ImportOrder.{ImportOrder}
 use Rattle.tb_http.specs.declared.message.Message.{Message}
-use Rattle.tb_orders.specs.Inputs.{AreAskedBy, IsAskedBy, IsMade}
-use Rattle.tb_orders.specs.Messages.{message_of}
+use Rattle.tb_orders.specs.Input.{AreAskedBy, IsAskedBy, IsMade}
+use Rattle.tb_orders.specs.Message.{message_of}
 use Rattle.tb_orders.specs.Orders.{AsksFor, calls_made, ending_of, line_text}
 use Rattle.tb_orders.specs.Telling.{is_of_imports, is_of_inputs, is_of_messages}
 use Rattle.tb_orders.specs.declared.ending.Ending.{Ending}

@@ -4,7 +4,7 @@ use Rattle.tb_asking.specs.Asking.{asked_of}
 use Rattle.tb_command_line.specs.declared.order.ImportOrder.{ImportOrder}
 use Rattle.tb_orders.specs.Items.{IsBadAmong, IsBadBehind, IsBadIn, item_in}
 use Rattle.tb_orders.specs.Cutting.{parts_of}
-use Rattle.tb_orders.specs.Messages.{message_of}
+use Rattle.tb_orders.specs.Message.{message_of}
 use Rattle.tb_orders.specs.Running.{part_message}
 use Rattle.tb_orders.specs.declared.ending.Ending.{Ending}
 use Rattle.tb_orders.specs.declared.order_fault.BadItem.{BadItem}

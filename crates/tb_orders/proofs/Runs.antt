@@ -2,7 +2,7 @@
 use Rattle.std.proofs.Common.{◌≡◌, ◌≢◌, ◌⊎◌, ◌∙◌, ◌+◌, ◌==◌, ℕ, zero, suc, Bool, true, false, if◌then◌else◌, List, [], ◌∷◌, ◌++◌, length, take, Option, Some, None, IfOk, IfSome, OnOk, Result, Ok, Err, ap, append_assoc, arith, inl, inr, refl, subst, sym}
 use Rattle.std.proofs.lemmas.List.{append-nil}
 use Rattle.std.specs.Io.KnownBytes.{Appends}
-use Rattle.tb_calls.specs.Calls.{State, replies_after, replies_to, reply, told_in}
+use Rattle.tb_calls.specs.Call.{State, replies_after, replies_to, reply, told_in}
 use Rattle.tb_calls.specs.Leaving.{IsAfterSome, Only, StandsAfter}
 use Rattle.tb_calls.specs.declared.call.Call.{Call}
 use Rattle.tb_command_line.specs.declared.order.ImportOrder.{ImportOrder}

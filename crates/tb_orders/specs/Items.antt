@@ -7,7 +7,7 @@ use Rattle.tb_asking.specs.declared.rejection.Rejection.TheVariants.{Route, NoId
 use Rattle.tb_body.specs.declared.fault.BadBody.TheVariants.{Whole, Field, Item}
 use Rattle.tb_command_line.specs.declared.order.ImportOrder.{ImportOrder}
 use Rattle.tb_orders.specs.Cutting.{parts_of}
-use Rattle.tb_orders.specs.Messages.{message_of}
+use Rattle.tb_orders.specs.Message.{message_of}
 use Rattle.tb_orders.specs.Running.{part_message}
 use Rattle.tb_orders.specs.declared.ending.Ending.{Ending}
 use Rattle.tb_orders.specs.declared.order_fault.BadItem.{BadItem}

@@ -1,9 +1,9 @@
-pub mod Audits
+pub mod Auditing
 pub mod Cutting
 pub mod Faults
-pub mod Inputs
+pub mod Input
 pub mod Items
-pub mod Messages
+pub mod Message
 pub mod Orders
 pub mod Running
 pub mod Status

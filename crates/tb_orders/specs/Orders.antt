@@ -3,8 +3,8 @@ use Rattle.std.specs.Prelude.{◌≡◌, ℕ, ◌==◌, List, [], ◌∷◌, ◌
 use Rattle.tb_command_line.specs.declared.order.ViewKind.TheVariants as shows
 use Rattle.tb_command_line.specs.declared.order.ViewOrder.{ViewOrder}
 use Rattle.tb_command_line.specs.declared.order.ViewKind.{ViewKind}
-use Rattle.tb_calls.specs.Calls.{State}
-use Rattle.tb_desk.specs.Views.{shown_in}
+use Rattle.tb_calls.specs.Call.{State}
+use Rattle.tb_desk.specs.Viewing.{shown_in}
 use Rattle.tb_calls.specs.declared.call.Call.{Call}
 use Rattle.tb_calls.specs.declared.fault.KeepFault.{KeepFault}
 use Rattle.tb_calls.specs.declared.fault.KeepFault.TheVariants as keep

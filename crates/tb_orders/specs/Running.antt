@@ -1,13 +1,13 @@
 -- What an import in parts comes to.
 use Rattle.std.specs.Prelude.{◌≡◌, ◌⊎◌, ℕ, ◌+◌, ◌==◌, Bool, true, false, List, [], ◌∷◌, ◌++◌, length, Option, Some, IfSome, Result, Ok, IfOk, OnOk, IsErr, decimal, if◌then◌else◌}
 use Rattle.std.specs.Io.KnownBytes.{Appends}
-use Rattle.tb_calls.specs.Calls.{State, replies_to}
+use Rattle.tb_calls.specs.Call.{State, replies_to}
 use Rattle.tb_calls.specs.Leaving.{StandsAfter}
 use Rattle.tb_calls.specs.declared.call.Call.{Call}
 use Rattle.tb_command_line.specs.declared.order.ImportOrder.{ImportOrder}
 use Rattle.tb_http.specs.declared.message.Message.{Message}
 use Rattle.tb_orders.specs.Cutting.{parts_of}
-use Rattle.tb_orders.specs.Messages.{message_under}
+use Rattle.tb_orders.specs.Message.{message_under}
 use Rattle.tb_orders.specs.Orders.{AsksFor, line_text}
 use Rattle.tb_orders.specs.declared.ending.Ending.{Ending}
 use Rattle.tb_orders.specs.declared.ending.Ending.TheVariants.{Accepted, Refused}

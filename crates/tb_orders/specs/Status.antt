@@ -3,7 +3,7 @@ use Rattle.std.specs.Prelude.{ℕ, List, [], ◌∷◌, ◌++◌, Result, Ok, Er
 use Rattle.tb_orders.specs.declared.ending.Ending.{Ending}
 use Rattle.tb_orders.specs.declared.ending.Ending.TheVariants.{Accepted, Refused}
 use Rattle.tb_program.specs.declared.fault.Fault.{Fault}
-use Rattle.tb_program.specs.Faults.{name_of, status_of}
+use Rattle.tb_program.specs.Fault.{name_of, status_of}
 
 -- 0 where an order was accepted, 1 where it was refused, and else the fault's status
 abbrev pub status_at : Result Ending Fault → ℕ

@@ -6,7 +6,7 @@ use Rattle.tb_command_line.specs.declared.order.WordsFault.{WordsFault}
 use Rattle.tb_command_line.specs.declared.order.WordsFault.TheVariants as words
 use Rattle.tb_program.specs.declared.fault.Fault.{Fault}
 use Rattle.tb_program.specs.declared.fault.Fault.TheVariants.{Bad, BadBody, Memory, NoClock, ReadFailed, Store, WriteFailed}
-use Rattle.tb_program.specs.Faults.{is_of_reading}
+use Rattle.tb_program.specs.Fault.{is_of_reading}
 
 -- of the words
 abbrev pub is_of_words : Fault → Bool

@@ -1,7 +1,7 @@
 //! What is told of an audit.
 ghost use Rattle.std.specs.Prelude.{◌≡◌, IfErr, IfOk, OnErr, OnOk, true};
 ghost use Rattle.std.specs.Io.KnownBytes.{Appends};
-ghost use Rattle.tb_orders.specs.Audits.{audit_line, audit_text, ending_of_audit};
+ghost use Rattle.tb_orders.specs.Auditing.{audit_line, audit_text, ending_of_audit};
 ghost use Rattle.tb_orders.specs.Faults.{is_of_printing};
 ghost use Rattle.tb_values.specs.Appends.{AppendsFront};
 

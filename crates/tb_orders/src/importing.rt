@@ -1,7 +1,7 @@
 //! Imports of standard input.
 ghost use Rattle.std.specs.Prelude.{◌≡◌, ◌⊎◌, ◌∷◌, [], Err, IfErr, IfOk, IsErrOf, OnErr, OnOk, true};
 ghost use Rattle.std.specs.Io.KnownBytes.{Appends};
-ghost use Rattle.tb_calls.specs.Calls.{State, once, plain, reply};
+ghost use Rattle.tb_calls.specs.Call.{State, once, plain, reply};
 ghost use Rattle.tb_calls.specs.Leaving.{Only, StandsAfter};
 ghost use Rattle.tb_calls.specs.declared.call.Call.{Call};
 ghost use Rattle.tb_orders.specs.Orders.{AsksFor, calls_made, ending_of, line_text};

@@ -1,11 +1,11 @@
 //! The import of an input, whole.
 ghost use Rattle.std.specs.Prelude.{◌≡◌, ℕ, List, IfErr, IfOk, IfSome, IsErrOf, true};
-ghost use Rattle.tb_calls.specs.Calls.{State};
+ghost use Rattle.tb_calls.specs.Call.{State};
 ghost use Rattle.tb_calls.specs.Leaving.{Only, StandsAfter};
 ghost use Rattle.tb_calls.specs.declared.call.Call.{Call};
-ghost use Rattle.tb_orders.specs.Inputs.{AreAskedBy, IsMade};
+ghost use Rattle.tb_orders.specs.Input.{AreAskedBy, IsMade};
 ghost use Rattle.tb_orders.specs.Items.{IsBadIn, end_of};
-ghost use Rattle.tb_orders.specs.Messages.{message_of};
+ghost use Rattle.tb_orders.specs.Message.{message_of};
 ghost use Rattle.tb_orders.specs.Orders.{calls_made};
 ghost use Rattle.tb_orders.specs.Telling.{is_of_inputs, is_of_messages};
 ghost use Rattle.tb_program.specs.declared.fault.Fault.TheVariants.{Memory, Store};

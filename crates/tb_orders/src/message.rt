@@ -1,6 +1,6 @@
 //! The message of an import.
 ghost use Rattle.std.specs.Prelude.{◌≡◌, IfOk};
-ghost use Rattle.tb_orders.specs.Messages.{field, fields_under, message_of, message_under, target_of};
+ghost use Rattle.tb_orders.specs.Message.{field, fields_under, message_of, message_under, target_of};
 
 use http::Method;
 use std::alloc::{AllocError, Global};

@@ -1,7 +1,7 @@
 //! The import of a text in parts, a call each.
 ghost use Rattle.std.specs.Prelude.{◌≡◌, ◌+◌, ◌∷◌, ◌<◌, ◌^◌, [], IfErr, IfOk, IfSome, IsErrOf, Some, length, true};
 ghost use Rattle.tb_asking.specs.Asking.{asked_of};
-ghost use Rattle.tb_calls.specs.Calls.{State};
+ghost use Rattle.tb_calls.specs.Call.{State};
 ghost use Rattle.tb_calls.specs.Leaving.{Only};
 ghost use Rattle.tb_orders.specs.Items.{IsBadBehind, end_of, item_in};
 ghost use Rattle.tb_orders.specs.Running.{IsRun, messages_behind, part_id, part_message};

@@ -1,8 +1,8 @@
 //! Views of a board.
 ghost use Rattle.std.specs.Prelude.{◌≡◌, IfErr, IfOk, IsErrOf, OnErr, OnOk, true};
 ghost use Rattle.std.specs.Io.KnownBytes.{Appends};
-ghost use Rattle.tb_calls.specs.Calls.{State};
-ghost use Rattle.tb_calls.specs.Keeping.{IsStill};
+ghost use Rattle.tb_calls.specs.Call.{State};
+ghost use Rattle.tb_calls.specs.Keep.{IsStill};
 ghost use Rattle.tb_orders.specs.Orders.{ending_of, shown_by, view_of, view_text};
 ghost use Rattle.tb_orders.specs.Telling.{is_of_answers};
 ghost use Rattle.tb_program.specs.declared.fault.Fault.TheVariants.{Store, WriteFailed};

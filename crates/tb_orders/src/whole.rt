@@ -1,6 +1,6 @@
 //! The import of an input that is longer than one call takes.
 ghost use Rattle.std.specs.Prelude.{◌≡◌, ℕ, List, Some, IfErr, IfOk, IfSome, IsErrOf, true};
-ghost use Rattle.tb_calls.specs.Calls.{State};
+ghost use Rattle.tb_calls.specs.Call.{State};
 ghost use Rattle.tb_calls.specs.Leaving.{Only};
 ghost use Rattle.tb_orders.specs.Cutting.{parts_of};
 ghost use Rattle.tb_orders.specs.Items.{IsBadAmong, end_of};

@@ -1,7 +1,7 @@
 -- What comes of the next message of a connection.
 use Rattle.std.proofs.Common.{◌≡◌, ℕ, ◌+◌, Bool, true, false, if◌then◌else◌, List, [], ◌∷◌, ◌++◌, length, take, drop, Option, Some, None, Result, Err, arith, refl, sym, ap, ◌∙◌, subst, inl, inr, append-nil, take-append-drop}
 use Rattle.std.proofs.lemmas.List.{take_at}
-use Rattle.tb_calls.specs.Calls.{State}
+use Rattle.tb_calls.specs.Call.{State}
 use Rattle.tb_calls.specs.Leaving.{Only}
 use Rattle.tb_calls.specs.declared.fault.KeepFault.TheVariants as keep
 use Rattle.tb_http.specs.Inbox.{HasFault, IsUnfinished}

@@ -4,7 +4,7 @@ use Rattle.std.specs.Prelude.{IfErr}
 use Rattle.std.proofs.lemmas.List.{length-append}
 use Rattle.tb_calls.specs.declared.call.Call.{Call}
 use Rattle.tb_calls.specs.declared.fault.KeepFault.TheVariants as keep
-use Rattle.tb_calls.specs.Calls.{State}
+use Rattle.tb_calls.specs.Call.{State}
 use Rattle.tb_calls.specs.Leaving.{IsAfterSome, Only, StandsAfter}
 use Rattle.tb_desk.proofs.Runs.{after_all-append}
 use Rattle.tb_asking.specs.declared.asked.Asked.{Asked}

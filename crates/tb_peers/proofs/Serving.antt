@@ -1,6 +1,6 @@
 -- The server as one that takes turns.
 use Rattle.std.proofs.Common.{◌≡◌, ℕ, ◌+◌, List, [], ◌∷◌, ◌++◌, refl, sym, ap, ◌∙◌}
-use Rattle.tb_calls.specs.Calls.{State}
+use Rattle.tb_calls.specs.Call.{State}
 use Rattle.tb_desk.proofs.Runs.{after_all-append}
 use Rattle.tb_http.proofs.StreamLemmas.{message_more}
 use Rattle.tb_peers.specs.Laws.{AnyTurns, OneAlone, moments_of, received_of}

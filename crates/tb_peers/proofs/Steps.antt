@@ -3,7 +3,7 @@ use Rattle.std.proofs.Common.{◌≡◌, ◌≢◌, ℕ, ◌+◌, ◌<◌, ◌�
 use Rattle.std.specs.Prelude.{◌==◌, nat_lt, OnErr}
 use Rattle.std.proofs.lemmas.List.{drop_more, take_more, get_or_default, get_or-set_other, get_or-set_same}
 use Rattle.std.proofs.lemmas.Bool.{eqb-false, eqb-true, le-ltb, lt-ltb}
-use Rattle.tb_calls.specs.Calls.{State}
+use Rattle.tb_calls.specs.Call.{State}
 use Rattle.tb_calls.specs.Leaving.{Only}
 use Rattle.tb_peers.specs.Following.{has_stopped}
 use Rattle.tb_peers.specs.Happening.{Comes, Happens, HappensTo, IsStopped, Plays, done_at, done_of, talk_at}

@@ -1,6 +1,6 @@
 -- What is done to the connections of a server, and what comes of it.
 use Rattle.std.specs.Prelude.{◌≡◌, ℕ, ◌==◌, Bool, false, if◌then◌else◌, List, [], ◌∷◌, ◌++◌, Option, Some, None, Result, Ok, Err, get_or, nat_lt}
-use Rattle.tb_calls.specs.Calls.{State}
+use Rattle.tb_calls.specs.Call.{State}
 use Rattle.tb_calls.specs.Leaving.{StandsAfter}
 use Rattle.tb_calls.specs.declared.fault.KeepFault.TheVariants as keep
 use Rattle.tb_peers.specs.declared.happening.PeerEvent.{PeerEvent}

@@ -1,6 +1,6 @@
 -- What is true of the connections of a server, whatever is done to them.
 use Rattle.std.specs.Prelude.{◌≡◌, ℕ, List, [], ◌∷◌, Option}
-use Rattle.tb_calls.specs.Calls.{State}
+use Rattle.tb_calls.specs.Call.{State}
 use Rattle.tb_http.specs.Stream.{Received}
 use Rattle.tb_peers.specs.Server.{Timed, calls_among, server}
 use Rattle.tb_serve.specs.Serving.{answers}

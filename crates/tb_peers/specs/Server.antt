@@ -3,7 +3,7 @@ use Rattle.std.specs.Prelude.{◌≡◌, ℕ, List, [], ◌∷◌, ◌++◌, Opt
 use Rattle.tb_calls.specs.declared.call.Call.{Call}
 use Rattle.tb_calls.specs.declared.fault.KeepFault.{KeepFault}
 use Rattle.tb_calls.specs.declared.fault.KeepFault.TheVariants.{Memory}
-use Rattle.tb_calls.specs.Calls.{State}
+use Rattle.tb_calls.specs.Call.{State}
 use Rattle.tb_http.specs.declared.fault.WireFault.{WireFault}
 use Rattle.tb_http.specs.Inbox.{HasFault, IsUnfinished}
 use Rattle.tb_http.specs.Message.{takes_body}

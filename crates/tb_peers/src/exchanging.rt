@@ -1,6 +1,6 @@
 //! The next message of a connection, handled and answered.
 ghost use Rattle.std.specs.Prelude.{◌≡◌, ◌≤◌, ◌+◌, ◌++◌, ◌∷◌, [], List, ℕ, length, take, drop, if◌then◌else◌, IfNone, IfSome, Some, false, true};
-ghost use Rattle.tb_calls.specs.Calls.{State};
+ghost use Rattle.tb_calls.specs.Call.{State};
 ghost use Rattle.tb_calls.specs.Leaving.{Only};
 ghost use Rattle.tb_http.specs.Inbox.{HasFault, IsUnfinished};
 ghost use Rattle.tb_http.specs.declared.fault.WireFault.{WireFault};

@@ -1,6 +1,6 @@
 //! One step over the connections of a server.
 ghost use Rattle.std.specs.Prelude.{◌≡◌, ◌<◌, length, IfErr, Err, None, true};
-ghost use Rattle.tb_calls.specs.Calls.{State};
+ghost use Rattle.tb_calls.specs.Call.{State};
 ghost use Rattle.tb_calls.specs.Leaving.{Only};
 ghost use Rattle.tb_peers.specs.Following.{Follows, has_stopped};
 ghost use Rattle.tb_peers.specs.Happening.{Comes, Happens, HappensTo, done_of, talk_at};

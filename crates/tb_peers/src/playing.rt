@@ -1,6 +1,6 @@
 //! One thing after the other.
 ghost use Rattle.std.specs.Prelude.{◌≡◌, ◌∷◌, [], length, IfErr, IsErr, OnErr, OnOk, true};
-ghost use Rattle.tb_calls.specs.Calls.{State};
+ghost use Rattle.tb_calls.specs.Call.{State};
 ghost use Rattle.tb_calls.specs.Leaving.{Only};
 ghost use Rattle.tb_peers.specs.Happening.{IsStopped, Plays, done_at, talk_at};
 

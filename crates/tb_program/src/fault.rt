@@ -1,7 +1,7 @@
 //! Why the program ends without success.
 ghost use Rattle.std.specs.Prelude.{◌≡◌};
 ghost use Rattle.tb_program.specs.declared.fault.Fault.TheVariants.{Memory};
-ghost use Rattle.tb_program.specs.Faults.{name_of, status_of};
+ghost use Rattle.tb_program.specs.Fault.{name_of, status_of};
 
 use std::alloc::AllocError;
 

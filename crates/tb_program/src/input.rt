@@ -1,7 +1,7 @@
 //! Standard input, whole.
 ghost use Rattle.std.specs.Prelude.{◌≡◌, ◌≤◌, ◌<◌, length, IfErr, IfOk, IfSome, IsErrOf, true};
 ghost use Rattle.tb_program.specs.declared.fault.Fault.TheVariants.{BadBody};
-ghost use Rattle.tb_program.specs.Faults.{is_of_reading};
+ghost use Rattle.tb_program.specs.Fault.{is_of_reading};
 ghost use Rattle.tb_task.specs.Limits.{longest_body};
 
 use crate::fault::Fault;

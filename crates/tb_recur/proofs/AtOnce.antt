@@ -2,8 +2,8 @@
 use Rattle.std.proofs.Common.{◌≡◌, ℕ, zero, suc, ◌+◌, ◌-◌, Bool, true, false, ◌&&◌, nat_lt, if◌then◌else◌, refl, ap, arith, inl, inr}
 use Rattle.std.proofs.lemmas.Bool.{cases_Bool, le-ltb}
 use Rattle.tb_recur.specs.declared.plan.Plan.{Plan}
-use Rattle.tb_recur.specs.Due.{due}
-use Rattle.tb_recur.specs.Wanted.{first_unwanted, has_begun, is_inside, need, wanted}
+use Rattle.tb_recur.specs.Dues.{due}
+use Rattle.tb_recur.specs.Wanting.{first_unwanted, has_begun, is_inside, need, wanted}
 use Rattle.tb_recur.specs.AtOnce.{has_begun_at_once, wanted_at_once, first_unwanted_at_once, need_at_once, OneAheadIsAtOnce}
 
 begun_same : (p : Plan) (j m : ℕ) → has_begun p 1 (suc j) m ≡ has_begun_at_once p (suc j) m

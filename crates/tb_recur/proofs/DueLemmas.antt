@@ -3,10 +3,10 @@ use Rattle.std.proofs.Common.{◌≡◌, ℕ, zero, suc, ◌+◌, ◌-◌, ◌*�
 use Rattle.std.proofs.lemmas.Bool.{cases_Bool, leb-true, le-leb}
 use Rattle.tb_task.specs.declared.step.Step.{Step}
 use Rattle.tb_task.specs.declared.step.Step.TheVariants.{Days, Weekdays, Months}
-use Rattle.tb_task.specs.Date.{date_of, day_number}
+use Rattle.tb_task.specs.Civil.{date_of, day_number}
 use Rattle.tb_task.proofs.Dates.{dated}
 use Rattle.tb_recur.specs.Months.{months_later}
-use Rattle.tb_recur.specs.Due.{if_moment, day_after, due, IsStep}
+use Rattle.tb_recur.specs.Dues.{if_moment, day_after, due, IsStep}
 use Rattle.tb_recur.proofs.WeekdayLemmas.{nth_rises, nth_from}
 use Rattle.tb_recur.proofs.MonthLemmas.{months_rise, month_bound}
 

@@ -6,7 +6,7 @@ use Rattle.jiff_core.specs.Date.{epoch_day}
 use Rattle.jiff_core.specs.Calendar.{days_in_month, days_from_civil, day_count}
 use Rattle.jiff_core.proofs.SignedLemmas.{signed_arith}
 use Rattle.jiff_core.proofs.CalendarLemmas.{days_from_civil-day_count, days_in_month_bounds, day_count-lt_year, day_count-lt_month}
-use Rattle.tb_task.specs.Date.{CivilDate, day_number}
+use Rattle.tb_task.specs.Civil.{CivilDate, day_number}
 use Rattle.tb_task.proofs.Dates.{IsReal, counted, civil, year_bound}
 use Rattle.tb_recur.specs.Months.{IsClamped, months_later}
 

@@ -2,8 +2,8 @@
 use Rattle.std.proofs.Common.{◌≡◌, ℕ, zero, suc, ◌+◌, ◌-◌, ◌*◌, ◌<◌, ◌≤◌, Bool, true, false, ◌&&◌, nat_le, nat_lt, Option, Some, None, if◌then◌else◌, refl, sym, ◌∙◌, ap, subst, arith, ◌⊎◌, inl, inr, true≢false}
 use Rattle.std.proofs.lemmas.Bool.{cases_Bool, leb-true, leb-false, le-leb, le-ltb, ltb-true, ltb-false}
 use Rattle.tb_recur.specs.declared.plan.Plan.{Plan}
-use Rattle.tb_recur.specs.Due.{due, IsStep}
-use Rattle.tb_recur.specs.Wanted.{is_by, is_inside, has_come, has_begun, wanted, first_unwanted, need, IsNeed, NeedIsLeast}
+use Rattle.tb_recur.specs.Dues.{due, IsStep}
+use Rattle.tb_recur.specs.Wanting.{is_by, is_inside, has_come, has_begun, wanted, first_unwanted, need, IsNeed, NeedIsLeast}
 use Rattle.tb_recur.proofs.DueLemmas.{due_rises, due_early}
 
 both : (a b : Bool) → (a && b) ≡ true → (a ≡ true) × (b ≡ true)

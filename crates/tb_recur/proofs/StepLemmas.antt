@@ -4,8 +4,8 @@ use Rattle.std.specs.Option.{option_map}
 use Rattle.std.proofs.lemmas.Bool.{cases_Bool, leb-true}
 use Rattle.tb_task.specs.declared.step.Step.{Step}
 use Rattle.tb_task.specs.declared.step.Step.TheVariants.{Days, Weekdays, Months}
-use Rattle.tb_task.specs.Steps.{is_digit, is_first_digit, number_of, without_front, without_back, then_by, number_between, first_of_two, row_number, row_step, word_step, calendar_word_step, step_of}
-use Rattle.tb_recur.specs.Due.{IsStep}
+use Rattle.tb_task.specs.Step.{is_digit, is_first_digit, number_of, without_front, without_back, then_by, number_between, first_of_two, row_number, row_step, word_step, calendar_word_step, step_of}
+use Rattle.tb_recur.specs.Dues.{IsStep}
 
 if_else : {A : Type 0} (P : A → Type 0) (b : Bool) (x : A) (o : Option A) → P x → IfSome o P → IfSome (if b then Some x else o) P
 if_else P true x o here rest = here

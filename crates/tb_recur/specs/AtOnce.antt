@@ -1,8 +1,8 @@
 -- Which instances of a template are wanted where a board doesn't look ahead: the first text, which the newer one has where it looks one ahead.
 use Rattle.std.specs.Prelude.{◌≡◌, ℕ, zero, suc, ◌+◌, Bool, true, ◌&&◌, if◌then◌else◌}
 use Rattle.tb_recur.specs.declared.plan.Plan.{Plan}
-use Rattle.tb_recur.specs.Due.{due}
-use Rattle.tb_recur.specs.Wanted.{has_come, is_inside, need, wanted}
+use Rattle.tb_recur.specs.Dues.{due}
+use Rattle.tb_recur.specs.Wanting.{has_come, is_inside, need, wanted}
 
 -- there is none before the k-th, or its due has come
 abbrev pub has_begun_at_once : Plan → ℕ → ℕ → Bool

@@ -1,6 +1,6 @@
 pub mod Weekdays
 pub mod Months
-pub mod Due
-pub mod Wanted
+pub mod Dues
+pub mod Wanting
 pub mod AtOnce
-pub mod Instance
+pub mod Instances

@@ -2,7 +2,7 @@
 use Rattle.std.specs.Prelude.{◌≡◌, ℕ, ◌+◌, ◌-◌, ◌*◌, ◌/◌, ◌%◌, min, pos}
 use Rattle.jiff_core.specs.declared.civil.date.Date.{Date}
 use Rattle.jiff_core.specs.Calendar.{days_in_month}
-use Rattle.tb_task.specs.Date.{CivilDate}
+use Rattle.tb_task.specs.Civil.{CivilDate}
 
 -- the date that many months after January of the year 0, with that day of the month, or the last where the month is shorter
 pub record IsClamped (months day : ℕ) (d : Date) : Type 0 where

@@ -1,5 +1,5 @@
 ghost use Rattle.std.specs.Prelude.{◌≡◌, ◌<◌, ◌+◌, ◌*◌, ◌/◌, MatchOption};
-ghost use Rattle.tb_recur.specs.Due.{due, day_after, if_moment};
+ghost use Rattle.tb_recur.specs.Dues.{due, day_after, if_moment};
 
 use crate::months::months_after;
 use crate::weekdays::weekdays_later;

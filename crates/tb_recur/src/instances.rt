@@ -1,5 +1,5 @@
 ghost use Rattle.std.specs.Prelude.{◌≡◌, ◌≤◌, IfOk};
-ghost use Rattle.tb_recur.specs.Instance.{due_of, delay_of, seconds_between, moved, settled, instance};
+ghost use Rattle.tb_recur.specs.Instances.{due_of, delay_of, seconds_between, moved, settled, instance};
 
 use crate::dues::due;
 use crate::plan::plan_of;

@@ -1,6 +1,6 @@
 ghost use Rattle.std.specs.Prelude.{◌≡◌, ◌≤◌, ◌<◌, ◌-◌, ◌/◌, ◌^◌, pos, ◌≤ℤ◌, MatchOption};
 ghost use Rattle.jiff_core.specs.Date.{epoch_day};
-ghost use Rattle.tb_task.specs.Date.{date_of, day_number};
+ghost use Rattle.tb_task.specs.Civil.{date_of, day_number};
 ghost use Rattle.tb_recur.specs.Months.{IsClamped, months_later};
 
 use jiff_core::civil::Date;

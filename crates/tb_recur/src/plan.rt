@@ -1,6 +1,6 @@
 ghost use Rattle.std.specs.Prelude.{◌≡◌, IfSome};
-ghost use Rattle.tb_recur.specs.Due.{IsStep};
-ghost use Rattle.tb_recur.specs.Instance.{read_recur, plan_of};
+ghost use Rattle.tb_recur.specs.Dues.{IsStep};
+ghost use Rattle.tb_recur.specs.Instances.{read_recur, plan_of};
 
 use tb_task::{Moment, Step, Task};
 use tb_values::NonEmptyText;

@@ -1,5 +1,5 @@
 ghost use Rattle.std.specs.Prelude.{◌≡◌};
-ghost use Rattle.tb_recur.specs.Wanted.{is_by, is_inside, has_come, has_begun, wanted, NeedIsLeast};
+ghost use Rattle.tb_recur.specs.Wanting.{is_by, is_inside, has_come, has_begun, wanted, NeedIsLeast};
 ghost use Rattle.tb_recur.specs.AtOnce.{OneAheadIsAtOnce};
 
 use crate::dues::due;

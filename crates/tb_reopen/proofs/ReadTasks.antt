@@ -5,7 +5,7 @@ use Rattle.std.proofs.lemmas.Bool.{eq-eqb}
 use Rattle.std.proofs.lemmas.List.{append-nil}
 use Rattle.tb_task.specs.declared.task.Task.{Task}
 use Rattle.tb_task.specs.declared.checks.Field.TheVariants.{EmptyDescription, BadTag, BadText, BadPair}
-use Rattle.tb_task.specs.Check.{fault_of, has_bad_pair, is_empty}
+use Rattle.tb_task.specs.Checks.{fault_of, has_bad_pair, is_empty}
 use Rattle.tb_task.specs.Storable.{IsStorable}
 use Rattle.tb_task.specs.TaskId.{IsRead}
 use Rattle.tb_task.proofs.Storables.{own_names, storable_extras, not_empty}

@@ -2,7 +2,7 @@
 use Rattle.std.specs.Prelude.{◌≡◌, true}
 use Rattle.std.specs.List.{AllByRecursion}
 use Rattle.std.specs.List.Sorted.{IsStrictlySortedBy}
-use Rattle.tb_task.specs.Extras.{by_name}
+use Rattle.tb_task.specs.Extra.{by_name}
 use Rattle.tb_task.specs.Mask.{is_mark}
 use Rattle.tb_task.specs.Ranges.{HasLinks, HasTexts, IsNamedExtra}
 use Rattle.tb_task.specs.Storable.{HasMoments}

@@ -1,3 +1,3 @@
 pub mod Bodies
-pub mod Replies
+pub mod Reply
 pub mod Roles

@@ -2,7 +2,7 @@
 ghost use Rattle.std.specs.Prelude.{◌≡◌, false, Err, IfOk};
 ghost use Rattle.serde_json.specs.View.{view};
 ghost use Rattle.serde_json.specs.Written.{compact_text, has_float};
-ghost use Rattle.tb_reply.specs.Replies.{reply_of};
+ghost use Rattle.tb_reply.specs.Reply.{reply_of};
 
 use crate::bodies::{body_of_answer, body_of_refusal};
 use crate::reply::Reply;

@@ -2,7 +2,7 @@
 use Rattle.std.proofs.Common.{◌≡◌, ◌<◌, ◌<ℤ◌, ℕ, ℤ, arith, refl, sym, ap, subst, ◌∙◌, Ordering, Less, Equal, Greater}
 use Rattle.std.specs.Cmp.{IsTotalOrder, int_cmp_total, nat_cmp_total, then_total, back_total, on_total, int_ranks, ranks}
 use Rattle.std.specs.Ordering.{nat_cmp, int_cmp, ordering_then, MatchOrdering}
-use Rattle.tb_report.specs.Ranking.{Rank, rank_order}
+use Rattle.tb_report.specs.Rank.{Rank, rank_order}
 use Rattle.tb_report.proofs.Sorting.{IsExactOrder}
 
 rank_total : IsTotalOrder rank_order

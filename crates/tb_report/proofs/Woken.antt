@@ -18,7 +18,7 @@ use Rattle.tb_board.specs.Links.{depends_of, links, places_in}
 use Rattle.tb_board.specs.Statuses.{is_open}
 use Rattle.tb_board.proofs.Goodness.{depends-wake, ids-wake}
 use Rattle.tb_report.specs.Row.{unit}
-use Rattle.tb_report.specs.Urgency.{is_waiting_now, own_parts, parts_if, urgency_at, urgency_awake, urgency_of}
+use Rattle.tb_report.specs.Urgencies.{is_waiting_now, own_parts, parts_if, urgency_at, urgency_awake, urgency_of}
 
 open_if_waiting : (s : Status) → is_waiting s ≡ true → is_open s ≡ true
 open_if_waiting Waiting h = refl

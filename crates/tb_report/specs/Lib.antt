@@ -1,6 +1,6 @@
-pub mod Listing
+pub mod Lists
 pub mod Marked
-pub mod Ranking
+pub mod Rank
 pub mod Row
-pub mod Shown
-pub mod Urgency
+pub mod Showing
+pub mod Urgencies

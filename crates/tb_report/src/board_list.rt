@@ -1,5 +1,5 @@
 ghost use Rattle.std.specs.Prelude.{◌≡◌, IfOk};
-ghost use Rattle.tb_report.specs.Listing.{listing as listing_of, listing_awake};
+ghost use Rattle.tb_report.specs.Lists.{listing as listing_of, listing_awake};
 
 use crate::lists::{Marked, list_tasks};
 use std::alloc::{AllocError, Global};

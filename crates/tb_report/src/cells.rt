@@ -1,6 +1,6 @@
 ghost use Rattle.std.specs.Prelude.{◌≡◌, codes, is_some, if◌then◌else◌, IfOk, string_bytes};
-ghost use Rattle.tb_report.specs.Listing.{due_text, flag, flags, project_text, standing_flag};
-ghost use Rattle.tb_report.specs.Urgency.{is_waiting_now};
+ghost use Rattle.tb_report.specs.Lists.{due_text, flag, flags, project_text, standing_flag};
+ghost use Rattle.tb_report.specs.Urgencies.{is_waiting_now};
 
 use crate::row::without_controls;
 use std::alloc::{AllocError, Global};

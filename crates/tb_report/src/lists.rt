@@ -1,5 +1,5 @@
 ghost use Rattle.std.specs.Prelude.{◌≡◌, ◌<◌, ◌+◌, ◌^◌, ◌++◌, IfOk, OnOk, Some, length, slice_get, string_bytes};
-ghost use Rattle.tb_report.specs.Listing.{is_listed as is_listed_status, header, lines, line, last_line, rank, rank_if_listed, ranks_from, tasks_listed};
+ghost use Rattle.tb_report.specs.Lists.{is_listed as is_listed_status, header, lines, line, last_line, rank, rank_if_listed, ranks_from, tasks_listed};
 ghost use Rattle.tb_graph.specs.Marks.{is_marked};
 ghost use Rattle.tb_report.specs.Marked.{waits_in};
 

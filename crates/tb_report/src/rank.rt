@@ -1,5 +1,5 @@
 ghost use Rattle.std.specs.Prelude.{◌≡◌, IfOk};
-ghost use Rattle.tb_report.specs.Ranking.{rank_order, ordered};
+ghost use Rattle.tb_report.specs.Rank.{rank_order, ordered};
 
 use std::alloc::AllocError;
 use std::cmp::Reverse;

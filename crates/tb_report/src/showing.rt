@@ -1,5 +1,5 @@
 ghost use Rattle.std.specs.Prelude.{◌≡◌, None, IfOk, map};
-ghost use Rattle.tb_report.specs.Shown.{mask_on as mask_on_board, shown as shown_of, shown_awake as all_awake, shown_on as shown_on_board, shown_task as shown_task_of};
+ghost use Rattle.tb_report.specs.Showing.{mask_on as mask_on_board, shown as shown_of, shown_awake as all_awake, shown_on as shown_on_board, shown_task as shown_task_of};
 
 use std::alloc::{AllocError, Global};
 use tb_board::{Board, Draft, is_template_task, wake_draft, woken_task};

@@ -2,7 +2,7 @@ ghost use Rattle.std.specs.Prelude.{◌≡◌, ◌≤◌, ◌*◌, ◌+◌, ◌-
 ghost use Rattle.std.specs.List.{list_any};
 ghost use Rattle.tb_board.specs.Board.{wakes, woken};
 ghost use Rattle.tb_report.specs.Row.{unit};
-ghost use Rattle.tb_report.specs.Urgency.{age_parts, count_parts, due_parts, is_next, next_parts, own_parts, parts_if, priority_parts, scheduled_parts, urgency_at, urgency_of, is_waiting_now};
+ghost use Rattle.tb_report.specs.Urgencies.{age_parts, count_parts, due_parts, is_next, next_parts, own_parts, parts_if, priority_parts, scheduled_parts, urgency_at, urgency_of, is_waiting_now};
 
 use crate::row::URGENCY_UNIT;
 use tb_board::{Board, has_waited, is_blocked_task, is_blocking_task};

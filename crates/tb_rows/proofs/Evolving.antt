@@ -8,7 +8,7 @@ use Rattle.tb_board.specs.declared.board.Board.{Board}
 use Rattle.tb_board.specs.declared.change.Change.{Change}
 use Rattle.tb_board.specs.declared.change.Change.TheVariants.{PutTask, AddPerson as NewPerson, AddBoard as NewBoard, SetRole, SetGone, TakeGone, SetAhead}
 use Rattle.tb_board.specs.declared.world.World.{World}
-use Rattle.tb_board.specs.Changes.{change_board, changed, changed_by, with_ahead, with_gone, with_task_at, without_gone}
+use Rattle.tb_board.specs.Changing.{change_board, changed, changed_by, with_ahead, with_gone, with_task_at, without_gone}
 use Rattle.tb_board.specs.World.{has_number}
 use Rattle.tb_board.specs.Extends.{IsFrontOf}
 use Rattle.tb_rows.proofs.Turning.{unchanged}

@@ -13,7 +13,7 @@ use Rattle.tb_board.specs.declared.change.Change.TheVariants.{PutTask, AddPerson
 use Rattle.tb_board.specs.declared.gone.Gone.{Gone}
 use Rattle.tb_task.specs.declared.task.Task.{Task}
 use Rattle.tb_board.specs.Board.{has_id, ids}
-use Rattle.tb_board.specs.Changes.{with_task_at, without_place}
+use Rattle.tb_board.specs.Changing.{with_task_at, without_place}
 use Rattle.tb_board.specs.Instances.{IsGoneOn}
 use Rattle.tb_board.specs.Links.{place_in}
 use Rattle.tb_board.specs.Templates.{is_gone_at}

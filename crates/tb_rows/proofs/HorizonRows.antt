@@ -6,7 +6,7 @@ use Rattle.sqlite_trees.proofs.ListLemmas.{all_weaker, IsPermutation-same}
 use Rattle.tb_board.specs.declared.board.Board.{Board}
 use Rattle.tb_board.specs.declared.change.Change.{Change}
 use Rattle.tb_board.specs.declared.change.Change.TheVariants.{PutTask, AddPerson as NewPerson, AddBoard as NewBoard, SetRole, SetGone, TakeGone, SetAhead}
-use Rattle.tb_board.specs.Changes.{with_gone, with_task_at, without_gone}
+use Rattle.tb_board.specs.Changing.{with_gone, with_task_at, without_gone}
 use Rattle.tb_board.proofs.Relinking.{or_false}
 use Rattle.tb_sql_tables.specs.declared.rows.HorizonRow.{HorizonRow}
 use Rattle.tb_sql.specs.declared.changes.RowChange.TheVariants.{AddBoard, AddGone, AddHorizon, SetHorizon}

@@ -7,7 +7,7 @@ use Rattle.tb_board.specs.declared.board.Board.{Board}
 use Rattle.tb_board.specs.declared.change.Change.{Change}
 use Rattle.tb_board.specs.declared.world.RoleOn.{RoleOn}
 use Rattle.tb_board.specs.declared.world.World.{World}
-use Rattle.tb_board.specs.Changes.{changed}
+use Rattle.tb_board.specs.Changing.{changed}
 use Rattle.tb_board.specs.Extends.{Extends, ExtendsBoard, IsFrontOf}
 use Rattle.tb_board.specs.Good.{IsGood}
 use Rattle.tb_core.specs.GoodWorld.{IsGoodWorld, IsRoleIn}

@@ -10,7 +10,7 @@ use Rattle.tb_board.specs.declared.world.Person.{Person}
 use Rattle.tb_board.specs.declared.world.Role.{Role}
 use Rattle.tb_board.specs.declared.world.Role.TheVariants.{Owner}
 use Rattle.tb_board.specs.declared.world.World.{World}
-use Rattle.tb_board.specs.Changes.{change_board, changed, changed_by, changed_on, replayed, IsOn}
+use Rattle.tb_board.specs.Changing.{change_board, changed, changed_by, changed_on, replayed, IsOn}
 use Rattle.tb_board.specs.Good.{IsGood}
 use Rattle.tb_board.specs.World.{find_board, has_number, empty_board}
 use Rattle.tb_board.proofs.Worlds.{changed-append, changed-one}

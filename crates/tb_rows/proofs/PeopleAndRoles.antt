@@ -12,7 +12,7 @@ use Rattle.tb_board.specs.declared.world.Person.{Person}
 use Rattle.tb_board.specs.declared.world.Role.{Role}
 use Rattle.tb_board.specs.declared.world.RoleOn.{RoleOn}
 use Rattle.tb_board.specs.declared.world.World.{World}
-use Rattle.tb_board.specs.Changes.{changed, changed_by}
+use Rattle.tb_board.specs.Changing.{changed, changed_by}
 use Rattle.tb_board.specs.First.{change_first}
 use Rattle.tb_board.specs.Roles.{comes_before, set_role, with_new_role}
 use Rattle.tb_board.specs.World.{is_role_of}

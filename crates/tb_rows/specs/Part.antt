@@ -6,7 +6,7 @@ use Rattle.tb_board.specs.declared.change.Change.{Change}
 use Rattle.tb_board.specs.declared.change.Change.TheVariants.{PutTask, AddPerson as NewPerson, AddBoard as NewBoard, SetRole, SetGone, TakeGone, SetAhead}
 use Rattle.tb_board.specs.declared.world.Role.{Role}
 use Rattle.tb_board.specs.declared.world.World.{World}
-use Rattle.tb_board.specs.Changes.{changed, replayed}
+use Rattle.tb_board.specs.Changing.{changed, replayed}
 use Rattle.tb_board.specs.Extends.{Extends}
 use Rattle.tb_board.specs.World.{find_board, empty_board}
 use Rattle.tb_core.specs.GoodWorld.{IsGoodWorld}

@@ -5,7 +5,7 @@ ghost use Rattle.std.specs.List.{flat_map, list_any};
 ghost use Rattle.tb_board.specs.World.{empty_board};
 ghost use Rattle.tb_rows.specs.Rows.{board_row};
 ghost use Rattle.tb_rows.specs.Steps.{ahead_changes, changed_templates, kept_board, later_board, low_changes, put_place, sets_ahead};
-ghost use Rattle.tb_rows.specs.Sought.{AreFor};
+ghost use Rattle.tb_rows.specs.TaskPlaces.{AreFor};
 ghost use Rattle.tb_task.specs.Limits.{most_tasks};
 
 use crate::concerned::{PlaceList, changed_templates, is_concerned, put_places};

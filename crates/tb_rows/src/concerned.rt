@@ -4,7 +4,7 @@ ghost use Rattle.std.specs.Prelude.{◌≡◌, ◌++◌, [], IfOk, OnOk, length}
 ghost use Rattle.std.specs.List.{flat_map, list_any};
 ghost use Rattle.tb_rows.specs.Marks.{AreMarks, IsMarkedToo};
 ghost use Rattle.tb_rows.specs.Rows.{rows_from};
-ghost use Rattle.tb_rows.specs.Sought.{AreFor};
+ghost use Rattle.tb_rows.specs.TaskPlaces.{AreFor};
 ghost use Rattle.tb_rows.specs.Steps.{changed_templates, gone_template, instance_template, is_among, is_changed, is_of_board, put_place, template_place};
 
 use crate::task_places::TaskPlaces;

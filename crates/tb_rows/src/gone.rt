@@ -6,7 +6,7 @@ ghost use Rattle.tb_board.specs.Board.{ids};
 ghost use Rattle.tb_board.specs.Links.{place_in};
 ghost use Rattle.tb_rows.specs.Rows.{gone_row};
 ghost use Rattle.tb_rows.specs.Steps.{gone_added, gone_changes, gone_removed};
-ghost use Rattle.tb_rows.specs.Sought.{AreFor};
+ghost use Rattle.tb_rows.specs.TaskPlaces.{AreFor};
 ghost use Rattle.tb_task.specs.Limits.{most_tasks};
 
 use crate::linking::place_number;

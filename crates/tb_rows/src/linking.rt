@@ -2,7 +2,7 @@
 
 ghost use Rattle.std.specs.Prelude.{◌≡◌, ◌≤◌, [], ◌∷◌, MatchOption, length};
 ghost use Rattle.tb_rows.specs.Rows.{instance_rows, link_row, place_of};
-ghost use Rattle.tb_rows.specs.Sought.{AreFor};
+ghost use Rattle.tb_rows.specs.TaskPlaces.{AreFor};
 ghost use Rattle.tb_task.specs.Limits.{most_tasks};
 
 use crate::task_places::TaskPlaces;

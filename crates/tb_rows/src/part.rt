@@ -2,7 +2,7 @@
 
 ghost use Rattle.std.specs.Prelude.{◌≡◌, ◌≤◌, ◌++◌, true, IfOk, OnOk};
 ghost use Rattle.std.specs.List.{flat_map};
-ghost use Rattle.tb_board.specs.Changes.{changed};
+ghost use Rattle.tb_board.specs.Changing.{changed};
 ghost use Rattle.tb_board.specs.declared.world.World.{World};
 ghost use Rattle.tb_rows.specs.Part.{IsPartOf, is_small_part, part_board, rows_of_part, single_changes, touched_board};
 ghost use Rattle.tb_rows.specs.Steps.{Leads};

@@ -5,7 +5,7 @@ ghost use Rattle.std.specs.BTreeMap.{get};
 ghost use Rattle.std.specs.Ordering.{nat_cmp};
 ghost use Rattle.tb_board.specs.Board.{has_id, ids};
 ghost use Rattle.tb_board.specs.Links.{place_in};
-ghost use Rattle.tb_rows.specs.Sought.{AreFor};
+ghost use Rattle.tb_rows.specs.TaskPlaces.{AreFor};
 
 use std::alloc::{AllocError, Global};
 use std::collections::BTreeMap;

@@ -4,7 +4,7 @@ ghost use Rattle.std.specs.Prelude.{◌≡◌, ◌≤◌, ◌<◌, ◌++◌, IfO
 ghost use Rattle.tb_sql.specs.declared.changes.RowChange.TheVariants.{AddInstance, AddLink};
 ghost use Rattle.tb_rows.specs.Rows.{instance_rows, link_rows, mask_cell, rows_from, task_row};
 ghost use Rattle.tb_rows.specs.Steps.{new_mask, new_task, put_task, task_changes};
-ghost use Rattle.tb_rows.specs.Sought.{AreFor};
+ghost use Rattle.tb_rows.specs.TaskPlaces.{AreFor};
 ghost use Rattle.tb_task.specs.Limits.{most_tasks};
 
 use crate::concerned::PlaceList;

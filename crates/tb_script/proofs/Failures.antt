@@ -3,9 +3,9 @@ use Rattle.std.proofs.Common.{◌≡◌, Bool, true, false, ◌||◌, Result, Ok
 use Rattle.std.specs.Prelude.{IsErrOf}
 use Rattle.tb_calls.specs.declared.fault.KeepFault.{KeepFault}
 use Rattle.tb_calls.specs.declared.fault.KeepFault.TheVariants.{Memory, Store}
-use Rattle.tb_calls.specs.Keeping.{is_store as is_store_of_keep}
+use Rattle.tb_calls.specs.Keep.{is_store as is_store_of_keep}
 use Rattle.tb_script.specs.declared.fault.LinesFault.{LinesFault}
-use Rattle.tb_script.specs.Faults.{fault_of, is_store}
+use Rattle.tb_script.specs.Fault.{fault_of, is_store}
 
 -- an answered call doesn't change whether the store has failed
 pub as_before : {T : Type 0} (x : T) (old new : Bool) → new ≡ false → (old ≡ true → IsErrOf {T = T} {E = KeepFault} (Ok x) Store) → new ≡ old

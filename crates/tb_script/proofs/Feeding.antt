@@ -4,13 +4,13 @@ use Rattle.std.specs.List.{cons_option}
 use Rattle.std.proofs.lemmas.Bool.{cases_Bool, leb-false, ne_eqb}
 use Rattle.std.proofs.lemmas.List.{append-nil, take_more}
 use Rattle.tb_calls.specs.declared.call.Call.{Call}
-use Rattle.tb_calls.specs.Calls.{State}
+use Rattle.tb_calls.specs.Call.{State}
 use Rattle.tb_desk.proofs.Runs.{after_all, after_all-append}
 use Rattle.tb_script.specs.declared.asked.Asked.{Asked}
 use Rattle.tb_script.specs.declared.asked.Asked.TheVariants as asks
 use Rattle.tb_script.specs.declared.line_fault.Unreadable.{Unreadable}
 use Rattle.tb_script.specs.declared.line_fault.Unreadable.TheVariants.{BadLine}
-use Rattle.tb_script.specs.Answer.{answer, answered, calls_of, call_asked, carried_out, is_readable, request_of}
+use Rattle.tb_script.specs.Answering.{answer, answered, calls_of, call_asked, carried_out, is_readable, request_of}
 use Rattle.tb_script.specs.Lines.{answers, lines_of}
 use Rattle.tb_script.proofs.OneLine.{is_one_line, left_by}
 use Rattle.tb_script.specs.Reading.{asked_in}

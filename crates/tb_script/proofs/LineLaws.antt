@@ -2,8 +2,8 @@
 use Rattle.std.proofs.Common.{◌≡◌, ℕ, true, false, not, List, [], ◌∷◌, ◌++◌, length, ◌<◌, arith, refl, inl, inr, ap, ◌∙◌, sym, ◌==◌}
 use Rattle.std.proofs.lemmas.Bool.{and_parts, and_from, not-true, cases_Bool}
 use Rattle.std.proofs.lemmas.List.{append-nil, length-append}
-use Rattle.tb_calls.specs.Calls.{State}
-use Rattle.tb_script.specs.Answer.{answer}
+use Rattle.tb_calls.specs.Call.{State}
+use Rattle.tb_script.specs.Answering.{answer}
 use Rattle.tb_script.specs.Lines.{lines_of}
 use Rattle.tb_script.proofs.OneLine.{is_one_line}
 use Rattle.tb_script.proofs.Readable.{too_long_alike}

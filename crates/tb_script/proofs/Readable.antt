@@ -3,8 +3,8 @@ use Rattle.std.proofs.Common.{◌≡◌, ◌∙◌, ℕ, true, false, List, Err,
 use Rattle.std.specs.Str.{IsUtf8, is_utf8}
 use Rattle.std.proofs.lemmas.Bool.{le-leb, lt-leb, and_from, and_left, and_right, cases_Bool, ne_eqb}
 use Rattle.std.proofs.lemmas.Str.{IsUtf8-from_is_utf8, is_utf8-from_IsUtf8}
-use Rattle.tb_calls.specs.Calls.{State}
-use Rattle.tb_script.specs.Answer.{is_readable, answer, answered, request_of}
+use Rattle.tb_calls.specs.Call.{State}
+use Rattle.tb_script.specs.Answering.{is_readable, answer, answered, request_of}
 use Rattle.tb_script.specs.declared.line_fault.Unreadable.TheVariants.{BadLine}
 
 pub readable_text : (line : List ℕ) → IsUtf8 line → length line ≤ 1048576 → is_readable line ≡ true

@@ -4,8 +4,8 @@ use Rattle.std.proofs.lemmas.List.{append-nil, take-append-drop, take_all}
 use Rattle.std.specs.Io.KnownBytes.{Appends, Consumes, IsAtEnd}
 use Rattle.tb_values.specs.Appends.{AppendsFront}
 use Rattle.tb_values.proofs.Appends.{Appends-nil, Appends-then, AppendsFront-more}
-use Rattle.tb_calls.specs.Calls.{State}
-use Rattle.tb_script.specs.Answer.{answer}
+use Rattle.tb_calls.specs.Call.{State}
+use Rattle.tb_script.specs.Answering.{answer}
 use Rattle.tb_script.specs.Lines.{answers, answers_from, lines_of}
 use Rattle.tb_script.proofs.OneLine.{left_by}
 use Rattle.tb_script.specs.Runs.{LeavesSome, Progress, after_lines, fed, from}

@@ -1,7 +1,7 @@
-pub mod Answer
+pub mod Answering
 pub mod Arguments
-pub mod Bodies
-pub mod Faults
+pub mod Body
+pub mod Fault
 pub mod Lines
 pub mod Outcome
 pub mod Reading

@@ -1,8 +1,8 @@
 -- What a run of lines leaves.
 use Rattle.std.specs.Prelude.{ℕ, List, [], ◌∷◌, ◌++◌, ◌==◌, Option, if◌then◌else◌, length, nat_le, take}
-use Rattle.tb_calls.specs.Calls.{State, once, plain}
+use Rattle.tb_calls.specs.Call.{State, once, plain}
 use Rattle.tb_values.specs.Appends.{AppendsFront}
-use Rattle.tb_script.specs.Answer.{answer, calls_of}
+use Rattle.tb_script.specs.Answering.{answer, calls_of}
 use Rattle.tb_script.specs.Lines.{answers}
 use Rattle.tb_task.specs.Limits.{longest_body}
 

@@ -13,7 +13,7 @@ use Rattle.tb_calls.specs.declared.view.View.TheVariants.{Listing, Export, Todo,
 use Rattle.tb_script.specs.declared.line_fault.Unreadable.{Unreadable}
 use Rattle.tb_script.specs.declared.line_fault.Unreadable.TheVariants.{BadLine}
 use Rattle.tb_script.specs.Arguments.{ahead_number, board_number, role_named}
-use Rattle.tb_script.specs.Bodies.{edits_in, import_in, incoming_in, tasks_in}
+use Rattle.tb_script.specs.Body.{edits_in, import_in, incoming_in, tasks_in}
 use Rattle.tb_script.specs.Outcome.{or_bad_line}
 
 -- ---- a word has its number of arguments

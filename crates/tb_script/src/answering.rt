@@ -1,9 +1,9 @@
 //! The answer to a line.
 ghost use Rattle.std.specs.Prelude.{◌≡◌, ◌⊎◌, ◌||◌, ◌∷◌, ◌++◌, [], true, false, IfOk, OnOk, MatchOption};
-ghost use Rattle.tb_calls.specs.Calls.{State, once, plain, reply};
-ghost use Rattle.tb_desk.specs.Views.{shown_in};
-ghost use Rattle.tb_script.specs.Answer.{answered, carried_out, is_readable, request_of, view_text};
-ghost use Rattle.tb_script.specs.Faults.{is_store};
+ghost use Rattle.tb_calls.specs.Call.{State, once, plain, reply};
+ghost use Rattle.tb_desk.specs.Viewing.{shown_in};
+ghost use Rattle.tb_script.specs.Answering.{answered, carried_out, is_readable, request_of, view_text};
+ghost use Rattle.tb_script.specs.Fault.{is_store};
 ghost use Rattle.tb_script.specs.Outcome.{Reads};
 ghost use Rattle.tb_script.specs.Replies.{reply_text};
 

@@ -2,7 +2,7 @@
 ghost use Rattle.std.specs.Prelude.{◌≡◌, IfOk, Result, map, string_bytes};
 ghost use Rattle.tb_body.specs.Fault.{Reads as ReadsBody};
 ghost use Rattle.tb_body.specs.declared.fault.BadBody.{BadBody};
-ghost use Rattle.tb_script.specs.Bodies.{edits_in, import_in, incoming_in, joined, or_unreadable, tasks_in};
+ghost use Rattle.tb_script.specs.Body.{edits_in, import_in, incoming_in, joined, or_unreadable, tasks_in};
 ghost use Rattle.tb_script.specs.Outcome.{Reads};
 
 use crate::line_fault::{LineFault, Unreadable};

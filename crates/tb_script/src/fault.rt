@@ -1,6 +1,6 @@
 ghost use Rattle.std.specs.Prelude.{◌≡◌};
 ghost use Rattle.tb_calls.specs.declared.fault.KeepFault.{KeepFault};
-ghost use Rattle.tb_script.specs.Faults.{fault_of};
+ghost use Rattle.tb_script.specs.Fault.{fault_of};
 ghost use Rattle.tb_script.specs.declared.fault.LinesFault.TheVariants.{Memory};
 
 use std::alloc::{AllocError, AllocFailed};

@@ -17,10 +17,10 @@ mod words;
 
 ghost use Rattle.std.specs.Prelude.{◌≡◌, ◌≢◌, ◌||◌, false, true, Err, IfOk, OnOk, OnErr, IfSome};
 ghost use Rattle.std.specs.Io.KnownBytes.{Appends};
-ghost use Rattle.tb_calls.specs.Calls.{State};
+ghost use Rattle.tb_calls.specs.Call.{State};
 ghost use Rattle.tb_values.specs.Appends.{AppendsFront};
-ghost use Rattle.tb_script.specs.Answer.{answer, first_state};
-ghost use Rattle.tb_script.specs.Faults.{is_store};
+ghost use Rattle.tb_script.specs.Answering.{answer, first_state};
+ghost use Rattle.tb_script.specs.Fault.{is_store};
 ghost use Rattle.tb_script.specs.Lines.{answers_from, lines_of};
 ghost use Rattle.tb_script.specs.Runs.{LeavesSome, after_lines};
 ghost use Rattle.tb_script.specs.declared.fault.LinesFault.TheVariants.{Store};

@@ -1,8 +1,8 @@
 //! The line that has begun, and the answers to those before it.
 ghost use Rattle.std.specs.Prelude.{◌≡◌, ◌⊎◌, ◌||◌, ◌++◌, [], ℕ, true, IfOk, OnOk, OnErr, take};
-ghost use Rattle.tb_calls.specs.Calls.{State};
-ghost use Rattle.tb_script.specs.Answer.{answer};
-ghost use Rattle.tb_script.specs.Faults.{is_store};
+ghost use Rattle.tb_calls.specs.Call.{State};
+ghost use Rattle.tb_script.specs.Answering.{answer};
+ghost use Rattle.tb_script.specs.Fault.{is_store};
 ghost use Rattle.tb_script.specs.Runs.{fed, fed_byte, from};
 
 use crate::answering::answer_line;

@@ -1,6 +1,6 @@
 -- A refusal that isn't printed whole.
 use Rattle.std.proofs.Common.{◌≡◌, List, [], ◌∷◌, ◌++◌, Option, IfErr, OnErr, Result, Ok, Err, subst, sym}
-use Rattle.tb_client.specs.Messages.{Text}
+use Rattle.tb_client.specs.Request.{Text}
 use Rattle.tb_client.specs.declared.answer.Reply.{Reply}
 use Rattle.tb_orders.specs.declared.ending.Ending.{Ending}
 use Rattle.tb_program.specs.declared.fault.Fault.{Fault}

@@ -1,6 +1,6 @@
 pub mod Faults
-pub mod Identifiers
-pub mod Keys
+pub mod Identifier
+pub mod Key
 pub mod Places
 pub mod Replies
 pub mod Sending

@@ -2,7 +2,7 @@
 use Rattle.std.specs.Prelude.{◌≡◌, ◌≢◌, ◌⊎◌, ℕ, List, [], ◌∷◌, ◌++◌, codes, decimal, Option, Some, None}
 use Rattle.std.specs.Fmt.{◌++?◌, debug_str}
 use Rattle.std.specs.Io.KnownBytes.{Appends}
-use Rattle.tb_client.specs.Messages.{Text}
+use Rattle.tb_client.specs.Request.{Text}
 use Rattle.tb_client.specs.Places.{named_words, task_at, tasks_in}
 use Rattle.tb_client.specs.declared.answer.Reply.{Reply}
 use Rattle.tb_client.specs.declared.places.BoardTask.{BoardTask}

@@ -2,7 +2,7 @@
 use Rattle.std.specs.Prelude.{ℕ, ◌==◌, ◌&&◌, Bool, false, List, [], ◌∷◌, ◌++◌, codes, if◌then◌else◌}
 use Rattle.std.specs.List.{list_any}
 use Rattle.std.specs.Str.{bytes_eq}
-use Rattle.tb_client.specs.Messages.{Text}
+use Rattle.tb_client.specs.Request.{Text}
 use Rattle.tb_client.specs.declared.answer.Reply.{Reply}
 use Rattle.tb_orders.specs.declared.ending.Ending.{Ending}
 use Rattle.tb_orders.specs.declared.ending.Ending.TheVariants.{Accepted, Refused}

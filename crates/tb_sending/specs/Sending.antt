@@ -2,7 +2,7 @@
 use Rattle.std.specs.Prelude.{◌≡◌, ◌⊎◌, ℕ, Bool, true, false, nat_lt, List, [], ◌∷◌, length, Option, Some, None}
 use Rattle.std.specs.Io.KnownBytes.{Appends}
 use Rattle.tb_client.specs.Asking.{Event, IsAnswered, IsLate, IsSentOut}
-use Rattle.tb_client.specs.Messages.{Text, message_of, request_of}
+use Rattle.tb_client.specs.Request.{Text, message_of, request_of}
 use Rattle.tb_client.specs.Places.{export_of, places_of}
 use Rattle.tb_client.specs.declared.answer.Reply.{Reply}
 use Rattle.tb_client.specs.declared.message.Sender.{Sender}
@@ -11,7 +11,7 @@ use Rattle.tb_command_line.specs.declared.order.SendOrder.{SendOrder}
 use Rattle.tb_orders.specs.declared.ending.Ending.{Ending}
 use Rattle.tb_program.specs.declared.fault.Fault.{Fault}
 use Rattle.tb_program.specs.declared.fault.Fault.TheVariants.{Bad, BadBody, Memory, NoAnswer, NoKey, ReadFailed, WriteFailed}
-use Rattle.tb_sending.specs.Keys.{IsKeyOf}
+use Rattle.tb_sending.specs.Key.{IsKeyOf}
 use Rattle.tb_sending.specs.Places.{IsNamedBy, IsRefused, IsUnread}
 use Rattle.tb_sending.specs.Replies.{ending_at, reply_text}
 use Rattle.tb_task.specs.Limits.{longest_body}

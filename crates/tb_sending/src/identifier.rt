@@ -1,6 +1,6 @@
 //! The identifier by which a server knows a call that is sent again.
 ghost use Rattle.std.specs.Prelude.{◌≡◌, IfSome, IsNone, IsSome};
-ghost use Rattle.tb_sending.specs.Identifiers.{IsRandom, random_id};
+ghost use Rattle.tb_sending.specs.Identifier.{IsRandom, random_id};
 
 use std::random::RandomSource;
 use tb_command_line::SendOrder;

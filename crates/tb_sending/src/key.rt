@@ -2,7 +2,7 @@
 ghost use Rattle.std.specs.Prelude.{◌≡◌, IfNone, IfOk, IfSome, None, true};
 ghost use Rattle.std.specs.Str.{trim_end};
 ghost use Rattle.tb_board.specs.Names.{is_key, read_key};
-ghost use Rattle.tb_sending.specs.Keys.{IsKeyOf};
+ghost use Rattle.tb_sending.specs.Key.{IsKeyOf};
 
 use std::alloc::{AllocError, Global};
 use std::os::unix::fs::PermissionsExt;

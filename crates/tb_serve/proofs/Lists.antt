@@ -1,7 +1,7 @@
 -- One message more.
 use Rattle.std.proofs.Common.{◌≡◌, ℕ, ◌+◌, ◌&&◌, Bool, true, false, true≢false, not, List, [], ◌∷◌, ◌++◌, length, Option, refl, sym, ap, ◌∙◌, subst, append_assoc, arith}
 use Rattle.std.proofs.lemmas.List.{append-nil}
-use Rattle.tb_calls.specs.Calls.{State}
+use Rattle.tb_calls.specs.Call.{State}
 use Rattle.tb_desk.proofs.Runs.{after_all-append}
 use Rattle.tb_http.specs.Stream.{Brings, Received}
 use Rattle.tb_http.specs.Wire.{BeginsWithMessage, is_last}

@@ -4,8 +4,8 @@ use Rattle.std.specs.Prelude.{IsErrOf}
 use Rattle.tb_calls.specs.declared.call.Call.{Call}
 use Rattle.tb_calls.specs.declared.fault.KeepFault.{KeepFault}
 use Rattle.tb_calls.specs.declared.fault.KeepFault.TheVariants.{Memory, Store}
-use Rattle.tb_calls.specs.Calls.{State}
-use Rattle.tb_calls.specs.Keeping.{IsStill, is_store}
+use Rattle.tb_calls.specs.Call.{State}
+use Rattle.tb_calls.specs.Keep.{IsStill, is_store}
 use Rattle.tb_calls.specs.Leaving.{Only, StandsAfter}
 use Rattle.tb_desk.proofs.Moves.{stands_still}
 use Rattle.tb_serve.specs.Telling.{FailedAt, StandsAt, after}

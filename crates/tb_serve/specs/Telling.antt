@@ -6,9 +6,9 @@ use Rattle.tb_calls.specs.declared.fault.KeepFault.{KeepFault}
 use Rattle.tb_calls.specs.declared.fault.KeepFault.TheVariants as keep
 use Rattle.tb_calls.specs.declared.view.View.{View}
 use Rattle.tb_calls.specs.declared.view.View.TheVariants as view
-use Rattle.tb_calls.specs.Calls.{State, plain, once, reply, unknown_caller}
+use Rattle.tb_calls.specs.Call.{State, plain, once, reply, unknown_caller}
 use Rattle.tb_calls.specs.Leaving.{Only, StandsAfter}
-use Rattle.tb_desk.specs.Views.{shown_in}
+use Rattle.tb_desk.specs.Viewing.{shown_in}
 use Rattle.tb_http.specs.declared.answer.Answer.{Answer}
 use Rattle.tb_http.specs.declared.answer.ContentType.{ContentType}
 use Rattle.tb_http.specs.declared.answer.ContentType.TheVariants.{Json, PlainText, File}
@@ -23,7 +23,7 @@ use Rattle.tb_asking.specs.declared.asked.Asked.TheVariants as asked
 use Rattle.tb_asking.specs.declared.rejection.Rejection.{Rejection}
 use Rattle.tb_serve.specs.declared.response.Response.{Response}
 use Rattle.tb_asking.specs.Asking.{asked_of}
-use Rattle.tb_asking.specs.Rejections.{allowed_by, body_of, fault_of}
+use Rattle.tb_asking.specs.Rejection.{allowed_by, body_of, fault_of}
 use Rattle.tb_site.specs.declared.site.Site.{Site}
 use Rattle.tb_site.specs.declared.site.SiteFile.{SiteFile}
 use Rattle.tb_site.specs.Site.{file_for}

@@ -1,6 +1,6 @@
 //! A connection's messages, answered in turn.
 ghost use Rattle.std.specs.Prelude.{◌≡◌, ◌+◌, ◌≤◌, ◌<◌, [], IfSome, Some, drop, false, true};
-ghost use Rattle.tb_calls.specs.Calls.{State};
+ghost use Rattle.tb_calls.specs.Call.{State};
 ghost use Rattle.tb_calls.specs.Leaving.{Only};
 ghost use Rattle.tb_http.specs.Answer.{answer_text};
 ghost use Rattle.tb_http.specs.Closing.{message_limit};

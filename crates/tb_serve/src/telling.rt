@@ -1,8 +1,8 @@
 //! What a message that was read is told: the desk handles its call, or shows its view.
 ghost use Rattle.std.specs.Prelude.{◌≡◌, ◌∷◌, [], IfOk, IsErrOf, None, Ok, true};
-ghost use Rattle.tb_calls.specs.Calls.{State, reply, unknown_caller};
+ghost use Rattle.tb_calls.specs.Call.{State, reply, unknown_caller};
 ghost use Rattle.tb_calls.specs.Leaving.{Only};
-ghost use Rattle.tb_desk.specs.Views.{shown_in};
+ghost use Rattle.tb_desk.specs.Viewing.{shown_in};
 ghost use Rattle.tb_http.specs.declared.message.Message.{Message};
 ghost use Rattle.tb_asking.specs.Asking.{asked_of};
 ghost use Rattle.tb_serve.specs.Telling.{ReachesAt, called_by, calls_in, told_asked, told_at, told_by, told_reply, told_view};

@@ -3,7 +3,7 @@ use Rattle.std.proofs.Common.{◌≡◌, ℕ, zero, suc, ◌++◌, ◌<◌, ◌�
 use Rattle.std.specs.Prelude.{◌==◌}
 use Rattle.std.proofs.lemmas.Bool.{eqb-true, le-ltb, lt-ltb}
 use Rattle.std.proofs.lemmas.List.{drop_all, take_all}
-use Rattle.tb_calls.specs.Calls.{State}
+use Rattle.tb_calls.specs.Call.{State}
 use Rattle.tb_calls.specs.Leaving.{Only}
 use Rattle.tb_event_loop.specs.Done.{Done}
 use Rattle.tb_peers.specs.Following.{Follows, has_stopped}

@@ -1,6 +1,6 @@
 -- What a run of the connections says of the desk, and of each connection.
 use Rattle.std.proofs.Common.{Bool, List, subst}
-use Rattle.tb_calls.specs.Calls.{State}
+use Rattle.tb_calls.specs.Call.{State}
 use Rattle.tb_peers.specs.Happening.{talk_at}
 use Rattle.tb_peers.proofs.Serving.{any_turns}
 use Rattle.tb_serve.specs.Telling.{StandsAt}

@@ -1,6 +1,6 @@
 -- What a server makes of all that was done to its connections.
 use Rattle.std.specs.Prelude.{◌≡◌, ℕ, ◌==◌, Bool, true, false, List, [], ◌∷◌, ◌++◌, Option, filter, length, nat_lt}
-use Rattle.tb_calls.specs.Calls.{State}
+use Rattle.tb_calls.specs.Call.{State}
 use Rattle.tb_calls.specs.Leaving.{Only}
 use Rattle.tb_event_loop.specs.Done as done
 use Rattle.tb_event_loop.specs.Done.{Done}

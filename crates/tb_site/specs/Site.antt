@@ -7,7 +7,7 @@ use Rattle.tb_http.specs.declared.message.Message.{Message}
 use Rattle.tb_http.specs.declared.resource.Resource.{Resource}
 use Rattle.tb_http.specs.declared.resource.RouteFault.{RouteFault}
 use Rattle.tb_http.specs.declared.resource.RouteFault.TheVariants.{NoRoute, NoMethod}
-use Rattle.tb_http.specs.Resources.{resource_asked}
+use Rattle.tb_http.specs.Resource.{resource_asked}
 use Rattle.tb_site.specs.declared.site.Site.{Site}
 use Rattle.tb_site.specs.declared.site.SiteFile.{SiteFile}
 

@@ -22,7 +22,7 @@ use Rattle.sqlite.specs.State.{FailsToQuery, IsTooLate, State, Shown}
 use Rattle.tb_sql_tables.specs.declared.rows.BoardRow.{BoardRow}
 use Rattle.tb_sql_tables.specs.Tables.{board_plain, board_table, board_tree, store_schema}
 use Rattle.tb_sql_tables.specs.Rows.{board_row}
-use Rattle.tb_sql_tables.specs.Reading.{board_of}
+use Rattle.tb_sql_tables.specs.Read.{board_of}
 use Rattle.tb_sql_tables.specs.Statements.{Changes, Finds, Ran}
 use Rattle.tb_sql_tables.specs.Failing.{IsExcused}
 use Rattle.tb_sql_tables.specs.Found.{AreFound, IsOneOf}

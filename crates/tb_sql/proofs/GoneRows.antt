@@ -20,7 +20,7 @@ use Rattle.sqlite.specs.State.{State, Shown}
 use Rattle.tb_sql_tables.specs.declared.rows.GoneRow.{GoneRow}
 use Rattle.tb_sql_tables.specs.Tables.{gone_plain, gone_table, gone_tree, store_schema}
 use Rattle.tb_sql_tables.specs.Rows.{gone_row}
-use Rattle.tb_sql_tables.specs.Reading.{gone_of}
+use Rattle.tb_sql_tables.specs.Read.{gone_of}
 use Rattle.tb_sql_tables.specs.Statements.{Changes, Finds, Ran}
 use Rattle.tb_sql_tables.specs.Found.{AreFound}
 use Rattle.tb_sql_tables.proofs.Contents.{gone_changed}

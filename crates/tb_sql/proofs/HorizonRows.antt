@@ -12,7 +12,7 @@ use Rattle.sqlite.specs.State.{State, Shown}
 use Rattle.tb_sql_tables.specs.declared.rows.HorizonRow.{HorizonRow}
 use Rattle.tb_sql_tables.specs.Tables.{horizon_plain, horizon_table, horizon_tree, store_schema}
 use Rattle.tb_sql_tables.specs.Rows.{horizon_row}
-use Rattle.tb_sql_tables.specs.Reading.{horizon_of}
+use Rattle.tb_sql_tables.specs.Read.{horizon_of}
 use Rattle.tb_sql_tables.specs.Statements.{Changes, Finds, Ran}
 use Rattle.tb_sql_tables.specs.Found.{IsOneOf}
 use Rattle.tb_sql_tables.proofs.Contents.{horizon_changed}

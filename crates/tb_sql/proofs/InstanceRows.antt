@@ -20,7 +20,7 @@ use Rattle.sqlite.specs.State.{State, Shown}
 use Rattle.tb_sql_tables.specs.declared.rows.InstanceRow.{InstanceRow}
 use Rattle.tb_sql_tables.specs.Tables.{instance_plain, instance_table, instance_tree, store_schema}
 use Rattle.tb_sql_tables.specs.Rows.{instance_row}
-use Rattle.tb_sql_tables.specs.Reading.{instance_of}
+use Rattle.tb_sql_tables.specs.Read.{instance_of}
 use Rattle.tb_sql_tables.specs.Statements.{Changes, Finds, Ran}
 use Rattle.tb_sql_tables.specs.Found.{AreFound}
 use Rattle.tb_sql_tables.proofs.Contents.{instances_changed}

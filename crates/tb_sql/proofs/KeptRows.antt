@@ -14,7 +14,7 @@ use Rattle.sqlite.specs.State.{State, Shown}
 use Rattle.tb_sql_tables.specs.declared.rows.KeptRow.{KeptRow}
 use Rattle.tb_sql_tables.specs.Tables.{kept_plain, kept_table, kept_tree, store_schema}
 use Rattle.tb_sql_tables.specs.Rows.{kept_row}
-use Rattle.tb_sql_tables.specs.Reading.{kept_of}
+use Rattle.tb_sql_tables.specs.Read.{kept_of}
 use Rattle.tb_sql_tables.specs.Statements.{Changes, Finds, Ran}
 use Rattle.tb_sql_tables.specs.Found.{IsOneOf}
 use Rattle.tb_sql_tables.proofs.Contents.{kept_changed}

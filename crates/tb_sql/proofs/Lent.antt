@@ -12,10 +12,10 @@ use Rattle.sqlite.proofs.Callers.{begun_plain}
 use Rattle.tb_sql_tables.specs.declared.rows.TaskRow.{TaskRow}
 use Rattle.tb_sql_tables.specs.Content.{Content, IsContent, Stands}
 use Rattle.tb_sql_tables.specs.Found.{AreFound}
-use Rattle.tb_sql_tables.specs.Reading.{task_of}
+use Rattle.tb_sql_tables.specs.Read.{task_of}
 use Rattle.tb_sql_tables.proofs.Inside.{shown_open}
 use Rattle.tb_sql.specs.Changes.{IsTaskBefore}
-use Rattle.tb_sql.specs.Lending.{tasks_text, HasLent}
+use Rattle.tb_sql.specs.Lend.{tasks_text, HasLent}
 use Rattle.tb_sql.proofs.TaskRows.{select_tasks, tasks_plain}
 
 -- at the end all have been lent

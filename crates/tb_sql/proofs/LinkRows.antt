@@ -20,7 +20,7 @@ use Rattle.sqlite.specs.State.{State, Shown}
 use Rattle.tb_sql_tables.specs.declared.rows.LinkRow.{LinkRow}
 use Rattle.tb_sql_tables.specs.Tables.{link_plain, link_table, link_tree, store_schema}
 use Rattle.tb_sql_tables.specs.Rows.{link_row}
-use Rattle.tb_sql_tables.specs.Reading.{link_of}
+use Rattle.tb_sql_tables.specs.Read.{link_of}
 use Rattle.tb_sql_tables.specs.Statements.{Changes, Finds, Ran}
 use Rattle.tb_sql_tables.specs.Found.{AreFound}
 use Rattle.tb_sql_tables.proofs.Contents.{links_changed}

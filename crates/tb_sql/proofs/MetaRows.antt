@@ -20,7 +20,7 @@ use Rattle.sqlite.proofs.Callers.{one_permutation}
 use Rattle.tb_sql_tables.specs.declared.rows.MetaRow.{MetaRow}
 use Rattle.tb_sql_tables.specs.Tables.{meta_plain, meta_tree, old_schema}
 use Rattle.tb_sql_tables.specs.Rows.{version_row}
-use Rattle.tb_sql_tables.specs.Reading.{meta_of, IsMetaRow}
+use Rattle.tb_sql_tables.specs.Read.{meta_of, IsMetaRow}
 use Rattle.tb_sql_tables.specs.Content.{Content, AreTables, HasKeyed, IsContent}
 use Rattle.tb_sql_tables.specs.Statements.{Finds, Ran, Turns}
 use Rattle.tb_sql_tables.specs.Standing.{IsHalfway}

@@ -19,7 +19,7 @@ use Rattle.sqlite.specs.State.{State, Shown}
 use Rattle.tb_sql_tables.specs.declared.rows.RoleRow.{RoleRow}
 use Rattle.tb_sql_tables.specs.Tables.{role_tree}
 use Rattle.tb_sql_tables.specs.Rows.{role_row}
-use Rattle.tb_sql_tables.specs.Reading.{role_of}
+use Rattle.tb_sql_tables.specs.Read.{role_of}
 use Rattle.tb_sql_tables.specs.Statements.{Finds}
 use Rattle.tb_sql_tables.specs.Found.{AreFound}
 use Rattle.tb_sql_tables.proofs.Effects.{each, cells_shown, found}
@@ -28,7 +28,7 @@ use Rattle.tb_sql_tables.proofs.KeyTests.{equal, are_equal, equal_numbers}
 use Rattle.tb_sql_tables.proofs.Queries.{query_of, output_at, passes}
 use Rattle.tb_sql_tables.proofs.SqlTests.{and_true}
 use Rattle.tb_sql_tables.proofs.Statements.{Asks}
-use Rattle.tb_sql.specs.OwnRoles.{IsBoardBefore}
+use Rattle.tb_sql.specs.RolesOf.{IsBoardBefore}
 
 abbrev shown_terms : List Term
 shown_terms = col 1 1 ∷ col 1 2 ∷ col 1 3 ∷ []

@@ -22,7 +22,7 @@ use Rattle.sqlite.specs.State.{FailsToQuery, IsTooLate, State, Shown}
 use Rattle.tb_sql_tables.specs.declared.rows.PersonRow.{PersonRow}
 use Rattle.tb_sql_tables.specs.Tables.{person_plain, person_table, person_tree, store_schema}
 use Rattle.tb_sql_tables.specs.Rows.{person_row}
-use Rattle.tb_sql_tables.specs.Reading.{person_of}
+use Rattle.tb_sql_tables.specs.Read.{person_of}
 use Rattle.tb_sql_tables.specs.Statements.{Changes, Finds, Ran}
 use Rattle.tb_sql_tables.specs.Failing.{IsExcused}
 use Rattle.tb_sql_tables.specs.Found.{AreFound, IsOneOf}

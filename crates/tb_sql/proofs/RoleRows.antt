@@ -20,7 +20,7 @@ use Rattle.sqlite.specs.State.{State, Shown}
 use Rattle.tb_sql_tables.specs.declared.rows.RoleRow.{RoleRow}
 use Rattle.tb_sql_tables.specs.Tables.{role_plain, role_table, role_tree, store_schema}
 use Rattle.tb_sql_tables.specs.Rows.{role_row}
-use Rattle.tb_sql_tables.specs.Reading.{role_of}
+use Rattle.tb_sql_tables.specs.Read.{role_of}
 use Rattle.tb_sql_tables.specs.Statements.{Changes, Finds, Ran}
 use Rattle.tb_sql_tables.specs.Found.{AreFound, IsOneOf}
 use Rattle.tb_sql_tables.proofs.Contents.{roles_changed}

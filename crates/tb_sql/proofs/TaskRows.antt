@@ -24,7 +24,7 @@ use Rattle.sqlite.specs.Values.{or_null}
 use Rattle.tb_sql_tables.specs.declared.rows.TaskRow.{TaskRow}
 use Rattle.tb_sql_tables.specs.Tables.{task_plain, task_table, task_tree, store_schema}
 use Rattle.tb_sql_tables.specs.Rows.{task_row}
-use Rattle.tb_sql_tables.specs.Reading.{task_of}
+use Rattle.tb_sql_tables.specs.Read.{task_of}
 use Rattle.tb_sql_tables.specs.Content.{HaveIdentifiers}
 use Rattle.tb_sql_tables.specs.Statements.{Changes, Finds, Ran}
 use Rattle.tb_sql_tables.specs.Found.{AreFound, IsOneOf}
@@ -37,7 +37,7 @@ use Rattle.tb_sql_tables.proofs.Masks.{cast_mask, mask_read}
 use Rattle.tb_sql_tables.proofs.Queries.{query_of, program_of, output_at}
 use Rattle.tb_sql_tables.proofs.Statements.{Means, Asks, row_inserted}
 use Rattle.uuid.proofs.OrderLemmas.{from_be_bytes-to_be_bytes_16}
-use Rattle.tb_sql.specs.Lending.{tasks_text}
+use Rattle.tb_sql.specs.Lend.{tasks_text}
 use Rattle.tb_sql.specs.Changes.{with_task, with_text, with_mask, is_task, IsTaskBefore}
 
 -- ---- a row goes in

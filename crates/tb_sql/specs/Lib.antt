@@ -1,7 +1,7 @@
 pub mod Changes
 pub mod FirstVersion
-pub mod Lending
+pub mod Lend
 pub mod Migrating
 pub mod Opening
-pub mod OwnRoles
+pub mod RolesOf
 pub mod Writing

@@ -16,7 +16,7 @@ use Rattle.sqlite.specs.State.{State, HasCleanDisk, Shown}
 use Rattle.tb_sql_tables.specs.declared.rows.MetaRow.{MetaRow}
 use Rattle.tb_sql_tables.specs.Tables.{meta_tree, old_schema, store_schema}
 use Rattle.tb_sql_tables.specs.Content.{HasKeyed}
-use Rattle.tb_sql_tables.specs.Reading.{meta_of}
+use Rattle.tb_sql_tables.specs.Read.{meta_of}
 use Rattle.tb_sql.specs.declared.opening.OpenFault.{OpenFault}
 use Rattle.tb_sql.specs.declared.opening.Version.{Version}
 use Rattle.tb_sql.specs.declared.opening.Version.TheVariants.{First, Second}

@@ -5,7 +5,7 @@ ghost use Rattle.sqlite.specs.Held.{state};
 ghost use Rattle.sqlite.specs.State.{HasCleanDisk, Survives};
 ghost use Rattle.tb_sql_tables.specs.declared.rows.TaskRow.{TaskRow as Task};
 ghost use Rattle.tb_sql_tables.specs.Content.{Content, Stands};
-ghost use Rattle.tb_sql.specs.Lending.{HasLent, LendsOn};
+ghost use Rattle.tb_sql.specs.Lend.{HasLent, LendsOn};
 
 use sqlite::{Alter, Connection, Error, Rows, params};
 use tb_sql_tables::read::Stored;

@@ -5,7 +5,7 @@ ghost use Rattle.sqlite.specs.Held.{state};
 ghost use Rattle.sqlite.specs.State.{HasCleanDisk, KeepsCommit, Survives};
 ghost use Rattle.tb_sql_tables.specs.Statements.{Finds};
 ghost use Rattle.tb_sql_tables.specs.Found.{AreFound};
-ghost use Rattle.tb_sql.specs.OwnRoles.{IsBoardBefore};
+ghost use Rattle.tb_sql.specs.RolesOf.{IsBoardBefore};
 
 use sqlite::{Alter, Error, Transaction, params};
 use tb_sql_tables::read::read_all;

@@ -4,7 +4,7 @@ use Rattle.sqlite_value.specs.declared.value.Value.TheVariants.{Text}
 use Rattle.sqlite_schema.specs.declared.schema.Kind.TheVariants.{Text as TextKind}
 use Rattle.sqlite_rules.specs.Cast.{cast}
 use Rattle.sqlite.specs.Values.{or_null, bound_value}
-use Rattle.tb_sql_tables.specs.Reading.{mask_of}
+use Rattle.tb_sql_tables.specs.Read.{mask_of}
 
 -- a text, or no value, is stored as it is
 pub cast_mask : (mask : Option (List ℕ)) → cast TextKind (or_null Text mask) ≡ or_null Text mask

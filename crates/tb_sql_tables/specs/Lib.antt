@@ -1,7 +1,7 @@
 pub mod Content
 pub mod Failing
 pub mod Found
-pub mod Reading
+pub mod Read
 pub mod Rows
 pub mod Standing
 pub mod Statements

@@ -3,7 +3,7 @@
 ghost use Rattle.std.specs.Prelude.{◌≡◌, ◌≢◌, ◌<◌, All, IfErr, IfOk, length, map, option_map, slice_get};
 ghost use Rattle.sqlite_value.specs.Order.{column};
 ghost use Rattle.sqlite.specs.declared.error.ErrorCode.TheVariants.{OutOfMemory};
-ghost use Rattle.tb_sql_tables.specs.Reading.{IsNumber, IsMetaRow, IsText, number_of, words_of, bytes_of, identifier_of, mask_of, meta_of, person_of, board_of, role_of, task_of, link_of, instance_of, gone_of, kept_of, horizon_of};
+ghost use Rattle.tb_sql_tables.specs.Read.{IsNumber, IsMetaRow, IsText, number_of, words_of, bytes_of, identifier_of, mask_of, meta_of, person_of, board_of, role_of, task_of, link_of, instance_of, gone_of, kept_of, horizon_of};
 
 use crate::rows::{
     BoardRow, GoneRow, HorizonRow, InstanceRow, KeptRow, LinkRow, MetaRow, PersonRow, RoleRow,

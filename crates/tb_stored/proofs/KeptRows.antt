@@ -9,7 +9,7 @@ use Rattle.tb_board.specs.declared.world.Person.{Person}
 use Rattle.tb_board.specs.declared.world.World.{World}
 use Rattle.tb_board.specs.World.{key_of}
 use Rattle.tb_calls.specs.declared.call.KeptReply.{KeptReply}
-use Rattle.tb_calls.specs.Calls.{CallName, name_cmp}
+use Rattle.tb_calls.specs.Call.{CallName, name_cmp}
 use Rattle.tb_calls.proofs.Names.{names_exact, names_total}
 use Rattle.tb_sql_tables.specs.declared.rows.KeptRow.{KeptRow}
 use Rattle.tb_stored.specs.Stored.{kept_row, IsKnown, reply_in}

@@ -3,7 +3,7 @@ use Rattle.std.proofs.Common.{◌≡◌, List, [], ◌∷◌, map, refl, ap₂, 
 use Rattle.std.specs.List.{AllByRecursion}
 use Rattle.std.proofs.lemmas.List.Sorted.{IsPermutation-map}
 use Rattle.tb_board.specs.declared.board.Board.{Board}
-use Rattle.tb_calls.specs.Calls.{State}
+use Rattle.tb_calls.specs.Call.{State}
 use Rattle.tb_rows.specs.Rows.{board_row, horizon_row}
 use Rattle.tb_sql.specs.Migrating.{first_horizon, migrated}
 use Rattle.tb_sql_tables.specs.Content.{Content}

@@ -1,6 +1,6 @@
 -- The world of a state is read from its rows.
 use Rattle.std.proofs.lemmas.List.Sorted.{IsPermutation-sym}
-use Rattle.tb_calls.specs.Calls.{State}
+use Rattle.tb_calls.specs.Call.{State}
 use Rattle.tb_reopen.specs.Laws.{AreFoundAgain, IsWorldRead}
 use Rattle.tb_rows.specs.Rows.{world_rows, HaveSameRows}
 use Rattle.tb_sql_tables.specs.Content.{Content}

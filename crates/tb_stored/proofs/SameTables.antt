@@ -14,7 +14,7 @@ use Rattle.tb_sql_tables.specs.declared.rows.TaskRow.{TaskRow}
 use Rattle.tb_sql_tables.specs.declared.rows.KeptRow.{KeptRow}
 use Rattle.tb_sql_tables.specs.declared.rows.HorizonRow.{HorizonRow}
 use Rattle.tb_sql_tables.specs.Content.{AreRows, Content, HasKeyed, HasRows}
-use Rattle.tb_sql_tables.specs.Reading.{number_of, words_of, mask_of, role_of, task_of, link_of, instance_of, gone_of, kept_of}
+use Rattle.tb_sql_tables.specs.Read.{number_of, words_of, mask_of, role_of, task_of, link_of, instance_of, gone_of, kept_of}
 use Rattle.tb_sql_tables.specs.Rows.{person_row, board_row, role_row, task_row, link_row, instance_row, gone_row, kept_row, horizon_row}
 use Rattle.tb_sql_tables.proofs.Effects.{each, each_of}
 

@@ -3,7 +3,7 @@ use Rattle.std.proofs.Common.{◌≡◌, ◌∙◌, inl, inr, false, true, sym, 
 use Rattle.sqlite_trees.specs.declared.store.Store.{Ghosts}
 use Rattle.sqlite.specs.Held.{Held, state}
 use Rattle.sqlite.specs.State.{HasCleanDisk, Opens, State as Database}
-use Rattle.tb_calls.specs.Calls.{State}
+use Rattle.tb_calls.specs.Call.{State}
 use Rattle.tb_sql.specs.Opening.{IsAsBefore}
 use Rattle.tb_sql.proofs.Opened.{stands_again}
 use Rattle.tb_sql_tables.specs.Content.{AreRows, Content, IsContent, Stands}

@@ -5,7 +5,7 @@ use Rattle.std.specs.FinMap.{entries}
 use Rattle.std.proofs.lemmas.List.Sorted.{IsPermutation-sym, IsPermutation-trans}
 use Rattle.sqlite_trees.specs.Tree.{Trees}
 use Rattle.sqlite.specs.State.{State as Database}
-use Rattle.tb_calls.specs.Calls.{State}
+use Rattle.tb_calls.specs.Call.{State}
 use Rattle.tb_rows.specs.Rows.{world_rows, HaveSameRows}
 use Rattle.tb_sql_tables.specs.Content.{AreRows, Content}
 use Rattle.tb_stored.specs.Stored.{kept_row, state_rows, AreRowsOf, IsKnown, IsStored, IsStoredAsEither, MayLeave}

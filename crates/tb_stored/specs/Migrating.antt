@@ -1,7 +1,7 @@
 -- What a file holds while it is made, and while it is brought from version 1 to version 2.
 use Rattle.std.specs.Prelude.{◌≡◌, ◌-◌, false}
 use Rattle.sqlite.specs.State.{State as Database}
-use Rattle.tb_calls.specs.Calls.{State}
+use Rattle.tb_calls.specs.Call.{State}
 use Rattle.tb_sql_tables.specs.Content.{Content}
 use Rattle.tb_sql_tables.specs.Standing.{StandsEmptyOr, StandsEmptyOrOld, StandsOld, StandsOldOr}
 use Rattle.tb_stored.specs.Stored.{AreRowsOf, AreOldRowsOf}

@@ -2,7 +2,7 @@
 use Rattle.sqlite.specs.State.{HasCleanDisk, State as Database}
 use Rattle.tb_board.specs.declared.board.Board.{Board}
 use Rattle.tb_board.specs.declared.world.World.{World}
-use Rattle.tb_calls.specs.Calls.{State}
+use Rattle.tb_calls.specs.Call.{State}
 use Rattle.tb_reopen.specs.Laws.{IsBoardRead}
 use Rattle.tb_sql_tables.specs.Content.{Content, Stands}
 use Rattle.tb_stored.specs.Stored.{IsStored}

@@ -10,7 +10,7 @@ use Rattle.tb_board.specs.declared.world.World.{World}
 use Rattle.tb_board.specs.World.{key_of, number_of}
 use Rattle.tb_core.specs.GoodWorld.{IsGoodWorld}
 use Rattle.tb_calls.specs.declared.call.KeptReply.{KeptReply}
-use Rattle.tb_calls.specs.Calls.{CallName, State}
+use Rattle.tb_calls.specs.Call.{CallName, State}
 use Rattle.tb_reopen.specs.Forms.{HasForm}
 use Rattle.tb_reopen.specs.Laws.{AreApart}
 use Rattle.tb_rows.specs.Rows.{world_rows, IsSameContent}

@@ -3,7 +3,7 @@
 ghost use Rattle.std.specs.Prelude.{◌≡◌, ◌==◌, false, filter, IfOk};
 ghost use Rattle.sqlite.specs.Held.{state};
 ghost use Rattle.tb_sql.specs.Opening.{IsAsBefore};
-ghost use Rattle.tb_sql.specs.OwnRoles.{IsBoardBefore};
+ghost use Rattle.tb_sql.specs.RolesOf.{IsBoardBefore};
 ghost use Rattle.tb_sql_tables.specs.Found.{AreFound};
 ghost use Rattle.tb_stored.specs.Reopening.{OfContent};
 

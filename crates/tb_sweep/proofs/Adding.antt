@@ -6,17 +6,17 @@ use Rattle.std.specs.List.{list_any}
 use Rattle.std.proofs.lemmas.List.{get_or_default, get_or_append_left, drop_all, append-nil, length-map}
 use Rattle.tb_task.specs.declared.task.Task.{Task}
 use Rattle.tb_recur.specs.declared.plan.Plan.{Plan}
-use Rattle.tb_recur.specs.Instance.{plan_of, instance}
-use Rattle.tb_recur.specs.Due.{IsStep}
-use Rattle.tb_recur.specs.Wanted.{wanted}
+use Rattle.tb_recur.specs.Instances.{plan_of, instance}
+use Rattle.tb_recur.specs.Dues.{IsStep}
+use Rattle.tb_recur.specs.Wanting.{wanted}
 use Rattle.tb_recur.proofs.Needs.{need_few, wanted_need}
 use Rattle.tb_board.specs.declared.board.Board.{Board}
 use Rattle.tb_board.specs.Numbers.{free_id}
 use Rattle.tb_board.specs.Templates.{count}
-use Rattle.tb_sweep.specs.Sweep.{planned_need, need_of, lacks, batch, with_instances, grown, grown_all, sweep, added, more}
+use Rattle.tb_sweep.specs.Sweeping.{planned_need, need_of, lacks, batch, with_instances, grown, grown_all, sweep, added, more}
 use Rattle.tb_board.proofs.Awake.{stands_at}
 use Rattle.tb_board.specs.Board.{wake, with_task, woken}
-use Rattle.tb_task.specs.Check.{is_recurring}
+use Rattle.tb_task.specs.Checks.{is_recurring}
 
 -- a read within a list is the same at any default
 pub read_at : (xs : List Task) (place : ℕ) (t u : Task) → place < length xs → t ≡ get_or xs place t → u ≡ get_or xs place u → t ≡ u

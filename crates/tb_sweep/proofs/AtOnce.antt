@@ -3,15 +3,15 @@ use Rattle.std.proofs.Common.{◌≡◌, ℕ, ◌-◌, min, ◌&&◌, ◌||◌, 
 use Rattle.std.specs.List.{list_any}
 use Rattle.std.proofs.lemmas.Bool.{cases_Bool}
 use Rattle.tb_task.specs.declared.task.Task.{Task}
-use Rattle.tb_task.specs.Check.{is_recurring}
+use Rattle.tb_task.specs.Checks.{is_recurring}
 use Rattle.tb_recur.specs.declared.plan.Plan.{Plan}
-use Rattle.tb_recur.specs.Instance.{plan_of}
+use Rattle.tb_recur.specs.Instances.{plan_of}
 use Rattle.tb_recur.proofs.AtOnce.{need_same}
 use Rattle.tb_board.specs.declared.board.Board.{Board}
 use Rattle.tb_board.specs.Board.{wake}
 use Rattle.tb_board.specs.Templates.{count}
 use Rattle.tb_sweep.specs.AtOnce.{all_at_once, batch_at_once, grown_at_once, lacks_at_once, more_at_once, need_of_at_once, planned_at_once, sweep_at_once, OneAheadSweepsAtOnce}
-use Rattle.tb_sweep.specs.Sweep.{batch, grown, grown_all, lacks, more, need_of, planned_need, sweep, with_instances}
+use Rattle.tb_sweep.specs.Sweeping.{batch, grown, grown_all, lacks, more, need_of, planned_need, sweep, with_instances}
 use Rattle.tb_sweep.proofs.Adding.{ahead-grown, ahead-sweep}
 
 planned_same : (p : Option Plan) (m : ℕ) → planned_need p 1 m ≡ planned_at_once p m

@@ -3,7 +3,7 @@ use Rattle.std.proofs.Common.{◌≡◌, ℕ, ◌+◌, ◌<◌, ◌≤◌, ◌==
 use Rattle.std.proofs.lemmas.Bool.{cases_Bool}
 use Rattle.std.proofs.lemmas.List.{append-nil}
 use Rattle.tb_task.specs.declared.task.Task.{Task}
-use Rattle.tb_recur.specs.Instance.{instance}
+use Rattle.tb_recur.specs.Instances.{instance}
 use Rattle.tb_board.specs.declared.board.Board.{Board}
 use Rattle.tb_board.specs.Board.{with_task}
 use Rattle.tb_board.proofs.Runs.{places-push}

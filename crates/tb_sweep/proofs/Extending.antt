@@ -2,15 +2,15 @@
 use Rattle.std.proofs.Common.{ℕ, zero, suc, ◌+◌, List, [], ◌∷◌, refl, inl, inr}
 use Rattle.std.proofs.lemmas.Bool.{cases_Bool}
 use Rattle.tb_task.specs.declared.task.Task.{Task}
-use Rattle.tb_task.specs.Check.{is_recurring}
-use Rattle.tb_recur.specs.Instance.{instance}
+use Rattle.tb_task.specs.Checks.{is_recurring}
+use Rattle.tb_recur.specs.Instances.{instance}
 use Rattle.tb_board.specs.declared.board.Board.{Board}
 use Rattle.tb_board.specs.Board.{wake, with_task}
 use Rattle.tb_board.specs.Extends.{ExtendsBoard}
 use Rattle.tb_board.specs.Numbers.{free_id}
 use Rattle.tb_board.specs.Templates.{count}
 use Rattle.tb_board.proofs.Extending.{board-append, board-refl, board-trans, board-wake}
-use Rattle.tb_sweep.specs.Sweep.{batch, grown, grown_all, sweep, with_instances}
+use Rattle.tb_sweep.specs.Sweeping.{batch, grown, grown_all, sweep, with_instances}
 
 extends-instances : (m : ℕ) (t : Task) (k n : ℕ) (b : Board) → ExtendsBoard b (with_instances m t k n b)
 extends-instances m t k zero b = board-refl b

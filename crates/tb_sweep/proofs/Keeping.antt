@@ -5,8 +5,8 @@ use Rattle.std.specs.List.{AllByRecursion, list_any}
 use Rattle.std.proofs.lemmas.List.{append-nil}
 use Rattle.std.proofs.lemmas.Bool.{cases_Bool, eqb-true}
 use Rattle.tb_task.specs.declared.task.Task.{Task}
-use Rattle.tb_task.specs.Check.{has_bad_recurrence, has_bad_text, is_recurring}
-use Rattle.tb_recur.specs.Instance.{delay_of, instance, moved, settled}
+use Rattle.tb_task.specs.Checks.{has_bad_recurrence, has_bad_text, is_recurring}
+use Rattle.tb_recur.specs.Instances.{delay_of, instance, moved, settled}
 use Rattle.tb_board.specs.declared.board.Board.{Board}
 use Rattle.tb_board.specs.Board.{is_on, lacks_depends, wake, with_task}
 use Rattle.tb_board.specs.Good.{has_template_form, IsGood, IsLinkedOn, IsSound}
@@ -20,7 +20,7 @@ use Rattle.tb_board.proofs.Fits.{IsFit, fit_if, taken_if}
 use Rattle.tb_board.proofs.Fresh.{fresh}
 use Rattle.tb_board.proofs.Goodness.{good-push, good-wake, lacks-more, linked-more}
 use Rattle.tb_sweep.specs.Kept.{SweepKeepsGood}
-use Rattle.tb_sweep.specs.Sweep.{batch, grown, grown_all, with_instances}
+use Rattle.tb_sweep.specs.Sweeping.{batch, grown, grown_all, with_instances}
 use Rattle.tb_sweep.proofs.Adding.{id-instance}
 
 settled_plain : (wait : Option ℕ) (m : ℕ) → is_recurring (settled wait m) ≡ false

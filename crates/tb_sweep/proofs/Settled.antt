@@ -4,9 +4,9 @@ use Rattle.std.specs.List.{AllByRecursion, list_any}
 use Rattle.std.proofs.lemmas.Bool.{cases_Bool, ltb-true, ltb-false, lt-leb}
 use Rattle.std.proofs.lemmas.List.{append-nil, length-map}
 use Rattle.tb_task.specs.declared.task.Task.{Task}
-use Rattle.tb_task.specs.Check.{is_recurring}
+use Rattle.tb_task.specs.Checks.{is_recurring}
 use Rattle.tb_task.specs.declared.status.Status.TheVariants.{Pending}
-use Rattle.tb_recur.specs.Instance.{delay_of, instance, moved, settled}
+use Rattle.tb_recur.specs.Instances.{delay_of, instance, moved, settled}
 use Rattle.tb_board.specs.declared.board.Board.{Board}
 use Rattle.tb_board.specs.Board.{has_come, is_waiting, wake, wakes, with_task, woken}
 use Rattle.tb_board.specs.Numbers.{free_id}
@@ -14,7 +14,7 @@ use Rattle.tb_board.specs.Templates.{count}
 use Rattle.tb_board.proofs.Awake.{not_woken, is_woken}
 use Rattle.tb_board.proofs.Goodness.{all_push}
 use Rattle.tb_sweep.specs.Kept.{SweepAddsLast, SweepEnds}
-use Rattle.tb_sweep.specs.Sweep.{batch, grown, grown_all, lacks, need_of, sweep, with_instances}
+use Rattle.tb_sweep.specs.Sweeping.{batch, grown, grown_all, lacks, need_of, sweep, with_instances}
 use Rattle.tb_sweep.proofs.Adding.{grown_last}
 
 all_last : (m : ℕ) (b : Board) (ts : List Task) → (new : List Task) × ((grown_all m b ts).tasks ≡ b.tasks ++ new)

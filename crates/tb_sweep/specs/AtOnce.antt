@@ -2,14 +2,14 @@
 use Rattle.std.specs.Prelude.{◌≡◌, ℕ, ◌-◌, min, Bool, ◌&&◌, List, [], ◌∷◌, Option, Some, None, if◌then◌else◌, length, nat_lt}
 use Rattle.std.specs.List.{list_any}
 use Rattle.tb_task.specs.declared.task.Task.{Task}
-use Rattle.tb_task.specs.Check.{is_recurring}
+use Rattle.tb_task.specs.Checks.{is_recurring}
 use Rattle.tb_recur.specs.declared.plan.Plan.{Plan}
 use Rattle.tb_recur.specs.AtOnce.{need_at_once}
-use Rattle.tb_recur.specs.Instance.{plan_of}
+use Rattle.tb_recur.specs.Instances.{plan_of}
 use Rattle.tb_board.specs.declared.board.Board.{Board}
 use Rattle.tb_board.specs.Board.{wake}
 use Rattle.tb_board.specs.Templates.{count}
-use Rattle.tb_sweep.specs.Sweep.{more, sweep, with_instances}
+use Rattle.tb_sweep.specs.Sweeping.{more, sweep, with_instances}
 use Rattle.tb_task.specs.Limits.{most_at_once, most_tasks}
 
 -- the least place that isn't wanted by a template at m

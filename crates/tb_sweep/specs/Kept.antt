@@ -4,7 +4,7 @@ use Rattle.tb_task.specs.declared.task.Task.{Task}
 use Rattle.tb_board.specs.declared.board.Board.{Board}
 use Rattle.tb_board.specs.Board.{wake}
 use Rattle.tb_board.specs.Good.{IsGood}
-use Rattle.tb_sweep.specs.Sweep.{added, more, sweep}
+use Rattle.tb_sweep.specs.Sweeping.{added, more, sweep}
 
 -- a good board stays good
 abbrev pub SweepKeepsGood : Type 0

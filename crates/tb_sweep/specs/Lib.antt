@@ -3,4 +3,4 @@ pub mod Counts
 pub mod Growing
 pub mod Kept
 pub mod Masks
-pub mod Sweep
+pub mod Sweeping

@@ -1,13 +1,13 @@
 ghost use Rattle.std.specs.Prelude.{◌≡◌, ◌<◌, ◌≤◌, ◌-◌, min, length, slice_index_or, IfOk};
 ghost use Rattle.tb_board.specs.Board.{with_task};
-ghost use Rattle.tb_board.specs.Changes.{Follows};
+ghost use Rattle.tb_board.specs.Changing.{Follows};
 ghost use Rattle.tb_board.specs.Numbers.{free_id};
 ghost use Rattle.tb_board.specs.Templates.{count};
-ghost use Rattle.tb_recur.specs.Due.{IsStep};
-ghost use Rattle.tb_recur.specs.Instance.{instance};
-ghost use Rattle.tb_recur.specs.Wanted.{need};
+ghost use Rattle.tb_recur.specs.Dues.{IsStep};
+ghost use Rattle.tb_recur.specs.Instances.{instance};
+ghost use Rattle.tb_recur.specs.Wanting.{need};
 ghost use Rattle.tb_sweep.specs.Growing.{IsGrowing};
-ghost use Rattle.tb_sweep.specs.Sweep.{batch, grown, with_instances, with_wanted};
+ghost use Rattle.tb_sweep.specs.Sweeping.{batch, grown, with_instances, with_wanted};
 ghost use Rattle.tb_task.specs.TaskId.{made};
 ghost use Rattle.tb_task.specs.declared.task.Task.{Task};
 ghost use Rattle.tb_task.specs.Limits.{most_at_once, most_tasks};

@@ -1,10 +1,10 @@
 ghost use Rattle.std.specs.Prelude.{◌≡◌, IfOk};
 ghost use Rattle.std.specs.List.{list_any};
-ghost use Rattle.tb_board.specs.Changes.{Follows};
+ghost use Rattle.tb_board.specs.Changing.{Follows};
 ghost use Rattle.tb_sweep.specs.Counts.{AreCounts};
-ghost use Rattle.tb_sweep.specs.Sweep.{added, lacks, more, sweep, with_wanted};
+ghost use Rattle.tb_sweep.specs.Sweeping.{added, lacks, more, sweep, with_wanted};
 ghost use Rattle.tb_board.specs.declared.board.Board.{Board};
-ghost use Rattle.tb_task.specs.Check.{is_recurring};
+ghost use Rattle.tb_task.specs.Checks.{is_recurring};
 ghost use Rattle.tb_task.specs.declared.task.Task.{Task};
 
 use crate::counts::Counts;

@@ -4,7 +4,7 @@ use Rattle.std.specs.List.{list_any, AllByRecursion}
 use Rattle.std.proofs.lemmas.Bool.{or_parts}
 use Rattle.tb_task.specs.declared.task.Task.{Task}
 use Rattle.tb_task.specs.declared.extra.Extra.{Extra}
-use Rattle.tb_task.specs.Check.{has_bad_pair, has_bad_recurrence, has_half_link, has_known_name}
+use Rattle.tb_task.specs.Checks.{has_bad_pair, has_bad_recurrence, has_half_link, has_known_name}
 use Rattle.tb_task.specs.Storable.{IsStorableExtra, IsNotEmpty}
 use Rattle.tb_task.specs.Ranges.{IsNamedExtra}
 

@@ -10,7 +10,7 @@ use Rattle.tb_task.specs.declared.extra.Extra.{Extra}
 use Rattle.tb_task.specs.declared.extra.ExtraValue.{ExtraValue}
 use Rattle.tb_task.specs.declared.extra.ExtraValue.TheVariants.{Text, Whole, Truth, Null}
 use Rattle.tb_task.specs.Attributes.{is_attribute}
-use Rattle.tb_task.specs.Extras.{by_name}
+use Rattle.tb_task.specs.Extra.{by_name}
 
 -- up to the last second of the year 9999
 abbrev pub IsMoment : ℕ → Type 0

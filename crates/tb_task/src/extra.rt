@@ -1,5 +1,5 @@
 ghost use Rattle.std.specs.Cmp.Lexicographic.{on_texts};
-ghost use Rattle.tb_task.specs.Extras.{by_name};
+ghost use Rattle.tb_task.specs.Extra.{by_name};
 
 use std::alloc::AllocError;
 use std::cmp::Ordering;

@@ -1,6 +1,6 @@
 ghost use Rattle.std.specs.Prelude.{◌≡◌, ◌≤◌, ◌-◌, IfSome, Some, None, codes, ◌*◌, if◌then◌else◌};
 ghost use Rattle.tb_task.specs.declared.step.Step.TheVariants.{Days, Months};
-ghost use Rattle.tb_task.specs.Steps.{step_of, word_step, calendar_word_step, number_of, number_between, row_number, row_step, is_digit, is_first_digit};
+ghost use Rattle.tb_task.specs.Step.{step_of, word_step, calendar_word_step, number_of, number_between, row_number, row_step, is_digit, is_first_digit};
 
 /// How far apart the instances of a template are due.
 #[derive(Clone, Copy, Debug, PartialEq, Eq)]

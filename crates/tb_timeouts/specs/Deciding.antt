@@ -6,7 +6,7 @@ use Rattle.tb_timeouts.specs.declared.earliest.MomentKind.{MomentKind}
 use Rattle.tb_timeouts.specs.declared.earliest.MomentKind.TheVariants.{IdleSince, BegunAt, End}
 use Rattle.tb_timeouts.specs.declared.limits.Limits.{Limits}
 use Rattle.tb_timeouts.specs.declared.stage.Stage.{Stage}
-use Rattle.tb_timeouts.specs.Stages.{begun_at, end_of, idle_since, takes_bytes}
+use Rattle.tb_timeouts.specs.Stage.{begun_at, end_of, idle_since, takes_bytes}
 
 -- ---- the earliest moment
 

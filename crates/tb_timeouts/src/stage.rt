@@ -1,6 +1,6 @@
 //! What a connection is doing, and since when.
 ghost use Rattle.std.specs.Prelude.{◌≡◌, ◌+◌};
-ghost use Rattle.tb_timeouts.specs.Stages.{begun_at, end_of, has_read_enough, idle_since, is_over, is_vacant, next_stage, read_stage, taken_stage, takes_bytes};
+ghost use Rattle.tb_timeouts.specs.Stage.{begun_at, end_of, has_read_enough, idle_since, is_over, is_vacant, next_stage, read_stage, taken_stage, takes_bytes};
 
 use crate::limits::Limits;
 

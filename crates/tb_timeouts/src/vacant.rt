@@ -1,7 +1,7 @@
 //! The places that no connection has.
 ghost use Rattle.std.specs.Prelude.{◌≡◌, position};
 ghost use Rattle.std.specs.List.{list_all};
-ghost use Rattle.tb_timeouts.specs.Stages.{is_vacant};
+ghost use Rattle.tb_timeouts.specs.Stage.{is_vacant};
 
 use crate::stage::Stage;
 

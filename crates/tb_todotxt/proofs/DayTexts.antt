@@ -3,12 +3,12 @@ use Rattle.std.proofs.Common.{◌≡◌, ◌∙◌, ℕ, ◌+◌, ◌-◌, ◌*�
 use Rattle.std.specs.Str.{IsAscii}
 use Rattle.std.proofs.lemmas.Bool.{cases_Bool, and_parts, eqb-true}
 use Rattle.std.proofs.lemmas.Str.Ascii.{IsAscii-nil, IsAscii-cons}
-use Rattle.tb_task.specs.Date.{date_of}
+use Rattle.tb_task.specs.Civil.{date_of}
 use Rattle.tb_task.specs.MomentText.{moment_text, moment_of, date_in, two, four}
 use Rattle.tb_task.proofs.Dates.{day_bound}
 use Rattle.tb_task.proofs.Forms.{IsDigit, number_in, listed, listed-drop}
 use Rattle.tb_task.proofs.MomentTexts.{read_only, read_text, text_read}
-use Rattle.tb_todotxt.specs.Days.{IsDay, day_text, day_of, has_hyphens, first_second, start_of}
+use Rattle.tb_todotxt.specs.Day.{IsDay, day_text, day_of, has_hyphens, first_second, start_of}
 
 -- the text of a moment's date, without hyphens
 abbrev pub digits_of : ℕ → List ℕ

@@ -4,10 +4,10 @@ use Rattle.std.proofs.lemmas.Bool.{and_parts, and_from, cases_Bool}
 use Rattle.std.specs.List.{AllByRecursion, filter, slice_split, onto_first}
 use Rattle.std.specs.Str.Lines.{lines, lines_of_parts, strip_carriage_return}
 use Rattle.tb_task.specs.declared.task.Task.{Task}
-use Rattle.tb_todotxt.specs.Lines.{is_blank, is_free_of}
+use Rattle.tb_todotxt.specs.Line.{is_blank, is_free_of}
 use Rattle.tb_todotxt.specs.Reading.{line_of}
-use Rattle.tb_todotxt.specs.Tasks.{task_of}
-use Rattle.tb_todotxt.specs.Files.{kept_lines, count_of, tasks_after}
+use Rattle.tb_todotxt.specs.Making.{task_of}
+use Rattle.tb_todotxt.specs.File.{kept_lines, count_of, tasks_after}
 
 abbrev pub IsFull : List ℕ → Type 0
 IsFull line = is_blank line ≡ false

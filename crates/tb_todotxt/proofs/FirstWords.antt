@@ -1,7 +1,7 @@
 -- Words and blanks.
 use Rattle.std.proofs.Common.{◌≡◌, ℕ, true, false, not, List, [], ◌∷◌, ◌++◌, ◌==◌, ◌||◌, ◌<◌, suc, length, get_or, ap, inl, inr, refl, arith}
 use Rattle.std.proofs.lemmas.Bool.{and_parts, and_from, and_right, not-true, ne_eqb, eq-eqb, eqb-true, cases_Bool}
-use Rattle.tb_todotxt.specs.Lines.{is_blank, is_free_of, marked}
+use Rattle.tb_todotxt.specs.Line.{is_blank, is_free_of, marked}
 use Rattle.tb_todotxt.specs.Reading.{first_word, after_word, has_more}
 
 -- what has a word in it isn't blank

@@ -2,7 +2,7 @@
 use Rattle.std.proofs.Common.{◌≡◌, ◌∙◌, ℕ, inl, inr, true, ◌&&◌, ◌==◌, nat_le, List, length, get_or, Some, None, refl, sym}
 use Rattle.std.proofs.lemmas.Bool.{cases_Bool, and_parts, and_from, eqb-true, leb-true, le-leb}
 use Rattle.tb_task.proofs.Forms.{listed, listed-drop}
-use Rattle.tb_todotxt.specs.Letters.{IsLetter, is_letter, priority_word, letter_of}
+use Rattle.tb_todotxt.specs.Letter.{IsLetter, is_letter, priority_word, letter_of}
 
 pub letter-true : (c : ℕ) → is_letter c ≡ true → IsLetter c
 letter-true c h = let a = and_parts (nat_le 65 c) (nat_le c 90) h in (leb-true 65 c a.0, leb-true c 90 a.1)

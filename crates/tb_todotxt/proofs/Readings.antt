@@ -6,9 +6,9 @@ use Rattle.std.proofs.lemmas.Slice.Eq.{bytes_eq-Decides}
 use Rattle.tb_todotxt.specs.declared.fault.LineFault.{LineFault}
 use Rattle.tb_todotxt.specs.declared.fault.LineFault.TheVariants.{EmptyLine}
 use Rattle.tb_todotxt.specs.declared.line.LineParts.{LineParts}
-use Rattle.tb_todotxt.specs.Days.{day_text, day_of, IsDay}
-use Rattle.tb_todotxt.specs.Letters.{priority_word, letter_of, IsLetter}
-use Rattle.tb_todotxt.specs.Lines.{IsLine, HasDates, Begins, IsDoneMark, IsPriorityMark, IsDateMark, spell, dated, marked, with_done, with_priority, with_date, done_word, is_blank, is_free_of}
+use Rattle.tb_todotxt.specs.Day.{day_text, day_of, IsDay}
+use Rattle.tb_todotxt.specs.Letter.{priority_word, letter_of, IsLetter}
+use Rattle.tb_todotxt.specs.Line.{IsLine, HasDates, Begins, IsDoneMark, IsPriorityMark, IsDateMark, spell, dated, marked, with_done, with_priority, with_date, done_word, is_blank, is_free_of}
 use Rattle.tb_todotxt.specs.Reading.{first_word, after_word, has_more, mark_of, past, is_done, Dated, dates_of, line_of, read_of}
 use Rattle.tb_todotxt.proofs.DayTexts.{read_day, day_read}
 use Rattle.tb_todotxt.proofs.LetterWords.{read_letter, letter_read}

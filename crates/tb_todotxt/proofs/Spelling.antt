@@ -1,11 +1,11 @@
 -- A line has one spelling.
 use Rattle.std.proofs.Common.{◌≡◌, ◌∙◌, ℕ, ◌/◌, ◌%◌, ◌+◌, ◌<◌, Bool, true, false, List, ◌∷◌, ◌==◌, Option, Some, None, IfSome, ap, sym, subst, refl, arith}
 use Rattle.std.proofs.lemmas.Bool.{ne_eqb}
-use Rattle.tb_task.specs.Date.{date_of}
+use Rattle.tb_task.specs.Civil.{date_of}
 use Rattle.tb_todotxt.specs.declared.line.LineParts.{LineParts}
-use Rattle.tb_todotxt.specs.Days.{day_text, IsDay, day_of}
-use Rattle.tb_todotxt.specs.Letters.{priority_word, IsLetter}
-use Rattle.tb_todotxt.specs.Lines.{IsLine, HasDates, Begins, IsDoneMark, IsPriorityMark, IsDateMark, spell, dated, with_done, with_priority, with_date, done_word, is_blank, is_free_of}
+use Rattle.tb_todotxt.specs.Day.{day_text, IsDay, day_of}
+use Rattle.tb_todotxt.specs.Letter.{priority_word, IsLetter}
+use Rattle.tb_todotxt.specs.Line.{IsLine, HasDates, Begins, IsDoneMark, IsPriorityMark, IsDateMark, spell, dated, with_done, with_priority, with_date, done_word, is_blank, is_free_of}
 use Rattle.tb_todotxt.proofs.DayTexts.{read_day}
 use Rattle.tb_todotxt.proofs.FirstWords.{fills, same_words}
 

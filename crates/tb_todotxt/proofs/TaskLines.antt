@@ -7,16 +7,16 @@ use Rattle.std.specs.List.{list_any}
 use Rattle.std.specs.Str.{chars, encode_utf8_all}
 use Rattle.std.specs.Int.{to_be_bytes, w128}
 use Rattle.uuid.specs.Text.{by_index, hex_digit, is_hyphen_place, nibble, digit_place}
-use Rattle.tb_task.specs.Check.{checked, fault_of, refused, is_empty, is_bad_tag}
+use Rattle.tb_task.specs.Checks.{checked, fault_of, refused, is_empty, is_bad_tag}
 use Rattle.tb_task.specs.declared.checks.Field.{Field}
 use Rattle.tb_task.specs.declared.checks.Field.TheVariants.{EmptyDescription, BadTag}
-use Rattle.tb_task.specs.Check.{is_blank as is_tag_blank}
+use Rattle.tb_task.specs.Checks.{is_blank as is_tag_blank}
 use Rattle.tb_task.specs.TaskId.{id_text}
 use Rattle.tb_task.specs.declared.task.Task.{Task}
-use Rattle.tb_todotxt.specs.Days.{day_text, IsDay}
-use Rattle.tb_todotxt.specs.Letters.{priority_word, IsLetter}
-use Rattle.tb_todotxt.specs.Lines.{IsLine, Begins, IsDoneMark, IsPriorityMark, marked, with_priority, done_word, is_blank, is_free_of}
-use Rattle.tb_todotxt.specs.Bodies.{shown_char, shown_text, project_text, tags_text, due_text, body_of, parts_of}
+use Rattle.tb_todotxt.specs.Day.{day_text, IsDay}
+use Rattle.tb_todotxt.specs.Letter.{priority_word, IsLetter}
+use Rattle.tb_todotxt.specs.Line.{IsLine, Begins, IsDoneMark, IsPriorityMark, marked, with_priority, done_word, is_blank, is_free_of}
+use Rattle.tb_todotxt.specs.Showing.{shown_char, shown_text, project_text, tags_text, due_text, body_of, parts_of}
 use Rattle.tb_todotxt.proofs.FirstWords.{fills, free_from, first_marked}
 use Rattle.tb_todotxt.proofs.Spelling.{day_free, done_words, priority_words, date_words}
 use Rattle.tb_todotxt.proofs.Readings.{begun, free_append}

@@ -3,9 +3,9 @@ use Rattle.std.specs.Prelude.{ℕ, List, [], ◌∷◌, ◌++◌, Option, Some, 
 use Rattle.tb_task.specs.declared.checks.Field.{Field}
 use Rattle.tb_task.specs.declared.incoming.Shown.{Shown}
 use Rattle.tb_task.specs.declared.task.Task.{Task}
-use Rattle.tb_task.specs.Check.{fault_of}
-use Rattle.tb_todotxt.specs.Bodies.{line_for}
-use Rattle.tb_todotxt.specs.Lines.{spell}
+use Rattle.tb_task.specs.Checks.{fault_of}
+use Rattle.tb_todotxt.specs.Showing.{line_for}
+use Rattle.tb_todotxt.specs.Line.{spell}
 use Rattle.tb_todotxt.specs.declared.line.LineParts.{LineParts}
 
 -- a line and a line feed

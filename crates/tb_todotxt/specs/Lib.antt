@@ -1,10 +1,10 @@
-pub mod Days
-pub mod Letters
-pub mod Lines
+pub mod Day
+pub mod Letter
+pub mod Line
 pub mod Reading
 pub mod Words
-pub mod Tasks
-pub mod Bodies
-pub mod Files
+pub mod Making
+pub mod Showing
+pub mod File
 pub mod FileTexts
 pub mod Tags

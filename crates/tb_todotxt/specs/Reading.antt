@@ -1,9 +1,9 @@
 -- What a text says as a line: its marks from the left, each up to the first space, and what is left as the body.
 use Rattle.std.specs.Prelude.{◌≡◌, ℕ, Bool, true, false, not, ◌&&◌, ◌==◌, if◌then◌else◌, List, [], ◌∷◌, Option, None, is_some, bytes_eq, Result, Ok, Err}
 use Rattle.tb_values.specs.Outcome.{Gives}
-use Rattle.tb_todotxt.specs.Days.{day_of}
-use Rattle.tb_todotxt.specs.Letters.{letter_of}
-use Rattle.tb_todotxt.specs.Lines.{is_blank, is_free_of, done_word, spell, IsLine}
+use Rattle.tb_todotxt.specs.Day.{day_of}
+use Rattle.tb_todotxt.specs.Letter.{letter_of}
+use Rattle.tb_todotxt.specs.Line.{is_blank, is_free_of, done_word, spell, IsLine}
 use Rattle.tb_todotxt.specs.declared.fault.LineFault.{LineFault}
 use Rattle.tb_todotxt.specs.declared.fault.LineFault.TheVariants.{EmptyLine, Memory}
 use Rattle.tb_todotxt.specs.declared.line.LineParts.{LineParts}

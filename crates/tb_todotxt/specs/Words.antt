@@ -2,7 +2,7 @@
 use Rattle.std.specs.Prelude.{ℕ, Bool, ◌&&◌, ◌==◌, if◌then◌else◌, nat_lt, List, [], ◌∷◌, ◌++◌, length, take, drop, slice_index, Option, Some, None, is_some, option_and_then, bytes_eq, codes}
 use Rattle.std.specs.List.{slice_split, filter}
 use Rattle.tb_task.specs.TaskId.{read_id}
-use Rattle.tb_todotxt.specs.Days.{day_of}
+use Rattle.tb_todotxt.specs.Day.{day_of}
 use Rattle.tb_todotxt.specs.declared.words.Kind.{Kind}
 use Rattle.tb_todotxt.specs.declared.words.Kind.TheVariants.{Project, Tag, Due, Id, Plain}
 use Rattle.tb_todotxt.specs.declared.words.BodyWords.{BodyWords}

@@ -1,6 +1,6 @@
 ghost use Rattle.std.specs.Prelude.{◌≡◌, ◌==◌, ◌&&◌, true, ◌*◌, ◌/◌, ◌≤◌, length, slice_index, option_map};
 ghost use Rattle.std.specs.Str.{IsAscii};
-ghost use Rattle.tb_todotxt.specs.Days.{day_text, day_of, first_second, has_hyphens};
+ghost use Rattle.tb_todotxt.specs.Day.{day_text, day_of, first_second, has_hyphens};
 
 use std::marker::Model;
 use tb_task::Moment;

@@ -1,10 +1,10 @@
 //! The tasks of a file of lines.
 ghost use Rattle.std.specs.Prelude.{◌≡◌, ◌<◌, ◌≤◌, map, length, true, false, IfOk, All};
 ghost use Rattle.std.specs.List.{AllByRecursion};
-ghost use Rattle.tb_todotxt.specs.Files.{kept_lines as kept, count_of, tasks_of as all_tasks, file_of, ReadsFile};
-ghost use Rattle.tb_todotxt.specs.Lines.{is_blank as blank, is_free_of};
+ghost use Rattle.tb_todotxt.specs.File.{kept_lines as kept, count_of, tasks_of as all_tasks, file_of, ReadsFile};
+ghost use Rattle.tb_todotxt.specs.Line.{is_blank as blank, is_free_of};
 ghost use Rattle.tb_todotxt.specs.Reading.{line_of};
-ghost use Rattle.tb_todotxt.specs.Tasks.{task_of};
+ghost use Rattle.tb_todotxt.specs.Making.{task_of};
 ghost use Rattle.tb_task.specs.Limits.{most_items};
 
 use crate::fault::FileFault;

@@ -1,5 +1,5 @@
 ghost use Rattle.std.specs.Prelude.{◌≡◌, ◌≤◌, ◌<◌};
-ghost use Rattle.tb_todotxt.specs.Letters.{letter_of, letter_for, IsLetter};
+ghost use Rattle.tb_todotxt.specs.Letter.{letter_of, letter_for, IsLetter};
 
 use std::marker::Model;
 use tb_task::Priority;
@@ -12,7 +12,7 @@ pub struct Letter {
 
 impl Model for Letter {
     ghost use Rattle.std.specs.Prelude.{ℕ};
-    ghost use Rattle.tb_todotxt.specs.Letters.{IsLetter};
+    ghost use Rattle.tb_todotxt.specs.Letter.{IsLetter};
 
     ghost Value = { ℕ };
 

@@ -1,5 +1,5 @@
 ghost use Rattle.std.specs.Prelude.{◌≡◌};
-ghost use Rattle.tb_todotxt.specs.Lines.{IsLine};
+ghost use Rattle.tb_todotxt.specs.Line.{IsLine};
 
 use crate::day::Day;
 use crate::letter::Letter;
@@ -25,7 +25,7 @@ pub struct Line {
 
 impl Model for Line {
     ghost use Rattle.tb_todotxt.specs.declared.line.LineParts.{LineParts};
-    ghost use Rattle.tb_todotxt.specs.Lines.{IsLine};
+    ghost use Rattle.tb_todotxt.specs.Line.{IsLine};
 
     ghost Value = { LineParts };
 

@@ -1,9 +1,9 @@
 //! The task that a line makes.
 ghost use Rattle.std.specs.Prelude.{◌≡◌, ◌++◌, ◌∷◌, IfOk, decimal, option_map, string_bytes};
 ghost use Rattle.tb_task.specs.TaskId.{made, named_id};
-ghost use Rattle.tb_todotxt.specs.Days.{start_of};
-ghost use Rattle.tb_todotxt.specs.Lines.{spell};
-ghost use Rattle.tb_todotxt.specs.Tasks.{start_or as start_or_moment, status_of as line_status, end_of as line_end, priority_of as line_priority, filled_or as text_or, line_id as named_line, id_or as id_or_other, task_of, task_with};
+ghost use Rattle.tb_todotxt.specs.Day.{start_of};
+ghost use Rattle.tb_todotxt.specs.Line.{spell};
+ghost use Rattle.tb_todotxt.specs.Making.{start_or as start_or_moment, status_of as line_status, end_of as line_end, priority_of as line_priority, filled_or as text_or, line_id as named_line, id_or as id_or_other, task_of, task_with};
 
 use crate::day::Day;
 use crate::letter::Letter;

@@ -1,8 +1,8 @@
 //! The marks at the front of a line.
 ghost use Rattle.std.specs.Prelude.{◌≡◌, true, false, is_some, MatchOption};
-ghost use Rattle.tb_todotxt.specs.Days.{day_of};
-ghost use Rattle.tb_todotxt.specs.Letters.{letter_of};
-ghost use Rattle.tb_todotxt.specs.Lines.{is_blank as blank};
+ghost use Rattle.tb_todotxt.specs.Day.{day_of};
+ghost use Rattle.tb_todotxt.specs.Letter.{letter_of};
+ghost use Rattle.tb_todotxt.specs.Line.{is_blank as blank};
 ghost use Rattle.tb_todotxt.specs.Reading.{first_word as word_of, after_word, has_more, mark_of, past, is_done, dates_of};
 
 use crate::day::Day;

@@ -2,8 +2,8 @@
 ghost use Rattle.std.specs.Prelude.{◌≡◌, ◌++◌, [], true, false, IfOk, OnOk, IfSome, string_bytes, MatchResult};
 ghost use Rattle.tb_todotxt.specs.declared.fault.LineFault.TheVariants.{Memory};
 ghost use Rattle.tb_todotxt.specs.declared.line.LineParts.{LineParts as Parts};
-ghost use Rattle.tb_todotxt.specs.Days.{day_text};
-ghost use Rattle.tb_todotxt.specs.Lines.{spell, IsLine, with_priority, with_date, is_free_of, is_blank as blank, AreSpelledOnce};
+ghost use Rattle.tb_todotxt.specs.Day.{day_text};
+ghost use Rattle.tb_todotxt.specs.Line.{spell, IsLine, with_priority, with_date, is_free_of, is_blank as blank, AreSpelledOnce};
 ghost use Rattle.tb_todotxt.specs.Reading.{line_of, read_of, Reads, AreRead, AreSpelled};
 
 use crate::day::Day;

@@ -1,10 +1,10 @@
 //! The line that shows a task.
 ghost use Rattle.std.specs.Prelude.{◌≡◌, ◌++◌, Ok, IfOk, OnOk, IfSome, string_bytes, option_map};
-ghost use Rattle.tb_task.specs.Check.{checked};
+ghost use Rattle.tb_task.specs.Checks.{checked};
 ghost use Rattle.tb_task.specs.TaskId.{id_text};
-ghost use Rattle.tb_todotxt.specs.Days.{IsDay};
-ghost use Rattle.tb_todotxt.specs.Letters.{letter_for, IsLetter};
-ghost use Rattle.tb_todotxt.specs.Bodies.{shown_char as visible_char, shown_text, project_text, tags_text, due_text, body_of as task_body, completion_of as task_completion, parts_of as task_parts, line_for};
+ghost use Rattle.tb_todotxt.specs.Day.{IsDay};
+ghost use Rattle.tb_todotxt.specs.Letter.{letter_for, IsLetter};
+ghost use Rattle.tb_todotxt.specs.Showing.{shown_char as visible_char, shown_text, project_text, tags_text, due_text, body_of as task_body, completion_of as task_completion, parts_of as task_parts, line_for};
 
 use crate::day::Day;
 use crate::letter::Letter;

@@ -4,7 +4,7 @@ use crate::finding::{Finding, missing, show};
 use crate::given::now;
 use std::alloc::{AllocError, Global};
 use tb_board::Draft;
-use tb_import::{ImportStop, Imported, import_tasks};
+use tb_import::{ImportFailure, Imported, import_tasks};
 use tb_json::{read_import, write_stored};
 use tb_task::Incoming;
 
@@ -22,8 +22,8 @@ fn imported(alloc: Global, text: &str) -> Finding {
     let empty = empty_board(alloc)?;
     match import_tasks(alloc, Draft::of(alloc, &empty)?, list.as_slice()) {
         Ok(first) => Ok(told(alloc, &first, list.as_slice())?),
-        Err(ImportStop::Refused(refusal)) => show(alloc, &refusal),
-        Err(ImportStop::Memory) => Err(AllocError.into()),
+        Err(ImportFailure::Refused(refusal)) => show(alloc, &refusal),
+        Err(ImportFailure::Memory) => Err(AllocError.into()),
     }
 }
 

@@ -1,6 +1,6 @@
 //! Lines of todo.txt: what is read of them, and the tasks that they make.
 ghost use Rattle.std.specs.Prelude.{◌≡◌};
-ghost use Rattle.tb_todotxt.specs.Lines.{is_free_of};
+ghost use Rattle.tb_todotxt.specs.Line.{is_free_of};
 
 use crate::finding::{Finding, say, show};
 use crate::given::{now, text_of};

@@ -1,7 +1,7 @@
 use Rattle.std.proofs.Common.{refl}
 use Rattle.std.proofs.lemmas.Result.{on_err_weaker}
 use Rattle.tb_desk.specs.contracts.list_keep.ListKeepKeep.TheImpl as list_keep
-use Rattle.tb_script.specs.Answer.{first_state}
+use Rattle.tb_script.specs.Answering.{first_state}
 use Rattle.tb_script.proofs.Runs.{known_front}
 use Rattle.tb_script.proofs.run_lines.Goals as goal
 

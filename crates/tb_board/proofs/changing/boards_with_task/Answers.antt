@@ -1,5 +1,5 @@
 use Rattle.std.proofs.Common.{◌≡◌, ◌∙◌, sym, slice_index_or}
-use Rattle.tb_board.specs.Changes.{with_task_at}
+use Rattle.tb_board.specs.Changing.{with_task_at}
 use Rattle.tb_board.specs.First.{IsFirst, IsNone}
 use Rattle.tb_board.specs.World.{has_number}
 use Rattle.tb_board.proofs.Places.{changed_there}

@@ -1,5 +1,5 @@
 use Rattle.std.proofs.Common.{◌≡◌, take}
-use Rattle.tb_board.specs.Changes.{without_place}
+use Rattle.tb_board.specs.Changing.{without_place}
 use Rattle.tb_board.proofs.gone.gone_without.Given as goal
 
 abbrev pub invariant-loop-item : goal.invariant-loop-item

@@ -1,5 +1,5 @@
 use Rattle.std.proofs.Common.{◌≡◌}
-use Rattle.tb_board.specs.Changes.{Follows}
+use Rattle.tb_board.specs.Changing.{Follows}
 use Rattle.tb_board.proofs.Awake.{woken_to}
 use Rattle.tb_board.proofs.waking.wake_draft.Given as goal
 

@@ -1,5 +1,5 @@
 use Rattle.std.proofs.Common.{rules, refl, ◌≡◌}
-use Rattle.tb_causes.specs.BadTexts.{member_text}
+use Rattle.tb_causes.specs.BadText.{member_text}
 use Rattle.tb_causes.proofs.bad_text.part_item_text.Goals as goal
 
 pub returns : goal.returns

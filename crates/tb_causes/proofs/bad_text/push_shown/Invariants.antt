@@ -1,6 +1,6 @@
 use Rattle.std.proofs.Common.{◌≡◌, ◌++◌, map, take}
 use Rattle.std.specs.String.{string_bytes}
-use Rattle.tb_causes.specs.BadTexts.{shown_byte}
+use Rattle.tb_causes.specs.BadText.{shown_byte}
 use Rattle.tb_causes.proofs.bad_text.push_shown.Given as goal
 
 abbrev pub invariant-loop-byte : goal.invariant-loop-byte

@@ -1,5 +1,5 @@
 use Rattle.std.proofs.Common.{◌≡◌, [], map, drop}
-use Rattle.tb_causes.specs.WrongWords.{with_others}
+use Rattle.tb_causes.specs.WrongWord.{with_others}
 use Rattle.tb_causes.proofs.wrong_word.others_of.Given as goal
 
 abbrev pub invariant-loop-word : goal.invariant-loop-word

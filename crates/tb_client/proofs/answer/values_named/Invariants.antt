@@ -1,6 +1,6 @@
 use Rattle.std.proofs.Common.{◌≡◌, [], map, drop}
 use Rattle.httparse.specs.Spans.{header_bytes}
-use Rattle.tb_client.specs.Answers.{with_named}
+use Rattle.tb_client.specs.Answer.{with_named}
 use Rattle.tb_client.proofs.answer.values_named.Given as goal
 
 abbrev pub invariant-loop-span : goal.invariant-loop-span

@@ -1,6 +1,6 @@
 use Rattle.std.proofs.Common.{rules, ◌≡◌, [], ◌∷◌, true}
 use Rattle.tb_client.specs.declared.answer.Reply.{Reply}
-use Rattle.tb_client.specs.Answers.{IsWholeAnswer, asks_again}
+use Rattle.tb_client.specs.Answer.{IsWholeAnswer, asks_again}
 use Rattle.tb_client.specs.Asking.{asked}
 use Rattle.tb_client.proofs.Tries.{tried_again, tried_none}
 use Rattle.tb_client.proofs.asking.ask_once.Goals as goal

@@ -1,5 +1,5 @@
 use Rattle.std.proofs.Common.{◌≡◌, map, drop}
-use Rattle.tb_client.specs.Lines.{id_among}
+use Rattle.tb_client.specs.Line.{id_among}
 use Rattle.tb_client.proofs.given.id_among.Given as goal
 
 abbrev pub invariant-loop-word : goal.invariant-loop-word

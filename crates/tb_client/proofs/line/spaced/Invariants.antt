@@ -1,5 +1,5 @@
 use Rattle.std.proofs.Common.{◌≡◌, ◌++◌, drop}
-use Rattle.tb_client.specs.Lines.{spaced_after}
+use Rattle.tb_client.specs.Line.{spaced_after}
 use Rattle.tb_client.proofs.line.spaced.Given as goal
 
 abbrev pub invariant-loop-word : goal.invariant-loop-word

@@ -1,6 +1,6 @@
 use Rattle.std.proofs.Common.{rules, refl, ◌≡◌}
 use Rattle.tb_task.specs.TaskId.{id_text}
-use Rattle.tb_client.specs.Messages.{sender_lines}
+use Rattle.tb_client.specs.Request.{sender_lines}
 use Rattle.tb_client.proofs.message.call_message.Goals as goal
 
 pub returns : goal.returns

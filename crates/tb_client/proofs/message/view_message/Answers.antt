@@ -1,5 +1,5 @@
 use Rattle.std.proofs.Common.{rules, refl, ◌≡◌}
-use Rattle.tb_client.specs.Messages.{sender_lines}
+use Rattle.tb_client.specs.Request.{sender_lines}
 use Rattle.tb_client.proofs.message.view_message.Goals as goal
 
 pub returns : goal.returns

@@ -1,5 +1,5 @@
 use Rattle.std.proofs.Common.{◌≡◌, ◌++◌, drop}
-use Rattle.tb_client.specs.Messages.{lines_text}
+use Rattle.tb_client.specs.Request.{lines_text}
 use Rattle.tb_client.proofs.request.lines_text.Given as goal
 
 abbrev pub invariant-loop-line : goal.invariant-loop-line

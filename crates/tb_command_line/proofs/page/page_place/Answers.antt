@@ -1,5 +1,5 @@
 use Rattle.std.proofs.Common.{rules, add-one, ◌≡◌, true, false, arith, drop, map}
-use Rattle.tb_command_line.specs.Pages.{is_page_front}
+use Rattle.tb_command_line.specs.Page.{is_page_front}
 use Rattle.tb_command_line.proofs.Paging.{page_here, page_next}
 use Rattle.tb_command_line.proofs.page.page_place.Goals as goal
 

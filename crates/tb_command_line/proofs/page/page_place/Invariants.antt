@@ -1,5 +1,5 @@
 use Rattle.std.proofs.Common.{◌≡◌, ◌+◌, ◌-◌, ◌≤◌, drop, length, map}
-use Rattle.tb_command_line.specs.Pages.{page_place}
+use Rattle.tb_command_line.specs.Page.{page_place}
 use Rattle.tb_command_line.proofs.page.page_place.Given as goal
 
 abbrev pub invariant-loop-place : goal.invariant-loop-place

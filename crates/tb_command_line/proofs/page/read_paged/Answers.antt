@@ -1,6 +1,6 @@
 use Rattle.std.proofs.Common.{rules, ◌≡◌, map}
-use Rattle.tb_command_line.specs.Orders.{order_of, words_of}
-use Rattle.tb_command_line.specs.Pages.{page_in}
+use Rattle.tb_command_line.specs.Order.{order_of, words_of}
+use Rattle.tb_command_line.specs.Page.{page_in}
 use Rattle.tb_command_line.proofs.Paging.{fails_paged}
 use Rattle.tb_command_line.proofs.page.read_paged.Goals as goal
 

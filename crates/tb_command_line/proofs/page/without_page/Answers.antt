@@ -1,5 +1,5 @@
 use Rattle.std.proofs.Common.{rules, ◌≡◌, ◌∙◌, ◌++◌, ◌+◌, true, take, map, ap}
-use Rattle.tb_command_line.specs.Pages.{has_page}
+use Rattle.tb_command_line.specs.Page.{has_page}
 use Rattle.tb_command_line.proofs.Paging.{left_out, whole_behind}
 use Rattle.tb_command_line.proofs.page.without_page.Goals as goal
 

@@ -2,9 +2,9 @@ use Rattle.std.proofs.Common.{◌∙◌, ap, map}
 use Rattle.clap.specs.Simple.{is_simple, subcommand_of}
 use Rattle.clap.specs.Takes.{takes}
 use Rattle.tb_values.proofs.Outcome.{Gives-same}
-use Rattle.tb_command_line.specs.Grammar.{program_app}
-use Rattle.tb_command_line.specs.Matches.{order_at}
-use Rattle.tb_command_line.specs.Orders.{order_of}
+use Rattle.tb_command_line.specs.Words.{program_app}
+use Rattle.tb_command_line.specs.Reading.{order_at}
+use Rattle.tb_command_line.specs.Order.{order_of}
 use Rattle.tb_command_line.specs.Outcome.{Fails}
 use Rattle.tb_command_line.proofs.Entering.{simple}
 use Rattle.tb_command_line.proofs.Requests.{reaches}

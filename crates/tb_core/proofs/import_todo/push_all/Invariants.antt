@@ -1,5 +1,5 @@
 use Rattle.std.proofs.Common.{◌≡◌, ◌++◌, map, take}
-use Rattle.tb_board.specs.Changes.{Follows}
+use Rattle.tb_board.specs.Changing.{Follows}
 use Rattle.tb_core.proofs.import_todo.push_all.Given as goal
 
 -- the tasks so far are last

@@ -1,5 +1,5 @@
 use Rattle.std.proofs.Common.{rules, ◌≡◌, subst, inr}
-use Rattle.tb_calls.specs.Calls.{State, after_call}
+use Rattle.tb_calls.specs.Call.{State, after_call}
 use Rattle.tb_desk.proofs.Commits.{known_is_some, may_commit, told_new, with_reply-after_call}
 use Rattle.tb_desk.proofs.Moves.{either_of, held_where_honest, still_either, where_honest}
 use Rattle.tb_desk.proofs.Repeats.{good_next}

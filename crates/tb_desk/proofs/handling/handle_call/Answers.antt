@@ -1,6 +1,6 @@
 use Rattle.std.proofs.Common.{◌≡◌, [], ◌∷◌, sym, ap, subst}
-use Rattle.tb_calls.specs.Calls.{plain}
-use Rattle.tb_calls.specs.Keeping.{IsNew, IsSettled}
+use Rattle.tb_calls.specs.Call.{plain}
+use Rattle.tb_calls.specs.Keep.{IsNew, IsSettled}
 use Rattle.tb_desk.proofs.Moves.{matched_some, still_either}
 use Rattle.tb_desk.proofs.Repeats.{good_all}
 use Rattle.tb_desk.proofs.handling.handle_call.Goals as goal

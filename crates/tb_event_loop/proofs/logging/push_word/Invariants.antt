@@ -1,5 +1,5 @@
 use Rattle.std.proofs.Common.{◌≡◌, ◌++◌, codes, take}
-use Rattle.tb_event_loop.specs.LogLine.{escaped}
+use Rattle.tb_event_loop.specs.Logging.{escaped}
 use Rattle.tb_event_loop.proofs.logging.push_word.Given as goal
 
 -- the blank and the bytes so far

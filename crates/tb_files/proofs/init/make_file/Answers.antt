@@ -1,5 +1,5 @@
 use Rattle.std.proofs.Common.{refl}
-use Rattle.tb_calls.specs.Calls.{opening}
+use Rattle.tb_calls.specs.Call.{opening}
 use Rattle.tb_files.proofs.Unmade.{by_making}
 use Rattle.tb_files.proofs.init.make_file.Goals as goal
 

@@ -1,4 +1,4 @@
-use Rattle.tb_calls.specs.Calls.{opening}
+use Rattle.tb_calls.specs.Call.{opening}
 use Rattle.tb_headline.proofs.Left.{at}
 use Rattle.tb_headline.proofs.Refused.{unmade}
 use Rattle.tb_headline.proofs.session.make.Goals as goal

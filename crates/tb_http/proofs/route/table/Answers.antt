@@ -1,4 +1,4 @@
-use Rattle.tb_http.specs.Routes.{route_rows}
+use Rattle.tb_http.specs.Route.{route_rows}
 use Rattle.tb_http.proofs.RouteTable.{table_fits}
 use Rattle.tb_http.proofs.route.table.Goals as goal
 

@@ -1,5 +1,5 @@
 use Rattle.std.proofs.Common.{List, drop}
-use Rattle.tb_board.specs.Changes.{Follows}
+use Rattle.tb_board.specs.Changing.{Follows}
 use Rattle.tb_board.specs.declared.board.Board.{Board}
 use Rattle.tb_task.specs.declared.incoming.Incoming.{Incoming}
 use Rattle.tb_import.specs.Known.{AreGone, IsKnown}

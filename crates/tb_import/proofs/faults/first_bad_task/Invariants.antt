@@ -1,5 +1,5 @@
 use Rattle.std.proofs.Common.{◌≡◌, drop}
-use Rattle.tb_import.specs.Refusals.{bad_task}
+use Rattle.tb_import.specs.Refusal.{bad_task}
 use Rattle.tb_import.proofs.faults.first_bad_task.Given as goal
 
 -- none of the tasks before has a fault

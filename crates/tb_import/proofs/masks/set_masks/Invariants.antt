@@ -1,5 +1,5 @@
 use Rattle.std.proofs.Common.{◌≡◌, ◌++◌, drop}
-use Rattle.tb_board.specs.Changes.{Follows}
+use Rattle.tb_board.specs.Changing.{Follows}
 use Rattle.tb_import.specs.Entering.{mask_places}
 use Rattle.tb_import.proofs.masks.set_masks.Given as goal
 

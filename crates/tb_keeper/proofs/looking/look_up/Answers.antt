@@ -1,7 +1,7 @@
 use Rattle.std.proofs.Common.{◌∙◌, sym}
 use Rattle.std.proofs.lemmas.Result.{IfOk-weaker}
 use Rattle.sqlite.specs.Held.{state}
-use Rattle.tb_cache.specs.Cached.{AreOf}
+use Rattle.tb_cache.specs.BoardCache.{AreOf}
 use Rattle.tb_stored.specs.Reopening.{OfState}
 use Rattle.tb_stored.proofs.Standing.{stored_again}
 use Rattle.tb_keeper.specs.Looking.{IsGlance, IsGlanceAt}

@@ -1,7 +1,7 @@
 use Rattle.std.proofs.Common.{◌≡◌, ◌∙◌, Err, sym, ap, true, false, arith, length}
 use Rattle.std.proofs.lemmas.Result.{err_from_is_err_and}
 use Rattle.sqlite.specs.Held.{state}
-use Rattle.tb_calls.specs.Calls.{State}
+use Rattle.tb_calls.specs.Call.{State}
 use Rattle.tb_sql.specs.declared.store.StoreFault.TheVariants.{Store}
 use Rattle.tb_sql_tables.specs.Content.{IsContent, Stands}
 use Rattle.tb_sql_tables.proofs.Failing.{faults_then}

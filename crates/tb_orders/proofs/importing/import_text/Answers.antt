@@ -1,5 +1,5 @@
 use Rattle.std.proofs.Common.{◌≡◌, [], IfOk, OnErr, subst}
-use Rattle.tb_calls.specs.Calls.{reply}
+use Rattle.tb_calls.specs.Call.{reply}
 use Rattle.tb_calls.specs.declared.call.Call.{Call}
 use Rattle.tb_orders.specs.Orders.{AsksFor, ending_of, line_text}
 use Rattle.tb_values.specs.Appends.{AppendsFront}

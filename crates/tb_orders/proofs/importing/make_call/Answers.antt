@@ -1,5 +1,5 @@
 use Rattle.std.proofs.Common.{[], OnErr, subst}
-use Rattle.tb_calls.specs.Calls.{reply}
+use Rattle.tb_calls.specs.Call.{reply}
 use Rattle.tb_orders.specs.Orders.{line_text}
 use Rattle.tb_reply.specs.declared.reply.Reply.{Reply}
 use Rattle.tb_values.specs.Appends.{AppendsFront}

@@ -1,5 +1,5 @@
 use Rattle.std.proofs.Common.{◌≡◌, IfOk, subst}
-use Rattle.tb_orders.specs.Messages.{message_under}
+use Rattle.tb_orders.specs.Message.{message_under}
 use Rattle.tb_orders.proofs.running.part_message.Goals as goal
 
 pub returns : goal.returns

@@ -1,7 +1,7 @@
 use Rattle.std.proofs.Common.{List, ℕ, [], ◌∷◌, ◌++◌}
 use Rattle.std.specs.Prelude.{codes}
 use Rattle.std.proofs.lemmas.Result.{on_err_weaker, on_ok_weaker}
-use Rattle.tb_program.specs.Faults.{name_of}
+use Rattle.tb_program.specs.Fault.{name_of}
 use Rattle.tb_values.proofs.Appends.{Appends-then, AppendsFront-more, AppendsFront-then}
 use Rattle.tb_orders.proofs.status.print_fault.Goals as goal
 

@@ -1,6 +1,6 @@
 use Rattle.std.proofs.Common.{◌≡◌, true, ◌+◌, ◌<◌, ◌≤◌, ◌∷◌, [], List, ℕ, Option, length, take, drop, arith, ap, refl, ◌∙◌, subst}
 use Rattle.std.proofs.lemmas.List.{take_all}
-use Rattle.tb_calls.specs.Calls.{State}
+use Rattle.tb_calls.specs.Call.{State}
 use Rattle.tb_calls.specs.Leaving.{Only}
 use Rattle.tb_peers.specs.Happening.{IsStopped, Plays, done_at, talk_at}
 use Rattle.tb_peers.proofs.Steps.{done_more, done_split, on_err, plays_none, plays_stopped, plays_then}

@@ -1,6 +1,6 @@
 use Rattle.std.proofs.Common.{◌/◌, ◌+◌, ◌-◌, ◌*◌, ◌≡◌, arith, sym, pos}
 use Rattle.jiff_core.specs.Date.{epoch_day}
-use Rattle.tb_task.specs.Date.{date_of, day_number}
+use Rattle.tb_task.specs.Civil.{date_of, day_number}
 use Rattle.tb_task.proofs.Dates.{dated}
 use Rattle.tb_task.proofs.MomentTexts.{date_is}
 use Rattle.tb_recur.specs.Months.{months_later}

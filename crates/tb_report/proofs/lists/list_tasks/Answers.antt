@@ -1,6 +1,6 @@
 use Rattle.std.proofs.Common.{◌≡◌, ◌++◌, length, string_bytes, rules, ap, ◌∙◌}
-use Rattle.tb_report.specs.Ranking.{rank_order, ordered}
-use Rattle.tb_report.specs.Listing.{ranks_from, lines, last_line}
+use Rattle.tb_report.specs.Rank.{rank_order, ordered}
+use Rattle.tb_report.specs.Lists.{ranks_from, lines, last_line}
 use Rattle.tb_report.specs.Marked.{waits_in}
 use Rattle.tb_report.proofs.Listed.{written}
 use Rattle.tb_report.proofs.lists.list_tasks.Goals as goal

@@ -1,5 +1,5 @@
 use Rattle.std.proofs.Common.{◌≡◌, ◌++◌, drop, string_bytes}
-use Rattle.tb_report.specs.Listing.{lines}
+use Rattle.tb_report.specs.Lists.{lines}
 use Rattle.tb_report.specs.Marked.{waits_in}
 use Rattle.tb_report.proofs.lists.push_lines.Given as goal
 

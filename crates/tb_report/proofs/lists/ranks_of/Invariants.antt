@@ -1,5 +1,5 @@
 use Rattle.std.proofs.Common.{◌≡◌, ◌++◌, drop}
-use Rattle.tb_report.specs.Listing.{ranks_from}
+use Rattle.tb_report.specs.Lists.{ranks_from}
 use Rattle.tb_report.specs.Marked.{waits_in}
 use Rattle.tb_report.proofs.lists.ranks_of.Given as goal
 

@@ -1,4 +1,4 @@
-use Rattle.tb_report.specs.Ranking.{rank_order}
+use Rattle.tb_report.specs.Rank.{rank_order}
 use Rattle.tb_report.proofs.Sorting.{sorted_is}
 use Rattle.tb_report.proofs.RankOrder.{rank_exact}
 use Rattle.tb_report.proofs.rank.in_order.Goals as goal

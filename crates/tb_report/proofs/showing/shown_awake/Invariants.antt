@@ -1,5 +1,5 @@
 use Rattle.std.proofs.Common.{◌≡◌, map, take}
-use Rattle.tb_report.specs.Shown.{shown_on}
+use Rattle.tb_report.specs.Showing.{shown_on}
 use Rattle.tb_report.proofs.showing.shown_awake.Given as goal
 
 -- the tasks so far are shown

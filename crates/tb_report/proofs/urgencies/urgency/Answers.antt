@@ -1,6 +1,6 @@
 use Rattle.std.proofs.Common.{◌≡◌, ◌∙◌, ◌-◌, Some, ap, arith, sym}
 use Rattle.std.proofs.lemmas.Int.{to_z-of_z}
-use Rattle.tb_report.specs.Urgency.{urgency_at}
+use Rattle.tb_report.specs.Urgencies.{urgency_at}
 use Rattle.tb_report.proofs.Woken.{urgency-woken}
 use Rattle.tb_report.proofs.urgencies.urgency.Goals as goal
 

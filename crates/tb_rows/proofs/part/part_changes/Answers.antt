@@ -1,7 +1,7 @@
 use Rattle.std.proofs.Common.{arith, subst, sym, ◌∙◌}
 use Rattle.std.proofs.lemmas.Bool.{both_ways}
 use Rattle.std.proofs.lemmas.Result.{IfOk-weaker}
-use Rattle.tb_board.specs.Changes.{changed}
+use Rattle.tb_board.specs.Changing.{changed}
 use Rattle.tb_rows.specs.Steps.{Leads}
 use Rattle.tb_rows.proofs.Parts.{few_people, part_leads, small_part}
 use Rattle.tb_rows.proofs.part.part_changes.Goals.{else-people-le-MOST_PEOPLE-via-then-people-le-MOST_PEOPLE+else-is_small, else-people-le-MOST_PEOPLE-via-else-people-le-MOST_PEOPLE}

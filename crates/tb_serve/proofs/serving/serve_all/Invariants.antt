@@ -1,5 +1,5 @@
 use Rattle.std.proofs.Common.{◌≡◌, ◌<◌, ◌-◌, false, true, drop, IfSome, Some}
-use Rattle.tb_calls.specs.Calls.{State}
+use Rattle.tb_calls.specs.Call.{State}
 use Rattle.tb_calls.specs.Leaving.{Only}
 use Rattle.tb_serve.proofs.Connection.{Runs}
 use Rattle.tb_serve.proofs.serving.serve_all.Given as goal

@@ -1,6 +1,6 @@
 use Rattle.std.proofs.Common.{[], ◌∷◌, pos}
 use Rattle.sqlite_value.specs.declared.value.Value.TheVariants.{Int}
-use Rattle.tb_sql.specs.Lending.{tasks_text}
+use Rattle.tb_sql.specs.Lend.{tasks_text}
 use Rattle.tb_sql.proofs.Lent.{all_lent, one_more_lent}
 use Rattle.tb_sql.proofs.lend.next_task.Goals as goal
 

@@ -1,4 +1,4 @@
-use Rattle.tb_board.specs.Changes.{Follows}
+use Rattle.tb_board.specs.Changing.{Follows}
 use Rattle.tb_sweep.specs.Growing.{IsGrowing}
 use Rattle.tb_sweep.proofs.Adding.{IsGrownTo}
 use Rattle.tb_sweep.proofs.growing.grown_all.Given as goal

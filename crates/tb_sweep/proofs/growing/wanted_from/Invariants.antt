@@ -1,5 +1,5 @@
 use Rattle.std.proofs.Common.{◌-◌, ◌≤◌}
-use Rattle.tb_recur.specs.Wanted.{need}
+use Rattle.tb_recur.specs.Wanting.{need}
 use Rattle.tb_sweep.proofs.growing.wanted_from.Given as goal
 
 -- those so far are wanted

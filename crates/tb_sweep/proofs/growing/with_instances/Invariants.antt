@@ -1,8 +1,8 @@
 use Rattle.std.proofs.Common.{◌≡◌, ◌+◌, ◌-◌, get_or, length}
 use Rattle.tb_task.specs.declared.task.Task.{Task}
-use Rattle.tb_board.specs.Changes.{Follows}
+use Rattle.tb_board.specs.Changing.{Follows}
 use Rattle.tb_sweep.specs.Growing.{IsGrowing}
-use Rattle.tb_sweep.specs.Sweep.{with_instances}
+use Rattle.tb_sweep.specs.Sweeping.{with_instances}
 use Rattle.tb_sweep.proofs.growing.with_instances.Given as goal
 
 -- those that are left make of the board what all of them make of the first one

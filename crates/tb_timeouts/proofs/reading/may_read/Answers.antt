@@ -4,7 +4,7 @@ use Rattle.std.proofs.lemmas.Option.{slice_get-get_or}
 use Rattle.std.specs.Option.{option_map}
 use Rattle.tb_timeouts.proofs.EarliestBelow.{same_earliest}
 use Rattle.tb_timeouts.specs.Deciding.{IsEarliest}
-use Rattle.tb_timeouts.specs.Stages.{begun_at, takes_bytes}
+use Rattle.tb_timeouts.specs.Stage.{begun_at, takes_bytes}
 use Rattle.tb_timeouts.proofs.reading.may_read.Goals as goal
 
 pub returns-in-Some : goal.returns-in-Some

@@ -1,7 +1,7 @@
 use Rattle.std.proofs.Common.{rules, tests, not}
 use Rattle.std.proofs.lemmas.Iterator.Consumers.{map_from_collect, YieldsList-at, YieldsList-from_filter}
 use Rattle.std.proofs.lemmas.Iterator.Splits.{YieldsList-from_lines}
-use Rattle.tb_todotxt.specs.Lines.{is_blank}
+use Rattle.tb_todotxt.specs.Line.{is_blank}
 use Rattle.tb_todotxt.proofs.file.kept_lines.Goals as goal
 
 pub returns : goal.returns

@@ -1,5 +1,5 @@
 use Rattle.std.proofs.Common.{◌≡◌, ◌+◌, ◌≤◌, map, drop}
-use Rattle.tb_todotxt.specs.Files.{count_of}
+use Rattle.tb_todotxt.specs.File.{count_of}
 use Rattle.tb_todotxt.proofs.file.occurrences.Given as goal
 
 -- the equal ones so far, and those to come

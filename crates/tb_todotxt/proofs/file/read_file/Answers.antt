@@ -1,6 +1,6 @@
 use Rattle.std.proofs.Common.{◌≡◌, ◌∙◌, ap, sym, subst}
 use Rattle.std.specs.List.{AllByRecursion}
-use Rattle.tb_todotxt.specs.Files.{kept_lines}
+use Rattle.tb_todotxt.specs.File.{kept_lines}
 use Rattle.tb_todotxt.proofs.FileLines.{IsFull, IsOneLine, shown, full_lines, one_lines}
 use Rattle.tb_todotxt.proofs.file.read_file.Goals as goal
 

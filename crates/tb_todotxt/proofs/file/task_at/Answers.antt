@@ -1,6 +1,6 @@
 use Rattle.std.proofs.Common.{◌≡◌, IfOk, subst}
 use Rattle.tb_todotxt.specs.Reading.{line_of}
-use Rattle.tb_todotxt.specs.Tasks.{task_of}
+use Rattle.tb_todotxt.specs.Making.{task_of}
 use Rattle.tb_todotxt.proofs.file.task_at.Goals as goal
 
 pub returns : goal.returns

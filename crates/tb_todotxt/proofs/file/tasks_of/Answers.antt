@@ -1,6 +1,6 @@
 use Rattle.std.proofs.Common.{◌≡◌, ◌∙◌, ℕ, List, ◌+◌, ◌<◌, [], ◌∷◌, ◌++◌, length, take, drop, get_or, Bor, ap, sym, arith, add-one}
 use Rattle.std.proofs.lemmas.List.{take_more, map-append}
-use Rattle.tb_todotxt.specs.Files.{tasks_after}
+use Rattle.tb_todotxt.specs.File.{tasks_after}
 use Rattle.tb_todotxt.proofs.FileLines.{IsFull, IsOneLine, shown, at_index, tasks-more}
 use Rattle.tb_todotxt.proofs.file.tasks_of.Goals as goal
 

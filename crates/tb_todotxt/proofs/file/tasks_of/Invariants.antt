@@ -1,5 +1,5 @@
 use Rattle.std.proofs.Common.{◌≡◌, ◌++◌, map, take, drop}
-use Rattle.tb_todotxt.specs.Files.{tasks_after, tasks_of}
+use Rattle.tb_todotxt.specs.File.{tasks_after, tasks_of}
 use Rattle.tb_todotxt.proofs.file.tasks_of.Given as goal
 
 -- the tasks so far, and those of the lines to come

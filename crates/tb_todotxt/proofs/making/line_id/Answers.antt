@@ -1,6 +1,6 @@
 use Rattle.std.proofs.Common.{◌≡◌, ◌++◌, ◌∷◌, decimal, ap, ◌∙◌, rules}
 use Rattle.tb_task.specs.TaskId.{made, named_id}
-use Rattle.tb_todotxt.specs.Lines.{spell}
+use Rattle.tb_todotxt.specs.Line.{spell}
 use Rattle.tb_todotxt.proofs.making.line_id.Goals as goal
 
 pub returns : goal.returns

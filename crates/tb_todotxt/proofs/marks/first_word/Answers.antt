@@ -1,6 +1,6 @@
 use Rattle.std.proofs.Common.{◌∙◌, not, sym, ap, arith, Some, None, refl}
 use Rattle.std.proofs.lemmas.Str.Pattern.{split_parts}
-use Rattle.tb_todotxt.specs.Lines.{is_blank}
+use Rattle.tb_todotxt.specs.Line.{is_blank}
 use Rattle.tb_todotxt.proofs.FirstWords.{no_more, free_from, first_marked}
 use Rattle.tb_todotxt.proofs.marks.first_word.Goals as goal
 

@@ -1,5 +1,5 @@
 use Rattle.std.proofs.Common.{◌≡◌, drop}
-use Rattle.tb_todotxt.specs.Lines.{is_blank}
+use Rattle.tb_todotxt.specs.Line.{is_blank}
 use Rattle.tb_todotxt.proofs.marks.is_blank.Given as goal
 
 abbrev pub invariant-loop-byte : goal.invariant-loop-byte

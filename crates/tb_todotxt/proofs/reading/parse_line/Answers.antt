@@ -1,5 +1,5 @@
 use Rattle.std.proofs.Common.{sym, subst}
-use Rattle.tb_todotxt.specs.Lines.{IsLine}
+use Rattle.tb_todotxt.specs.Line.{IsLine}
 use Rattle.tb_todotxt.proofs.Readings.{line_spelled}
 use Rattle.tb_todotxt.proofs.reading.parse_line.Goals as goal
 

@@ -1,5 +1,5 @@
 use Rattle.std.proofs.Common.{◌∙◌, sym, ap, true≢false}
-use Rattle.tb_todotxt.specs.Lines.{is_blank, spell}
+use Rattle.tb_todotxt.specs.Line.{is_blank, spell}
 use Rattle.tb_todotxt.specs.Reading.{line_of}
 use Rattle.tb_todotxt.proofs.Spelling.{full_line}
 use Rattle.tb_todotxt.proofs.Readings.{line_spelled, line_of-spell}

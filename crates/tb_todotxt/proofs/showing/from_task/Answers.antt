@@ -3,7 +3,7 @@ use Rattle.std.specs.Prelude.{◌⊎◌}
 use Rattle.tb_task.specs.declared.task.Task.{Task}
 use Rattle.tb_task.specs.declared.status.Status.{Status}
 use Rattle.tb_task.specs.declared.status.Status.TheVariants.{Pending, Waiting, Completed}
-use Rattle.tb_todotxt.specs.Bodies.{line_for, line_for_status, parts_of}
+use Rattle.tb_todotxt.specs.Showing.{line_for, line_for_status, parts_of}
 use Rattle.tb_todotxt.proofs.showing.from_task.Goals as goal
 
 line_at : (t u : Task) (s : Status) → t ≡ u → t.status ≡ s → line_for_status s t ≡ line_for u

@@ -1,8 +1,8 @@
 use Rattle.std.proofs.Common.{sym, subst}
 use Rattle.std.specs.Prelude.{IfSome}
-use Rattle.tb_todotxt.specs.Days.{IsDay}
-use Rattle.tb_todotxt.specs.Letters.{IsLetter}
-use Rattle.tb_todotxt.specs.Lines.{IsLine}
+use Rattle.tb_todotxt.specs.Day.{IsDay}
+use Rattle.tb_todotxt.specs.Letter.{IsLetter}
+use Rattle.tb_todotxt.specs.Line.{IsLine}
 use Rattle.tb_todotxt.proofs.TaskLines.{shown_line}
 use Rattle.tb_todotxt.proofs.showing.line_of.Goals as goal
 

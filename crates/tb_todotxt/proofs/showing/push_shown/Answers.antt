@@ -4,7 +4,7 @@ use Rattle.std.proofs.lemmas.Str.{encodes-append}
 use Rattle.std.proofs.lemmas.List.{append-nil, map-append, map-id}
 use Rattle.std.proofs.lemmas.Iterator.{YieldsList-from_chars}
 use Rattle.std.proofs.lemmas.Iterator.Consumers.{YieldsList-end}
-use Rattle.tb_todotxt.specs.Bodies.{shown_char, shown_text}
+use Rattle.tb_todotxt.specs.Showing.{shown_char, shown_text}
 use Rattle.tb_todotxt.proofs.showing.push_shown.Goals as goal
 
 -- one character more

@@ -1,6 +1,6 @@
 use Rattle.std.proofs.Common.{◌≡◌, ◌++◌, map, string_bytes}
 use Rattle.std.specs.Str.{encode_utf8_all}
-use Rattle.tb_todotxt.specs.Bodies.{shown_char}
+use Rattle.tb_todotxt.specs.Showing.{shown_char}
 use Rattle.tb_todotxt.proofs.showing.push_shown.Given as goal
 
 -- the characters so far are shown

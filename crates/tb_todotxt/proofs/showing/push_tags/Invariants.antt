@@ -1,5 +1,5 @@
 use Rattle.std.proofs.Common.{◌≡◌, ◌++◌, drop, string_bytes}
-use Rattle.tb_todotxt.specs.Bodies.{tags_text}
+use Rattle.tb_todotxt.specs.Showing.{tags_text}
 use Rattle.tb_todotxt.proofs.showing.push_tags.Given as goal
 
 -- the text so far, and that of the tags to come

@@ -1,5 +1,5 @@
 use Rattle.std.proofs.Common.{◌≡◌, drop}
-use Rattle.tb_board.specs.Changes.{changed}
+use Rattle.tb_board.specs.Changing.{changed}
 use Rattle.tb_board.proofs.world.World.changed.Given as goal
 
 -- the changes that are left make of this world what all of them make of the first one

@@ -1,7 +1,7 @@
 use Rattle.std.proofs.Common.{◌∙◌, ◌<◌, sym, subst, length, arith}
 use Rattle.std.proofs.lemmas.List.Elements.{Contains-get_or}
 use Rattle.std.specs.Prelude.{Contains}
-use Rattle.tb_cache.specs.Cached.{AreOf}
+use Rattle.tb_cache.specs.BoardCache.{AreOf}
 use Rattle.tb_cache.proofs.Exact.{all_more}
 use Rattle.tb_cache.proofs.Follows.{changed_more}
 use Rattle.tb_cache.proofs.board_cache.BoardCache.follow.Goals as goal

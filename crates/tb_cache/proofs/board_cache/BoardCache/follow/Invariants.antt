@@ -1,10 +1,10 @@
 use Rattle.std.proofs.Common.{◌≡◌, ℕ, drop, take}
 use Rattle.std.specs.Prelude.{OnOk, nat_eq}
 use Rattle.std.specs.Map.{lookup}
-use Rattle.tb_board.specs.Changes.{changed}
+use Rattle.tb_board.specs.Changing.{changed}
 use Rattle.tb_board.specs.declared.world.World.{World}
-use Rattle.tb_cache.specs.Cached.{AreOf}
-use Rattle.tb_cache.specs.Followed.{TouchesNone, followed}
+use Rattle.tb_cache.specs.BoardCache.{AreOf}
+use Rattle.tb_cache.specs.Following.{TouchesNone, followed}
 use Rattle.tb_cache.proofs.board_cache.BoardCache.follow.Given as goal
 
 -- unless one of them went, the changes that are left make of the boards at hand what all of them make of the first ones

@@ -2,9 +2,9 @@ use Rattle.std.proofs.Common.{◌≡◌, sym, ◌∙◌, subst, ap}
 use Rattle.std.specs.Prelude.{OnOk}
 use Rattle.lru.specs.LruCache.{LruCache}
 use Rattle.tb_board.specs.declared.board.Board.{Board}
-use Rattle.tb_board.specs.Changes.{changed_by}
-use Rattle.tb_cache.specs.Cached.{AreOf}
-use Rattle.tb_cache.specs.Followed.{changed_at, followed_by}
+use Rattle.tb_board.specs.Changing.{changed_by}
+use Rattle.tb_cache.specs.BoardCache.{AreOf}
+use Rattle.tb_cache.specs.Following.{changed_at, followed_by}
 use Rattle.tb_cache.proofs.Entries.{of_put_if}
 use Rattle.tb_cache.proofs.Exact.{AreOthers, all_absent, all_followed, others_followed, others_left}
 use Rattle.tb_cache.proofs.Follows.{found_in, of_left, of_untouched}

@@ -2,7 +2,7 @@ use Rattle.std.proofs.Common.{◌∙◌, nat_eq, sym, ap, subst}
 use Rattle.std.specs.Map.{lookup}
 use Rattle.lru.specs.LruCache.{LruCache}
 use Rattle.tb_board.specs.declared.board.Board.{Board}
-use Rattle.tb_cache.specs.Cached.{AreOf}
+use Rattle.tb_cache.specs.BoardCache.{AreOf}
 use Rattle.tb_cache.proofs.Entries.{of_promoted}
 use Rattle.tb_cache.proofs.Exact.{promoted_there}
 use Rattle.tb_cache.proofs.board_cache.BoardCache.look.Goals as goal

@@ -1,6 +1,6 @@
 use Rattle.std.proofs.Common.{◌≡◌, ◌∙◌, [], ◌∷◌, if◌then◌else◌, subst}
 use Rattle.std.specs.Prelude.{is_ok}
-use Rattle.tb_calls.specs.Calls.{State}
+use Rattle.tb_calls.specs.Call.{State}
 use Rattle.tb_calls.specs.Leaving.{Only, StandsAfter}
 use Rattle.tb_desk.proofs.Moves.{stands_after}
 use Rattle.tb_desk.proofs.desk.Desk.handle.Goals as goal

@@ -1,5 +1,5 @@
 use Rattle.std.proofs.Common.{◌≡◌, true, take, length}
-use Rattle.tb_calls.specs.Calls.{State, plain, once, replies_to}
+use Rattle.tb_calls.specs.Call.{State, plain, once, replies_to}
 use Rattle.tb_calls.specs.Leaving.{Only}
 use Rattle.tb_desk.proofs.desk.Desk.run.Given as goal
 

@@ -1,7 +1,7 @@
 use Rattle.std.proofs.Common.{◌≡◌, ◌∙◌, sym, ap, map}
 use Rattle.std.specs.FinMap.{find, get, get-from_entries}
-use Rattle.tb_calls.specs.Calls.{State, name_cmp}
-use Rattle.tb_desk.specs.Listed.{named}
+use Rattle.tb_calls.specs.Call.{State, name_cmp}
+use Rattle.tb_desk.specs.ListKeep.{named}
 use Rattle.tb_calls.proofs.Names.{names_total}
 use Rattle.tb_desk.proofs.list_keep.ListKeepKeep.kept.Goals as goal
 

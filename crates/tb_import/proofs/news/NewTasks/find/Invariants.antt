@@ -1,5 +1,5 @@
 use Rattle.std.proofs.Common.{◌≡◌, ℕ, [], drop}
-use Rattle.tb_import.specs.New.{found_new, is_there}
+use Rattle.tb_import.specs.News.{found_new, is_there}
 use Rattle.tb_import.specs.Sets.{has}
 use Rattle.tb_import.proofs.news.NewTasks.find.Given as goal
 

@@ -1,6 +1,6 @@
 use Rattle.std.proofs.Common.{true, ◌≡◌, ◌∙◌, ◌<◌, ◌+◌, ◌⊎◌, length, take, inl, inr, ap, subst, arith}
 use Rattle.std.proofs.lemmas.List.{take_all}
-use Rattle.tb_calls.specs.Calls.{State}
+use Rattle.tb_calls.specs.Call.{State}
 use Rattle.tb_script.specs.Runs.{Progress, fed, from}
 use Rattle.tb_script.proofs.Feeding.{next_byte, next_line}
 use Rattle.tb_script.proofs.line_buffer.LineBuffer.feed.Goals as goal

@@ -1,0 +1,40 @@
+-- What a command makes of a board of which it changes one task at most.
+use Rattle.std.specs.Prelude.{◌≡◌, ◌<◌, List, [], ◌∷◌, Result, Ok, Err, length, slice_set}
+use Rattle.tb_board.specs.declared.board.Board.{Board}
+use Rattle.tb_board.specs.declared.change.Change.{Change}
+use Rattle.tb_board.specs.declared.change.Change.TheVariants.{PutTask, SetAhead}
+use Rattle.tb_board.specs.Board.{with_task}
+use Rattle.tb_board.specs.Changing.{with_ahead}
+use Rattle.tb_core.specs.declared.command.AnswerDetail.{AnswerDetail}
+use Rattle.tb_core.specs.declared.effect.Effect.{Effect}
+use Rattle.tb_core.specs.declared.effect.Step.{Step}
+use Rattle.tb_core.specs.declared.effect.Step.TheVariants.{Set, Push, Stay, LookAhead}
+use Rattle.tb_core.specs.declared.judged.CommandFailure.{CommandFailure}
+use Rattle.tb_core.specs.declared.refusal.Refusal.{Refusal}
+use Rattle.tb_core.specs.Refusals.{Fails}
+
+-- the board after the step
+abbrev pub after : Board → Step → Board
+after b (Set place t) = record b { tasks = slice_set b.tasks place t }
+after b (Push t) = with_task b t
+after b Stay = b
+after b (LookAhead ahead) = with_ahead ahead b
+
+-- a task that is changed stands on the board
+abbrev pub Fits : Board → Step → Type 0
+Fits b (Set place t) = place < length b.tasks
+Fits b (Push t) = Unit {0}
+Fits b Stay = Unit {0}
+Fits b (LookAhead ahead) = Unit {0}
+
+-- the changes by which it comes about
+abbrev pub step_changes : Board → Step → List Change
+step_changes b (Set place t) = PutTask b.number place t ∷ []
+step_changes b (Push t) = PutTask b.number (length b.tasks) t ∷ []
+step_changes b Stay = []
+step_changes b (LookAhead ahead) = SetAhead b.number ahead ∷ []
+
+-- what a command makes of a board is what is expected
+abbrev pub GivesEffect : Board → Result Effect CommandFailure → Result (Board × AnswerDetail) Refusal → Type 0
+GivesEffect b (Ok e) expected = expected ≡ Ok (after b e.step, e.told)
+GivesEffect b (Err failure) expected = Fails failure expected
