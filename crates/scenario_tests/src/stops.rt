@@ -64,9 +64,13 @@ pub fn copies(
 
 fn copy(alloc: Global, file: &Frail) -> io::Result<Memory> {
     let mut memory = Memory::new(alloc);
-    memory.write_at(0, file.inner().inner().bytes())?;
+    memory.write_at(0, bytes_of(file))?;
     memory.sync()?;
     Ok(memory)
+}
+
+fn bytes_of(file: &Frail) -> &[u8] {
+    file.inner().inner().bytes()
 }
 
 /// The files as the next session finds them, and whether a call of them failed: those of which one failed once as they are, where they may
@@ -117,6 +121,14 @@ struct Trial<'t> {
     files: Files<Frail>,
     /// In the last session all lines were answered, and no call failed.
     is_whole: bool,
+}
+
+/// A trial whose files went a second way behind it, from some number of calls on, and how often they did.
+#[derive(Drop)]
+struct Tried<'t> {
+    trial: Trial<'t>,
+    from: u64,
+    count: u64,
 }
 
 /// What a desk answers to lines.
@@ -194,26 +206,41 @@ impl<'t> Trial<'t> {
         })
     }
 
-    /// Sends the lines once more, after each number of calls from the first on, in steps, up to one that isn't come to.
+    /// Sends the lines once more, after each number of calls from the first on, in steps, up to one that isn't come to. Behind each stop all
+    /// have to be answered, which is tried once where the last stop left the same.
     fn stop_once(&self, way: &str, first: u64, step: u64) -> io::Result<u64> {
+        let mut last: Option<Trial<'t>> = None;
         for count in 0..u64::MAX {
             let calls = first.saturating_add(count.saturating_mul(step));
             let stopped = self.session(way, calls)?;
             if stopped.is_whole {
                 return Ok(count);
             }
-            if !stopped.session("", 0)?.is_whole {
-                let alloc = self.owner.alloc;
-                let text = format!(in alloc;
-                    "{way} after {calls} calls: not all are answered again"
-                )?;
-                return Err(io::Error::other(text.as_str()));
+            let is_tried = match &last {
+                Some(before) => before.left_as(&stopped),
+                None => false,
+            };
+            if !is_tried {
+                stopped.send_again(way, calls)?;
             }
+            last = Some(stopped);
         }
         Ok(u64::MAX)
     }
 
+    /// Sends all lines again, which have to be answered, behind a stop of this way after so many calls.
+    fn send_again(&self, way: &str, calls: u64) -> io::Result<()> {
+        if self.session("", 0)?.is_whole {
+            return Ok(());
+        }
+        let text = format!(in self.owner.alloc;
+            "{way} after {calls} calls: not all are answered again"
+        )?;
+        Err(io::Error::other(text.as_str()))
+    }
+
     fn stop_twice(&self, first: &str, second: &str, step: u64) -> io::Result<u64> {
+        let mut tried = Vec::new(self.owner.alloc);
         let mut count = 0u64;
         for turn in 0..u64::MAX {
             let from = turn.checked_rem(step).ok_or(unreadable())?;
@@ -221,9 +248,36 @@ impl<'t> Trial<'t> {
             if stopped.is_whole {
                 break;
             }
-            count = count.saturating_add(stopped.stop_once(second, from, step)?);
+            count = count.saturating_add(stopped.stop_behind(&mut tried, second, from, step)?);
         }
         Ok(count)
+    }
+
+    /// How often a file goes the second way behind this stop, from a number of calls on: the sessions that follow depend on what it left
+    /// alone, so they aren't gone through again where an earlier stop left the same.
+    fn stop_behind(
+        self,
+        tried: &mut Vec<Tried<'t>>,
+        second: &str,
+        from: u64,
+        step: u64,
+    ) -> io::Result<u64> {
+        for earlier in tried.iter() {
+            if earlier.from == from && earlier.trial.left_as(&self) {
+                return Ok(earlier.count);
+            }
+        }
+        let count = self.stop_once(second, from, step)?;
+        let trial = self;
+        tried.push(Tried { trial, from, count })?;
+        Ok(count)
+    }
+
+    /// Whether two trials of the same lines, behind sessions that are the same, left the same bytes, and the same lines stand.
+    fn left_as(&self, other: &Trial<'t>) -> bool {
+        self.stood.len() == other.stood.len()
+            && bytes_of(&self.files.log) == bytes_of(&other.files.log)
+            && bytes_of(&self.files.db) == bytes_of(&other.files.db)
     }
 
     /// Sends the lines over files with the same content, of which one goes this way after so many calls.

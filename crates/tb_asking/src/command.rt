@@ -34,7 +34,7 @@ pub(crate) fn read_command(
     }
 }
 
-#[tactic(auto, unfolding(crate::specs::Commands::command_of))]
+#[tactic(auto, unfolding(crate::specs::Command::command_of))]
 fn command_of(alloc: Global, form: Form, text: &str, at: Moment) -> Result<Command, BodyFault>
     ensures { Reads result (commands.command_of form text.now at) }
 {

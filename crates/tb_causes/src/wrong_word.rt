@@ -93,7 +93,7 @@ pub(crate) fn wrong_word(alloc: Global, words: &[&str]) -> Result<&'static str, 
     }
 }
 
-#[tactic(auto, unfolding(crate::specs::WrongWords::order_text))]
+#[tactic(auto, unfolding(crate::specs::WrongWord::order_text))]
 fn wrong_of_order(alloc: Global, order: &str, rest: &[&str]) -> Result<&'static str, AllocError>
     ensures { IfOk result
         (λ text. text.now ≡ order_text order.now (map (λ word. word.now) rest.entry.now)) }

@@ -42,7 +42,7 @@ pub fn read_reply(alloc: Global, bytes: &[u8]) -> Result<Option<Reply>, AllocErr
 }
 
 /// How long the fields say that the body is.
-#[tactic(auto, unfolding(crate::specs::Answers::size_of))]
+#[tactic(auto, unfolding(crate::specs::Answer::size_of))]
 fn size_at(alloc: Global, bytes: &[u8], spans: &[HeaderSpan]) -> Result<Option<u32>, AllocError>
     requires { All (IsHeaderWithin (length bytes.now)) spans.now }
     ensures { IfOk result (λ size. size ≡ size_of (map (header_bytes bytes.now) spans.now)) }

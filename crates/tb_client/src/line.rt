@@ -95,7 +95,7 @@ fn line_text(alloc: Global, line: &Line) -> Result<Text, AllocError>
     Ok(Text::from_string(text))
 }
 
-#[tactic(auto, unfolding(crate::specs::Lines::line_members))]
+#[tactic(auto, unfolding(crate::specs::Line::line_members))]
 fn line_value(alloc: Global, line: &Line) -> Result<Value, AllocError>
     ensures { IfOk result (λ value. view value ≡ line_data line.now) }
 {

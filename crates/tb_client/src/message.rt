@@ -67,7 +67,7 @@ fn call_message(
 }
 
 /// The host, who sends the message, and that the connection ends with the answer.
-#[tactic(auto, unfolding(crate::specs::Messages::sender_lines))]
+#[tactic(auto, unfolding(crate::specs::Request::sender_lines))]
 fn sender_lines(alloc: Global, sender: &Sender) -> Result<Text, AllocError>
     ensures { IfOk result (λ text. text ≡ sender_lines sender.now) }
 {

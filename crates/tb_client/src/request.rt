@@ -28,7 +28,7 @@ pub fn request_of(alloc: Global, words: &[Text]) -> Result<Option<Request>, Allo
     }
 }
 
-#[tactic(auto, unfolding(crate::specs::Messages::request_named))]
+#[tactic(auto, unfolding(crate::specs::Request::request_named))]
 fn request_named(
     alloc: Global,
     word: &str,

@@ -34,7 +34,7 @@ pub(crate) fn read_order(alloc: Global, matches: &ArgMatches<'_>) -> Result<Orde
     }
 }
 
-#[tactic(auto, unfolding(crate::specs::Matches::named_at))]
+#[tactic(auto, unfolding(crate::specs::Reading::named_at))]
 fn read_named(alloc: Global, name: &str, found: &ArgMatches<'_>) -> Result<Order, WordsFault>
     ensures { Reads result (named_at name.now (rows_of (found_of found.now))) }
 {

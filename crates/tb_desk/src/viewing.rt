@@ -113,7 +113,7 @@ fn see<K: Keep>(
     Ok(seen.board)
 }
 
-#[tactic(auto, unfolding(crate::specs::Views::view_reply))]
+#[tactic(auto, unfolding(crate::specs::Viewing::view_reply))]
 fn reply_with(alloc: Global, shown: Result<Text, Refusal>) -> Result<Reply, AllocError>
     ensures { IfOk result (λ r. r ≡ view_reply shown) }
 {

@@ -26,7 +26,7 @@ pub enum TaskAction {
 
 impl TaskAction {
     /// The action of this name.
-    #[tactic(auto, unfolding(crate::specs::Resources::action_named))]
+    #[tactic(auto, unfolding(crate::specs::Resource::action_named))]
     pub fn read(name: &str) -> Option<TaskAction>
         ensures { result ≡ resources.action_named name.now }
     {
@@ -107,7 +107,7 @@ fn segment(path: &str, slashes: usize) -> &str
     }
 }
 
-#[tactic(auto, unfolding(crate::specs::Resources::board_number))]
+#[tactic(auto, unfolding(crate::specs::Resource::board_number))]
 fn board_in(path: &str) -> Option<u32>
     ensures { result ≡ resources.board_in path.now }
 {
@@ -127,7 +127,7 @@ fn action_in(path: &str) -> Option<TaskAction>
 }
 
 // What a path of this route names, if its parts can be read.
-#[tactic(auto, unfolding(crate::specs::Resources::resource_of))]
+#[tactic(auto, unfolding(crate::specs::Resource::resource_of))]
 fn resource_of(route: Route, path: &str) -> Option<Resource>
     ensures { result ≡ resources.resource_of route path.now }
 {

@@ -11,7 +11,7 @@ const DAY: u64 = 86400;
 const LAST_DAY: u64 = 2932896;
 
 /// The moment k steps after another, at the same time of day, if it is within the year 9999.
-#[tactic(auto, unfolding(crate::specs::Due::due))]
+#[tactic(auto, unfolding(crate::specs::Dues::due))]
 pub fn due(start: Moment, step: Step, k: u32) -> Option<Moment>
     ensures { result ≡ due start step k }
 {
@@ -30,7 +30,7 @@ fn moment_on(day: u64, second: u64) -> Option<Moment>
 }
 
 /// The day k steps after a moment's, or `None` where it is past the year 9999.
-#[tactic(auto, unfolding(crate::specs::Due::day_after))]
+#[tactic(auto, unfolding(crate::specs::Dues::day_after))]
 fn steps_later(start: Moment, step: Step, k: u32) -> Option<u64>
     ensures { MatchOption result (2932896 < day_after (start / 86400) step k)
         (λ day. day ≡ day_after (start / 86400) step k) }

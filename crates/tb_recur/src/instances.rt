@@ -53,7 +53,7 @@ fn settled(wait: Option<Moment>, at: Moment) -> Status
 }
 
 /// Instance k of a template, made at a moment under an identifier.
-#[tactic(auto, unfolding(crate::specs::Instance::instance))]
+#[tactic(auto, unfolding(crate::specs::Instances::instance))]
 pub fn instance(template: &Task, k: u32, id: TaskId, at: Moment) -> Result<Task, AllocError>
     ensures { IfOk result (λ t. t ≡ instance template.now k id at) }
 {

@@ -28,7 +28,7 @@ pub fn wanted(
 
 impl Plan {
     /// Whether the k-th instance is wanted at a moment, on a board that looks so many ahead.
-    #[tactic(auto, unfolding(crate::specs::Wanted::wanted))]
+    #[tactic(auto, unfolding(crate::specs::Wanting::wanted))]
     pub fn wants(&self, ahead: u8, k: u32, at: Moment) -> bool
         ensures { result ≡ wanted self.now ahead k at }
     {

@@ -12,7 +12,7 @@ use tb_core::{Answer, Refusal};
 use tb_values::Text;
 
 /// The reply to a command.
-#[tactic(auto, unfolding(crate::specs::Replies::reply_of))]
+#[tactic(auto, unfolding(crate::specs::Reply::reply_of))]
 pub fn reply_to(alloc: Global, answer: &Result<Answer, Refusal>) -> Result<Reply, AllocError>
     ensures { IfOk result (λ reply. reply ≡ reply_of answer.now) }
 {
@@ -26,7 +26,7 @@ pub fn reply_to(alloc: Global, answer: &Result<Answer, Refusal>) -> Result<Reply
 }
 
 /// The reply to what is refused.
-#[tactic(auto, unfolding(crate::specs::Replies::reply_of))]
+#[tactic(auto, unfolding(crate::specs::Reply::reply_of))]
 pub fn reply_to_refused(alloc: Global, refusal: Refusal) -> Result<Reply, AllocError>
     ensures { IfOk result (λ reply. reply ≡ reply_of (Err refusal)) }
 {

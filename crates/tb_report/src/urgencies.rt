@@ -28,7 +28,7 @@ pub fn urgency(board: &Board, place: usize, at: Moment) -> i64
 }
 
 /// The urgency of a task at a moment, in parts: the sum of all terms. It is the task of the board that is awake.
-#[tactic(auto, unfolding(crate::specs::Urgency::urgency_of))]
+#[tactic(auto, unfolding(crate::specs::Urgencies::urgency_of))]
 pub fn urgency_of_task(task: &Task, is_blocked: bool, is_blocking: bool, at: Moment) -> i64
     ensures { result ≡ urgency_of is_blocked is_blocking at task.now }
 {
@@ -71,7 +71,7 @@ fn parts_where(is_so: bool, units: u64) -> u64
     if is_so { units * URGENCY_UNIT } else { 0 }
 }
 
-#[tactic(auto, unfolding(crate::specs::Urgency::own_parts))]
+#[tactic(auto, unfolding(crate::specs::Urgencies::own_parts))]
 fn own_parts_of(task: &Task, at: Moment) -> u64
     ensures parts { result ≡ own_parts at task.now }
     ensures most { result ≤ 200 * unit }

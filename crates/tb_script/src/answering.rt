@@ -42,7 +42,7 @@ pub(crate) fn answer_line<K: Keep>(
 }
 
 /// What a line asks, if it can be read.
-#[tactic(auto, unfolding(crate::specs::Answer::request_of))]
+#[tactic(auto, unfolding(crate::specs::Answering::request_of))]
 fn read_request(alloc: Global, line: &[u8]) -> Result<Asked, LineFault>
     ensures { Reads result (request_of line.now) }
 {
@@ -66,7 +66,7 @@ fn readable(line: &[u8]) -> Option<&str>
     }
 }
 
-#[tactic(auto, unfolding(crate::specs::Answer::carried_out))]
+#[tactic(auto, unfolding(crate::specs::Answering::carried_out))]
 fn carry_out<K: Keep>(alloc: Global, desk: &mut Desk<K>, asked: &Asked) -> Result<Text, LinesFault>
     ensures told { K.is_honest desk.new ≡ true → (s : State) → K.holds desk.old s
         → IfOk result (λ text. text ≡ (carried_out s asked.now).text) }

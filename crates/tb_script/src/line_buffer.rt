@@ -90,7 +90,7 @@ impl LineBuffer {
     }
 
     /// Answers the line that has begun, which is the last one at the end of the input.
-    #[tactic(auto, unfolding(crate::specs::Answer::answer))]
+    #[tactic(auto, unfolding(crate::specs::Answering::answer))]
     pub(crate) fn end_line<K: Keep>(
         &mut self,
         desk: &mut Desk<K>,

@@ -12,7 +12,7 @@ pub enum Step {
 
 impl Step {
     /// The step that a text writes.
-    #[tactic(auto, unfolding(crate::specs::Steps::step_of))]
+    #[tactic(auto, unfolding(crate::specs::Step::step_of))]
     pub fn read(text: &str) -> Option<Step>
         ensures { result ≡ step_of text.now }
     {
@@ -36,7 +36,7 @@ impl Step {
     }
 }
 
-#[tactic(auto, unfolding(crate::specs::Steps::word_step))]
+#[tactic(auto, unfolding(crate::specs::Step::word_step))]
 fn word(text: &str) -> Option<Step>
     ensures { result ≡ word_step text.now }
 {
@@ -49,7 +49,7 @@ fn word(text: &str) -> Option<Step>
     }
 }
 
-#[tactic(auto, unfolding(crate::specs::Steps::calendar_word_step))]
+#[tactic(auto, unfolding(crate::specs::Step::calendar_word_step))]
 fn calendar_word(text: &str) -> Option<Step>
     ensures { result ≡ calendar_word_step text.now }
 {
@@ -63,7 +63,7 @@ fn calendar_word(text: &str) -> Option<Step>
     }
 }
 
-#[tactic(auto, unfolding(crate::specs::Steps::row_step))]
+#[tactic(auto, unfolding(crate::specs::Step::row_step))]
 fn days(text: &[u8]) -> Option<Step>
     ensures { result ≡ row_step Days (codes "d") (codes "D") text.now }
 {
@@ -71,7 +71,7 @@ fn days(text: &[u8]) -> Option<Step>
     Some(Step::Days(number))
 }
 
-#[tactic(auto, unfolding(crate::specs::Steps::row_step))]
+#[tactic(auto, unfolding(crate::specs::Step::row_step))]
 fn weeks(text: &[u8]) -> Option<Step>
     ensures { result ≡ row_step (λ n. Days (7 * n)) (codes "w") (codes "W") text.now }
 {
@@ -79,7 +79,7 @@ fn weeks(text: &[u8]) -> Option<Step>
     Some(Step::Days(7 * number))
 }
 
-#[tactic(auto, unfolding(crate::specs::Steps::row_step))]
+#[tactic(auto, unfolding(crate::specs::Step::row_step))]
 fn months(text: &[u8]) -> Option<Step>
     ensures { result ≡ row_step Months (codes "mo") (codes "M") text.now }
 {
@@ -87,7 +87,7 @@ fn months(text: &[u8]) -> Option<Step>
     Some(Step::Months(number))
 }
 
-#[tactic(auto, unfolding(crate::specs::Steps::row_step))]
+#[tactic(auto, unfolding(crate::specs::Step::row_step))]
 fn years(text: &[u8]) -> Option<Step>
     ensures { result ≡ row_step (λ n. Months (12 * n)) (codes "y") (codes "Y") text.now }
 {
@@ -96,7 +96,7 @@ fn years(text: &[u8]) -> Option<Step>
 }
 
 /// The number with the short letters behind it, or between P and the long ones.
-#[tactic(auto, unfolding(crate::specs::Steps::row_number))]
+#[tactic(auto, unfolding(crate::specs::Step::row_number))]
 fn number_of_row(text: &[u8], short: &[u8], long: &[u8]) -> Option<u32>
     ensures value { result ≡ row_number short.now long.now text.now }
     ensures small { IfSome result (λ n. n ≤ 999) }
@@ -108,7 +108,7 @@ fn number_of_row(text: &[u8], short: &[u8], long: &[u8]) -> Option<u32>
 }
 
 /// The number between two texts.
-#[tactic(auto, unfolding(crate::specs::Steps::number_between))]
+#[tactic(auto, unfolding(crate::specs::Step::number_between))]
 fn number_between(text: &[u8], front: &[u8], back: &[u8]) -> Option<u32>
     ensures value { result ≡ number_between front.now back.now text.now }
     ensures small { IfSome result (λ n. n ≤ 999) }
@@ -119,7 +119,7 @@ fn number_between(text: &[u8], front: &[u8], back: &[u8]) -> Option<u32>
 }
 
 /// The number that one to three digits write.
-#[tactic(auto, unfolding(crate::specs::Steps::number_of))]
+#[tactic(auto, unfolding(crate::specs::Step::number_of))]
 fn number(digits: &[u8]) -> Option<u32>
     ensures value { result ≡ number_of digits.now }
     ensures small { IfSome result (λ n. n ≤ 999) }

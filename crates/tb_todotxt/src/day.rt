@@ -48,7 +48,7 @@ impl Day {
     }
 
     /// The day that ten bytes write, as `2026-01-31`.
-    #[tactic(auto, unfolding(crate::specs::Days::day_of))]
+    #[tactic(auto, unfolding(crate::specs::Day::day_of))]
     pub fn read(text: &str) -> Option<Day>
         ensures { result ≡ day_of text.now }
     {

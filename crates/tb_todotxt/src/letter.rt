@@ -25,7 +25,7 @@ impl Model for Letter {
 
 impl Letter {
     /// The letter between round brackets.
-    #[tactic(auto, unfolding(crate::specs::Letters::letter_of))]
+    #[tactic(auto, unfolding(crate::specs::Letter::letter_of))]
     pub fn read(word: &str) -> Option<Letter>
         ensures { result ≡ letter_of word.now }
     {

@@ -25,7 +25,7 @@ fn shown_char(character: char, instead: char) -> char
 }
 
 /// Puts a text at the end, with another character for each space and control character.
-#[tactic(auto, unfolding(crate::specs::Bodies::shown_text))]
+#[tactic(auto, unfolding(crate::specs::Showing::shown_text))]
 fn push_shown(body: &mut String, text: &str, instead: char) -> Result<(), AllocError>
     ensures { OnOk result
         (string_bytes body.new ≡ string_bytes body.old ++ shown_text instead text.now) }
