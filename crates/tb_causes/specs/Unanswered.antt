@@ -1,5 +1,5 @@
 -- What is told where no answer came.
-use Rattle.std.specs.Prelude.{ℕ, ◌==◌, Bool, true, false, ◌&&◌, List, [], ◌∷◌, ◌++◌, codes, is_some, Option, Some, None, if◌then◌else◌}
+use Rattle.std.specs.Prelude.{ℕ, ◌==◌, Bool, true, false, ◌&&◌, List, [], ◌∷◌, ◌++◌, codes, is_some, length, Option, Some, None, if◌then◌else◌}
 use Rattle.std.specs.List.{flat_map}
 use Rattle.tb_causes.specs.Told.{IsEither, Text}
 use Rattle.tb_causes.specs.declared.unanswered.TheConstants.{GO_ON, UNCHANGED}
@@ -15,13 +15,9 @@ abbrev pub has_body : Option Request → Bool
 has_body None = false
 has_body (Some request) = is_some request.body
 
-abbrev pub are_none : List ℕ → Bool
-are_none [] = true
-are_none (place ∷ places) = false
-
 -- a call may have reached a server that didn't answer: a view changes nothing, and places are asked for first
 abbrev pub may_have_acted : List Text → Bool
-may_have_acted words = has_body (request_of words) && are_none (places_of words)
+may_have_acted words = has_body (request_of words) && length (places_of words) == 0
 
 -- ---- the words by which a call goes on
 

@@ -1,5 +1,5 @@
 -- Which word is wrong of words that are no order, and what is told of it.
-use Rattle.std.specs.Prelude.{◌==◌, ◌||◌, Bool, true, false, not, List, [], ◌∷◌, ◌++◌, codes, is_some, length, nat_le, Option, Some, None, if◌then◌else◌}
+use Rattle.std.specs.Prelude.{◌==◌, ◌||◌, Bool, true, false, not, List, [], ◌∷◌, codes, filter, is_some, length, nat_le, Option, Some, None, if◌then◌else◌}
 use Rattle.std.specs.List.{list_any}
 use Rattle.std.specs.Str.{bytes_eq}
 use Rattle.tb_causes.specs.declared.wrong_word.Form.{Form}
@@ -7,7 +7,7 @@ use Rattle.tb_causes.specs.declared.wrong_word.Form.TheVariants.{File, Name, Key
 use Rattle.tb_causes.specs.declared.wrong_word.TheConstants.{CHECK_USAGE, IMPORT_USAGE, INIT_USAGE, NO_ORDER, RUN_USAGE, SEND_USAGE, SERVE_USAGE, VIEW_USAGE, WRONG_BOARD, WRONG_FILE, WRONG_ID, WRONG_KEY, WRONG_KIND, WRONG_NAME, WRONG_SECONDS, WRONG_SENT_KEY, WRONG_SERVER}
 use Rattle.tb_causes.specs.Told.{Text}
 use Rattle.tb_board.specs.Names.{read_key, read_name}
-use Rattle.tb_command_line.specs.Sending.{is_server, option_value}
+use Rattle.tb_command_line.specs.Sending.{is_server, option_value, seconds_in}
 use Rattle.tb_task.specs.TaskId.{read_id}
 use Rattle.tb_values.specs.Numerals.{number_to}
 
@@ -21,7 +21,7 @@ is_of word Key = is_some (read_key word)
 is_of word Id = is_some (read_id word)
 is_of word Board = is_some (number_to 4294967295 word)
 is_of word Kind = bytes_eq word (codes "json") || bytes_eq word (codes "todo")
-is_of word Seconds = is_some (number_to 86400 word)
+is_of word Seconds = is_some (seconds_in word)
 is_of word Server = is_server word
 is_of word SentKey = bytes_eq word (codes "-") || is_some (read_key word)
 
@@ -50,16 +50,9 @@ abbrev pub wrong_of : Text → List Text → List Form → Text
 wrong_of usage words forms =
     if length words == length forms then first_wrong usage words forms else usage
 
--- some words, and one more that isn't `--all`
-abbrev pub with_other : List Text → Text → List Text
-with_other others word = if bytes_eq word (codes "--all") then others else others ++ word ∷ []
-
-abbrev pub with_others : List Text → List Text → List Text
-with_others others [] = others
-with_others others (word ∷ words) = with_others (with_other others word) words
-
+-- the words that aren't `--all`
 abbrev pub others_of : List Text → List Text
-others_of words = with_others [] words
+others_of words = filter (λ word. not (bytes_eq word (codes "--all"))) words
 
 abbrev pub wrong_of_import : List Text → Text
 wrong_of_import words =

@@ -2,7 +2,7 @@
 ghost use Rattle.std.specs.Prelude.{◌≡◌, ◌++◌, IfOk, OnOk};
 ghost use Rattle.std.specs.String.{string_bytes};
 ghost use Rattle.tb_causes.specs.Told.{told_text};
-ghost use Rattle.tb_causes.specs.Unanswered.{IsUnanswered, are_none, escaped, going_on, has_body, id_words, may_have_acted, quoted_word, quoted_words, unanswered_text, words_again};
+ghost use Rattle.tb_causes.specs.Unanswered.{IsUnanswered, escaped, going_on, has_body, id_words, may_have_acted, quoted_word, quoted_words, unanswered_text, words_again};
 
 use crate::told::Told;
 use std::alloc::{AllocError, Global};
@@ -43,7 +43,7 @@ fn may_have_acted(alloc: Global, words: &[Text]) -> Result<bool, AllocError>
 {
     let request = request_of(alloc, words)?;
     let places = places_of(alloc, words)?;
-    Ok(has_body(&request) && are_none(places.as_slice()))
+    Ok(has_body(&request) && places.is_empty())
 }
 
 fn has_body(request: &Option<Request>) -> bool
@@ -52,15 +52,6 @@ fn has_body(request: &Option<Request>) -> bool
     match request {
         Some(request) => request.body.is_some(),
         None => false,
-    }
-}
-
-fn are_none(places: &[u32]) -> bool
-    ensures { result ≡ are_none places.now }
-{
-    match places {
-        [] => true,
-        [..] => false,
     }
 }
 

@@ -1,11 +1,10 @@
 //! Which word is wrong of words that are no order, and what it may be.
-ghost use Rattle.std.specs.Prelude.{◌≡◌, IfOk, OnOk, map, option_map};
-ghost use Rattle.tb_causes.specs.WrongWord.{behind, first_wrong, form_text, is_of, is_wrong_option, order_text, others_of, with_other, wrong_of, wrong_of_import, wrong_of_send, wrong_of_sent, wrong_text};
-ghost use Rattle.tb_command_line.specs.Sending.{option_value};
+ghost use Rattle.std.specs.Prelude.{◌≡◌, [], ◌∷◌, ◌++◌, IfOk, OnOk, map};
+ghost use Rattle.tb_causes.specs.WrongWord.{behind, first_wrong, form_text, is_of, is_wrong_option, order_text, others_of, wrong_of, wrong_of_import, wrong_of_send, wrong_of_sent, wrong_text};
 
 use std::alloc::{AllocError, Global};
 use tb_board::{Key, Name};
-use tb_command_line::is_server;
+use tb_command_line::{MOST_SECONDS, is_server, option_value};
 use tb_task::TaskId;
 use tb_values::read_number;
 
@@ -38,9 +37,6 @@ const IMPORT_FORMS: [Form; 6] = [
 ];
 
 const SEND_FORMS: [Form; 3] = [Form::Server, Form::Name, Form::SentKey];
-
-/// The longest time of `send`, in seconds.
-const MOST_SECONDS: u32 = 86_400;
 
 const INIT_USAGE: &str = "`init` takes FILE NAME KEY.";
 
@@ -133,7 +129,7 @@ fn others_of<'t>(alloc: Global, words: &[&'t str]) -> Result<Vec<&'t str>, Alloc
 
 fn push_other<'t>(others: &mut Vec<&'t str>, word: &'t str) -> Result<(), AllocError>
     ensures { OnOk result (map (λ word. word.now) others.new.items
-        ≡ with_other (map (λ word. word.now) others.old.items) word.now) }
+        ≡ map (λ word. word.now) others.old.items ++ others_of (word.now ∷ [])) }
 {
     if word == "--all" {
         return Ok(());
@@ -182,17 +178,6 @@ fn is_wrong_option(
         Some(value) => Ok(!is_of(alloc, value, form)?),
         None => Ok(false),
     }
-}
-
-/// The word behind an option, where that is in front of the words.
-fn option_value<'t>(words: &[&'t str], name: &str) -> Option<&'t str>
-    ensures { option_map (λ value. value.now) result
-        ≡ option_value name.now (map (λ word. word.now) words.entry.now) }
-{
-    let [first, value, ..] = words else {
-        return None;
-    };
-    if *first == name { Some(*value) } else { None }
 }
 
 /// The words behind an option and its value, where they begin with it.

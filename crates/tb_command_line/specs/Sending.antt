@@ -19,9 +19,13 @@ use Rattle.tb_command_line.specs.Outcome.{or_bad}
 
 -- ---- `send [--id UUID] [--for SECONDS] ADDRESS:PORT MEMBER KEY WORD ARGUMENTS..`
 
--- from 1 to 86400
+-- a day
+abbrev pub most_seconds : ℕ
+most_seconds = 86400
+
+-- from 1 on
 abbrev pub seconds_in : Text → Option ℕ
-seconds_in text = number_to 86400 text
+seconds_in text = number_to most_seconds text
 
 -- the word behind an option, where that is in front of the words
 abbrev pub option_value : Text → List Text → Option Text

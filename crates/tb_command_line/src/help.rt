@@ -1,4 +1,7 @@
 //! What the program tells of itself and of its orders.
+ghost use Rattle.std.specs.Prelude.{◌≡◌};
+ghost use Rattle.tb_command_line.specs.Help.{help_text};
+
 use crate::order::Topic;
 
 const PROGRAM: &str = "\
@@ -110,7 +113,9 @@ The status is 0 where it was accepted, and 1 where it was refused or no answer c
 
 impl Topic {
     /// What it is told as.
-    pub fn text(self) -> &'static str {
+    pub fn text(self) -> &'static str
+        ensures { result.now ≡ help_text self }
+    {
         match self {
             Topic::Program => PROGRAM,
             Topic::Init => INIT,

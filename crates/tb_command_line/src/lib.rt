@@ -15,5 +15,6 @@ pub use order::{
     Connections, ImportKind, ImportOrder, InitOrder, Order, SendOrder, ServeOrder, Topic, ViewKind,
     ViewOrder, WordsFault,
 };
+pub use sending::{MOST_SECONDS, option_value};
 pub use server::is_server;
 pub use words::command_of;

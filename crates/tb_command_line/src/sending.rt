@@ -12,7 +12,8 @@ use tb_board::{Key, Name};
 use tb_task::TaskId;
 use tb_values::{Items, Text, read_number};
 
-const MOST_SECONDS: u32 = 86_400;
+/// The longest time that a call is sent again, in seconds.
+pub const MOST_SECONDS: u32 = 86_400;
 
 const USUAL_SECONDS: u32 = 60;
 
@@ -54,7 +55,7 @@ fn seconds_option(words: &[&str]) -> Result<Option<u32>, WordsFault>
 }
 
 /// The word behind an option, where that is in front of the words.
-fn option_value<'t>(words: &[&'t str], name: &str) -> Option<&'t str>
+pub fn option_value<'t>(words: &[&'t str], name: &str) -> Option<&'t str>
     ensures { option_map (λ value. value.now) result
         ≡ option_value name.now (map (λ word. word.now) words.entry.now) }
 {

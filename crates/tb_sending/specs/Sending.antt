@@ -1,5 +1,5 @@
 -- What a call or a view that is sent comes to, or why it comes to nothing.
-use Rattle.std.specs.Prelude.{◌≡◌, ◌⊎◌, ℕ, Bool, true, false, nat_lt, List, [], ◌∷◌, length, Option, Some, None}
+use Rattle.std.specs.Prelude.{◌==◌, ◌≡◌, ◌⊎◌, ℕ, Bool, true, false, nat_lt, List, [], ◌∷◌, length, Option, Some, None}
 use Rattle.std.specs.Io.KnownBytes.{Appends}
 use Rattle.tb_client.specs.Asking.{Event, IsAnswered, IsLate, IsSentOut}
 use Rattle.tb_client.specs.Request.{Text, message_of, request_of}
@@ -31,9 +31,8 @@ abbrev pub is_too_long : Request → Bool
 is_too_long request = is_long request.body
 
 -- the words hold no places
-abbrev pub are_none : List ℕ → Bool
-are_none [] = true
-are_none (place ∷ places) = false
+abbrev pub has_no_places : List Text → Bool
+has_no_places words = length (places_of words) == 0
 
 -- the message is of the request, from the order's sender and under its identifier
 pub record IsMessage (order : SendOrder) (request : Request) (message : Text) : Type 0 where
@@ -98,8 +97,8 @@ module _ {L : Type 0} (follows : List Event → L → L → Type 0) where
   -- the order as it is sent: the words of some hold places, which are looked up first
   abbrev pub IsReady : SendOrder → SendOrder → L → L → Type 0
   IsReady order ready old new =
-      ((are_none (places_of order.words) ≡ true) × (ready ≡ order) × (new ≡ old))
-      ⊎ ((are_none (places_of order.words) ≡ false) × AreNamed order ready old new)
+      ((has_no_places order.words ≡ true) × (ready ≡ order) × (new ≡ old))
+      ⊎ ((has_no_places order.words ≡ false) × AreNamed order ready old new)
 
 -- ---- what comes of the order
 
@@ -157,7 +156,7 @@ module _ {L W : Type 0} (follows : List Event → L → L → Type 0) (contents 
   ComesTo order ready old new before after ending =
       ((middle : L) × IsReady follows order ready old middle
       × IsSent ready middle new before after ending)
-      ⊎ ((are_none (places_of order.words) ≡ false) × (ready ≡ order)
+      ⊎ ((has_no_places order.words ≡ false) × (ready ≡ order)
       × AreRefused order old new before after ending)
 
   -- why it doesn't end
@@ -165,6 +164,6 @@ module _ {L W : Type 0} (follows : List Event → L → L → Type 0) (contents 
   Fails order ready old new before after fault =
       ((middle : L) × IsReady follows order ready old middle
       × IsUnsent ready middle new before after fault)
-      ⊎ (((are_none (places_of order.words) ≡ false) × (ready ≡ order)
+      ⊎ (((has_no_places order.words ≡ false) × (ready ≡ order)
       × AreUnnamed order old new before after fault)
       ⊎ ((fault ≡ Memory) × (after ≡ before)))

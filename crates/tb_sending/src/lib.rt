@@ -12,3 +12,4 @@ mod server_line;
 
 pub use identifier::name_call;
 pub use sending::send_order;
+pub use server_line::ServerLine;

@@ -2,7 +2,7 @@
 ghost use Rattle.std.specs.Prelude.{◌≡◌, ◌⊎◌, IfErr, IfNone, IfOk, IfSome, OnErr, true};
 ghost use Rattle.tb_program.specs.declared.fault.Fault.TheVariants.{Memory};
 ghost use Rattle.tb_sending.specs.Faults.{is_of_sending};
-ghost use Rattle.tb_sending.specs.Sending.{AreNamed, AreRefused, AreUnnamed, ComesTo, Fails, IsMessage, IsNoMessage, IsReplied, IsSent, IsUnsent, Lacks, are_none, is_too_long};
+ghost use Rattle.tb_sending.specs.Sending.{AreNamed, AreRefused, AreUnnamed, ComesTo, Fails, IsMessage, IsNoMessage, IsReplied, IsSent, IsUnsent, Lacks, is_too_long};
 
 use crate::key::key_of;
 use crate::places::take_reply;
@@ -56,22 +56,13 @@ fn send_over<L: Line, W: Write>(
     ensures others { order.new ≡ record order.old { words = order.new.words } }
 {
     let places = places_of(rt.alloc(), order.words.as_slice())?;
-    if are_none(places.as_slice()) {
+    if places.is_empty() {
         return send_words(rt, order, line, writer);
     }
     match take_tasks(rt, order, line, places.as_slice(), writer) {
         Ok(None) => send_words(rt, order, line, writer),
         Ok(Some(ending)) => Ok(ending),
         Err(fault) => Err(fault),
-    }
-}
-
-fn are_none(places: &[u32]) -> bool
-    ensures { result ≡ are_none places.now }
-{
-    match places {
-        [] => true,
-        [..] => false,
     }
 }
 

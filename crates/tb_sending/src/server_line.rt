@@ -13,9 +13,9 @@ use tb_values::{Duplicate, Items, Text, write_whole};
 /// The longest answer that is taken.
 const LONGEST_ANSWER: u64 = 268_435_456;
 
-/// Connections to a server, one after the other, up to a time.
+/// Connections to a server, one after the other, up to a time. What a socket does isn't known.
 #[derive(Drop)]
-pub(crate) struct ServerLine<'a> {
+pub struct ServerLine<'a> {
     rt: &'a HostRuntime,
     server: Text,
     begun: Option<Instant>,
@@ -68,7 +68,6 @@ fn seconds_left(seconds: u32, passed: u64) -> u64
     u64::from(seconds).saturating_sub(passed).max(1)
 }
 
-// What a socket does isn't known.
 impl<'a> Line for ServerLine<'a> {
     ghost follows = { λ _ _ _. Unit {0} };
 

@@ -1,8 +1,7 @@
-use Rattle.std.proofs.Common.{◌≡◌, [], map, drop}
-use Rattle.tb_causes.specs.WrongWord.{with_others}
+use Rattle.std.proofs.Common.{◌≡◌, map, take}
+use Rattle.tb_causes.specs.WrongWord.{others_of}
 use Rattle.tb_causes.proofs.wrong_word.others_of.Given as goal
 
 abbrev pub invariant-loop-word : goal.invariant-loop-word
 invariant-loop-word l =
-    with_others (map (λ word. word.now) l.others.items) (map (λ word. word.now) (drop l.word-index l.words))
-    ≡ with_others [] (map (λ word. word.now) l.words)
+    map (λ word. word.now) l.others.items ≡ others_of (map (λ word. word.now) (take l.word-index l.words))
