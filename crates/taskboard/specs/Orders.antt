@@ -1,15 +1,32 @@
--- What orders that need no file come to, and which faults come of each order.
-use Rattle.std.specs.Prelude.{ℕ, Bool, true, false, List}
+-- What each order comes to, and which faults come of it.
+use Rattle.std.specs.Prelude.{◌≡◌, ℕ, Bool, true, false, List, Option, Some, IfSome}
+use Rattle.std.specs.Io.KnownBytes.{Appends}
+use Rattle.sqlite_disk.specs.declared.Disk.{Ghosts as DiskGhosts}
+use Rattle.sqlite_store.specs.declared.store.FileStore.{FileStore}
+use Rattle.taskboard.specs.Serve.{IsServed, is_of_serving}
+use Rattle.taskboard.specs.declared.TheConstants.{VERSION}
+use Rattle.tb_calls.specs.Call.{opening}
+use Rattle.tb_calls.specs.declared.keep.Keep.{Ghosts}
+use Rattle.tb_client.specs.Asking.{Event}
+use Rattle.tb_command_line.specs.Help.{help_text}
 use Rattle.tb_command_line.specs.declared.order.Order.{Order}
 use Rattle.tb_command_line.specs.declared.order.Order.TheVariants.{Init, Serve, Run, Import, ImportAll, View, Check, Send, Help, Version}
+use Rattle.tb_command_line.specs.declared.order.SendOrder.{SendOrder}
+use Rattle.tb_files.specs.Check.{IsChecked}
 use Rattle.tb_files.specs.Faults.{is_of_checking, is_of_imports, is_of_views}
+use Rattle.tb_files.specs.Import.{IsImported, IsImportedInParts}
+use Rattle.tb_files.specs.Init.{IsMade}
+use Rattle.tb_files.specs.View.{IsShown}
+use Rattle.tb_keeper.specs.declared.sql_keep.SqlKeep.{SqlKeep}
 use Rattle.tb_orders.specs.Faults.{is_of_making, is_of_scripts}
+use Rattle.tb_orders.specs.declared.ending.Ending.{Ending}
+use Rattle.tb_orders.specs.declared.ending.Ending.TheVariants.{Accepted}
 use Rattle.tb_program.specs.declared.fault.Fault.{Fault}
 use Rattle.tb_program.specs.declared.fault.Fault.TheVariants.{WriteFailed}
 use Rattle.tb_script.specs.Answering.{answer, first_state}
 use Rattle.tb_script.specs.Lines.{answers_from}
 use Rattle.tb_sending.specs.Faults.{is_of_sending}
-use Rattle.taskboard.specs.Serve.{is_of_serving}
+use Rattle.tb_sending.specs.Sending.{ComesTo}
 
 -- the answers to the lines of a script
 abbrev pub script_text : List ℕ → List ℕ
@@ -31,3 +48,44 @@ is_of_order (Check file) fault = is_of_checking fault
 is_of_order (Send order) fault = is_of_sending fault
 is_of_order (Help topic) fault = is_of_telling fault
 is_of_order Version fault = is_of_telling fault
+
+-- ---- how an order ends that meets no fault
+
+-- the order as it is carried out: a call that is sent has an identifier by then, where the machine gave one
+abbrev pub IsNamed : Order → Order → Type 0
+IsNamed (Send order) named = (id : Option ℕ) × (named ≡ Send (record order { id = id }))
+IsNamed order named = named ≡ order
+
+-- what is printed, if that alone is to be known
+abbrev pub IsTold : Option (List ℕ) → Option (List ℕ) → Ending → List ℕ → Type 0
+IsTold before after ending text = (ending ≡ Accepted) × Appends before after text
+
+module _ {D L W : Type 0} {d : DiskGhosts D} (g : Ghosts (SqlKeep (FileStore D d)))
+    (follows : List Event → L → L → Type 0) (contents : W → Option (List ℕ)) where
+  -- the call or view was sent over a line to the server
+  pub record IsSentOver (order : SendOrder) (before after : W) (ending : Ending) : Type 0 where
+    pub ready : SendOrder
+    pub old : L
+    pub new : L
+    pub comes : ComesTo follows contents order ready old new before after ending
+
+  -- with an input, and a writer before and after it
+  abbrev pub IsDone : Order → Option (List ℕ) → W → W → Ending → Type 0
+  IsDone (Init order) input before after ending =
+      (ending ≡ Accepted) × IsMade g (opening order.name order.key)
+  IsDone (Serve order) input before after ending = (ending ≡ Accepted) × IsServed g order
+  IsDone Run input before after ending = (ending ≡ Accepted)
+      × IfSome input (λ script. Appends (contents before) (contents after) (script_text script))
+  IsDone (Import order) input before after ending =
+      IsImported g order input (contents before) (contents after) ending
+  IsDone (ImportAll order) input before after ending =
+      IsImportedInParts g order input (contents before) (contents after) ending
+  IsDone (View order) input before after ending =
+      IsShown g order (contents before) (contents after) ending
+  IsDone (Check file) input before after ending =
+      IsChecked g (contents before) (contents after) ending
+  IsDone (Send order) input before after ending = IsSentOver order before after ending
+  IsDone (Help topic) input before after ending =
+      IsTold (contents before) (contents after) ending (help_text topic)
+  IsDone Version input before after ending =
+      IsTold (contents before) (contents after) ending VERSION.now

@@ -5,7 +5,7 @@
 
 ghost use Rattle.std.specs.Io.KnownBytes.{Appends};
 ghost use Rattle.std.specs.Prelude.{◌≡◌, ◌≢◌, Err, IfErr, IfOk, IfSome, OnErr, true};
-ghost use Rattle.taskboard.specs.Orders.{is_of_order, is_of_telling, script_text};
+ghost use Rattle.taskboard.specs.Orders.{IsDone, IsNamed, is_of_order, is_of_telling, script_text};
 ghost use Rattle.tb_orders.specs.Faults.{is_of_scripts};
 ghost use Rattle.tb_program.specs.declared.fault.Fault.TheVariants.{Store};
 ghost use Rattle.tb_values.specs.Appends.{AppendsFront};
@@ -17,13 +17,18 @@ use crate::serve::serve_file;
 use std::alloc::Global;
 use std::io::{Read, Write};
 use std::process::ExitCode;
+use tb_calls::Keep;
 use tb_causes::{tell_cause, tell_words};
+use tb_client::Line;
 use tb_command_line::{Order, Topic};
-use tb_files::{check_file, import_into_file, import_parts_into_file, make_file, print_board};
+use tb_files::{
+    RealFile, check_file, import_into_file, import_parts_into_file, make_file, print_board,
+};
+use tb_keeper::SqlKeep;
 use tb_orders::{Ending, OrderFault, fault_of_script, print_fault, read_order, status_of};
 use tb_program::{Fault, print_text};
 use tb_script::run_lines;
-use tb_sending::{name_call, send_order};
+use tb_sending::{ServerLine, name_call, send_order};
 
 /// Which program this is.
 const VERSION: &str = "\
@@ -34,7 +39,7 @@ proved with rattle-kit-13f logic dac8208d650f15bf
 
 fn main(rt: HostRuntime) -> ExitCode {
     let end = match read_order(&rt) {
-        Ok(order) => end_of(&rt, order),
+        Ok(order) => end_of(&rt, order, rt.stdin(), &mut rt.stdout()),
         Err(fault) => {
             let _ = print_fault(fault, &mut rt.stderr());
             let _ = tell_words(&rt, &mut rt.stderr(), fault, Topic::Program.text());
@@ -45,13 +50,21 @@ fn main(rt: HostRuntime) -> ExitCode {
 }
 
 /// How an order ends, whose fault is told with its cause.
-fn end_of(rt: &HostRuntime, mut order: Order) -> Result<Ending, Fault>
-    ensures { IfErr result (λ fault. is_of_order order fault ≡ true) }
+fn end_of<R: Read + Drop, W: Write>(
+    rt: &HostRuntime,
+    mut order: Order,
+    reader: R,
+    writer: &mut W,
+) -> Result<Ending, Fault>
+    ensures done { IfOk result (λ ending. (named : _) × IsNamed order named
+        × IsDone ⟦<SqlKeep<RealFile> as Keep>⟧ ⟦<ServerLine<'static> as Line>⟧.follows W.contents
+        named (R.remaining reader) writer.old writer.new ending) }
+    ensures fault { IfErr result (λ fault. is_of_order order fault ≡ true) }
 {
     if let Order::Send(order) = &mut order {
         name_call(rt, order);
     }
-    match carry_out(rt, &mut order) {
+    match carry_out(rt, &mut order, reader, writer) {
         Ok(ending) => Ok(ending),
         Err(failed) => {
             let _ = print_fault(failed.fault, &mut rt.stderr());
@@ -62,21 +75,28 @@ fn end_of(rt: &HostRuntime, mut order: Order) -> Result<Ending, Fault>
 }
 
 /// Carries out an order; of an import alone more than the fault may be told.
-fn carry_out(rt: &HostRuntime, order: &mut Order) -> Result<Ending, OrderFault>
-    ensures { IfErr result (λ failed. is_of_order order.old failed.fault ≡ true) }
+fn carry_out<R: Read + Drop, W: Write>(
+    rt: &HostRuntime,
+    order: &mut Order,
+    reader: R,
+    writer: &mut W,
+) -> Result<Ending, OrderFault>
+    ensures done { IfOk result
+        (IsDone ⟦<SqlKeep<RealFile> as Keep>⟧ ⟦<ServerLine<'static> as Line>⟧.follows W.contents
+        order.old (R.remaining reader) writer.old writer.new) }
+    ensures fault { IfErr result (λ failed. is_of_order order.old failed.fault ≡ true) }
 {
-    let out = &mut rt.stdout();
     match order {
         Order::Init(order) => Ok(make_file(rt, order)?),
         Order::Serve(order) => Ok(serve_file(rt, order)?),
-        Order::Run => Ok(run_script(rt.alloc(), rt.stdin(), out)?),
-        Order::Import(order) => import_into_file(rt, order, rt.stdin(), out),
-        Order::ImportAll(order) => import_parts_into_file(rt, order, rt.stdin(), out),
-        Order::View(order) => Ok(print_board(rt, order, out)?),
-        Order::Check(file) => Ok(check_file(rt, file, out)?),
-        Order::Send(order) => Ok(send_order(rt, order, out)?),
-        Order::Help(topic) => Ok(tell(out, topic.text())?),
-        Order::Version => Ok(tell(out, VERSION)?),
+        Order::Run => Ok(run_script(rt.alloc(), reader, writer)?),
+        Order::Import(order) => import_into_file(rt, order, reader, writer),
+        Order::ImportAll(order) => import_parts_into_file(rt, order, reader, writer),
+        Order::View(order) => Ok(print_board(rt, order, writer)?),
+        Order::Check(file) => Ok(check_file(rt, file, writer)?),
+        Order::Send(order) => Ok(send_order(rt, order, writer)?),
+        Order::Help(topic) => Ok(tell(writer, topic.text())?),
+        Order::Version => Ok(tell(writer, VERSION)?),
     }
 }
 
