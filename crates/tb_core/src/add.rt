@@ -35,7 +35,12 @@ pub fn add_refusal(board: &Board, incoming: &Incoming) -> Option<Refusal>
 }
 
 /// Adds a task to a board that is awake, and that takes it.
-pub fn add(alloc: Global, board: &Board, incoming: &Incoming, at: Moment) -> Result<Effect, CommandFailure>
+pub fn add(
+    alloc: Global,
+    board: &Board,
+    incoming: &Incoming,
+    at: Moment,
+) -> Result<Effect, CommandFailure>
     requires { least (add_refusals board.now incoming.now) ≡ None }
     ensures gives { GivesEffect board.now result (judged_add board.now incoming.now at) }
     ensures fits { IfOk result (λ effect. Fits board.now effect.step) }

@@ -217,7 +217,12 @@ fn judge_calm(
 }
 
 /// What a command makes of any board, which is copied for that.
-fn judge_draft(alloc: Global, board: &Board, command: &Command, at: Moment) -> Result<Drafted, CommandFailure>
+fn judge_draft(
+    alloc: Global,
+    board: &Board,
+    command: &Command,
+    at: Moment,
+) -> Result<Drafted, CommandFailure>
     requires { TakesAdded board.now command.now }
     ensures gives { GivesDraft result (outcome board.now command.now at) }
     ensures made { IfOk result (λ drafted. IsDraft board.now drafted.draft) }
@@ -248,7 +253,12 @@ fn early_refusal(board: &Board, command: &Command) -> Option<Refusal>
 }
 
 /// What a command makes of a board that is awake.
-fn judge(alloc: Global, draft: Draft, command: &Command, at: Moment) -> Result<Judged, CommandFailure>
+fn judge(
+    alloc: Global,
+    draft: Draft,
+    command: &Command,
+    at: Moment,
+) -> Result<Judged, CommandFailure>
     requires { TakesAdded draft.board command.now }
     ensures gives { Gives result (judged draft.board command.now at) }
     ensures follows { IfOk result (λ judged. Follows draft judged.draft) }
@@ -269,7 +279,12 @@ fn judge(alloc: Global, draft: Draft, command: &Command, at: Moment) -> Result<J
     }
 }
 
-fn judge_one(alloc: Global, draft: Draft, command: &Command, at: Moment) -> Result<Judged, CommandFailure>
+fn judge_one(
+    alloc: Global,
+    draft: Draft,
+    command: &Command,
+    at: Moment,
+) -> Result<Judged, CommandFailure>
     requires takes { TakesAdded draft.board command.now }
     requires few { is_import command.now ≡ false }
     ensures gives { Gives result (judged draft.board command.now at) }
@@ -280,7 +295,12 @@ fn judge_one(alloc: Global, draft: Draft, command: &Command, at: Moment) -> Resu
 }
 
 /// What a command that isn't an import makes of a board that is awake.
-fn effect_of(alloc: Global, board: &Board, command: &Command, at: Moment) -> Result<Effect, CommandFailure>
+fn effect_of(
+    alloc: Global,
+    board: &Board,
+    command: &Command,
+    at: Moment,
+) -> Result<Effect, CommandFailure>
     requires takes { TakesAdded board.now command.now }
     requires few { is_import command.now ≡ false }
     ensures gives { GivesEffect board.now result (judged board.now command.now at) }

@@ -12,7 +12,11 @@ use tb_import::{ImportFailure, ImportRefusal, Imported, import_tasks};
 use tb_task::Incoming;
 
 /// Adds the new tasks of an import to a board that is awake.
-pub fn import_json(alloc: Global, draft: Draft, tasks: &[Incoming]) -> Result<Judged, CommandFailure>
+pub fn import_json(
+    alloc: Global,
+    draft: Draft,
+    tasks: &[Incoming],
+) -> Result<Judged, CommandFailure>
     ensures gives { Gives result (judged_import_json draft.board tasks.now) }
     ensures follows { IfOk result (λ judged. Follows draft judged.draft) }
 {

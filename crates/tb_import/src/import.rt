@@ -22,7 +22,11 @@ use tb_task::{Incoming, MOST_TASKS, TaskId};
 
 /// Puts the new tasks of a list on a board that is awake, in time that grows little faster than the board and the list but for
 /// one pass over the gone places for each instance.
-pub fn import_tasks(alloc: Global, draft: Draft, list: &[Incoming]) -> Result<Imported, ImportFailure>
+pub fn import_tasks(
+    alloc: Global,
+    draft: Draft,
+    list: &[Incoming],
+) -> Result<Imported, ImportFailure>
     ensures gives { Gives result (judged_import draft.board list.now) }
     ensures follows { IfOk result (λ imported. Follows draft imported.draft) }
 {
