@@ -7,7 +7,6 @@ mod answer;
 mod asking;
 mod given;
 mod line;
-mod members;
 mod message;
 mod places;
 mod request;

@@ -9,9 +9,9 @@ ghost use Rattle.tb_todotxt.specs.Line.{is_free_of};
 ghost use Rattle.tb_todotxt.specs.Making.{task_of};
 
 use crate::given::given_id;
-use crate::members::{put_id, put_moment, put_priority, put_tags, put_text, put_text_if_some};
 use serde_json::{Map, Value};
 use std::alloc::{AllocError, Global};
+use tb_json::{put_id, put_moment, put_priority, put_tags, put_text, put_text_if_some};
 use tb_task::{Moment, Task};
 use tb_todotxt::{Day, Line, LineFault, LineParts, read_line, to_task};
 use tb_values::Text;

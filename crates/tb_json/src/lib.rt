@@ -23,6 +23,7 @@ mod writing;
 pub use fault::JsonFault;
 pub use import::read_import;
 pub use import_fault::ImportFault;
+pub use members::{put_id, put_moment, put_priority, put_tags, put_text, put_text_if_some};
 pub use modify::read_modify;
 pub use parsing::parse;
 pub use reading::read_task;

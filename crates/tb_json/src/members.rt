@@ -11,7 +11,8 @@ use std::alloc::{AllocError, Global};
 use tb_task::{Annotation, Mask, Moment, Priority, TaskId};
 use tb_values::{NonEmptyText, Text};
 
-pub(crate) fn put_text(
+/// A text under a name.
+pub fn put_text(
     object: &mut Map<String, Value>,
     alloc: Global,
     name: &str,
@@ -24,7 +25,8 @@ pub(crate) fn put_text(
     put(object, alloc, name, Value::try_from_str(alloc, text)?)
 }
 
-pub(crate) fn put_text_if_some(
+/// A text under a name, where there is one.
+pub fn put_text_if_some(
     object: &mut Map<String, Value>,
     alloc: Global,
     name: &str,
@@ -40,7 +42,8 @@ pub(crate) fn put_text_if_some(
     }
 }
 
-pub(crate) fn put_moment(
+/// A moment under a name, where there is one.
+pub fn put_moment(
     object: &mut Map<String, Value>,
     alloc: Global,
     name: &str,
@@ -56,7 +59,8 @@ pub(crate) fn put_moment(
     }
 }
 
-pub(crate) fn put_id(
+/// An identifier under a name, where there is one.
+pub fn put_id(
     object: &mut Map<String, Value>,
     alloc: Global,
     name: &str,
@@ -103,7 +107,8 @@ pub(crate) fn put_mask(
     }
 }
 
-pub(crate) fn put_priority(
+/// The priority, where there is one.
+pub fn put_priority(
     object: &mut Map<String, Value>,
     alloc: Global,
     priority: Option<Priority>,
@@ -119,7 +124,8 @@ pub(crate) fn put_priority(
     }
 }
 
-pub(crate) fn put_tags(
+/// The tags, where there are some.
+pub fn put_tags(
     object: &mut Map<String, Value>,
     alloc: Global,
     tags: &[Text],
