@@ -262,7 +262,7 @@ impl<'t> Trial<'t> {
         from: u64,
         step: u64,
     ) -> io::Result<u64> {
-        for earlier in tried.iter() {
+        for earlier in tried.as_slice() {
             if earlier.from == from && earlier.trial.left_as(&self) {
                 return Ok(earlier.count);
             }
