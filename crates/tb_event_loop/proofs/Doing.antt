@@ -1,7 +1,7 @@
 -- What was done, one part after the other.
-use Rattle.std.proofs.Common.{◌≡◌, ℕ, ◌+◌, ◌≤◌, Bool, false, List, [], ◌∷◌, ◌++◌, Option, Some, None, Result, Err, refl, sym, ◌∙◌, subst, arith}
+use Rattle.std.proofs.Common.{◌≡◌, ℕ, ◌+◌, ◌≤◌, Bool, false, List, [], ◌∷◌, ◌++◌, Option, Some, None, Err, refl, sym, ◌∙◌, subst, arith}
 use Rattle.std.specs.Prelude.{IfSome}
-use Rattle.tb_event_loop.specs.Done.{Did, Done, ends_in}
+use Rattle.tb_event_loop.specs.Done.{Did, Done, GivesTurn, ends_in, turned}
 use Rattle.tb_event_loop.specs.History.{EndsAll, Goes, Leaves}
 
 ends_append : (xs ys : List (ℕ × Done)) → ends_in (xs ++ ys) ≡ ends_in xs + ends_in ys
@@ -15,6 +15,15 @@ did_then follows joined stopped m n a b c first more = (
   first.0 ++ more.0,
   joined stopped first.0 more.0 a b c first.1 more.1,
   omega (arith, ends_append first.0 more.0, first.2, more.2),
+)
+
+-- a turn, and what was done behind it
+pub turn_then : {V : Type 0} (follows : Bool → List (ℕ × Done) → V → V → Type 0)
+    → ((stopped : Bool) (first more : List (ℕ × Done)) (a b c : V) → follows false first a b → follows stopped more b c → follows stopped (first ++ more) a c)
+    → (stopped : Bool) (place n : ℕ) (a b c : V) → GivesTurn follows false place a b → Did follows stopped n b c → GivesTurn follows stopped place a c
+turn_then follows joined stopped place n a b c first more = (
+  first.0 ++ more.0,
+  joined stopped ((place, turned) ∷ first.0) more.0 a b c first.1 more.1,
 )
 
 -- ---- connections that have still to end

@@ -26,3 +26,9 @@ abbrev pub Did : {V : Type 0} → (Bool → List (ℕ × Done) → V → V → T
     → V → Type 0
 Did follows stopped ended old new =
     (history : List (ℕ × Done)) × follows stopped history old new × (ends_in history ≡ ended)
+
+-- The connection of a place had its turn, and what came of it was done.
+abbrev pub GivesTurn : {V : Type 0} → (Bool → List (ℕ × Done) → V → V → Type 0) → Bool → ℕ → V
+    → V → Type 0
+GivesTurn follows stopped place old new =
+    (more : List (ℕ × Done)) × follows stopped ((place, turned) ∷ more) old new

@@ -1,4 +1,9 @@
+pub mod Arrivals
+pub mod Connection
 pub mod Done
 pub mod Ending
+pub mod EventLoop
 pub mod History
+pub mod Journal
 pub mod Logging
+pub mod Places

@@ -1,4 +1,8 @@
 //! The listener, and the connections that come.
+ghost use Rattle.std.specs.Prelude.{◌≡◌, IsNone, false};
+ghost use Rattle.tb_event_loop.specs.Arrivals.{CountsOne, accept_failed, are_held_up, can_go_on, may_accept, listens};
+ghost use Rattle.std.specs.IoError.{error_kind};
+
 use crate::journal::Journal;
 use crate::places::Places;
 use mio::net::{TcpListener, TcpStream};
@@ -28,7 +32,9 @@ pub(crate) struct Arrivals {
 }
 
 impl Arrivals {
-    pub(crate) fn new(listener: TcpListener, still_to_come: Option<u32>) -> Arrivals {
+    pub(crate) fn new(listener: TcpListener, still_to_come: Option<u32>) -> Arrivals
+        ensures { result ≡ listens listener still_to_come }
+    {
         Arrivals {
             listener,
             still_to_come,
@@ -40,12 +46,16 @@ impl Arrivals {
     }
 
     /// Whether one that came has no place, or can't be accepted yet.
-    pub(crate) fn are_held_up(&self) -> bool {
+    pub(crate) fn are_held_up(&self) -> bool
+        ensures { result ≡ are_held_up self.now }
+    {
         self.waiting.is_some() || self.is_ready && self.still_to_come != Some(0)
     }
 
     /// Whether one can be accepted, or put into a place, at once.
-    pub(crate) fn can_go_on(&self, places: &Places, now: u64) -> bool {
+    pub(crate) fn can_go_on(&self, places: &Places, now: u64) -> bool
+        ensures { result ≡ can_go_on self.now places.now now }
+    {
         if self.waiting.is_some() {
             return places.first_vacant().is_some();
         }
@@ -53,7 +63,9 @@ impl Arrivals {
     }
 
     /// A connection ended, so that another may come.
-    pub(crate) fn try_again(&mut self) {
+    pub(crate) fn try_again(&mut self)
+        ensures { self.new ≡ record self.old { next_try = 0 } }
+    {
         self.next_try = 0;
     }
 
@@ -97,7 +109,11 @@ impl Arrivals {
         }
     }
 
-    fn accept_one<C: Clock, W: Write>(&mut self, journal: &mut Journal<C, W>, now: u64) {
+    fn accept_one<C: Clock, W: Write>(&mut self, journal: &mut Journal<C, W>, now: u64)
+        requires { IsNone self.old.waiting }
+        ensures counted { CountsOne self.old self.new }
+        ensures not_yet { may_accept self.old now ≡ false → self.new ≡ self.old }
+    {
         if !self.is_ready || self.still_to_come == Some(0) || now < self.next_try {
             return;
         }
@@ -115,7 +131,9 @@ impl Arrivals {
         error: &io::Error,
         journal: &mut Journal<C, W>,
         now: u64,
-    ) {
+    )
+        ensures { self.new ≡ accept_failed (error_kind error.now) now self.old }
+    {
         if error.kind() == ErrorKind::WouldBlock {
             self.is_ready = false;
             self.has_told = false;

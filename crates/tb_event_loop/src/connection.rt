@@ -1,4 +1,8 @@
 //! A socket, and what it is ready for.
+ghost use Rattle.std.specs.Prelude.{◌≡◌, false, true};
+ghost use Rattle.std.specs.IoError.{error_kind};
+ghost use Rattle.tb_event_loop.specs.Connection.{ended, fresh, needs_bytes, read_failed, short_of_bytes, with_bytes, write_failed};
+
 use mio::net::TcpStream;
 use std::io;
 use std::io::{ErrorKind, Read};
@@ -24,7 +28,9 @@ pub(crate) struct Connection {
 
 impl Connection {
     /// A connection that may be ready: the first read and the first write tell.
-    pub(crate) fn new(stream: TcpStream) -> Connection {
+    pub(crate) fn new(stream: TcpStream) -> Connection
+        ensures { result ≡ fresh stream }
+    {
         Connection {
             stream,
             can_read: true,
@@ -36,12 +42,16 @@ impl Connection {
         }
     }
 
-    pub(crate) fn needs_bytes(&self) -> bool {
+    pub(crate) fn needs_bytes(&self) -> bool
+        ensures { result ≡ needs_bytes self.now }
+    {
         self.can_read && !self.may_answer && !self.has_ended
     }
 
     /// So many bytes came, up to a piece. Where they are fewer, no more are there now.
-    pub(crate) fn bytes_came(&mut self, count: usize) {
+    pub(crate) fn bytes_came(&mut self, count: usize)
+        ensures { self.new ≡ with_bytes count self.old }
+    {
         self.may_answer = true;
         if count < PIECE && !self.has_hung_up {
             self.can_read = false;
@@ -49,7 +59,9 @@ impl Connection {
     }
 
     /// Nothing more comes of it. What is held may still be answered.
-    pub(crate) fn end_input(&mut self) {
+    pub(crate) fn end_input(&mut self)
+        ensures { self.new ≡ ended self.old }
+    {
         self.can_read = false;
         self.has_ended = true;
         if !self.may_answer {
@@ -58,14 +70,18 @@ impl Connection {
     }
 
     /// What is held is no whole message.
-    pub(crate) fn lack_bytes(&mut self) {
+    pub(crate) fn lack_bytes(&mut self)
+        ensures { self.new ≡ short_of_bytes self.old }
+    {
         self.may_answer = false;
         if self.has_ended {
             self.is_gone = true;
         }
     }
 
-    pub(crate) fn read_failed(&mut self, error: &io::Error) {
+    pub(crate) fn read_failed(&mut self, error: &io::Error)
+        ensures { self.new ≡ read_failed (error_kind error.now) self.old }
+    {
         match error.kind() {
             ErrorKind::WouldBlock => self.can_read = false,
             ErrorKind::Interrupted => (),
@@ -73,7 +89,9 @@ impl Connection {
         }
     }
 
-    pub(crate) fn write_failed(&mut self, error: &io::Error) {
+    pub(crate) fn write_failed(&mut self, error: &io::Error)
+        ensures { self.new ≡ write_failed (error_kind error.now) self.old }
+    {
         match error.kind() {
             ErrorKind::WouldBlock => self.can_write = false,
             ErrorKind::Interrupted => (),
@@ -82,7 +100,7 @@ impl Connection {
     }
 
     /// Nothing more is sent.
-    pub(crate) fn stop_sending(&mut self) {
+    pub(crate) fn stop_sending(&self) {
         let _ = self.stream.shutdown(Shutdown::Write);
     }
 

@@ -1,9 +1,13 @@
 //! The loop over the listener and the connections.
-ghost use Rattle.std.specs.Prelude.{◌≡◌, ◌⊎◌, ℕ, IfErr, IfOk, IsErr, List, false, is_err, true};
-ghost use Rattle.tb_event_loop.specs.Done.{Done, ends_in};
+ghost use Rattle.std.specs.Prelude.{◌≡◌, ◌⊎◌, ℕ, if◌then◌else◌, IfErr, IfOk, IsErr, List, None, OnOk, false, is_err, take, true};
+ghost use Rattle.tb_event_loop.specs.Arrivals.{are_held_up};
+ghost use Rattle.tb_event_loop.specs.Done.{Done, GivesTurn, ends_in};
 ghost use Rattle.tb_event_loop.specs.Ending.{has_stopped};
+ghost use Rattle.tb_event_loop.specs.EventLoop.{IsBusy};
 ghost use Rattle.tb_event_loop.specs.History.{EndsAll, Goes, Leaves, still_to_end};
+ghost use Rattle.tb_event_loop.specs.Places.{IsAnswered, connection_in, is_leaving, is_over_at};
 ghost use Rattle.tb_event_loop.specs.declared.fault.LoopFault.TheVariants.{Memory, Sockets, Store};
+ghost use Rattle.tb_timeouts.specs.Deciding.{IsLongestWait};
 
 use crate::arrivals::{Arrivals, LISTENER, RETRY};
 use crate::fault::LoopFault;
@@ -103,19 +107,27 @@ impl EventLoop {
     fn wait(&mut self) -> bool
         ensures { self.new.still_to_end ≡ self.old.still_to_end }
     {
-        let is_busy = self.places.have_turns() || self.arrivals.can_go_on(&self.places, self.now);
-        let millis = if is_busy {
-            0
-        } else {
-            let most = if self.arrivals.are_held_up() {
-                RETRY
-            } else {
-                LONGEST_WAIT
-            };
-            self.places.longest_wait(self.now, most)
-        };
-        let limit = Some(Duration::from_millis(millis));
+        let limit = Some(Duration::from_millis(self.idle_millis()));
         self.poll.poll(&mut self.events, limit).is_ok()
+    }
+
+    // How long nothing has to be done, if no socket is ready.
+    fn idle_millis(&self) -> u64
+        ensures busy { IsBusy self.entry.now → result ≡ 0 }
+        ensures idle { let event_loop = self.entry.now in ¬ IsBusy event_loop
+            → IsLongestWait event_loop.places.limits event_loop.now
+            (if are_held_up event_loop.arrivals then RETRY else LONGEST_WAIT)
+            (take event_loop.places.end event_loop.places.stages.items) result }
+    {
+        if self.places.have_turns() || self.arrivals.can_go_on(&self.places, self.now) {
+            return 0;
+        }
+        let most = if self.arrivals.are_held_up() {
+            RETRY
+        } else {
+            LONGEST_WAIT
+        };
+        self.places.longest_wait(self.now, most)
     }
 
     // Sees what is ready, and puts those that came into places.
@@ -158,6 +170,10 @@ impl EventLoop {
         ensures after { Goes V.follows
             (is_err result) self.old.still_to_end self.new.still_to_end service.old service.new }
         ensures failed { IsErr result → V.has_failed service.new ≡ true }
+        ensures turned { is_over_at self.old.places place self.old.now ≡ false
+            → IsAnswered self.old.places place
+            → GivesTurn V.follows (is_err result) place service.old service.new }
+        ensures left { OnOk result (is_leaving (connection_in self.new.places place) ≡ false) }
     {
         if !self.places.begin_turn(place, self.now) {
             return Ok(());
@@ -177,6 +193,9 @@ impl EventLoop {
         ensures after { Goes V.follows
             (is_err result) self.old.still_to_end self.new.still_to_end service.old service.new }
         ensures failed { IsErr result → V.has_failed service.new ≡ true }
+        ensures turned { IsAnswered self.old.places place
+            → GivesTurn V.follows (is_err result) place service.old service.new }
+        ensures left { OnOk result (is_leaving (connection_in self.new.places place) ≡ false) }
     {
         self.places.act(service, journal, place, self.now)?;
         if !self.places.is_gone(place) {
@@ -190,6 +209,7 @@ impl EventLoop {
         ensures after { Goes V.follows
             (is_err result) self.old.still_to_end self.new.still_to_end service.old service.new }
         ensures failed { IsErr result → V.has_failed service.new ≡ true }
+        ensures left { connection_in self.new.places place ≡ None }
     {
         self.places.vacate(place);
         self.arrivals.try_again();
@@ -204,6 +224,7 @@ impl EventLoop {
 fn count_one(still_to_end: &mut Option<u32>) -> bool
     ensures counted { result ≡ true → Leaves still_to_end.old 1 still_to_end.new }
     ensures none { result ≡ false → still_to_end.new ≡ still_to_end.old }
+    ensures only { result ≡ false → still_to_end.old ≡ Some 0 }
 {
     match still_to_end {
         Some(0) => false,

@@ -1,4 +1,7 @@
 //! The time, and what is told on standard error.
+ghost use Rattle.std.specs.Prelude.{◌≡◌, take};
+ghost use Rattle.tb_event_loop.specs.Journal.{status_in};
+
 use crate::logging::{FailedMessage, LogEntry, failure_line, log_line};
 use crate::request_line::{RequestLine, read_request_line};
 use std::alloc::Global;
@@ -123,7 +126,9 @@ fn entry_of<'a>(
 /// How many bytes of a message are kept for the lines that tell of it.
 const LONGEST_HEAD: usize = 16_384;
 
-fn front(held: &[u8]) -> &[u8] {
+fn front(held: &[u8]) -> &[u8]
+    ensures { result.now ≡ take LONGEST_HEAD held.now }
+{
     match held.get(..LONGEST_HEAD) {
         Some(front) => front,
         None => held,
@@ -131,7 +136,9 @@ fn front(held: &[u8]) -> &[u8] {
 }
 
 // The status in the first line of an answer.
-fn status_in(answer: &[u8]) -> &[u8] {
+fn status_in(answer: &[u8]) -> &[u8]
+    ensures { result.now ≡ status_in answer.now }
+{
     match answer.get(9..12) {
         Some(status) => status,
         None => b"-",

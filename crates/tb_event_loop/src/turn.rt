@@ -1,6 +1,9 @@
 //! The turn of one connection: at most one read, one message and one write.
-ghost use Rattle.std.specs.Prelude.{◌≡◌, IsErr, is_err, true};
-ghost use Rattle.tb_event_loop.specs.Done.{Did};
+ghost use Rattle.std.specs.Prelude.{◌≡◌, ◌↔◌, ◌⊎◌, [], ◌∷◌, IsErr, IsOk, IsTrue, false, is_err, slice_set, true};
+ghost use Rattle.tb_event_loop.specs.Done.{Did, GivesTurn, turned};
+ghost use Rattle.tb_event_loop.specs.Places.{Ends, GoesOn, HasTurn, IsAnswered, LacksAll, NeedsBytes, SetsStage, Settles, connection_in, is_over_at, may_answer_at, stage_in};
+ghost use Rattle.tb_timeouts.specs.Stage.{next_stage, read_stage};
+ghost use Rattle.tb_timeouts.specs.declared.stage.Need.TheVariants.{End};
 
 use crate::exchange::{read_some, write_some};
 use crate::journal::Journal;
@@ -12,7 +15,12 @@ use tb_timeouts::{Need, Stage};
 
 impl Places {
     /// Ends a connection that has stayed too long. Says whether it has something to do now.
-    pub(crate) fn begin_turn(&mut self, place: usize, now: u64) -> bool {
+    pub(crate) fn begin_turn(&mut self, place: usize, now: u64) -> bool
+        ensures turn { IsTrue result
+            ↔ (IsTrue (is_over_at self.old place now) ⊎ HasTurn self.old place) }
+        ensures over { is_over_at self.old place now ≡ true → Ends self.old self.new place now }
+        ensures same { is_over_at self.old place now ≡ false → self.new ≡ self.old }
+    {
         if self.stage(place).is_over(&self.limits, now) {
             self.end_one(place, now);
             return true;
@@ -21,7 +29,9 @@ impl Places {
     }
 
     // Ends a connection in stages, or at once where it is at the last.
-    fn end_one(&mut self, place: usize, now: u64) {
+    fn end_one(&mut self, place: usize, now: u64)
+        ensures { Ends self.old self.new place now }
+    {
         let stage = self.stage(place);
         if let Stage::Closing { since: _, reads: _ } = stage {
             self.let_go(place);
@@ -30,8 +40,11 @@ impl Places {
         }
     }
 
-    fn close(&mut self, place: usize, now: u64) {
-        if let Some(connection) = self.connection(place) {
+    fn close(&mut self, place: usize, now: u64)
+        ensures { SetsStage self.old self.new place
+            (next_stage now End (stage_in self.old place)) }
+    {
+        if let Some(Some(connection)) = self.connections.get(place) {
             connection.stop_sending();
         }
         let stage = self.stage(place).next(Need::End, now);
@@ -48,6 +61,8 @@ impl Places {
     ) -> Result<(), StoreFailed>
         ensures after { Did V.follows (is_err result) 0 service.old service.new }
         ensures failed { IsErr result → V.has_failed service.new ≡ true }
+        ensures turned { IsAnswered self.old place
+            → GivesTurn V.follows (is_err result) place service.old service.new }
     {
         if self.is_gone(place) {
             return Ok(());
@@ -73,6 +88,8 @@ impl Places {
     ) -> Result<(), StoreFailed>
         ensures after { Did V.follows (is_err result) 0 service.old service.new }
         ensures failed { IsErr result → V.has_failed service.new ≡ true }
+        ensures turned { IsTrue (may_answer_at (connection_in self.old place))
+            → GivesTurn V.follows (is_err result) place service.old service.new }
     {
         self.read(service, place, now)?;
         self.respond(service, journal, place, now)
@@ -88,6 +105,8 @@ impl Places {
     ) -> Result<(), StoreFailed>
         ensures after { Did V.follows (is_err result) 0 service.old service.new }
         ensures failed { IsErr result → V.has_failed service.new ≡ true }
+        ensures turned { IsTrue (may_answer_at (connection_in self.old place))
+            → GivesTurn V.follows (is_err result) place service.old service.new }
     {
         self.answer(service, journal, place, now)?;
         self.reply(service, place, now)
@@ -108,10 +127,13 @@ impl Places {
     }
 
     // Throws away what comes behind the last answer.
-    fn drop_some(&mut self, place: usize) {
-        if let Some(connection) = self.connection(place) {
-            connection.drop_some();
-        }
+    fn drop_some(&mut self, place: usize)
+        ensures read { self.new.stages.items
+            ≡ slice_set self.old.stages.items place (read_stage (stage_in self.old place)) }
+        ensures others { self.new
+            ≡ record self.old { connections = self.new.connections; stages = self.new.stages } }
+    {
+        self.drop_bytes(place);
         let stage = self.stage(place).bytes_dropped();
         self.set_stage(place, stage);
     }
@@ -125,13 +147,15 @@ impl Places {
     ) -> Result<(), StoreFailed>
         ensures after { Did V.follows (is_err result) 0 service.old service.new }
         ensures failed { IsErr result → V.has_failed service.new ≡ true }
+        ensures well { ¬ NeedsBytes self.old place → IsOk result }
+        ensures passed { ¬ NeedsBytes self.old place → service.new ≡ service.old }
+        ensures same { ¬ NeedsBytes self.old place → self.new ≡ self.old }
     {
-        let may_read = self.may_read(place);
-        match self.connection(place) {
-            Some(connection) if may_read && connection.needs_bytes() => {
-                read_some(connection, service, place)?;
-            }
-            _ => return Ok(()),
+        if !self.needs_bytes(place) {
+            return Ok(());
+        }
+        if let Some(connection) = self.connection(place) {
+            read_some(connection, service, place)?;
         }
         self.enter(service, place, now);
         Ok(())
@@ -147,10 +171,15 @@ impl Places {
     ) -> Result<(), StoreFailed>
         ensures after { Did V.follows (is_err result) 0 service.old service.new }
         ensures failed { IsErr result → V.has_failed service.new ≡ true }
+        ensures turned { IsTrue (may_answer_at (connection_in self.old place))
+            → GivesTurn V.follows (is_err result) place service.old service.new }
+        ensures passed { may_answer_at (connection_in self.old place) ≡ false
+            → service.new ≡ service.old }
+        ensures same { may_answer_at (connection_in self.old place) ≡ false
+            → self.new ≡ self.old }
     {
-        match self.connection(place) {
-            Some(connection) if connection.may_answer => (),
-            _ => return Ok(()),
+        if !self.may_answer(place) {
+            return Ok(());
         }
         journal.begin(service.held(place));
         if service.happen(place, &SocketEvent::Turn).is_err() {
@@ -158,9 +187,7 @@ impl Places {
             return Err(StoreFailed);
         }
         if service.unsent(place).is_empty() {
-            if let Some(connection) = self.connection(place) {
-                connection.lack_bytes();
-            }
+            self.lack_bytes(place);
         } else {
             journal.end(service.unsent(place));
         }
@@ -193,7 +220,10 @@ impl Places {
     }
 
     // What the connection does behind its turn.
-    fn settle<V: Service>(&mut self, service: &V, place: usize, now: u64) {
+    fn settle<V: Service>(&mut self, service: &V, place: usize, now: u64)
+        ensures { Settles self.old self.new place now (V.owed_at service.now place)
+            (V.closes_at service.now place) (V.held_at service.now place) }
+    {
         if !service.unsent(place).is_empty() {
             return;
         }
@@ -201,12 +231,24 @@ impl Places {
             self.close(place, now);
             return;
         }
-        let has_none = service.held(place).is_empty();
-        if let Some(connection) = self.connection(place)
-            && has_none
-        {
-            connection.lack_bytes();
-        }
+        self.go_on(service, place, now);
+    }
+
+    // The next message is awaited, or the rest of one.
+    fn go_on<V: Service>(&mut self, service: &V, place: usize, now: u64)
+        ensures { GoesOn self.old self.new place now (V.owed_at service.now place)
+            (V.closes_at service.now place) (V.held_at service.now place) }
+    {
+        self.lack_all(service, place);
         self.enter(service, place, now);
+    }
+
+    // Where nothing is held there is no message.
+    fn lack_all<V: Service>(&mut self, service: &V, place: usize)
+        ensures { LacksAll (V.held_at service.now place) self.old self.new place }
+    {
+        if service.held(place).is_empty() {
+            self.lack_bytes(place);
+        }
     }
 }

@@ -1,5 +1,5 @@
 use Rattle.std.proofs.Common.{rules, false, is_err, true}
-use Rattle.tb_event_loop.proofs.Doing.{goes_on, goes_then}
+use Rattle.tb_event_loop.proofs.Doing.{goes_on, goes_then, turn_then}
 use Rattle.tb_event_loop.proofs.event_loop.EventLoop.take_turn.Goals as goal
 
 pub returns-in_err-act-clause-after : goal.returns-in_err-act-clause-after
@@ -17,3 +17,8 @@ returns-clause-after g c =
     let limit = c.args.self.now.still_to_end in
     goes_then follows g.V.Service.joined (is_err c.leave.result) limit limit c.leave.new.self.still_to_end c.args.service.now c.act.new.service c.leave.new.service
     (goes_on follows false limit c.args.service.now c.act.new.service c.in_ok-act.ensures.after) c.leave.ensures.after
+
+pub returns-clause-turned : goal.returns-clause-turned
+returns-clause-turned g c is =
+    turn_then g.V.Service.follows g.V.Service.joined (is_err c.leave.result) c.args.place c.leave.ensures.after.0 c.args.service.now c.act.new.service c.leave.new.service
+    (c.in_ok-act.ensures.turned is) c.leave.ensures.after.1

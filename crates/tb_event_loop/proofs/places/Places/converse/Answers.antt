@@ -1,4 +1,4 @@
-use Rattle.std.proofs.Common.{false, is_err}
+use Rattle.std.proofs.Common.{is_err}
 use Rattle.tb_event_loop.proofs.Doing.{did_then}
 use Rattle.tb_event_loop.proofs.places.Places.converse.Goals as goal
 

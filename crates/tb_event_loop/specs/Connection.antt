@@ -1,0 +1,71 @@
+-- What a connection comes to by what its socket told.
+use Rattle.std.specs.Prelude.{ℕ, Bool, true, false, not, ◌&&◌, ◌||◌, nat_le}
+use Rattle.std.specs.declared.io.ErrorKind.{ErrorKind}
+use Rattle.std.specs.declared.io.ErrorKind.TheVariants.{WouldBlock, Interrupted}
+use Rattle.tb_event_loop.specs.declared.connection.TheConstants.{PIECE}
+use Rattle.mio.specs.Event.{is_error, is_read_closed, is_readable, is_writable}
+use Rattle.mio.specs.declared.event.Event.{Event}
+use Rattle.mio.specs.declared.net.TcpStream.{TcpStream}
+use Rattle.tb_event_loop.specs.declared.connection.Connection.{Connection}
+
+-- one that may be ready, since the first read and the first write tell
+abbrev pub fresh : TcpStream → Connection
+fresh stream = record {
+  stream = stream;
+  can_read = true;
+  can_write = true;
+  has_hung_up = false;
+  has_ended = false;
+  may_answer = false;
+  is_gone = false;
+}
+
+-- the socket has bytes, and they are not of a message behind the one that is held
+abbrev pub needs_bytes : Connection → Bool
+needs_bytes connection =
+    connection.can_read && not connection.may_answer && not connection.has_ended
+
+-- what is held may be whole now; a read that came short took all that was there
+abbrev pub with_bytes : ℕ → Connection → Connection
+with_bytes count connection = record connection {
+  may_answer = true;
+  can_read = connection.can_read && (nat_le PIECE count || connection.has_hung_up);
+}
+
+-- it is kept only for a message that may be held
+abbrev pub ended : Connection → Connection
+ended connection = record connection {
+  can_read = false;
+  has_ended = true;
+  is_gone = connection.is_gone || not connection.may_answer;
+}
+
+-- without a whole message it is kept only if more may come
+abbrev pub short_of_bytes : Connection → Connection
+short_of_bytes connection = record connection {
+  may_answer = false;
+  is_gone = connection.is_gone || connection.has_ended;
+}
+
+abbrev pub leaving : Connection → Connection
+leaving connection = record connection { is_gone = true }
+
+-- a read that would wait or that was cut short costs no connection its place
+abbrev pub read_failed : ErrorKind → Connection → Connection
+read_failed WouldBlock connection = record connection { can_read = false }
+read_failed Interrupted connection = connection
+read_failed _ connection = leaving connection
+
+-- nor does such a write
+abbrev pub write_failed : ErrorKind → Connection → Connection
+write_failed WouldBlock connection = record connection { can_write = false }
+write_failed Interrupted connection = connection
+write_failed _ connection = leaving connection
+
+-- what the system tells of a socket; of one that failed the next read or write tells
+abbrev pub marked : Event → Connection → Connection
+marked event connection = record connection {
+  has_hung_up = connection.has_hung_up || is_read_closed event;
+  can_read = connection.can_read || is_readable event || is_error event || is_read_closed event;
+  can_write = connection.can_write || is_writable event || is_error event;
+}
