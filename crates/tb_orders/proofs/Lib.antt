@@ -1,4 +1,4 @@
-pub mod Input
+pub mod Inputs
 pub mod Items
 pub mod Runs
 pub mod Standing
