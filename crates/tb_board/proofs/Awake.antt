@@ -4,7 +4,7 @@ use Rattle.std.proofs.lemmas.List.{take_more, take_all, length-take-le, length-m
 use Rattle.tb_task.specs.declared.task.Task.{Task}
 use Rattle.tb_task.specs.declared.status.Status.TheVariants.{Pending}
 use Rattle.tb_board.specs.declared.board.Board.{Board}
-use Rattle.tb_board.specs.Board.{wakes, woken}
+use Rattle.tb_board.specs.Tasks.{wakes, woken}
 
 -- the tasks before place i are awake
 abbrev pub woken_to : ℕ → List Task → ℕ → List Task

@@ -5,7 +5,8 @@ use Rattle.std.proofs.lemmas.List.{append-nil}
 use Rattle.tb_task.specs.declared.task.Task.{Task}
 use Rattle.tb_board.specs.declared.board.Board.{Board}
 use Rattle.tb_board.specs.declared.world.World.{World}
-use Rattle.tb_board.specs.Board.{wake, woken}
+use Rattle.tb_board.specs.Board.{wake}
+use Rattle.tb_board.specs.Tasks.{woken}
 use Rattle.tb_board.specs.Changing.{change_board}
 use Rattle.tb_board.specs.Extends.{Extends, ExtendsBoard, ExtendsTask, IsFrontOf}
 use Rattle.tb_board.specs.First.{change_first}

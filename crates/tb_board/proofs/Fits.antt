@@ -7,7 +7,7 @@ use Rattle.tb_task.specs.declared.status.Status.{Status}
 use Rattle.tb_task.specs.declared.status.Status.TheVariants.{Pending, Waiting, Recurring, Completed, Deleted}
 use Rattle.tb_task.specs.declared.task.Task.{Task}
 use Rattle.tb_task.specs.Checks.{fault_of, has_bad_pair, has_bad_recurrence, has_bad_text, has_half_link, has_known_name, is_bad_tag, is_empty, is_recurring, is_step}
-use Rattle.tb_board.specs.Board.{has_come, is_waiting, wakes, woken}
+use Rattle.tb_board.specs.Tasks.{has_come, is_waiting, wakes, woken}
 use Rattle.tb_board.specs.Good.{has_template_form, is_deleted, IsSound}
 use Rattle.tb_board.specs.Statuses.{is_pending_or_waiting, is_template}
 

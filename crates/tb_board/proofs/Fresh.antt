@@ -6,8 +6,8 @@ use Rattle.std.proofs.lemmas.Bool.{cases_Bool, eqb-true, ltb-true, ltb-false}
 use Rattle.tb_task.specs.declared.task.Task.{Task}
 use Rattle.tb_task.specs.TaskId.{made}
 use Rattle.tb_board.specs.declared.board.Board.{Board}
-use Rattle.tb_board.specs.Board.{has_id, is_on}
-use Rattle.tb_board.specs.Board.{ids}
+use Rattle.tb_board.specs.Board.{is_on}
+use Rattle.tb_board.specs.Tasks.{has_id, ids}
 use Rattle.tb_board.specs.Numbers.{first_free, free, free_id}
 
 -- whether y is among the numbers

@@ -8,7 +8,7 @@ use Rattle.std.proofs.lemmas.Cmp.{nat_cmp_total, on_total, then_total}
 use Rattle.tb_task.specs.declared.task.Task.{Task}
 use Rattle.tb_board.specs.declared.board.Board.{Board}
 use Rattle.tb_board.specs.declared.gone.Gone.{Gone}
-use Rattle.tb_board.specs.Board.{has_id, ids}
+use Rattle.tb_board.specs.Tasks.{has_id, ids}
 use Rattle.tb_board.specs.Instances.{by_template, is_template_with, IsGoneOn, place_among}
 use Rattle.tb_board.specs.Statuses.{is_template}
 use Rattle.tb_board.proofs.Fits.{and_true}

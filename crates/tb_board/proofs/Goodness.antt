@@ -10,7 +10,8 @@ use Rattle.std.proofs.lemmas.Map.Keys.{IsDistinct-push}
 use Rattle.tb_task.specs.declared.task.Task.{Task}
 use Rattle.tb_board.specs.declared.board.Board.{Board}
 use Rattle.tb_board.specs.Board.{lacks_depends}
-use Rattle.tb_board.specs.Board.{ids, is_on, wake, woken, with_task}
+use Rattle.tb_board.specs.Board.{is_on, wake, with_task}
+use Rattle.tb_board.specs.Tasks.{ids, woken}
 use Rattle.tb_board.specs.Changing.{with_ahead}
 use Rattle.tb_board.specs.Good.{IsGood, IsSound, IsLinkedOn}
 use Rattle.tb_board.specs.First.{change_first}

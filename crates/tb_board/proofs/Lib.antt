@@ -7,6 +7,7 @@ pub mod Fits
 pub mod Fresh
 pub mod GoneOrder
 pub mod Goodness
+pub mod Indexed
 pub mod KnownNumbers
 pub mod Linking
 pub mod LookingAround
@@ -18,5 +19,6 @@ pub mod Relinking
 pub mod Reinserted
 pub mod RoleOrder
 pub mod Runs
+pub mod Stirring
 pub mod Walking
 pub mod Worlds

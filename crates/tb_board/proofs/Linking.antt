@@ -9,9 +9,9 @@ use Rattle.std.proofs.lemmas.List.{get_or-set_same, map-append, length-map, appe
 use Rattle.std.proofs.Math.Seq.{take-suc, take-length, set-append_seam, get_or-append_seam}
 use Rattle.std.specs.BTreeMap.{BTreeMap, get}
 use Rattle.tb_task.specs.declared.task.Task.{Task}
-use Rattle.tb_board.specs.Board.{has_id, ids}
+use Rattle.tb_board.specs.Tasks.{has_id, ids, place_in}
 use Rattle.tb_board.specs.declared.board.Board.{Board}
-use Rattle.tb_board.specs.Links.{depends_of, links, place_in, places_in, with_place}
+use Rattle.tb_board.specs.Links.{depends_of, links, places_in, with_place}
 use Rattle.tb_graph.specs.Leads.{is_acyclic, leads}
 use Rattle.tb_graph.specs.Walk.{Graph, IsAcyclic, Reaches}
 use Rattle.tb_graph.proofs.Leading.{is_acyclic_decides, leads_decides}

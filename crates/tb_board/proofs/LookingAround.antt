@@ -8,10 +8,10 @@ use Rattle.tb_task.specs.declared.task.Task.{Task}
 use Rattle.tb_graph.specs.Blocked.{is_blocked}
 use Rattle.tb_graph.specs.Marks.{is_marked}
 use Rattle.tb_board.specs.declared.board.Board.{Board}
-use Rattle.tb_board.specs.Board.{ids}
+use Rattle.tb_board.specs.Tasks.{ids, place_in}
 use Rattle.tb_board.specs.Blocked.{are_open, blocked, blocking, is_blocked_by, is_blocked_among, is_blocking, is_blocking_among, is_first, is_held, is_open_by_id, is_open_on, passes}
 use Rattle.tb_board.specs.First.{IsFirst, IsNone}
-use Rattle.tb_board.specs.Links.{depends_of, links, place_in, places_in, with_place}
+use Rattle.tb_board.specs.Links.{depends_of, links, places_in, with_place}
 use Rattle.tb_board.specs.Statuses.{is_open}
 use Rattle.tb_board.proofs.Linking.{links-length}
 use Rattle.tb_board.proofs.Places.{place}

@@ -9,10 +9,11 @@ use Rattle.tb_graph.specs.Walk.{IsIn, Reaches}
 use Rattle.tb_graph.proofs.Leading.{leads_decides}
 use Rattle.tb_task.specs.declared.task.Task.{Task}
 use Rattle.tb_board.specs.declared.board.Board.{Board}
-use Rattle.tb_board.specs.Board.{has_id, ids, is_on, lacks_depends}
+use Rattle.tb_board.specs.Board.{is_on, lacks_depends}
+use Rattle.tb_board.specs.Tasks.{has_id, ids, place_in}
 use Rattle.tb_board.specs.First.{change_first, IsFirst, IsNone}
 use Rattle.tb_board.specs.Good.{IsGood, IsSound}
-use Rattle.tb_board.specs.Links.{leads_between, leads_on, links, place_in, places_in}
+use Rattle.tb_board.specs.Links.{leads_between, leads_on, links, places_in}
 use Rattle.tb_board.proofs.Goodness.{good-relink, ids-change}
 use Rattle.tb_board.proofs.Linking.{place_by_id}
 use Rattle.tb_board.proofs.Places.{place}

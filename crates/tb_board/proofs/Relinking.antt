@@ -11,10 +11,11 @@ use Rattle.tb_graph.specs.Walk.{Graph, IsIn, IsLink, Reaches}
 use Rattle.tb_graph.specs.Walk as walk
 use Rattle.tb_task.specs.declared.task.Task.{Task}
 use Rattle.tb_board.specs.declared.board.Board.{Board}
-use Rattle.tb_board.specs.Board.{ids, is_on, lacks_depends, with_task}
+use Rattle.tb_board.specs.Board.{is_on, lacks_depends, with_task}
+use Rattle.tb_board.specs.Tasks.{ids, place_in}
 use Rattle.tb_board.specs.First.{IsFirst, IsNone}
 use Rattle.tb_board.specs.Good.{IsLinkedOn}
-use Rattle.tb_board.specs.Links.{depends_of, IsAcyclic, links, place_in, places_in, with_place}
+use Rattle.tb_board.specs.Links.{depends_of, IsAcyclic, links, places_in, with_place}
 use Rattle.tb_board.proofs.Acyclic.{acyclic_next, acyclic_with, acyclic_without, link_last, link_set}
 use Rattle.tb_board.proofs.Fresh.{on_ids}
 use Rattle.tb_board.proofs.Linking.{links-length, place_within}

@@ -10,7 +10,8 @@ use Rattle.std.proofs.lemmas.Map.Made.{IsDistinct-from_count}
 use Rattle.tb_task.specs.declared.task.Task.{Task}
 use Rattle.tb_board.specs.declared.board.Board.{Board}
 use Rattle.tb_board.specs.declared.gone.Gone.{Gone}
-use Rattle.tb_board.specs.Board.{wake, with_task, woken}
+use Rattle.tb_board.specs.Board.{wake, with_task}
+use Rattle.tb_board.specs.Tasks.{woken}
 use Rattle.tb_board.specs.First.{change_first}
 use Rattle.tb_board.specs.Instances.{has_template, is_template_with, HasRuns, HasTemplateOn, IsGoneOn}
 use Rattle.tb_board.specs.Statuses.{is_template}

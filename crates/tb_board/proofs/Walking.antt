@@ -7,9 +7,10 @@ use Rattle.tb_graph.proofs.Leading.{leads_decides}
 use Rattle.tb_graph.proofs.Walks.{reaches_join}
 use Rattle.tb_task.specs.declared.task.Task.{Task}
 use Rattle.tb_board.specs.declared.board.Board.{Board}
-use Rattle.tb_board.specs.Board.{has_id, ids, is_on}
+use Rattle.tb_board.specs.Board.{is_on}
+use Rattle.tb_board.specs.Tasks.{has_id, ids, place_in}
 use Rattle.tb_board.specs.First.{IsFirst, IsNone}
-use Rattle.tb_board.specs.Links.{depends_of, IsAcyclic, leads_between, leads_on, links, place_in, places_in, with_place}
+use Rattle.tb_board.specs.Links.{depends_of, IsAcyclic, leads_between, leads_on, links, places_in, with_place}
 use Rattle.tb_board.specs.Walks.{DependsOn, HasLink, IsAcyclicByWalks, IsTaskWalk, LeadsByWalks}
 use Rattle.tb_board.proofs.Linking.{place_by_id}
 use Rattle.tb_board.proofs.Places.{place}

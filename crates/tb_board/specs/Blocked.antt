@@ -6,8 +6,8 @@ use Rattle.tb_graph.specs.Marks.{is_marked}
 use Rattle.tb_graph.specs.Walk.{Graph}
 use Rattle.tb_task.specs.declared.task.Task.{Task}
 use Rattle.tb_board.specs.declared.board.Board.{Board}
-use Rattle.tb_board.specs.Board.{ids}
-use Rattle.tb_board.specs.Links.{depends_of, links, place_in}
+use Rattle.tb_board.specs.Tasks.{ids, place_in}
+use Rattle.tb_board.specs.Links.{depends_of, links}
 use Rattle.tb_board.specs.Statuses.{is_open}
 
 -- for each task whether it is neither completed nor deleted

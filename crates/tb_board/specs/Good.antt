@@ -8,7 +8,7 @@ use Rattle.tb_task.specs.declared.status.Status.TheVariants.{Pending, Waiting, R
 use Rattle.tb_task.specs.Checks.{fault_of, is_recurring, is_step}
 use Rattle.tb_board.specs.declared.board.Board.{Board}
 use Rattle.tb_board.specs.Board.{lacks_depends}
-use Rattle.tb_board.specs.Board.{ids}
+use Rattle.tb_board.specs.Tasks.{ids}
 use Rattle.tb_board.specs.Links.{IsAcyclic}
 use Rattle.tb_board.specs.Statuses.{is_template}
 use Rattle.tb_board.specs.Instances.{by_template, HasRuns, HasTemplateOn, IsGoneOn}

@@ -6,7 +6,7 @@ use Rattle.std.specs.declared.cmp.Ordering.{Ordering}
 use Rattle.tb_task.specs.declared.task.Task.{Task}
 use Rattle.tb_board.specs.declared.board.Board.{Board}
 use Rattle.tb_board.specs.declared.gone.Gone.{Gone}
-use Rattle.tb_board.specs.Board.{has_id}
+use Rattle.tb_board.specs.Tasks.{has_id}
 use Rattle.tb_board.specs.Statuses.{is_template}
 use Rattle.tb_board.specs.Templates.{places, IsRun}
 

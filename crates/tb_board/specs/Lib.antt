@@ -1,6 +1,7 @@
 pub mod Ahead
 pub mod Blocked
 pub mod Board
+pub mod Calm
 pub mod Changing
 pub mod Extends
 pub mod First
@@ -12,6 +13,8 @@ pub mod Names
 pub mod Numbers
 pub mod Roles
 pub mod Statuses
+pub mod TaskIndex
+pub mod Tasks
 pub mod Templates
 pub mod Walks
 pub mod World

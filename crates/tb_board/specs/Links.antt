@@ -1,17 +1,11 @@
 -- Which tasks of a board depend on which, by their places.
-use Rattle.std.specs.Prelude.{◌≡◌, ℕ, ◌==◌, Bool, false, List, [], ◌∷◌, Option, Some, None, map, position}
-use Rattle.std.specs.BTreeMap.{BTreeMap, get}
-use Rattle.std.specs.Ordering.{nat_cmp}
+use Rattle.std.specs.Prelude.{ℕ, Bool, false, List, [], ◌∷◌, Option, Some, None, map}
 use Rattle.tb_graph.specs.Walk as walk
 use Rattle.tb_graph.specs.Walk.{Graph}
 use Rattle.tb_graph.specs.Leads.{leads}
 use Rattle.tb_task.specs.declared.task.Task.{Task}
 use Rattle.tb_board.specs.declared.board.Board.{Board}
-use Rattle.tb_board.specs.Board.{ids}
-
--- the place of an identifier among these
-abbrev pub place_in : List ℕ → ℕ → Option ℕ
-place_in all id = position (λ i. i == id) all
+use Rattle.tb_board.specs.Tasks.{ids, place_in}
 
 abbrev pub with_place : Option ℕ → List ℕ → List ℕ
 with_place None places = places
@@ -42,7 +36,3 @@ leads_between g (Some from) (Some to) = leads g from to
 abbrev pub leads_on : Board → ℕ → ℕ → Bool
 leads_on b from to =
     leads_between (links b) (place_in (ids b.tasks) from) (place_in (ids b.tasks) to)
-
--- the map has the place of each identifier
-abbrev pub ArePlaces : List ℕ → BTreeMap ℕ ℕ → Type 0
-ArePlaces all places = (id : ℕ) → get nat_cmp places id ≡ place_in all id

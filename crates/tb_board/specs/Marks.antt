@@ -4,7 +4,8 @@ use Rattle.tb_task.specs.TaskId.{made}
 use Rattle.tb_board.specs.declared.board.Board.{Board}
 use Rattle.tb_task.specs.declared.task.Task.{Task}
 use Rattle.std.specs.List.{list_any}
-use Rattle.tb_board.specs.Board.{is_on, has_id}
+use Rattle.tb_board.specs.Board.{is_on}
+use Rattle.tb_board.specs.Tasks.{has_id}
 
 abbrev pub is_marked : List Bool → ℕ → Bool
 is_marked marks n = slice_index_or marks n false

@@ -3,7 +3,8 @@ use Rattle.std.specs.Prelude.{◌≡◌, ◌↔◌, ℕ, ◌==◌, true, List, [
 use Rattle.std.specs.List.{list_any}
 use Rattle.tb_task.specs.declared.task.Task.{Task}
 use Rattle.tb_board.specs.declared.board.Board.{Board}
-use Rattle.tb_board.specs.Board.{has_id, is_on}
+use Rattle.tb_board.specs.Board.{is_on}
+use Rattle.tb_board.specs.Tasks.{has_id}
 use Rattle.tb_board.specs.Links.{IsAcyclic, leads_on}
 
 -- the task depends on another one of the board

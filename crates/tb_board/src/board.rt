@@ -3,10 +3,11 @@ ghost use Rattle.tb_board.specs.Board.{is_on};
 
 use crate::ahead::Ahead;
 use crate::gone::Gone;
+use crate::task_list::TaskList;
 use crate::title::Title;
 use std::alloc::{AllocError, Global};
 use tb_task::{Task, TaskId};
-use tb_values::{Duplicate, Items, Shared};
+use tb_values::{Duplicate, Items};
 
 /// A board: its tasks in order of entry, the gone places of its templates, and how many instances ahead it looks. A copy of a board
 /// copies no task.
@@ -14,7 +15,7 @@ use tb_values::{Duplicate, Items, Shared};
 pub struct Board {
     pub number: u32,
     pub title: Title,
-    pub tasks: Items<Shared<Task>>,
+    pub tasks: TaskList,
     pub gone: Items<Gone>,
     pub ahead: Ahead,
 }
@@ -28,7 +29,7 @@ impl Board {
         Board {
             number,
             title,
-            tasks: Items::new(alloc),
+            tasks: TaskList::new(alloc),
             gone: Items::new(alloc),
             ahead: Ahead::one(),
         }
@@ -53,7 +54,7 @@ impl Board {
     pub fn has(&self, id: TaskId) -> bool
         ensures { result ≡ is_on self.now id }
     {
-        self.tasks.as_slice().iter().any(|task| task.get().id == id)
+        self.tasks.place_of(id).is_some()
     }
 }
 

@@ -10,6 +10,7 @@ use crate::first::{place_of_board, place_of_role};
 use crate::gone::{Gone, gone_without};
 use crate::key::Key;
 use crate::name::Name;
+use crate::task_list::TaskList;
 use crate::title::Title;
 use crate::world::{Person, Role, RoleOn, World};
 use std::alloc::{AllocError, Global};
@@ -241,8 +242,8 @@ fn board_with(board: Shared<Board>, place: usize, task: Shared<Task>) -> Result<
     Ok(board)
 }
 
-fn put_at(
-    tasks: &mut Items<Shared<Task>>,
+pub(crate) fn put_at(
+    tasks: &mut TaskList,
     place: usize,
     task: Shared<Task>,
 ) -> Result<(), AllocError>

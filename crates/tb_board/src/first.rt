@@ -1,5 +1,5 @@
 ghost use Rattle.std.specs.Prelude.{◌≡◌, MatchOption, position};
-ghost use Rattle.tb_board.specs.Board.{has_id};
+ghost use Rattle.tb_board.specs.Tasks.{has_id};
 ghost use Rattle.tb_board.specs.First.{IsFirst, IsNone};
 ghost use Rattle.tb_board.specs.World.{has_name, has_number, is_role_of};
 

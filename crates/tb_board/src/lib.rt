@@ -7,6 +7,7 @@
 mod ahead;
 mod blocked;
 mod board;
+mod calm;
 mod change;
 mod changing;
 mod draft;
@@ -16,7 +17,10 @@ mod key;
 mod links;
 mod name;
 mod numbers;
+mod replaying;
 mod statuses;
+mod task_index;
+mod task_list;
 mod title;
 mod viewing;
 mod waking;
@@ -32,16 +36,18 @@ pub use first::{place_of_board, place_of_task};
 pub use gone::{Gone, gone_without};
 pub use key::Key;
 pub use links::{
-    acyclic_boards_have_no_walks_back, blocked_tasks, blocking_tasks, is_acyclic_board, is_led,
-    places_of, walks_are_found,
+    Waits, acyclic_boards_have_no_walks_back, is_acyclic_board, is_led, places_of, waits_of,
+    walks_are_found,
 };
 pub use name::Name;
 pub use numbers::{least_number, next_number, taken_numbers};
+pub use replaying::{changed_on, replayed};
 pub use statuses::{
     has_template_form, is_open_status, is_pending_or_waiting_status, is_pending_status,
     is_template_task, settled_status,
 };
+pub use task_list::TaskList;
 pub use title::Title;
-pub use viewing::woken_task;
+pub use viewing::{woken, woken_task};
 pub use waking::{has_waited, wake_draft};
 pub use world::{Person, Role, RoleOn, World};

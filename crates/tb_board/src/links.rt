@@ -1,9 +1,10 @@
 ghost use Rattle.std.specs.Prelude.{◌≡◌, ◌<◌, [], ◌∷◌, ◌++◌, length, IfOk, OnOk, slice_index_or, slice_set};
 ghost use Rattle.tb_board.specs.Blocked.{are_open, blocked, blocking};
-ghost use Rattle.tb_board.specs.Board.{ids};
-ghost use Rattle.tb_board.specs.Links.{ArePlaces, depends_of, leads_on, links, place_in, places_in};
+ghost use Rattle.tb_board.specs.Tasks.{ids, ArePlaces, place_in};
+ghost use Rattle.tb_board.specs.Links.{depends_of, leads_on, links, places_in};
 ghost use Rattle.tb_graph.specs.Leads.{is_acyclic};
 ghost use Rattle.tb_board.specs.Walks.{IsAcyclicByWalks, LeadsByWalks};
+ghost use Rattle.tb_board.specs.declared.board.Board.{Board as BoardValue};
 
 use crate::board::Board;
 use crate::first::first_task;
@@ -18,11 +19,10 @@ use tb_values::Shared;
 pub fn is_led(alloc: Global, board: &Board, from: TaskId, to: TaskId) -> Result<bool, AllocError>
     ensures { IfOk result (λ answer. answer ≡ leads_on board.now from to) }
 {
-    let tasks = board.tasks.as_slice();
-    let Some(from) = place_by_id(tasks, from) else {
+    let Some(from) = board.tasks.place_of(from) else {
         return Ok(false);
     };
-    let Some(to) = place_by_id(tasks, to) else {
+    let Some(to) = board.tasks.place_of(to) else {
         return Ok(false);
     };
     links_of(alloc, board)?.reaches(from, to)
@@ -35,20 +35,37 @@ pub fn is_acyclic_board(alloc: Global, board: &Board) -> Result<bool, AllocError
     links_of(alloc, board)?.acyclic()
 }
 
-/// Which tasks are blocked, by their places.
-pub fn blocked_tasks(alloc: Global, board: &Board) -> Result<Vec<bool>, AllocError>
-    ensures { IfOk result (λ marks. marks.items ≡ blocked board.now) }
-{
-    let open_tasks = open_tasks(alloc, board.tasks.as_slice())?;
-    links_of(alloc, board)?.blocked(open_tasks.as_slice())
+/// Which tasks are blocked, and which are blocking, by their places.
+#[derive(Drop)]
+pub struct Waits {
+    pub blocked: Vec<bool>,
+    pub blocking: Vec<bool>,
 }
 
-/// Which tasks are blocking, by their places.
-pub fn blocking_tasks(alloc: Global, board: &Board) -> Result<Vec<bool>, AllocError>
-    ensures { IfOk result (λ marks. marks.items ≡ blocking board.now) }
+/// Which tasks wait for others, and which ones others wait for.
+pub fn waits_of(alloc: Global, board: &Board) -> Result<Waits, AllocError>
+    ensures blocked { IfOk result (λ waits. waits.blocked.items ≡ blocked board.now) }
+    ensures blocking { IfOk result (λ waits. waits.blocking.items ≡ blocking board.now) }
 {
     let open_tasks = open_tasks(alloc, board.tasks.as_slice())?;
-    links_of(alloc, board)?.blocking(open_tasks.as_slice())
+    let graph = links_of(alloc, board)?;
+    let blocked = blocked_marks(&graph, open_tasks.as_slice())?;
+    let blocking = blocking_marks(&graph, open_tasks.as_slice())?;
+    Ok(Waits { blocked, blocking })
+}
+
+fn blocked_marks(graph: &Links, open_tasks: &[bool]) -> Result<Vec<bool>, AllocError>
+    ensures { IfOk result (λ marks. (b : BoardValue) → graph.now ≡ links b
+        → open_tasks.now ≡ are_open b.tasks → marks.items ≡ blocked b) }
+{
+    graph.blocked(open_tasks)
+}
+
+fn blocking_marks(graph: &Links, open_tasks: &[bool]) -> Result<Vec<bool>, AllocError>
+    ensures { IfOk result (λ marks. (b : BoardValue) → graph.now ≡ links b
+        → open_tasks.now ≡ are_open b.tasks → marks.items ≡ blocking b) }
+{
+    graph.blocking(open_tasks)
 }
 
 fn open_tasks(alloc: Global, tasks: &[Shared<Task>]) -> Result<Vec<bool>, AllocError>
@@ -66,10 +83,23 @@ fn links_of(alloc: Global, board: &Board) -> Result<Links, AllocError>
     ensures { IfOk result (λ g. g ≡ links board.now) }
 {
     let tasks = board.tasks.as_slice();
-    let places = places_of(alloc, tasks)?;
+    match board.tasks.places() {
+        Some(places) => links_by(alloc, tasks, places),
+        None => links_by(alloc, tasks, &places_of(alloc, tasks)?),
+    }
+}
+
+fn links_by(
+    alloc: Global,
+    tasks: &[Shared<Task>],
+    places: &BTreeMap<TaskId, usize>,
+) -> Result<Links, AllocError>
+    requires { ArePlaces (ids tasks.now) places.now }
+    ensures { IfOk result (λ g. (b : BoardValue) → tasks.now ≡ b.tasks → g ≡ links b) }
+{
     let mut links = Links::new(alloc, tasks.len())?;
     for from in 0..tasks.len() {
-        add_depends(&mut links, &places, tasks, from)?;
+        add_depends(&mut links, places, tasks, from)?;
     }
     Ok(links)
 }

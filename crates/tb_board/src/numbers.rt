@@ -79,8 +79,12 @@ pub fn taken_numbers(alloc: Global, board: &Board) -> Result<Vec<bool>, AllocErr
 /// The least number from 1 whose identifier isn't on a board, full or not.
 pub fn least_number(alloc: Global, board: &Board) -> Result<u32, AllocError>
     requires { length board.now.tasks ≤ most_tasks }
-    ensures { IfOk result (λ number. number ≡ free board.now) }
+    ensures free { IfOk result (λ number. number ≡ free board.now) }
+    ensures from { IfOk result (λ number. 1 ≤ number) }
 {
+    if let Some(number) = board.tasks.least_free(board.number) {
+        return Ok(number);
+    }
     let marks = taken_numbers(alloc, board)?;
     let number = next_unmarked(&marks, 1);
     Ok(number as u32)

@@ -1,5 +1,6 @@
 ghost use Rattle.std.specs.Prelude.{◌≡◌, ◌<◌, length, IfOk, slice_index_or, slice_set};
-ghost use Rattle.tb_board.specs.Board.{wake, wakes, woken, has_come, is_waiting};
+ghost use Rattle.tb_board.specs.Board.{wake};
+ghost use Rattle.tb_board.specs.Tasks.{wakes, woken, has_come, is_waiting};
 ghost use Rattle.tb_board.specs.Changing.{Follows};
 ghost use Rattle.tb_task.specs.declared.status.Status.TheVariants.{Pending};
 ghost use Rattle.tb_task.specs.declared.task.Task.{Task};
@@ -48,20 +49,20 @@ pub(crate) fn pending_task(task: &Task) -> Result<Task, AllocError>
 }
 
 /// Whether a task that waits has its wait behind it.
-#[tactic(auto, unfolding(crate::specs::Board::wakes))]
+#[tactic(auto, unfolding(crate::specs::Tasks::wakes))]
 pub fn has_waited(task: &Task, at: Moment) -> bool
     ensures { result ≡ wakes at task.now }
 {
     is_waiting_status(task.status) && is_over(task.wait, at)
 }
 
-fn is_waiting_status(status: Status) -> bool
+pub(crate) fn is_waiting_status(status: Status) -> bool
     ensures { result ≡ is_waiting status }
 {
     matches!(status, Status::Waiting)
 }
 
-fn is_over(wait: Option<Moment>, at: Moment) -> bool
+pub(crate) fn is_over(wait: Option<Moment>, at: Moment) -> bool
     ensures { result ≡ has_come wait at }
 {
     match wait {

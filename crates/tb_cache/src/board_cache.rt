@@ -8,7 +8,7 @@ ghost use Rattle.tb_board.specs.declared.world.World.{World as WorldValue};
 ghost use Rattle.tb_cache.specs.BoardCache.{AreOf};
 ghost use Rattle.tb_cache.specs.Following.{TouchesNone, followed, followed_by, touched as touched_by};
 
-use crate::following::{follow, touched};
+use crate::following::{follow, settled, touched};
 use lru::LruCache;
 use std::alloc::{AllocError, Global};
 use std::marker::Model;
@@ -123,15 +123,21 @@ impl BoardCache {
         ensures of { (w : WorldValue) → AreOf w self.old.entries
             → AreOf (changed w changes.now) self.new.entries }
     {
+        let is_single = changes.len() == 1;
         let mut ended = Ok(());
         for change in changes {
-            ended = ended.and(self.follow_one(alloc, change));
+            ended = ended.and(self.follow_one(alloc, change, is_single));
         }
         ended
     }
 
-    /// The board that the change touches is taken out and put back.
-    fn follow_one(&mut self, alloc: Global, change: &Change) -> Result<(), AllocError>
+    /// The board that the change touches is taken out and put back. Behind many changes its index isn't tightened: the next single one does it.
+    fn follow_one(
+        &mut self,
+        alloc: Global,
+        change: &Change,
+        is_single: bool,
+    ) -> Result<(), AllocError>
         ensures all { OnOk result (self.new.entries ≡ followed_by self.old.entries change.now) }
         ensures others { (n : ℕ) → touched_by change.now ≢ Some n
             → lookup (nat_eq n) self.new.entries ≡ lookup (nat_eq n) self.old.entries }
@@ -146,7 +152,7 @@ impl BoardCache {
             return Ok(());
         };
         let later = follow(alloc, board, change)?;
-        let later = Shared::new(alloc, later)?;
+        let later = Shared::new(alloc, settled(later, is_single))?;
         self.put_under(number, later)
     }
 }

@@ -2,9 +2,8 @@ ghost use Rattle.std.specs.Prelude.{◌≡◌, IfOk};
 ghost use Rattle.tb_board.specs.Changing.{changed_on};
 ghost use Rattle.tb_cache.specs.Following.{touched};
 
-use crate::replaying::changed_on;
 use std::alloc::{AllocError, Global};
-use tb_board::{Board, Change};
+use tb_board::{Board, Change, changed_on};
 use tb_values::Shared;
 
 /// The board that a change touches: its tasks, its gone places, or how far ahead it looks.
@@ -32,4 +31,14 @@ pub(crate) fn follow(
         Ok(board) => changed_on(alloc, board, change),
         Err(_) => Err(AllocError),
     }
+}
+
+/// The board, with its index tightened where the change was a single one.
+pub(crate) fn settled(mut board: Board, is_single: bool) -> Board
+    ensures { result ≡ board }
+{
+    if is_single {
+        board.tasks.tighten_index();
+    }
+    board
 }

@@ -6,7 +6,5 @@
 
 mod board_cache;
 mod following;
-mod replaying;
 
 pub use board_cache::{BoardCache, MOST_BOARDS_AT_HAND};
-pub use replaying::replayed;

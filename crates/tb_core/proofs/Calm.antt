@@ -6,7 +6,8 @@ use Rattle.tb_task.specs.declared.task.Task.{Task}
 use Rattle.tb_task.specs.Checks.{is_recurring}
 use Rattle.tb_board.specs.declared.board.Board.{Board}
 use Rattle.tb_board.specs.declared.draft.Draft.{Draft}
-use Rattle.tb_board.specs.Board.{wake, wakes, woken}
+use Rattle.tb_board.specs.Board.{wake}
+use Rattle.tb_board.specs.Tasks.{wakes, woken}
 use Rattle.tb_board.specs.Changing.{IsDraft, IsOn, replayed}
 use Rattle.tb_board.proofs.Awake.{not_woken}
 use Rattle.tb_sweep.specs.Sweeping.{added, more, sweep}
@@ -20,29 +21,14 @@ use Rattle.tb_core.specs.declared.judged.CommandFailure.{CommandFailure}
 use Rattle.tb_core.specs.declared.judged.CommandFailure.TheVariants.{Memory, Refused}
 use Rattle.tb_core.specs.declared.refusal.Refusal.{Refusal}
 use Rattle.tb_core.specs.Apply.{answered, judged, outcome}
-use Rattle.tb_core.specs.Calm.{step_stirs, stirs}
+use Rattle.tb_board.specs.Calm.{stirs}
+use Rattle.tb_board.proofs.Stirring.{both, calm_awake, neither, push_calm, set_calm}
+use Rattle.tb_core.specs.Calm.{step_stirs}
 use Rattle.tb_core.specs.Deciding.{IsAccepted}
 use Rattle.tb_core.specs.Effect.{after, Fits, step_changes}
 use Rattle.tb_core.specs.Refusals.{Fails}
 
-neither : (a b : Bool) → (a || b) ≡ false → (a ≡ false) × (b ≡ false)
-neither false b h = (refl, h)
-neither true b h = absurd (cc)
-
-both : (a b : Bool) → a ≡ false → b ≡ false → (a || b) ≡ false
-both a b off also = rw (off, also) refl
-
 -- ---- a calm board is awake, and none of its tasks recurs
-
-calm_wakes : (m : ℕ) (ts : List Task) → list_any (stirs m) ts ≡ false → map (woken m) ts ≡ ts
-calm_wakes m [] calm = refl
-calm_wakes m (t ∷ ts) calm =
-    let parts = neither (stirs m t) (list_any (stirs m) ts) calm in
-    let here = neither (wakes m t) (is_recurring t.status) parts.0 in
-    ap (λ (x : Task). x ∷ map (woken m) ts) (not_woken m t here.0) ∙ ap (λ l. t ∷ l) (calm_wakes m ts parts.1)
-
-calm_awake : (b : Board) (m : ℕ) → list_any (stirs m) b.tasks ≡ false → wake b m ≡ b
-calm_awake b m calm = ap (λ ts. record b { tasks = ts }) (calm_wakes m b.tasks calm)
 
 calm_plain : (m : ℕ) (ts : List Task) → list_any (stirs m) ts ≡ false → list_any (λ (t : Task). is_recurring t.status) ts ≡ false
 calm_plain m [] calm = refl
@@ -52,20 +38,6 @@ calm_plain m (t ∷ ts) calm =
     both (is_recurring t.status) (list_any (λ (t : Task). is_recurring t.status) ts) here.1 (calm_plain m ts parts.1)
 
 -- ---- a step that puts no such task leaves it calm
-
-set_calm : (m : ℕ) (ts : List Task) (place : ℕ) (t : Task) → list_any (stirs m) ts ≡ false → stirs m t ≡ false → list_any (stirs m) (set ts place t) ≡ false
-set_calm m [] place t calm here = refl
-set_calm m (x ∷ xs) zero t calm here =
-    both (stirs m t) (list_any (stirs m) xs) here (neither (stirs m x) (list_any (stirs m) xs) calm).1
-set_calm m (x ∷ xs) (suc place) t calm here =
-    let parts = neither (stirs m x) (list_any (stirs m) xs) calm in
-    both (stirs m x) (list_any (stirs m) (set xs place t)) parts.0 (set_calm m xs place t parts.1 here)
-
-push_calm : (m : ℕ) (ts : List Task) (t : Task) → list_any (stirs m) ts ≡ false → stirs m t ≡ false → list_any (stirs m) (ts ++ t ∷ []) ≡ false
-push_calm m [] t calm here = both (stirs m t) false here refl
-push_calm m (x ∷ xs) t calm here =
-    let parts = neither (stirs m x) (list_any (stirs m) xs) calm in
-    both (stirs m x) (list_any (stirs m) (xs ++ t ∷ [])) parts.0 (push_calm m xs t parts.1 here)
 
 stays_calm : (b : Board) (m : ℕ) (s : Step) → list_any (stirs m) b.tasks ≡ false → step_stirs m s ≡ false → list_any (stirs m) (after b s).tasks ≡ false
 stays_calm b m (Set place t) calm here = set_calm m b.tasks place t calm here

@@ -4,7 +4,7 @@ use Rattle.std.specs.List.{list_any}
 use Rattle.std.proofs.lemmas.Bool.{cases_Bool, eqb-true, eq-eqb}
 use Rattle.tb_task.specs.declared.task.Task.{Task}
 use Rattle.tb_board.specs.declared.board.Board.{Board}
-use Rattle.tb_board.specs.Board.{has_id}
+use Rattle.tb_board.specs.Tasks.{has_id}
 use Rattle.tb_board.specs.Links.{leads_on}
 use Rattle.tb_board.specs.Walks.{DependsOn, IsTaskWalk}
 use Rattle.tb_board.proofs.Walking.{leads_by_walks}

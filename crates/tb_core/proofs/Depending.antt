@@ -5,7 +5,7 @@ use Rattle.std.specs.Ordering.{nat_cmp}
 use Rattle.std.proofs.lemmas.List.{set-get_or}
 use Rattle.tb_task.specs.declared.task.Task.{Task}
 use Rattle.tb_board.specs.declared.board.Board.{Board}
-use Rattle.tb_board.specs.Board.{has_id}
+use Rattle.tb_board.specs.Tasks.{has_id}
 use Rattle.tb_board.proofs.Places.{changed_there}
 use Rattle.tb_core.specs.declared.command.AnswerDetail.TheVariants.{Changed}
 use Rattle.tb_core.specs.Linking.{closes_walk, depend_refusals, depends_on, IsPlaceToLink, judged_depend, judged_undepend, linked, undepend_refusals, unlinked}

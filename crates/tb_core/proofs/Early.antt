@@ -2,7 +2,8 @@
 use Rattle.std.proofs.Common.{◌≡◌, ℕ, Option, Some, None, refl, sym, ◌∙◌, ap, subst, MatchOption}
 use Rattle.std.proofs.lemmas.List.{length-map}
 use Rattle.tb_board.specs.declared.board.Board.{Board}
-use Rattle.tb_board.specs.Board.{wake, woken}
+use Rattle.tb_board.specs.Board.{wake}
+use Rattle.tb_board.specs.Tasks.{woken}
 use Rattle.tb_board.proofs.Goodness.{ids-wake, lacks-same, on-same}
 use Rattle.tb_core.specs.declared.command.Command.{Command}
 use Rattle.tb_core.specs.declared.command.Command.TheVariants.{Add}

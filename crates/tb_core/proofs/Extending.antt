@@ -7,7 +7,8 @@ use Rattle.tb_task.specs.declared.task.Task.{Task}
 use Rattle.tb_board.specs.declared.board.Board.{Board}
 use Rattle.tb_board.specs.declared.world.Role.{Role}
 use Rattle.tb_board.specs.declared.world.World.{World}
-use Rattle.tb_board.specs.Board.{has_id, wake, with_task}
+use Rattle.tb_board.specs.Board.{wake, with_task}
+use Rattle.tb_board.specs.Tasks.{has_id}
 use Rattle.tb_board.specs.Changing.{change_board}
 use Rattle.tb_board.specs.Extends.{Extends, ExtendsBoard, ExtendsTask, IsFrontOf}
 use Rattle.tb_board.specs.World.{find_board, has_number, number_of, role_of}

@@ -9,7 +9,8 @@ use Rattle.tb_task.specs.declared.status.Status.TheVariants.{Pending, Waiting, R
 use Rattle.tb_task.specs.declared.task.Task.{Task}
 use Rattle.tb_task.specs.Checks.{fault_of, is_recurring}
 use Rattle.tb_board.specs.declared.board.Board.{Board}
-use Rattle.tb_board.specs.Board.{has_id, is_on, lacks_depends, with_task}
+use Rattle.tb_board.specs.Board.{is_on, lacks_depends, with_task}
+use Rattle.tb_board.specs.Tasks.{has_id}
 use Rattle.tb_board.specs.Good.{IsGood, IsSound}
 use Rattle.tb_board.specs.Instances.{has_template}
 use Rattle.tb_board.proofs.Goodness.{good-push}

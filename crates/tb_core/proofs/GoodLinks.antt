@@ -6,7 +6,8 @@ use Rattle.std.proofs.lemmas.Bool.{cases_Bool}
 use Rattle.tb_task.specs.declared.task.Task.{Task}
 use Rattle.tb_task.specs.Checks.{fault_of, has_bad_pair, has_bad_recurrence, has_bad_text}
 use Rattle.tb_board.specs.declared.board.Board.{Board}
-use Rattle.tb_board.specs.Board.{has_id, is_on}
+use Rattle.tb_board.specs.Board.{is_on}
+use Rattle.tb_board.specs.Tasks.{has_id}
 use Rattle.tb_board.specs.First.{change_first}
 use Rattle.tb_board.specs.Good.{IsGood, IsSound}
 use Rattle.tb_board.proofs.Runs.{KeepsLinks}

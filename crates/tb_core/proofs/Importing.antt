@@ -8,7 +8,8 @@ use Rattle.std.proofs.lemmas.List.{drop_more, map-append, take_more}
 use Rattle.std.proofs.lemmas.List.Folds.{list_any-append}
 use Rattle.tb_task.specs.declared.task.Task.{Task}
 use Rattle.tb_board.specs.declared.board.Board.{Board}
-use Rattle.tb_board.specs.Board.{has_id, with_task}
+use Rattle.tb_board.specs.Board.{with_task}
+use Rattle.tb_board.specs.Tasks.{has_id}
 use Rattle.tb_core.specs.ImportTodo.{new_beside, HasIdsOf}
 
 abbrev pub nows : List (Bor Task) → List Task

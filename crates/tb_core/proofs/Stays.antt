@@ -32,7 +32,8 @@ use Rattle.tb_core.specs.ImportTodo.{first_bad, import_todo_refusals, imported, 
 use Rattle.tb_core.proofs.GoodImports.{good-new, plain_all}
 use Rattle.tb_core.proofs.GoodLinks.{good-linked, good-unlinked}
 use Rattle.tb_core.specs.Add.{add_fault, add_refusals, entered, entered_id, first_fault, is_full, is_linked, is_misread}
-use Rattle.tb_board.specs.Board.{lacks_depends, has_id, is_on, wake, with_task}
+use Rattle.tb_board.specs.Board.{lacks_depends, is_on, wake, with_task}
+use Rattle.tb_board.specs.Tasks.{has_id}
 use Rattle.tb_core.specs.Allowed.{allows}
 use Rattle.tb_core.specs.Apply.{answered, applied, board_for, decided, if_allowed, outcome, person_for, role_answer, role_given, role_refusals, seen_of, seen_with, with_role}
 use Rattle.tb_board.specs.Changing.{with_ahead}

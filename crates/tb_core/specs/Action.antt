@@ -9,7 +9,8 @@ use Rattle.tb_core.specs.declared.command.AnswerDetail.{AnswerDetail}
 use Rattle.tb_core.specs.declared.command.AnswerDetail.TheVariants.{Changed}
 use Rattle.tb_core.specs.declared.refusal.Refusal.{Refusal}
 use Rattle.tb_core.specs.declared.refusal.Refusal.TheVariants.{NoTask, WrongStatus, NoLink}
-use Rattle.tb_board.specs.Board.{has_id, is_on}
+use Rattle.tb_board.specs.Board.{is_on}
+use Rattle.tb_board.specs.Tasks.{has_id}
 use Rattle.tb_board.specs.First.{change_first}
 use Rattle.tb_core.specs.Notes.{annotated, denotated, has_note, note_fault}
 use Rattle.tb_core.specs.Refusals.{bad_task, least, unless_refused, where_holds}

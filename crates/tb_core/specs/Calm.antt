@@ -1,16 +1,10 @@
 -- Boards on which no task wakes at a moment, and none recurs.
-use Rattle.std.specs.Prelude.{ℕ, Bool, true, false, ◌||◌}
-use Rattle.tb_task.specs.declared.task.Task.{Task}
-use Rattle.tb_task.specs.Checks.{is_recurring}
-use Rattle.tb_board.specs.Board.{wakes}
+use Rattle.std.specs.Prelude.{ℕ, Bool, true, false}
+use Rattle.tb_board.specs.Calm.{stirs}
 use Rattle.tb_core.specs.declared.command.Command.{Command}
 use Rattle.tb_core.specs.declared.command.Command.TheVariants.{Add, OnTask, Modify, ImportJson, ImportTodo, Sweep, SetRole, NewPerson, NewBoard, Depend, Undepend, SetAhead}
 use Rattle.tb_core.specs.declared.effect.Step.{Step}
 use Rattle.tb_core.specs.declared.effect.Step.TheVariants.{Set, Push, Stay, LookAhead}
-
--- the task wakes at m, or recurs
-abbrev pub stirs : ℕ → Task → Bool
-stirs m t = wakes m t || is_recurring t.status
 
 abbrev pub step_stirs : ℕ → Step → Bool
 step_stirs m (Set place t) = stirs m t

@@ -6,7 +6,8 @@ use Rattle.std.specs.Ordering.{nat_cmp}
 use Rattle.std.specs.Set.{remove_key}
 use Rattle.tb_task.specs.declared.task.Task.{Task}
 use Rattle.tb_board.specs.declared.board.Board.{Board}
-use Rattle.tb_board.specs.Board.{has_id, is_on}
+use Rattle.tb_board.specs.Board.{is_on}
+use Rattle.tb_board.specs.Tasks.{has_id}
 use Rattle.tb_board.specs.First.{change_first, IsFirst}
 use Rattle.tb_board.specs.Links.{leads_on}
 use Rattle.tb_board.specs.Statuses.{is_open}

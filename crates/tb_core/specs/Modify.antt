@@ -1,7 +1,8 @@
 -- Changing attributes of one task of a board.
 use Rattle.std.specs.Prelude.{ℕ, Bool, not, ◌&&◌, ◌||◌, List, [], ◌∷◌, Option, Some, option_and_then, Result, codes, find, if◌then◌else◌}
 use Rattle.tb_board.specs.declared.board.Board.{Board}
-use Rattle.tb_board.specs.Board.{has_id, is_on}
+use Rattle.tb_board.specs.Board.{is_on}
+use Rattle.tb_board.specs.Tasks.{has_id}
 use Rattle.tb_board.specs.First.{change_first}
 use Rattle.tb_board.specs.Statuses.{is_open, is_template}
 use Rattle.tb_core.specs.declared.command.AnswerDetail.{AnswerDetail}

@@ -9,9 +9,7 @@ use crate::notes::{annotated_task, denotated_task, fault_in_note, has_note_of};
 use crate::refusal::Refusal;
 use crate::transitions::{completed_task, deleted_task, reopened_task, started_task, stopped_task};
 use std::alloc::AllocError;
-use tb_board::{
-    Board, is_open_status, is_pending_or_waiting_status, is_pending_status, place_of_task,
-};
+use tb_board::{Board, is_open_status, is_pending_or_waiting_status, is_pending_status};
 use tb_task::{Field, Moment, Task, TaskId};
 use tb_values::Text;
 
@@ -32,7 +30,7 @@ pub fn act(board: &Board, id: TaskId, action: &Action, at: Moment) -> Result<Eff
     ensures gives { GivesEffect board.now result (judged_action board.now id action.now at) }
     ensures fits { IfOk result (λ effect. Fits board.now effect.step) }
 {
-    let Some(place) = place_of_task(board.tasks.as_slice(), id) else {
+    let Some(place) = board.tasks.place_of(id) else {
         return Err(CommandFailure::Refused(Refusal::NoTask));
     };
     let task = board.task_at(place);

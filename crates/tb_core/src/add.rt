@@ -11,7 +11,7 @@ use crate::effect::{Effect, Step};
 use crate::judged::CommandFailure;
 use crate::refusal::Refusal;
 use std::alloc::{AllocError, Global};
-use tb_board::{Board, has_template_form, next_number, taken_numbers};
+use tb_board::{Board, has_template_form, least_number};
 use tb_task::{Field, Incoming, MOST_TASKS, Moment, Task, TaskId, check};
 use tb_values::Duplicate;
 
@@ -55,7 +55,8 @@ pub fn add(
     Ok(Effect { step, told })
 }
 
-fn lacks_one(board: &Board, ids: &[TaskId]) -> bool
+/// Whether one of these isn't on the board.
+pub fn lacks_one(board: &Board, ids: &[TaskId]) -> bool
     ensures { result ≡ lacks_depends board.now ids.now }
 {
     ids.iter().any(|id| !board.has(*id))
@@ -100,9 +101,8 @@ fn id_for(alloc: Global, board: &Board, incoming: &Incoming) -> Result<TaskId, A
     if incoming.named {
         return Ok(incoming.task.id);
     }
-    let marks = taken_numbers(alloc, board)?;
-    let number = next_number(board, &marks, 1);
-    match TaskId::made(board.number, number as u64) {
+    let number = least_number(alloc, board)?;
+    match TaskId::made(board.number, u64::from(number)) {
         Some(id) => Ok(id),
         None => unreachable!(),
     }

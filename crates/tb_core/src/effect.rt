@@ -2,7 +2,8 @@ ghost use Rattle.std.specs.Prelude.{◌≡◌, ◌∷◌, [], IfOk};
 ghost use Rattle.std.specs.List.{list_any};
 ghost use Rattle.tb_board.specs.Changing.{Follows};
 ghost use Rattle.tb_board.specs.declared.change.Change.TheVariants.{PutTask, SetAhead};
-ghost use Rattle.tb_core.specs.Calm.{step_stirs, stirs};
+ghost use Rattle.tb_board.specs.Calm.{stirs};
+ghost use Rattle.tb_core.specs.Calm.{step_stirs};
 ghost use Rattle.tb_core.specs.Effect.{after, Fits, step_changes};
 
 use crate::command::AnswerDetail;
@@ -112,10 +113,13 @@ fn stirs(task: &Task, at: Moment) -> bool
     has_waited(task, at) || is_recurring_status(task.status)
 }
 
-/// Whether a task of the board wakes at the moment, or recurs.
+/// Whether a task of the board wakes at the moment, or recurs. The tasks are gone through only where one may.
 pub fn is_stirred(board: &Board, at: Moment) -> bool
     ensures { result ≡ list_any (stirs at) board.now.tasks }
 {
+    if !board.tasks.may_stir(at) {
+        return false;
+    }
     board
         .tasks
         .as_slice()

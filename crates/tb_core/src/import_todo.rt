@@ -1,6 +1,7 @@
 ghost use Rattle.std.specs.Prelude.{◌≡◌, ◌∷◌, [], ◌++◌, List, map, not, IfOk, OnOk};
 ghost use Rattle.std.specs.List.{list_any};
-ghost use Rattle.tb_board.specs.Board.{has_id, with_task};
+ghost use Rattle.tb_board.specs.Board.{with_task};
+ghost use Rattle.tb_board.specs.Tasks.{has_id};
 ghost use Rattle.tb_board.specs.Changing.{Follows};
 ghost use Rattle.tb_core.specs.ImportTodo.{first_bad, judged_import_todo, line_fault, new_beside, HasIdsOf, is_of_no_line, is_pending_or_completed, is_tied};
 ghost use Rattle.tb_core.specs.Refusals.{Gives};

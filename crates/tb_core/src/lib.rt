@@ -25,6 +25,7 @@ mod refusal;
 mod transitions;
 
 pub use action::Action;
+pub use add::lacks_one;
 pub use command::{Answer, AnswerDetail, BoardAnswer, Command};
 pub use deciding::{Decision, decide};
 pub use look::{Seen, SeenBoard, SeenPerson, look_for};

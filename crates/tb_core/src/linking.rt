@@ -15,7 +15,7 @@ use crate::effect::{Effect, Step};
 use crate::judged::CommandFailure;
 use crate::refusal::Refusal;
 use std::alloc::{AllocError, Global};
-use tb_board::{Board, is_led, is_open_status, place_of_task};
+use tb_board::{Board, is_led, is_open_status};
 use tb_task::{Moment, Task, TaskId};
 use tb_values::Duplicate;
 
@@ -72,7 +72,7 @@ fn place_to_link(board: &Board, id: TaskId, on: TaskId) -> Result<usize, Command
         (λ failure. (last : Option Refusal) (later : Board) (told : AnswerDetail)
         → Fails failure (unless_refused (least (link_refusals board.now id on last)) later told)) }
 {
-    let Some(place) = place_of_task(board.tasks.as_slice(), id) else {
+    let Some(place) = board.tasks.place_of(id) else {
         return Err(CommandFailure::Refused(Refusal::NoTask));
     };
     if !board.has(on) {

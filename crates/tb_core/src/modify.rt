@@ -8,7 +8,7 @@ use crate::effect::{Effect, Step};
 use crate::judged::CommandFailure;
 use crate::refusal::Refusal;
 use std::alloc::Global;
-use tb_board::{Board, is_open_status, is_template_task, place_of_task};
+use tb_board::{Board, is_open_status, is_template_task};
 use tb_task::{Edit, Field, Moment, Task, TaskId, check};
 
 /// Sets and removes attributes of one task of a board that is awake.
@@ -22,7 +22,7 @@ pub fn modify(
     ensures gives { GivesEffect board.now result (judged_modify board.now id edits.now at) }
     ensures fits { IfOk result (λ effect. Fits board.now effect.step) }
 {
-    let Some(place) = place_of_task(board.tasks.as_slice(), id) else {
+    let Some(place) = board.tasks.place_of(id) else {
         return Err(CommandFailure::Refused(Refusal::NoTask));
     };
     let task = board.task_at(place);

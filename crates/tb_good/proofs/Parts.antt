@@ -9,9 +9,9 @@ use Rattle.tb_task.specs.Checks.{fault_of}
 use Rattle.tb_board.specs.declared.board.Board.{Board}
 use Rattle.tb_board.specs.declared.world.RoleOn.{RoleOn}
 use Rattle.tb_board.specs.declared.world.World.{World}
-use Rattle.tb_board.specs.Board.{ids, lacks_depends}
+use Rattle.tb_board.specs.Board.{lacks_depends}
+use Rattle.tb_board.specs.Tasks.{ids, ArePlaces}
 use Rattle.tb_board.specs.Good.{has_template_form, IsGood, IsLinkedOn, IsSound}
-use Rattle.tb_board.specs.Links.{ArePlaces}
 use Rattle.tb_core.specs.GoodWorld.{IsGoodWorld, IsRoleIn}
 use Rattle.tb_good.specs.Parts.{HasGoodBoards, HasGoodInstances, HasGoodLinks, HasGoodPeople, HasGoodRoles, HasGoodTasks, is_role_in, is_sound, lacks_place}
 use Rattle.tb_good.proofs.Places.{lacks_same}

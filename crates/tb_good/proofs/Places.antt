@@ -7,10 +7,10 @@ use Rattle.std.proofs.lemmas.List.{length-map}
 use Rattle.tb_task.specs.declared.task.Task.{Task}
 use Rattle.tb_board.specs.declared.board.Board.{Board}
 use Rattle.tb_board.specs.declared.gone.Gone.{Gone}
-use Rattle.tb_board.specs.Board.{has_id, ids, is_on, lacks_depends}
+use Rattle.tb_board.specs.Board.{is_on, lacks_depends}
+use Rattle.tb_board.specs.Tasks.{has_id, ids, ArePlaces, place_in}
 use Rattle.tb_board.specs.First.{IsFirst, IsNone}
 use Rattle.tb_board.specs.Instances.{by_template, place_among}
-use Rattle.tb_board.specs.Links.{ArePlaces, place_in}
 use Rattle.tb_good.specs.Parts.{comes_before, lacks_place, place_or_end}
 use Rattle.tb_board.proofs.Linking.{place_by_id}
 use Rattle.tb_board.proofs.Places.{place}

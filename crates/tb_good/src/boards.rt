@@ -1,9 +1,8 @@
 //! Whole boards.
 
 ghost use Rattle.std.specs.Prelude.{◌≡◌, ◌↔◌, IsTrue, IfOk};
-ghost use Rattle.tb_board.specs.Board.{ids};
+ghost use Rattle.tb_board.specs.Tasks.{ids, ArePlaces};
 ghost use Rattle.tb_board.specs.Good.{IsGood};
-ghost use Rattle.tb_board.specs.Links.{ArePlaces};
 ghost use Rattle.tb_good.specs.Parts.{HasGoodInstances, HasGoodLinks};
 
 use crate::gone::{are_in_order, are_on_templates};

@@ -3,9 +3,8 @@
 ghost use Rattle.std.specs.Prelude.{◌≡◌, ◌↔◌, IsTrue};
 ghost use Rattle.std.specs.List.{list_all, list_any};
 ghost use Rattle.std.specs.List.Sorted.{IsStrictlySortedBy};
-ghost use Rattle.tb_board.specs.Board.{ids};
+ghost use Rattle.tb_board.specs.Tasks.{ids, ArePlaces};
 ghost use Rattle.tb_board.specs.Instances.{by_template, is_template_with};
-ghost use Rattle.tb_board.specs.Links.{ArePlaces};
 ghost use Rattle.tb_good.specs.Parts.{comes_before, place_or_end};
 ghost use Rattle.tb_good.specs.Templates.{AreTemplates};
 

@@ -2,7 +2,7 @@
 
 ghost use Rattle.std.specs.Prelude.{◌≡◌, ◌↔◌, IsTrue, IfOk};
 ghost use Rattle.std.specs.List.{list_all};
-ghost use Rattle.tb_board.specs.Board.{ids};
+ghost use Rattle.tb_board.specs.Tasks.{ids};
 ghost use Rattle.tb_good.specs.Parts.{HasGoodTasks, is_sound};
 
 use crate::distinct::are_distinct;

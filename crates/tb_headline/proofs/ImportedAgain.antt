@@ -8,7 +8,8 @@ use Rattle.tb_graph.proofs.Leading.{is_acyclic_decides}
 use Rattle.tb_board.specs.declared.board.Board.{Board}
 use Rattle.tb_board.specs.declared.world.Role.{Role}
 use Rattle.tb_board.specs.declared.world.World.{World}
-use Rattle.tb_board.specs.Board.{has_id, is_on, wake}
+use Rattle.tb_board.specs.Board.{is_on, wake}
+use Rattle.tb_board.specs.Tasks.{has_id}
 use Rattle.tb_board.specs.Changing.{change_board}
 use Rattle.tb_board.specs.Good.{IsGood}
 use Rattle.tb_board.specs.Links.{links}

@@ -11,7 +11,8 @@ use Rattle.tb_task.specs.declared.incoming.Incoming.{Incoming}
 use Rattle.tb_task.specs.declared.task.Task.{Task}
 use Rattle.tb_board.specs.declared.board.Board.{Board}
 use Rattle.tb_board.specs.declared.gone.Gone.{Gone}
-use Rattle.tb_board.specs.Board.{ids, is_on}
+use Rattle.tb_board.specs.Board.{is_on}
+use Rattle.tb_board.specs.Tasks.{ids}
 use Rattle.tb_board.specs.Good.{IsGood, IsLinkedOn, IsSound}
 use Rattle.tb_board.specs.Instances.{by_template, has_template, is_template_with, HasRuns, HasTemplateOn, IsGoneOn}
 use Rattle.tb_board.specs.Links.{links}

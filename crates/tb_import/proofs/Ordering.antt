@@ -9,7 +9,7 @@ use Rattle.std.proofs.lemmas.List.Kept.{IsStrictlySortedBy-filter}
 use Rattle.tb_task.specs.declared.incoming.Incoming.{Incoming}
 use Rattle.tb_board.specs.declared.board.Board.{Board}
 use Rattle.tb_board.specs.declared.gone.Gone.{Gone}
-use Rattle.tb_board.specs.Board.{ids}
+use Rattle.tb_board.specs.Tasks.{ids}
 use Rattle.tb_board.specs.Instances.{by_template, IsGoneOn, place_among}
 use Rattle.tb_board.specs.Templates.{is_gone_at}
 use Rattle.tb_board.proofs.GoneOrder.{AreAmong, gone_among, is_among, order-more, order-none, place_less}

@@ -10,7 +10,8 @@ use Rattle.tb_task.specs.declared.incoming.Incoming.{Incoming}
 use Rattle.tb_task.specs.declared.task.Task.{Task}
 use Rattle.tb_board.specs.declared.board.Board.{Board}
 use Rattle.tb_board.specs.declared.gone.Gone.{Gone}
-use Rattle.tb_board.specs.Board.{has_id, ids, is_on, lacks_depends}
+use Rattle.tb_board.specs.Board.{is_on, lacks_depends}
+use Rattle.tb_board.specs.Tasks.{has_id, ids}
 use Rattle.tb_board.specs.Changing.{without_place}
 use Rattle.tb_board.specs.Instances.{has_template, is_template_with, IsGoneOn}
 use Rattle.tb_board.specs.Statuses.{is_template}

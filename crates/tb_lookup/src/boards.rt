@@ -83,10 +83,18 @@ fn hold_to_good(alloc: Global, board: Board) -> Result<Shared<Board>, StoreFault
         Ok(false) => return Err(StoreFault::Store),
         Err(_) => return Err(StoreFault::Memory),
     }
-    match Shared::new(alloc, board) {
+    match Shared::new(alloc, indexed(alloc, board)) {
         Ok(board) => Ok(board),
         Err(_) => Err(StoreFault::Memory),
     }
+}
+
+/// The board, with an index of its tasks.
+fn indexed(alloc: Global, mut board: Board) -> Board
+    ensures { result ≡ board }
+{
+    board.tasks.make_index(alloc, board.number);
+    board
 }
 
 /// How many boards there are. They are numbered from 1, so that their number is found by halves.

@@ -8,7 +8,7 @@ use Rattle.std.proofs.lemmas.Option.{cond_some}
 use Rattle.sqlite_trees.specs.Tree.{IsAscending}
 use Rattle.sqlite_keyed.proofs.ListLemmas.{all_weaker, all_both, all_map}
 use Rattle.tb_task.specs.declared.task.Task.{Task}
-use Rattle.tb_board.specs.Board.{ids}
+use Rattle.tb_board.specs.Tasks.{ids}
 use Rattle.tb_board.specs.Good.{IsGood}
 use Rattle.tb_board.specs.Instances.{is_template_with, by_template, place_among, IsGoneOn}
 use Rattle.tb_board.specs.Roles.{role_order}

@@ -7,10 +7,9 @@ use Rattle.std.proofs.lemmas.List.{append-nil}
 use Rattle.std.proofs.lemmas.Option.{slice_get-get_or}
 use Rattle.tb_task.specs.Mask.{is_mark}
 use Rattle.tb_task.specs.declared.task.Task.{Task}
-use Rattle.tb_board.specs.Board.{ids}
+use Rattle.tb_board.specs.Tasks.{ids, place_in}
 use Rattle.tb_board.specs.First.{IsFirst, IsNone}
 use Rattle.tb_board.specs.Instances.{is_template_with, IsGoneOn}
-use Rattle.tb_board.specs.Links.{place_in}
 use Rattle.tb_board.specs.declared.board.Board.{Board}
 use Rattle.tb_board.specs.declared.gone.Gone.{Gone}
 use Rattle.tb_board.proofs.Places.{place}

@@ -6,7 +6,7 @@ use Rattle.tb_task.specs.declared.task.Task.{Task}
 use Rattle.tb_json.specs.Stored.{stored_of}
 use Rattle.tb_json.specs.declared.fault.JsonFault.{JsonFault}
 use Rattle.tb_board.specs.Ahead.{read_ahead}
-use Rattle.tb_board.specs.Board.{ids}
+use Rattle.tb_board.specs.Tasks.{ids}
 use Rattle.tb_board.specs.Names.{read_name, read_key, read_title}
 use Rattle.tb_board.specs.declared.board.Board.{Board}
 use Rattle.tb_board.specs.declared.gone.Gone.{Gone}

@@ -7,7 +7,7 @@ use crate::fault::ReopenFault;
 use crate::gone::read_gone;
 use crate::tasks::read_tasks;
 use std::alloc::Global;
-use tb_board::{Ahead, Board, Title};
+use tb_board::{Ahead, Board, TaskList, Title};
 use tb_sql_tables::rows::{BoardRow, GoneRow, HorizonRow, TaskRow};
 
 /// How far ahead a board looks, by its one row.
@@ -35,7 +35,7 @@ pub fn read_board(
     Ok(Board {
         number: row.id,
         title,
-        tasks,
+        tasks: TaskList::of(tasks),
         gone,
         ahead,
     })

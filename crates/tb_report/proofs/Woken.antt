@@ -13,7 +13,8 @@ use Rattle.tb_graph.specs.Marks.{is_marked}
 use Rattle.tb_graph.proofs.Leading.{and_parts}
 use Rattle.tb_board.specs.declared.board.Board.{Board}
 use Rattle.tb_board.specs.Blocked.{are_open, blocked, blocking, is_blocking}
-use Rattle.tb_board.specs.Board.{has_come, ids, is_waiting, status_at, wake, wakes, woken}
+use Rattle.tb_board.specs.Board.{wake}
+use Rattle.tb_board.specs.Tasks.{has_come, ids, is_waiting, status_at, wakes, woken}
 use Rattle.tb_board.specs.Links.{depends_of, links, places_in}
 use Rattle.tb_board.specs.Statuses.{is_open}
 use Rattle.tb_board.proofs.Goodness.{depends-wake, ids-wake}

@@ -3,7 +3,8 @@ use Rattle.std.specs.Prelude.{ℕ, List, map, Option, Some, None, if◌then◌el
 use Rattle.tb_task.specs.declared.task.Task.{Task}
 use Rattle.tb_task.specs.declared.incoming.Shown.{Shown}
 use Rattle.tb_board.specs.declared.board.Board.{Board}
-use Rattle.tb_board.specs.Board.{wake, woken}
+use Rattle.tb_board.specs.Board.{wake}
+use Rattle.tb_board.specs.Tasks.{woken}
 use Rattle.tb_board.specs.Statuses.{is_template}
 use Rattle.tb_board.specs.Templates.{mask}
 

@@ -1,9 +1,9 @@
 ghost use Rattle.std.specs.Prelude.{◌≡◌, IfOk};
 ghost use Rattle.tb_report.specs.Lists.{listing as listing_of, listing_awake};
 
-use crate::lists::{Marked, list_tasks};
+use crate::lists::list_tasks;
 use std::alloc::{AllocError, Global};
-use tb_board::{Board, Draft, blocked_tasks, blocking_tasks, wake_draft};
+use tb_board::{Board, Draft, waits_of, wake_draft};
 use tb_task::Moment;
 use tb_values::Text;
 
@@ -11,6 +11,9 @@ use tb_values::Text;
 pub fn listing(alloc: Global, board: &Board, at: Moment) -> Result<Text, AllocError>
     ensures { IfOk result (λ text. text ≡ listing_of board.now at) }
 {
+    if !board.tasks.may_stir(at) {
+        return list_awake(alloc, board, at);
+    }
     let awake = wake_draft(alloc, Draft::of(alloc, board)?, at)?;
     list_awake(alloc, &awake.board, at)
 }
@@ -19,8 +22,6 @@ pub fn listing(alloc: Global, board: &Board, at: Moment) -> Result<Text, AllocEr
 fn list_awake(alloc: Global, board: &Board, at: Moment) -> Result<Text, AllocError>
     ensures { IfOk result (λ text. text ≡ listing_awake board.now at) }
 {
-    let blocked = blocked_tasks(alloc, board)?;
-    let blocking = blocking_tasks(alloc, board)?;
-    let marked = Marked { blocked, blocking };
-    list_tasks(alloc, board.tasks.as_slice(), &marked, at)
+    let waits = waits_of(alloc, board)?;
+    list_tasks(alloc, board.tasks.as_slice(), &waits, at)
 }

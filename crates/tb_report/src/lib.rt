@@ -13,7 +13,7 @@ mod showing;
 mod urgencies;
 
 pub use board_list::listing;
-pub use lists::{Marked, list_tasks};
+pub use lists::list_tasks;
 pub use rank::{Rank, in_order};
 pub use row::{Row, URGENCY_UNIT, decimals, push_row, without_controls};
 pub use showing::{shown, shown_task};

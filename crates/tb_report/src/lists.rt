@@ -10,32 +10,26 @@ use crate::urgencies::urgency_of_task;
 use std::alloc::{AllocError, Global};
 use std::cmp::Reverse;
 use std::fmt::Write;
+use tb_board::Waits;
 use tb_task::{Moment, Status, Task};
 use tb_values::{Shared, Text};
 
 const HEADER: &str = "place  urgency flg due              project      description\n";
 
-/// Which tasks wait for others, and for which others wait, by their places from 0.
-#[derive(Drop)]
-pub struct Marked {
-    pub blocked: Vec<bool>,
-    pub blocking: Vec<bool>,
-}
-
 /// A header, a line for each pending or waiting task, the most urgent first, and a count.
 pub fn list_tasks(
     alloc: Global,
     tasks: &[Shared<Task>],
-    marked: &Marked,
+    waits: &Waits,
     at: Moment,
 ) -> Result<Text, AllocError>
     ensures { IfOk result
         (λ text. text ≡ tasks_listed
-        (waits_in marked.now.blocked.items marked.now.blocking.items) tasks.now at) }
+        (waits_in waits.now.blocked.items waits.now.blocking.items) tasks.now at) }
 {
-    let ranks = in_order(ranks_of(alloc, tasks, marked, at)?)?;
+    let ranks = in_order(ranks_of(alloc, tasks, waits, at)?)?;
     let mut text = with_header(alloc)?;
-    push_lines(alloc, &mut text, tasks, marked, ranks.as_slice())?;
+    push_lines(alloc, &mut text, tasks, waits, ranks.as_slice())?;
     push_last_line(&mut text, ranks.len(), tasks.len())?;
     Ok(Text::from_string(text))
 }
@@ -49,16 +43,16 @@ fn with_header(alloc: Global) -> Result<String, AllocError>
 fn ranks_of(
     alloc: Global,
     tasks: &[Shared<Task>],
-    marked: &Marked,
+    waits: &Waits,
     at: Moment,
 ) -> Result<Vec<Rank>, AllocError>
     ensures { IfOk result
         (λ ranks. ranks.items
-        ≡ ranks_from (waits_in marked.now.blocked.items marked.now.blocking.items) at 0 tasks.now) }
+        ≡ ranks_from (waits_in waits.now.blocked.items waits.now.blocking.items) at 0 tasks.now) }
 {
     let mut ranks = Vec::new(alloc);
     for (place, task) in tasks.iter().enumerate() {
-        add_rank(&mut ranks, task.get(), marked, place, at)?;
+        add_rank(&mut ranks, task.get(), waits, place, at)?;
     }
     Ok(ranks)
 }
@@ -66,7 +60,7 @@ fn ranks_of(
 fn add_rank(
     ranks: &mut Vec<Rank>,
     task: &Task,
-    marked: &Marked,
+    waits: &Waits,
     place: usize,
     at: Moment,
 ) -> Result<(), AllocError>
@@ -74,10 +68,10 @@ fn add_rank(
         (ranks.new.items
         ≡ ranks.old.items
         ++ rank_if_listed
-        (waits_in marked.now.blocked.items marked.now.blocking.items) at place task.now) }
+        (waits_in waits.now.blocked.items waits.now.blocking.items) at place task.now) }
 {
     if is_listed(task.status) {
-        ranks.push(rank_of(task, marked, place, at))?;
+        ranks.push(rank_of(task, waits, place, at))?;
     }
     Ok(())
 }
@@ -88,12 +82,12 @@ fn is_listed(status: Status) -> bool
     matches!(status, Status::Pending | Status::Waiting)
 }
 
-fn rank_of(task: &Task, marked: &Marked, place: usize, at: Moment) -> Rank
+fn rank_of(task: &Task, waits: &Waits, place: usize, at: Moment) -> Rank
     ensures { result
-        ≡ rank (waits_in marked.now.blocked.items marked.now.blocking.items) at place task.now }
+        ≡ rank (waits_in waits.now.blocked.items waits.now.blocking.items) at place task.now }
 {
-    let is_blocked = mark_at(marked.blocked.as_slice(), place);
-    let is_blocking = mark_at(marked.blocking.as_slice(), place);
+    let is_blocked = mark_at(waits.blocked.as_slice(), place);
+    let is_blocking = mark_at(waits.blocking.as_slice(), place);
     (
         Reverse(urgency_of_task(task, is_blocked, is_blocking, at)),
         place,
@@ -104,17 +98,17 @@ fn push_lines(
     alloc: Global,
     text: &mut String,
     tasks: &[Shared<Task>],
-    marked: &Marked,
+    waits: &Waits,
     ranks: &[Rank],
 ) -> Result<(), AllocError>
     ensures { OnOk result
         (string_bytes text.new
         ≡ string_bytes text.old
-        ++ lines (waits_in marked.now.blocked.items marked.now.blocking.items) tasks.now
+        ++ lines (waits_in waits.now.blocked.items waits.now.blocking.items) tasks.now
         ranks.now) }
 {
     for rank in ranks {
-        push_line(alloc, text, tasks, marked, *rank)?;
+        push_line(alloc, text, tasks, waits, *rank)?;
     }
     Ok(())
 }
@@ -123,37 +117,37 @@ fn push_line(
     alloc: Global,
     text: &mut String,
     tasks: &[Shared<Task>],
-    marked: &Marked,
+    waits: &Waits,
     rank: Rank,
 ) -> Result<(), AllocError>
     ensures { OnOk result
         (string_bytes text.new
         ≡ string_bytes text.old
-        ++ line (waits_in marked.now.blocked.items marked.now.blocking.items) rank
+        ++ line (waits_in waits.now.blocked.items waits.now.blocking.items) rank
         (slice_get tasks.now rank.1)) }
 {
     let Some(task) = tasks.get(rank.1) else {
         return Ok(());
     };
-    push_task(alloc, text, task.get(), marked, rank)
+    push_task(alloc, text, task.get(), waits, rank)
 }
 
 fn push_task(
     alloc: Global,
     text: &mut String,
     task: &Task,
-    marked: &Marked,
+    waits: &Waits,
     rank: Rank,
 ) -> Result<(), AllocError>
     requires { rank.1 + 1 < 2 ^ 64 }
     ensures { OnOk result
         (string_bytes text.new
         ≡ string_bytes text.old
-        ++ line (waits_in marked.now.blocked.items marked.now.blocking.items) rank
+        ++ line (waits_in waits.now.blocked.items waits.now.blocking.items) rank
         (Some task.now)) }
 {
-    let is_blocked = mark_at(marked.blocked.as_slice(), rank.1);
-    let is_blocking = mark_at(marked.blocking.as_slice(), rank.1);
+    let is_blocked = mark_at(waits.blocked.as_slice(), rank.1);
+    let is_blocking = mark_at(waits.blocking.as_slice(), rank.1);
     let flags = flags_of(alloc, task, is_blocked, is_blocking)?;
     let due = due_of(alloc, task.due)?;
     let project = project_of(alloc, &task.project)?;

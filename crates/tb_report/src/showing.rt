@@ -11,6 +11,9 @@ use tb_values::{Items, Shared};
 pub fn shown(alloc: Global, board: &Board, at: Moment) -> Result<Items<Shown>, AllocError>
     ensures { IfOk result (λ tasks. tasks ≡ shown_of board.now at) }
 {
+    if !board.tasks.may_stir(at) {
+        return shown_awake(alloc, board);
+    }
     let awake = wake_draft(alloc, Draft::of(alloc, board)?, at)?;
     shown_awake(alloc, &awake.board)
 }

@@ -1,6 +1,6 @@
 ghost use Rattle.std.specs.Prelude.{◌≡◌, ◌≤◌, ◌*◌, ◌+◌, ◌-◌, ◌-ℤ◌, ◌<◌, ◌^◌, ◌&&◌, Some, length, not, pos};
 ghost use Rattle.std.specs.List.{list_any};
-ghost use Rattle.tb_board.specs.Board.{wakes, woken};
+ghost use Rattle.tb_board.specs.Tasks.{wakes, woken};
 ghost use Rattle.tb_report.specs.Row.{unit};
 ghost use Rattle.tb_report.specs.Urgencies.{age_parts, count_parts, due_parts, is_next, next_parts, own_parts, parts_if, priority_parts, scheduled_parts, urgency_at, urgency_of, is_waiting_now};
 

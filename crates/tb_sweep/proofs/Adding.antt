@@ -15,7 +15,8 @@ use Rattle.tb_board.specs.Numbers.{free_id}
 use Rattle.tb_board.specs.Templates.{count}
 use Rattle.tb_sweep.specs.Sweeping.{planned_need, need_of, lacks, batch, with_instances, grown, grown_all, sweep, added, more}
 use Rattle.tb_board.proofs.Awake.{stands_at}
-use Rattle.tb_board.specs.Board.{wake, with_task, woken}
+use Rattle.tb_board.specs.Board.{wake, with_task}
+use Rattle.tb_board.specs.Tasks.{woken}
 use Rattle.tb_task.specs.Checks.{is_recurring}
 
 -- a read within a list is the same at any default

@@ -8,7 +8,8 @@ use Rattle.tb_task.specs.Checks.{is_recurring}
 use Rattle.tb_task.specs.declared.status.Status.TheVariants.{Pending}
 use Rattle.tb_recur.specs.Instances.{delay_of, instance, moved, settled}
 use Rattle.tb_board.specs.declared.board.Board.{Board}
-use Rattle.tb_board.specs.Board.{has_come, is_waiting, wake, wakes, with_task, woken}
+use Rattle.tb_board.specs.Board.{wake, with_task}
+use Rattle.tb_board.specs.Tasks.{has_come, is_waiting, wakes, woken}
 use Rattle.tb_board.specs.Numbers.{free_id}
 use Rattle.tb_board.specs.Templates.{count}
 use Rattle.tb_board.proofs.Awake.{not_woken, is_woken}

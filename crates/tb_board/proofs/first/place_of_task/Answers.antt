@@ -1,4 +1,4 @@
-use Rattle.tb_board.specs.Board.{has_id}
+use Rattle.tb_board.specs.Tasks.{has_id}
 use Rattle.tb_board.proofs.Places.{place}
 use Rattle.tb_board.proofs.first.place_of_task.Goals as goal
 

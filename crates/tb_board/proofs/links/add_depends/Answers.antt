@@ -1,5 +1,5 @@
 use Rattle.std.proofs.Common.{arith}
-use Rattle.tb_board.specs.Board.{ids}
+use Rattle.tb_board.specs.Tasks.{ids}
 use Rattle.tb_board.proofs.Linking.{link_more}
 use Rattle.tb_board.proofs.links.add_depends.Goals as goal
 

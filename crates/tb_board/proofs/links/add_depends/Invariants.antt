@@ -1,5 +1,5 @@
 use Rattle.std.proofs.Common.{◌≡◌, ◌++◌, [], get_or, set, take}
-use Rattle.tb_board.specs.Board.{ids}
+use Rattle.tb_board.specs.Tasks.{ids}
 use Rattle.tb_board.specs.Links.{places_in}
 use Rattle.tb_board.proofs.links.add_depends.Given as goal
 

@@ -1,5 +1,5 @@
 use Rattle.std.proofs.Common.{Some, ap, sym, ◌∙◌}
-use Rattle.tb_board.specs.Board.{has_id}
+use Rattle.tb_board.specs.Tasks.{has_id}
 use Rattle.tb_board.proofs.Places.{changed_there}
 use Rattle.tb_core.specs.Edits.{modified}
 use Rattle.tb_core.proofs.Modifying.{IsModified, judged-modified, taken}
@@ -9,7 +9,7 @@ pub returns-clause-gives : goal.returns-clause-gives
 returns-clause-gives c =
     let b = c.args.board.now in
     let t = c.task_at-task.result.now in
-    let first = rw c.as_slice.ensures at c.in-Some.ensures in
+    let first = c.in-Some.ensures.first in
     let good = taken c.in_ok-later.later c.in_default-check.field-0 c.in_default-check.ensures.verdict in
     let is : IsModified b c.args.id c.args.edits.now c.args.at t =
     record {

@@ -7,9 +7,9 @@ use Rattle.tb_task.specs.declared.task.Task.{Task}
 use Rattle.tb_graph.specs.Leads.{is_acyclic}
 use Rattle.tb_graph.proofs.Leading.{is_acyclic_decides}
 use Rattle.tb_board.specs.declared.board.Board.{Board}
-use Rattle.tb_board.specs.Board.{ids}
+use Rattle.tb_board.specs.Tasks.{ids, ArePlaces}
 use Rattle.tb_board.specs.Good.{IsLinkedOn}
-use Rattle.tb_board.specs.Links.{ArePlaces, links}
+use Rattle.tb_board.specs.Links.{links}
 use Rattle.tb_good.specs.Parts.{HasGoodLinks, lacks_place}
 use Rattle.tb_good.proofs.Parts.{linked_tells}
 use Rattle.tb_good.proofs.Telling.{part_fails}

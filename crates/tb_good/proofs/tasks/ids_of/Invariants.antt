@@ -1,5 +1,5 @@
 use Rattle.std.proofs.Common.{◌≡◌, take}
-use Rattle.tb_board.specs.Board.{ids}
+use Rattle.tb_board.specs.Tasks.{ids}
 use Rattle.tb_good.proofs.tasks.ids_of.Given as goal
 
 abbrev pub invariant-loop-task : goal.invariant-loop-task

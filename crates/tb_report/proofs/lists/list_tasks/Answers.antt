@@ -7,7 +7,7 @@ use Rattle.tb_report.proofs.lists.list_tasks.Goals as goal
 
 pub returns : goal.returns
 returns c =
-    let waits = waits_in c.args.marked.now.blocked.items c.args.marked.now.blocking.items in
+    let waits = waits_in c.args.waits.now.blocked.items c.args.waits.now.blocking.items in
     let order : c.in_ok-ranks.ranks.items ≡ ordered rank_order (ranks_from waits c.args.at 0 c.args.tasks.now)
     = c.in_ok-ranks.ensures ∙ ap (ordered rank_order) c.in_ok-ranks_of.ensures in
     let lined : string_bytes c.push_lines.new.text ≡ string_bytes c.in_ok-text.text ++ lines waits c.args.tasks.now c.in_ok-ranks.ranks.items

@@ -5,4 +5,4 @@ use Rattle.tb_report.proofs.lists.push_lines.Given as goal
 
 -- the text so far and the lines of the ranks that are left are all
 abbrev pub invariant-loop-rank : goal.invariant-loop-rank
-invariant-loop-rank l = string_bytes l.text ++ lines (waits_in l.marked.blocked.items l.marked.blocking.items) l.tasks (drop l.rank-index l.ranks) ≡ string_bytes l.fn.text ++ lines (waits_in l.marked.blocked.items l.marked.blocking.items) l.tasks l.ranks
+invariant-loop-rank l = string_bytes l.text ++ lines (waits_in l.waits.blocked.items l.waits.blocking.items) l.tasks (drop l.rank-index l.ranks) ≡ string_bytes l.fn.text ++ lines (waits_in l.waits.blocked.items l.waits.blocking.items) l.tasks l.ranks

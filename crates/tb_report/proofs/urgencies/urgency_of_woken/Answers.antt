@@ -1,6 +1,6 @@
 use Rattle.std.proofs.Common.{◌≡◌, ◌∙◌, arith, sym}
 use Rattle.std.proofs.lemmas.Int.{to_z-of_z}
-use Rattle.tb_board.specs.Board.{woken}
+use Rattle.tb_board.specs.Tasks.{woken}
 use Rattle.tb_report.specs.Urgencies.{urgency_of}
 use Rattle.tb_report.proofs.Woken.{sum-woken}
 use Rattle.tb_report.proofs.urgencies.urgency_of_woken.Goals as goal

@@ -55,13 +55,13 @@ pub returns-clause-all : goal.returns-clause-all
 returns-clause-all c =
     subst (λ (k : LruCache _ Board). OnOk c.put_under.result (c.put_under.new.self.entries ≡ followed_by k.entries c.args.change.now)) c.self.view_is
     (all_followed c.args.change.now c.in-Some.number c.self.inside.boards c.pop.new.self c.put_under.new.self (sym c.touched.ensures ∙ c.in-Some.is) c.pop.ensures.entries c.len-apart.ensures.valid
-    c.in-Some-pop.board c.in_ok-later-2.later (sym c.in-Some-pop.is ∙ c.pop.ensures.value) (c.in_ok-later-2.ensures ∙ c.in_ok-later.ensures) c.put_under.result c.put_under.ensures.put)
+    c.in-Some-pop.board c.in_ok-later-2.later (sym c.in-Some-pop.is ∙ c.pop.ensures.value) (c.in_ok-later-2.ensures ∙ c.settled.ensures ∙ c.in_ok-later.ensures) c.put_under.result c.put_under.ensures.put)
 
 pub returns-clause-others : goal.returns-clause-others
 returns-clause-others c =
     subst (AreOthers c.args.change.now c.put_under.new.self) c.self.view_is
     (others_followed c.args.change.now c.in-Some.number c.self.inside.boards c.pop.new.self c.put_under.new.self (sym c.touched.ensures ∙ c.in-Some.is) c.pop.ensures.entries c.len-apart.ensures.valid
-    c.in-Some-pop.board c.in_ok-later-2.later (sym c.in-Some-pop.is ∙ c.pop.ensures.value) (c.in_ok-later-2.ensures ∙ c.in_ok-later.ensures) c.put_under.result c.put_under.ensures.put c.put_under.ensures.same)
+    c.in-Some-pop.board c.in_ok-later-2.later (sym c.in-Some-pop.is ∙ c.pop.ensures.value) (c.in_ok-later-2.ensures ∙ c.settled.ensures ∙ c.in_ok-later.ensures) c.put_under.result c.put_under.ensures.put c.put_under.ensures.same)
 
 pub returns-clause-of : goal.returns-clause-of
 returns-clause-of c w are =
@@ -69,4 +69,4 @@ returns-clause-of c w are =
     let one = sym c.touched.ensures ∙ c.in-Some.is in
     let left = of_left w c.args.change.now c.in-Some.number _ _ one c.pop.ensures.entries c.len-apart.ensures.valid.0 was in
     of_put_if (changed_by w c.args.change.now) c.pop.new.self c.put_under.new.self c.in-Some.number c.in_ok-later-2.later c.put_under.result c.put_under.ensures.put c.put_under.ensures.same left
-    (found_in w c.args.change.now c.in-Some.number c.self.inside.boards c.in-Some-pop.board c.in_ok-later-2.later one (sym c.in-Some-pop.is ∙ c.pop.ensures.value) (c.in_ok-later-2.ensures ∙ c.in_ok-later.ensures) was)
+    (found_in w c.args.change.now c.in-Some.number c.self.inside.boards c.in-Some-pop.board c.in_ok-later-2.later one (sym c.in-Some-pop.is ∙ c.pop.ensures.value) (c.in_ok-later-2.ensures ∙ c.settled.ensures ∙ c.in_ok-later.ensures) was)

@@ -1,6 +1,6 @@
 use Rattle.std.proofs.Common.{◌≡◌, ℕ, take}
 use Rattle.std.specs.List.{list_any}
-use Rattle.tb_board.specs.Board.{has_id}
+use Rattle.tb_board.specs.Tasks.{has_id}
 use Rattle.tb_import.specs.Sets.{has}
 use Rattle.tb_import.proofs.ids.Ids.on.Given as goal
 

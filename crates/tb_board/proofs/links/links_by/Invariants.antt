@@ -1,7 +1,7 @@
 use Rattle.std.proofs.Common.{◌≡◌, ◌++◌, ◌-◌, ◌≤◌, [], length, map, replicate, take}
-use Rattle.tb_board.specs.Board.{ids}
+use Rattle.tb_board.specs.Tasks.{ids}
 use Rattle.tb_board.specs.Links.{depends_of, places_in}
-use Rattle.tb_board.proofs.links.links_of.Given as goal
+use Rattle.tb_board.proofs.links.links_by.Given as goal
 
 abbrev pub invariant-loop-from : goal.invariant-loop-from
 invariant-loop-from l =

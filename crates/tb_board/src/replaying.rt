@@ -1,10 +1,11 @@
-ghost use Rattle.std.specs.Prelude.{◌≡◌, IfOk, OnOk};
-ghost use Rattle.tb_board.specs.Changing.{changed_on, put, replayed};
+ghost use Rattle.std.specs.Prelude.{◌≡◌, IfOk};
+ghost use Rattle.tb_board.specs.Changing.{changed_on, replayed};
 
+use crate::board::Board;
+use crate::change::Change;
+use crate::changing::put_at;
+use crate::gone::gone_without;
 use std::alloc::{AllocError, Global};
-use tb_board::{Board, Change, gone_without};
-use tb_task::Task;
-use tb_values::{Items, Shared};
 
 /// The board after changes, one after the other: people, boards and roles that change don't change it. It shares with this one
 /// whatever stays.
@@ -19,11 +20,7 @@ pub fn replayed(alloc: Global, board: &Board, changes: &[Change]) -> Result<Boar
 }
 
 /// A board after a change that names it, or that changes no board.
-pub(crate) fn changed_on(
-    alloc: Global,
-    mut board: Board,
-    change: &Change,
-) -> Result<Board, AllocError>
+pub fn changed_on(alloc: Global, mut board: Board, change: &Change) -> Result<Board, AllocError>
     ensures { IfOk result (λ later. later ≡ changed_on board change.now) }
 {
     match change {
@@ -40,19 +37,4 @@ pub(crate) fn changed_on(
         Change::AddPerson { .. } | Change::AddBoard { .. } | Change::SetRole { .. } => {}
     }
     Ok(board)
-}
-
-fn put_at(
-    tasks: &mut Items<Shared<Task>>,
-    place: usize,
-    task: Shared<Task>,
-) -> Result<(), AllocError>
-    ensures { OnOk result (tasks.new ≡ put tasks.old place task) }
-{
-    if place < tasks.len() {
-        tasks.set(place, task);
-        Ok(())
-    } else {
-        tasks.push(task)
-    }
 }

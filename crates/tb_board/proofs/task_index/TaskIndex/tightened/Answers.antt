@@ -1,0 +1,5 @@
+use Rattle.std.proofs.Common.{sym, ◌∙◌}
+use Rattle.tb_board.proofs.task_index.TaskIndex.tightened.Goals as goal
+
+pub returns : goal.returns
+returns c = record { places = c.requires.places; least = c.requires.least; calm = λ m quiet. sym (c.of.ensures m) ∙ quiet }
