@@ -10,8 +10,7 @@ use Rattle.tb_board.specs.declared.board.Board.{Board}
 use Rattle.tb_board.specs.declared.change.Change.{Change}
 use Rattle.tb_board.specs.declared.change.Change.TheVariants.{PutTask, AddPerson as NewPerson, AddBoard as NewBoard, SetRole, SetGone, TakeGone, SetAhead}
 use Rattle.tb_board.specs.declared.gone.Gone.{Gone}
-use Rattle.tb_board.specs.Board.{ids}
-use Rattle.tb_board.specs.Links.{place_in}
+use Rattle.tb_board.specs.Tasks.{ids, place_in}
 use Rattle.tb_board.specs.Numbers.{first_free, free}
 use Rattle.tb_board.proofs.Goodness.{on-same}
 use Rattle.tb_board.proofs.Relinking.{or_false}

@@ -12,10 +12,9 @@ use Rattle.tb_board.specs.declared.change.Change.{Change}
 use Rattle.tb_board.specs.declared.change.Change.TheVariants.{PutTask, AddPerson as NewPerson, AddBoard as NewBoard, SetRole, SetGone, TakeGone, SetAhead}
 use Rattle.tb_board.specs.declared.gone.Gone.{Gone}
 use Rattle.tb_task.specs.declared.task.Task.{Task}
-use Rattle.tb_board.specs.Board.{has_id, ids}
+use Rattle.tb_board.specs.Tasks.{has_id, ids, place_in}
 use Rattle.tb_board.specs.Changing.{with_task_at, without_place}
 use Rattle.tb_board.specs.Instances.{IsGoneOn}
-use Rattle.tb_board.specs.Links.{place_in}
 use Rattle.tb_board.specs.Templates.{is_gone_at}
 use Rattle.tb_board.proofs.Fresh.{on_ids}
 use Rattle.tb_board.proofs.Relinking.{place_holds}

@@ -9,6 +9,8 @@ pub mod Parts
 pub mod PeopleAndRoles
 pub mod Places
 pub mod Pushing
+pub mod PushedRows
+pub mod QuickRows
 pub mod RolesSet
 pub mod Staying
 pub mod Tables

@@ -10,10 +10,10 @@ use Rattle.tb_task.specs.declared.task.Task.{Task}
 use Rattle.tb_board.specs.declared.board.Board.{Board}
 use Rattle.tb_board.specs.declared.change.Change.{Change}
 use Rattle.tb_board.specs.declared.change.Change.TheVariants.{PutTask, AddPerson as NewPerson, AddBoard as NewBoard, SetRole, SetGone, TakeGone, SetAhead}
-use Rattle.tb_board.specs.Board.{has_id, ids, lacks_depends}
+use Rattle.tb_board.specs.Board.{lacks_depends}
+use Rattle.tb_board.specs.Tasks.{has_id, ids, place_in}
 use Rattle.tb_board.specs.Changing.{put, with_ahead, with_gone, without_gone}
 use Rattle.tb_board.specs.Instances.{has_template, is_template_with}
-use Rattle.tb_board.specs.Links.{place_in}
 use Rattle.tb_board.proofs.Fresh.{on_ids}
 use Rattle.tb_board.proofs.Relinking.{or_false}
 use Rattle.tb_board.specs.Extends.{ExtendsTask, IsFrontOf}

@@ -1,5 +1,5 @@
 -- The part of a world that the changes of one decision touch, and the changes of rows that follow from it alone.
-use Rattle.std.specs.Prelude.{◌≡◌, ℕ, ◌+◌, ◌^◌, Bool, true, List, [], ◌∷◌, ◌++◌, Option, Some, None, if◌then◌else◌, length, nat_lt}
+use Rattle.std.specs.Prelude.{◌≡◌, ◌≤◌, ℕ, ◌+◌, ◌^◌, Bool, true, List, [], ◌∷◌, ◌++◌, Option, Some, None, if◌then◌else◌, length, nat_lt}
 use Rattle.std.specs.List.{flat_map}
 use Rattle.tb_board.specs.declared.board.Board.{Board}
 use Rattle.tb_board.specs.declared.change.Change.{Change}
@@ -16,7 +16,8 @@ use Rattle.tb_sql.specs.declared.changes.RowChange.TheVariants.{AddPerson, AddBo
 use Rattle.tb_rows.specs.declared.part.BoardPart.{BoardPart}
 use Rattle.tb_rows.specs.Rows.{board_row, horizon_row, person_row, role_row}
 use Rattle.tb_rows.specs.Small.{has_few_tasks}
-use Rattle.tb_rows.specs.Steps.{kept_board}
+use Rattle.tb_rows.specs.Steps.{kept_board, Leads}
+use Rattle.tb_task.specs.Limits.{most_people}
 
 -- ---- the part
 
@@ -39,9 +40,13 @@ abbrev pub board_in : World → Option ℕ → Option Board
 board_in w None = None
 board_in w (Some n) = find_board w n
 
+-- how many tasks a board has, and what it is after the changes
+abbrev pub part_after : List Change → Board → BoardPart
+part_after cs b = record { tasks_before = length b.tasks; later = replayed b cs }
+
 abbrev pub part_of_board : Option Board → List Change → Option BoardPart
 part_of_board None cs = None
-part_of_board (Some b) cs = Some (record { tasks_before = length b.tasks; later = replayed b cs })
+part_of_board (Some b) cs = Some (part_after cs b)
 
 -- the touched board, where the world has it
 abbrev pub part_of : World → List Change → Option BoardPart
@@ -90,3 +95,10 @@ single_changes people (SetAhead m ahead) = []
 
 abbrev pub rows_of_part : ℕ → Option BoardPart → List Change → List RowChange
 rows_of_part people part cs = part_board part cs ++ flat_map (single_changes people) cs
+
+-- the rows lead to the world after the changes, and are those of the part where there is room for it
+pub record AreRowsFor (people : ℕ) (part : Option BoardPart) (cs : List Change)
+    (rows : List RowChange) : Type 0 where
+  pub leads : (w : World) → IsPartOf w people part cs → Leads rows w (changed w cs)
+  pub steps : people ≤ most_people → is_small_part part ≡ true
+      → rows ≡ rows_of_part people part cs

@@ -10,8 +10,7 @@ use Rattle.tb_board.specs.declared.world.Role.{Role}
 use Rattle.tb_board.specs.declared.world.Role.TheVariants.{Owner, Member, Reader}
 use Rattle.tb_board.specs.declared.world.RoleOn.{RoleOn}
 use Rattle.tb_board.specs.declared.world.World.{World}
-use Rattle.tb_board.specs.Board.{ids}
-use Rattle.tb_board.specs.Links.{place_in}
+use Rattle.tb_board.specs.Tasks.{ids, place_in}
 use Rattle.tb_board.specs.Numbers.{free}
 use Rattle.tb_board.specs.Statuses.{is_template}
 use Rattle.tb_board.specs.Templates.{mask}

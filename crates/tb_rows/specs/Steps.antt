@@ -8,8 +8,8 @@ use Rattle.tb_board.specs.declared.change.Change.{Change}
 use Rattle.tb_board.specs.declared.change.Change.TheVariants.{PutTask, AddPerson as NewPerson, AddBoard as NewBoard, SetRole, SetGone, TakeGone, SetAhead}
 use Rattle.tb_board.specs.declared.gone.Gone.{Gone}
 use Rattle.tb_board.specs.declared.world.World.{World}
-use Rattle.tb_board.specs.Board.{ids}
-use Rattle.tb_board.specs.Links.{place_in, with_place}
+use Rattle.tb_board.specs.Tasks.{ids, place_in}
+use Rattle.tb_board.specs.Links.{with_place}
 use Rattle.tb_board.specs.Numbers.{free}
 use Rattle.tb_sql_tables.specs.Content.{Content}
 use Rattle.tb_sql.specs.declared.changes.RowChange.{RowChange}

@@ -1,7 +1,6 @@
 -- How the places of a board's tasks are found.
 use Rattle.tb_board.specs.declared.board.Board.{Board}
-use Rattle.tb_board.specs.Board.{ids}
-use Rattle.tb_board.specs.Links.{ArePlaces}
+use Rattle.tb_board.specs.Tasks.{ids, ArePlaces}
 use Rattle.tb_rows.specs.declared.task_places.TaskPlaces.{TaskPlaces}
 use Rattle.tb_rows.specs.declared.task_places.TaskPlaces.TheVariants.{Listed, Sought}
 

@@ -2,8 +2,7 @@
 
 ghost use Rattle.std.specs.Prelude.{◌≡◌, ◌≤◌, ◌++◌, IfOk, OnOk, length};
 ghost use Rattle.std.specs.List.{flat_map};
-ghost use Rattle.tb_board.specs.Board.{ids};
-ghost use Rattle.tb_board.specs.Links.{place_in};
+ghost use Rattle.tb_board.specs.Tasks.{ids, place_in};
 ghost use Rattle.tb_rows.specs.Rows.{gone_row};
 ghost use Rattle.tb_rows.specs.Steps.{gone_added, gone_changes, gone_removed};
 ghost use Rattle.tb_rows.specs.TaskPlaces.{AreFor};

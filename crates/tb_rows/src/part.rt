@@ -1,18 +1,20 @@
 //! The changes of rows that follow from the changes of one decision, by the part of a world that they touch.
 
-ghost use Rattle.std.specs.Prelude.{◌≡◌, ◌≤◌, ◌++◌, true, IfOk, OnOk};
+ghost use Rattle.std.specs.Prelude.{◌≡◌, ◌≤◌, ◌++◌, Some, true, IfOk, OnOk};
 ghost use Rattle.std.specs.List.{flat_map};
+ghost use Rattle.std.specs.Option.{option_map};
 ghost use Rattle.tb_board.specs.Changing.{changed};
 ghost use Rattle.tb_board.specs.declared.world.World.{World};
-ghost use Rattle.tb_rows.specs.Part.{IsPartOf, is_small_part, part_board, rows_of_part, single_changes, touched_board};
+ghost use Rattle.tb_rows.specs.Part.{AreRowsFor, IsPartOf, is_small_part, part_after, part_board, part_of_board, rows_of_part, single_changes, touched_board};
 ghost use Rattle.tb_rows.specs.Steps.{Leads};
 ghost use Rattle.tb_task.specs.Limits.{most_people};
 
 use crate::boards::{empty_board_row, first_horizon, push_kept_board};
 use crate::people::person_row;
+use crate::quick::quick_rows;
 use crate::roles::push_role;
 use std::alloc::{AllocError, Global};
-use tb_board::{Board, Change};
+use tb_board::{Board, Change, replayed};
 use tb_sql::changes::RowChange;
 use tb_task::{MOST_PEOPLE, MOST_TASKS};
 use tb_values::Items;
@@ -40,21 +42,66 @@ pub fn touched_board(changes: &[Change]) -> Option<u32>
 
 /// The changes of rows that lead from the rows of a good world to those of the good world that the changes
 /// of one decision make of it. Of the world only the number of its people and the touched board are needed,
-/// the latter where the world has it. Only rows of people, boards, roles and tasks that are new or changed are
-/// touched, and the masks of templates of which an instance or a gone place is changed.
+/// the latter as it is before the changes, where the world has it. Only rows of people, boards, roles and tasks
+/// that are new or changed are touched, and the masks of templates of which an instance or a gone place is changed.
 pub fn part_changes(
     alloc: Global,
     people: usize,
-    part: Option<BoardPart>,
+    part: Option<&Board>,
     changes: &[Change],
 ) -> Result<Items<RowChange>, AllocError>
-    ensures leads { IfOk result (λ rows. (w : World) → IsPartOf w people part changes.now
+    ensures leads { IfOk result (λ rows. (w : World)
+        → IsPartOf w people
+        (part_of_board (option_map (λ b. b.now) part.entry) changes.now) changes.now
         → Leads rows w (changed w changes.now)) }
-    ensures steps { IfOk result (λ rows. people ≤ most_people → is_small_part part ≡ true
-        → rows ≡ rows_of_part people part changes.now) }
+    ensures steps { IfOk result (λ rows. people ≤ most_people
+        → is_small_part (part_of_board (option_map (λ b. b.now) part.entry) changes.now) ≡ true
+        → rows ≡ rows_of_part people
+        (part_of_board (option_map (λ b. b.now) part.entry) changes.now) changes.now) }
 {
-    if people <= MOST_PEOPLE && is_small(&part) {
-        return rows_of_part(alloc, people, &part, changes);
+    match part {
+        Some(board) => board_changes(alloc, people, board, changes),
+        None => checked_rows(alloc, people, &None, changes),
+    }
+}
+
+/// Those of a board that the world has.
+fn board_changes(
+    alloc: Global,
+    people: usize,
+    board: &Board,
+    changes: &[Change],
+) -> Result<Items<RowChange>, AllocError>
+    ensures { IfOk result
+        (AreRowsFor people (Some (part_after changes.now board.now)) changes.now) }
+{
+    if let Some(rows) = quick_rows(alloc, board, changes)? {
+        return Ok(rows);
+    }
+    let part = part_after(alloc, board, changes)?;
+    checked_rows(alloc, people, &Some(part), changes)
+}
+
+fn part_after(alloc: Global, board: &Board, changes: &[Change]) -> Result<BoardPart, AllocError>
+    ensures { IfOk result (λ part. part ≡ part_after changes.now board.now) }
+{
+    let later = replayed(alloc, board, changes)?;
+    Ok(BoardPart {
+        tasks_before: board.tasks.len(),
+        later,
+    })
+}
+
+fn checked_rows(
+    alloc: Global,
+    people: usize,
+    part: &Option<BoardPart>,
+    changes: &[Change],
+) -> Result<Items<RowChange>, AllocError>
+    ensures { IfOk result (AreRowsFor people part.now changes.now) }
+{
+    if people <= MOST_PEOPLE && is_small(part) {
+        return rows_of_part(alloc, people, part, changes);
     }
     Ok(Items::new(alloc))
 }

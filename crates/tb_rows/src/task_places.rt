@@ -1,17 +1,15 @@
 //! Where the tasks of a board stand, by their identifiers.
 
-ghost use Rattle.std.specs.Prelude.{◌≡◌, IfOk, position};
+ghost use Rattle.std.specs.Prelude.{◌≡◌, IfOk};
 ghost use Rattle.std.specs.BTreeMap.{get};
 ghost use Rattle.std.specs.Ordering.{nat_cmp};
-ghost use Rattle.tb_board.specs.Board.{has_id, ids};
-ghost use Rattle.tb_board.specs.Links.{place_in};
+ghost use Rattle.tb_board.specs.Tasks.{ids, place_in};
 ghost use Rattle.tb_rows.specs.TaskPlaces.{AreFor};
 
 use std::alloc::{AllocError, Global};
 use std::collections::BTreeMap;
 use tb_board::{Board, Change, places_of};
 use tb_task::{Task, TaskId};
-use tb_values::Shared;
 
 /// So many tasks are sought on the board itself in less time than it takes to list all of them.
 const FEW: usize = 4;
@@ -48,6 +46,20 @@ impl TaskPlaces {
         TaskPlaces::of(alloc, board)
     }
 
+    /// Lists them only where the board has no index and the task asks for many.
+    pub(crate) fn for_task(
+        alloc: Global,
+        board: &Board,
+        task: &Task,
+    ) -> Result<TaskPlaces, AllocError>
+        ensures { IfOk result (AreFor board.now) }
+    {
+        if board.tasks.places().is_some() || asks_for_few(task) {
+            return Ok(TaskPlaces::Sought);
+        }
+        TaskPlaces::of(alloc, board)
+    }
+
     /// The place of the first task of that identifier, counted from 0.
     pub(crate) fn place_of(&self, board: &Board, id: TaskId) -> Option<usize>
         requires { AreFor board.now self.now }
@@ -55,7 +67,7 @@ impl TaskPlaces {
     {
         match self {
             TaskPlaces::Listed(places) => listed_place(places, id),
-            TaskPlaces::Sought => sought_place(board.tasks.as_slice(), id),
+            TaskPlaces::Sought => board.tasks.place_of(id),
         }
     }
 }
@@ -63,11 +75,13 @@ impl TaskPlaces {
 /// Whether the changes put one task, which has few links.
 fn ask_for_few(changes: &[Change]) -> bool {
     match changes.first() {
-        Some(Change::PutTask { task, .. }) => {
-            changes.len() == 1 && task.get().depends.len() <= FEW
-        }
+        Some(Change::PutTask { task, .. }) => changes.len() == 1 && asks_for_few(task.get()),
         _ => false,
     }
+}
+
+fn asks_for_few(task: &Task) -> bool {
+    task.depends.len() <= FEW
 }
 
 fn listed_place(places: &BTreeMap<TaskId, usize>, id: TaskId) -> Option<usize>
@@ -77,16 +91,4 @@ fn listed_place(places: &BTreeMap<TaskId, usize>, id: TaskId) -> Option<usize>
         Some(place) => Some(*place),
         None => None,
     }
-}
-
-fn sought_place(tasks: &[Shared<Task>], id: TaskId) -> Option<usize>
-    ensures { result ≡ place_in (ids tasks.now) id }
-{
-    first_place(tasks, id)
-}
-
-fn first_place(tasks: &[Shared<Task>], id: TaskId) -> Option<usize>
-    ensures { result ≡ position (has_id id) tasks.now }
-{
-    tasks.iter().position(|task| task.get().id == id)
 }

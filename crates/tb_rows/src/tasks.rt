@@ -105,7 +105,7 @@ fn push_task(
 }
 
 /// The rows of a task that is new.
-fn push_new_task(
+pub(crate) fn push_new_task(
     alloc: Global,
     rows: &mut Items<RowChange>,
     board: &Board,
@@ -124,7 +124,7 @@ fn push_new_task(
 }
 
 /// The new text, mask and links of a task.
-fn push_put_task(
+pub(crate) fn push_put_task(
     alloc: Global,
     rows: &mut Items<RowChange>,
     board: &Board,
@@ -170,7 +170,7 @@ fn push_new_mask(
 }
 
 /// A link for each task on which the task depends.
-fn push_links(
+pub(crate) fn push_links(
     rows: &mut Items<RowChange>,
     board: &Board,
     places: &TaskPlaces,

@@ -1,28 +1,18 @@
-use Rattle.std.proofs.Common.{arith, subst, sym, ◌∙◌}
-use Rattle.std.proofs.lemmas.Bool.{both_ways}
+use Rattle.std.proofs.Common.{Bor, Option, subst}
+use Rattle.std.specs.Option.{option_map}
 use Rattle.std.proofs.lemmas.Result.{IfOk-weaker}
-use Rattle.tb_board.specs.Changing.{changed}
-use Rattle.tb_rows.specs.Steps.{Leads}
-use Rattle.tb_rows.proofs.Parts.{few_people, part_leads, small_part}
-use Rattle.tb_rows.proofs.part.part_changes.Goals.{else-people-le-MOST_PEOPLE-via-then-people-le-MOST_PEOPLE+else-is_small, else-people-le-MOST_PEOPLE-via-else-people-le-MOST_PEOPLE}
+use Rattle.tb_board.specs.declared.board.Board.{Board}
+use Rattle.tb_rows.specs.Part.{IsPartOf, part_of_board}
 use Rattle.tb_rows.proofs.part.part_changes.Goals as goal
 
-pub returns-then-is_small : goal.returns-then-is_small
-returns-then-is_small c = record {
-  leads = IfOk-weaker c.rows_of_part.result _ _
-      (λ rows is w of. subst (λ xs. Leads xs w (changed w c.args.changes.now)) (sym is) (part_leads w c.args.people c.args.part c.args.changes.now of))
-      c.rows_of_part.ensures;
-  steps = IfOk-weaker c.rows_of_part.result _ _ (λ rows is few small. is) c.rows_of_part.ensures;
-}
+pub returns-in-Some-clause-leads : goal.returns-in-Some-clause-leads
+returns-in-Some-clause-leads c =
+    IfOk-weaker c.board_changes.result _ _
+    (λ rows are w of. are.leads w (subst (λ (o : Option (Bor Board)). IsPartOf w c.args.people (part_of_board (option_map (λ b. b.now) o) c.args.changes.now) c.args.changes.now) c.in-Some.is of))
+    c.board_changes.ensures
 
-pub returns : goal.returns
-returns c = elim c.else-people-le-MOST_PEOPLE.branch [
-  | else-people-le-MOST_PEOPLE-via-then-people-le-MOST_PEOPLE+else-is_small u ↦ record {
-    leads = λ w of. absurd (both_ways u.is_small.result u.if-is_small.false (u.is_small.ensures ∙ small_part w c.args.people c.args.part c.args.changes.now of));
-    steps = λ few small. absurd (both_ways u.is_small.result u.if-is_small.false (u.is_small.ensures ∙ small));
-  }
-  | else-people-le-MOST_PEOPLE-via-else-people-le-MOST_PEOPLE u ↦ record {
-    leads = λ w of. absurd (omega (arith, u.if-people-le-MOST_PEOPLE.false, few_people w c.args.people c.args.part c.args.changes.now of));
-    steps = λ few small. absurd (omega (arith, u.if-people-le-MOST_PEOPLE.false, few));
-  }
-]
+pub returns-in-None-clause-leads : goal.returns-in-None-clause-leads
+returns-in-None-clause-leads c =
+    IfOk-weaker c.checked_rows.result _ _
+    (λ rows are w of. are.leads w (subst (λ (o : Option (Bor Board)). IsPartOf w c.args.people (part_of_board (option_map (λ b. b.now) o) c.args.changes.now) c.args.changes.now) c.in-None.is of))
+    c.checked_rows.ensures
