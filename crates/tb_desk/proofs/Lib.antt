@@ -1,3 +1,4 @@
+pub mod Admitted
 pub mod Commits
 pub mod Lists
 pub mod Moves

@@ -1,3 +1,4 @@
+pub mod Admitting
 pub mod ListKeep
 pub mod Resuming
 pub mod Sessions

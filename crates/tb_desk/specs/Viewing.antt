@@ -9,7 +9,7 @@ use Rattle.tb_core.specs.declared.look.SeenBoard.{SeenBoard}
 use Rattle.tb_core.specs.declared.refusal.Refusal.{Refusal}
 use Rattle.tb_core.specs.declared.refusal.Refusal.TheVariants.{NoBoard, NoTask}
 use Rattle.tb_core.specs.Apply.{board_for}
-use Rattle.tb_board.specs.Board.{has_id}
+use Rattle.tb_board.specs.Tasks.{has_id}
 use Rattle.tb_board.specs.World.{key_of, number_of}
 use Rattle.tb_report.specs.Lists.{listing}
 use Rattle.tb_report.specs.Showing.{shown, shown_task}

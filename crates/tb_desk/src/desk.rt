@@ -1,10 +1,12 @@
-ghost use Rattle.std.specs.Prelude.{◌≡◌, ◌≢◌, ◌⊎◌, ◌+◌, ◌++◌, ◌∷◌, ◌<◌, ◌≤◌, [], Some, None, IfOk, IsErr, IsErrOf, IsSome, OnErr, OnOk, false, if◌then◌else◌, is_ok, length, take, true};
+ghost use Rattle.std.specs.Prelude.{◌≡◌, ◌≢◌, ◌⊎◌, ℕ, ◌+◌, ◌++◌, ◌∷◌, ◌<◌, ◌≤◌, [], Some, None, IfOk, IsErr, IsErrOf, IsSome, OnErr, OnOk, false, if◌then◌else◌, is_ok, length, take, true};
 ghost use Rattle.tb_calls.specs.declared.fault.KeepFault.TheVariants.{Memory, Store};
 ghost use Rattle.tb_calls.specs.Call.{State, once, plain, replies_to, reply};
 ghost use Rattle.tb_calls.specs.Keep.{IsStill, is_store};
 ghost use Rattle.tb_calls.specs.Leaving.{Only, StandsAfter};
+ghost use Rattle.tb_desk.specs.Admitting.{admission};
 ghost use Rattle.tb_desk.specs.Viewing.{shown_in};
 
+use crate::admitting::admit;
 use crate::handling::handle_call;
 use crate::viewing::show;
 use std::alloc::Global;
@@ -125,6 +127,26 @@ impl<K: Keep> Desk<K> {
         ensures closed { K.has_failed self.old ≡ true → IsErrOf result Store }
     {
         show(&mut self.keep, alloc, name, key, view, at)
+    }
+
+    /// What a person with a key is told whose view is refused, and None where it is accepted. That is the same at each moment.
+    pub fn admits(
+        &mut self,
+        alloc: Global,
+        name: &Name,
+        key: &Key,
+        view: &View,
+    ) -> Result<Option<Reply>, KeepFault>
+        ensures told { K.is_honest self.new ≡ true → (s : State) → K.holds self.old s → (at : ℕ)
+            → IfOk result
+            (λ refused. refused ≡ admission (shown_in s name.now key.now view.now at)) }
+        ensures same { IsStill (K.holds self.old) (K.after_stop self.old) (K.holds self.new)
+            (K.after_stop self.new) }
+        ensures honest { K.is_honest self.new ≡ true → K.is_honest self.old ≡ true }
+        ensures failed { K.has_failed self.new ≡ is_store result }
+        ensures closed { K.has_failed self.old ≡ true → IsErrOf result Store }
+    {
+        admit(&mut self.keep, alloc, name, key, view)
     }
 
     // Makes the reply's place, and then handles the call.

@@ -4,6 +4,7 @@
 //! keepers, on `tb_core` and `tb_reply` for answers, and on `tb_report`, `tb_json` and `tb_todotxt` for what views show.
 #![tactic(auto)]
 
+mod admitting;
 mod desk;
 mod handling;
 pub mod laws;

@@ -1,6 +1,6 @@
 //! How a view is answered, over any keeper.
 ghost use Rattle.std.specs.Prelude.{◌≡◌, Err, IfOk, IsErrOf, IsSome, Ok, Some, find, option_map, true};
-ghost use Rattle.tb_board.specs.Board.{has_id};
+ghost use Rattle.tb_board.specs.Tasks.{has_id};
 ghost use Rattle.tb_board.specs.World.{key_of, number_of};
 ghost use Rattle.tb_core.specs.Apply.{board_for};
 ghost use Rattle.tb_json.specs.Writing.{shown_text};
@@ -94,7 +94,7 @@ fn look_at<K: Keep>(
 }
 
 /// A board, where a person who is known has a role on it.
-fn see<K: Keep>(
+pub(crate) fn see<K: Keep>(
     keep: &mut K,
     alloc: Global,
     name: &Name,

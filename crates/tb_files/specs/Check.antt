@@ -6,7 +6,7 @@ use Rattle.sqlite_disk.specs.declared.Disk.{Ghosts as DiskGhosts}
 use Rattle.sqlite_store.specs.declared.store.FileStore.{FileStore}
 use Rattle.tb_calls.specs.declared.keep.Keep.{Ghosts}
 use Rattle.tb_keeper.specs.declared.sql_keep.SqlKeep.{SqlKeep}
-use Rattle.tb_files.specs.File.{IsSession}
+use Rattle.tb_files.specs.File.{IsFileSession}
 use Rattle.tb_keeper.specs.Auditing.{IsCountOf}
 use Rattle.tb_keeper.specs.declared.auditing.Audit.{Audit}
 use Rattle.tb_orders.specs.Auditing.{audit_line, ending_of_audit}
@@ -18,7 +18,7 @@ module _ {D : Type 0} {d : DiskGhosts D} (g : Ghosts (SqlKeep (FileStore D d))) 
   pub record IsChecked (before after : Option (List ℕ)) (ending : Ending) : Type 0 where
     pub old : SqlKeep (FileStore D d)
     pub new : SqlKeep (FileStore D d)
-    pub session : IsSession g old new
+    pub session : IsFileSession g old new
     pub audit : Audit
     pub counted : OfContent (file_state old.conn) (file_state new.conn)
         (λ content. IsCountOf content audit)

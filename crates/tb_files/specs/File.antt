@@ -47,7 +47,7 @@ module _ {D : Type 0} {d : DiskGhosts D} (g : Ghosts (SqlKeep (FileStore D d))) 
   IsUnopened other = Unit {0}
 
   -- a session from its beginning over a file to what it leaves, saved
-  pub record IsSession (old new : SqlKeep (FileStore D d)) : Type 0 where
+  pub record IsFileSession (old new : SqlKeep (FileStore D d)) : Type 0 where
     pub begun : IsBegun old
     pub files : Files D
     pub saved : IsSaved new.conn files

@@ -7,7 +7,7 @@ use Rattle.tb_keeper.specs.declared.sql_keep.SqlKeep.{SqlKeep}
 use Rattle.tb_calls.specs.Call.{State}
 use Rattle.tb_calls.specs.Leaving.{Only}
 use Rattle.tb_command_line.specs.declared.order.ImportOrder.{ImportOrder}
-use Rattle.tb_files.specs.File.{IsSession}
+use Rattle.tb_files.specs.File.{IsFileSession}
 use Rattle.tb_orders.specs.Input.{IsMade}
 use Rattle.tb_orders.specs.Running.{IsRunOf}
 use Rattle.tb_orders.specs.declared.ending.Ending.{Ending}
@@ -18,7 +18,7 @@ module _ {D : Type 0} {d : DiskGhosts D} (g : Ghosts (SqlKeep (FileStore D d))) 
       (before after : Option (List ℕ)) (ending : Ending) : Type 0 where
     pub old : SqlKeep (FileStore D d)
     pub new : SqlKeep (FileStore D d)
-    pub session : IsSession g old new
+    pub session : IsFileSession g old new
     pub made : (s : State) → g.holds old s
         → IsMade order input s (g.is_honest new) (g.holds new) before after ending
 
@@ -27,7 +27,7 @@ module _ {D : Type 0} {d : DiskGhosts D} (g : Ghosts (SqlKeep (FileStore D d))) 
       (before after : Option (List ℕ)) (ending : Ending) : Type 0 where
     pub old : SqlKeep (FileStore D d)
     pub new : SqlKeep (FileStore D d)
-    pub session : IsSession g old new
+    pub session : IsFileSession g old new
     pub run : (s : State) → g.holds old s → Only s (g.after_stop old)
         → IsRunOf order input s (Ok ending) (g.is_honest new) (g.holds new) (g.after_stop new)
         before after

@@ -8,7 +8,7 @@ use Rattle.tb_keeper.specs.declared.sql_keep.SqlKeep.{SqlKeep}
 use Rattle.tb_calls.specs.Call.{State}
 use Rattle.tb_calls.specs.Keep.{IsStill}
 use Rattle.tb_command_line.specs.declared.order.ViewOrder.{ViewOrder}
-use Rattle.tb_files.specs.File.{IsBegun, IsSession}
+use Rattle.tb_files.specs.File.{IsBegun, IsFileSession}
 use Rattle.tb_orders.specs.Orders.{ending_of, shown_by, view_text}
 use Rattle.tb_orders.specs.declared.ending.Ending.{Ending}
 use Rattle.tb_values.specs.Appends.{AppendsFront}
@@ -19,7 +19,7 @@ module _ {D : Type 0} {d : DiskGhosts D} (g : Ghosts (SqlKeep (FileStore D d))) 
       (ending : Ending) : Type 0 where
     pub old : SqlKeep (FileStore D d)
     pub new : SqlKeep (FileStore D d)
-    pub session : IsSession g old new
+    pub session : IsFileSession g old new
     pub at : ℕ
     pub told : g.is_honest new ≡ true → (s : State) → g.holds old s
         → Appends before after (view_text (shown_by s order at))

@@ -9,7 +9,7 @@ use std::io::Write;
 use tb_calls::Keep;
 use tb_command_line::ViewOrder;
 use tb_keeper::SqlKeep;
-use tb_orders::{Ending, print_view};
+use tb_orders::{Ending, print_stored_view};
 use tb_program::{Fault, machine_moment};
 use tb_task::Moment;
 
@@ -25,9 +25,10 @@ pub fn print_board<W: Write>(
         order.now (W.contents writer.old) (W.contents writer.new) }
     ensures fault { IfErr result (λ fault. is_of_views fault ≡ true) }
 {
-    let mut desk = open_desk(rt, order.file.as_str())?;
+    let desk = open_desk(rt, order.file.as_str())?;
     let at = moment_now(rt)?;
-    match print_view(rt.alloc(), &mut desk, order, at, writer) {
+    let (desk, end) = print_stored_view(rt.alloc(), desk, order, at, writer);
+    match end {
         Ok(ending) => {
             close_desk(desk)?;
             Ok(ending)

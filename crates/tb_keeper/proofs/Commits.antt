@@ -17,8 +17,7 @@ use Rattle.tb_calls.specs.Call.{State, name_of}
 use Rattle.tb_calls.specs.Keep.{HoldsEither, MayCommit, with_reply}
 use Rattle.tb_reply.specs.declared.reply.Reply.{Reply}
 use Rattle.tb_reopen.specs.Forms.{HasForm}
-use Rattle.tb_rows.specs.Part.{IsPartOf, part_of}
-use Rattle.tb_rows.specs.declared.part.BoardPart.{BoardPart}
+use Rattle.tb_rows.specs.Part.{board_in, IsPartOf, part_of_board, touched_board}
 use Rattle.tb_rows.specs.Rows.{world_rows, HaveSameRows, IsSameContent}
 use Rattle.tb_rows.specs.Steps.{Leads}
 use Rattle.tb_sql.specs.declared.changes.RowChange.{RowChange}
@@ -53,10 +52,11 @@ row_found w call reply person number row found is made =
     now)
 
 -- the changes of rows lead to the rows of the later world
-pub part_leads : (s : State) (people : ℕ) (part : Option BoardPart) (changes : List Change) (rows : List RowChange) (call : Call) → IsGoodWorld s.world → MayCommit s changes call → part ≡ part_of s.world changes → people ≡ length s.world.people
-    → ((w : World) → IsPartOf w people part changes → Leads rows w (changed w changes)) → Leads rows s.world (changed s.world changes)
-part_leads s people part changes rows call good may is are leads =
-    leads s.world (record { good = good; later = may.good; extends = may.extends; shape = may.shape; people_are = are; touched = is })
+pub part_leads : (s : State) (people : ℕ) (part board : Option Board) (changes : List Change) (rows : List RowChange) (call : Call) → IsGoodWorld s.world → MayCommit s changes call
+    → part ≡ board_in s.world (touched_board changes) → board ≡ part → people ≡ length s.world.people
+    → ((w : World) → IsPartOf w people (part_of_board board changes) changes → Leads rows w (changed w changes)) → Leads rows s.world (changed s.world changes)
+part_leads s people part board changes rows call good may found is are leads =
+    leads s.world (record { good = good; later = may.good; extends = may.extends; shape = may.shape; people_are = are; touched = ap (λ o. part_of_board o changes) (is ∙ found) })
 
 -- ---- the rows that are written
 

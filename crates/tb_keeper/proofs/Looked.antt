@@ -1,5 +1,5 @@
 -- What is looked up is what a command looks at.
-use Rattle.std.proofs.Common.{◌≡◌, ◌∙◌, inl, inr, ℕ, true, true≢false, List, [], ◌∷◌, Option, Some, None, Ordering, nat_eq, option_map, unwrap_or, length, refl, sym, ap, subst}
+use Rattle.std.proofs.Common.{◌≡◌, ◌∙◌, inl, inr, ℕ, true, true≢false, List, [], ◌∷◌, Option, Some, None, Ordering, nat_eq, option_map, unwrap_or, refl, sym, ap, subst}
 use Rattle.std.specs.Prelude.{IfSome, IsSome, is_some}
 use Rattle.std.specs.List.{AllByRecursion}
 use Rattle.std.specs.Map.{lookup}
@@ -10,11 +10,9 @@ use Rattle.std.proofs.lemmas.Bool.{cases_Bool, eqb-true}
 use Rattle.std.proofs.lemmas.Map.Views.{Contains-from_lookup}
 use Rattle.sqlite.specs.State.{State as Database}
 use Rattle.tb_board.specs.declared.board.Board.{Board}
-use Rattle.tb_board.specs.declared.change.Change.{Change}
 use Rattle.tb_board.specs.declared.world.Role.{Role}
 use Rattle.tb_board.specs.declared.world.World.{World}
 use Rattle.tb_board.specs.World.{find_board, key_of, number_of, role_of}
-use Rattle.tb_board.specs.Changing.{replayed}
 use Rattle.tb_board.proofs.Worlds.{number_found}
 use Rattle.tb_cache.specs.BoardCache.{AreOf}
 use Rattle.tb_calls.specs.declared.call.KeptReply.{KeptReply}
@@ -29,8 +27,6 @@ use Rattle.tb_lookup.specs.declared.people.StoredPerson.{StoredPerson}
 use Rattle.tb_lookup.specs.declared.roles.RolesFound.{RolesFound}
 use Rattle.tb_lookup.specs.People.{IsPersonFound}
 use Rattle.tb_lookup.specs.Roles.{AreRolesFound, role_for}
-use Rattle.tb_rows.specs.declared.part.BoardPart.{BoardPart}
-use Rattle.tb_rows.specs.Part.{part_of, touched_board}
 use Rattle.tb_stored.specs.Stored.{IsKnown, IsStored}
 use Rattle.tb_keeper.specs.declared.looking.Glance.{Glance}
 use Rattle.tb_keeper.specs.declared.looking.Parties.{Parties}
@@ -169,14 +165,3 @@ all_seen w name c glance people boards cached seen is hand at = is ∙ same
     same = λ i.
         let now : Seen = record { caller = at.caller_is i; board = at.board_is i; other = at.other_is i; owners = at.owners_are i; people = hand.people_are i; boards = hand.boards_are i } in
         now
-
--- ---- the board that changes touch
-
-pub untouched : (w : World) (cs : List Change) → touched_board cs ≡ None → None ≡ part_of w cs
-untouched w cs none = rw none refl
-
-pub no_board : (w : World) (cs : List Change) (n : ℕ) → touched_board cs ≡ Some n → None ≡ find_board w n → None ≡ part_of w cs
-no_board w cs n one none = rw (one, sym none) refl
-
-pub board_part : (w : World) (cs : List Change) (n : ℕ) (b : Board) (part : BoardPart) → touched_board cs ≡ Some n → Some b ≡ find_board w n → part ≡ record { tasks_before = length b.tasks; later = replayed b cs } → Some part ≡ part_of w cs
-board_part w cs n b part one found is = rw (one, sym found) (ap Some is)

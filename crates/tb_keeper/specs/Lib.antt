@@ -1,7 +1,10 @@
 pub mod Auditing
 pub mod Counts
+pub mod Exporting
 pub mod Forms
 pub mod Holds
 pub mod Laws
+pub mod Lending
 pub mod Looking
+pub mod Noting
 pub mod Versions

@@ -2,13 +2,14 @@
 
 ghost use Rattle.std.specs.Prelude.{◌≡◌, Err, IfOk, OnErr, OnOk, false, length};
 ghost use Rattle.std.specs.List.{AllByRecursion};
+ghost use Rattle.std.specs.Option.{option_map};
 ghost use Rattle.sqlite.specs.Held.{state};
-ghost use Rattle.tb_board.specs.Changing.{changed, replayed};
+ghost use Rattle.tb_board.specs.Changing.{changed};
 ghost use Rattle.tb_calls.specs.Call.{name_of};
 ghost use Rattle.tb_calls.specs.Keep.{MayCommit};
 ghost use Rattle.tb_calls.specs.declared.call.Call.{Call as CallValue};
 ghost use Rattle.tb_cache.specs.BoardCache.{AreOf};
-ghost use Rattle.tb_rows.specs.Part.{part_of};
+ghost use Rattle.tb_rows.specs.Part.{board_in, touched_board};
 ghost use Rattle.tb_rows.specs.Steps.{Leads};
 ghost use Rattle.tb_sql.specs.Opening.{IsAsBefore};
 ghost use Rattle.tb_stored.specs.Reopening.{OfState};
@@ -20,15 +21,15 @@ use crate::forms::have_forms;
 use sqlite::{Alter, Connection};
 use std::alloc::{AllocError, Global};
 use tb_board::{Board, Change};
-use tb_cache::{BoardCache, replayed};
+use tb_cache::BoardCache;
 use tb_calls::Call;
 use tb_lookup::people::stored_person;
 use tb_reply::Reply;
-use tb_rows::{BoardPart, part_changes, touched_board};
+use tb_rows::{part_changes, touched_board};
 use tb_sql::changes::RowChange;
 use tb_sql::store::StoreFault;
 use tb_sql_tables::rows::KeptRow;
-use tb_values::{Duplicate, Items};
+use tb_values::{Duplicate, Items, Shared};
 
 /// Values have the forms of their types, and the tasks of a good world are taken.
 pub(crate) fn hold_to_forms(alloc: Global, changes: &[Change]) -> Result<(), StoreFault>
@@ -60,23 +61,24 @@ pub(crate) fn rows_for<S: Alter>(
     ensures same { IsAsBefore (state S.Store conn.old) (state S.Store conn.new) }
 {
     let part = find_part(alloc, conn, cache, changes)?;
-    match part_changes(alloc, people, part, changes) {
+    match part_changes(alloc, people, board_of(&part), changes) {
         Ok(rows) => Ok(rows),
         Err(_) => Err(StoreFault::Memory),
     }
 }
 
-/// The board that changes touch, as it was and as it is after them.
+/// The board that changes touch, as it is before them.
 fn find_part<S: Alter>(
     alloc: Global,
     conn: &mut Connection<S>,
     cache: &mut BoardCache,
     changes: &[Change],
-) -> Result<Option<BoardPart>, StoreFault>
+) -> Result<Option<Shared<Board>>, StoreFault>
     requires { conn.old.in_transaction ≡ false }
     ensures idle { conn.new.in_transaction ≡ false }
     ensures found { IfOk result (λ part. OfState (state S.Store conn.old) (state S.Store conn.new)
-        (λ s. AreOf s.world cache.old.entries → part ≡ part_of s.world changes.now)) }
+        (λ s. AreOf s.world cache.old.entries
+        → part ≡ board_in s.world (touched_board changes.now))) }
     ensures cached { OfState (state S.Store conn.old) (state S.Store conn.new)
         (λ s. AreOf s.world cache.old.entries → AreOf s.world cache.new.entries) }
     ensures same { IsAsBefore (state S.Store conn.old) (state S.Store conn.new) }
@@ -84,27 +86,16 @@ fn find_part<S: Alter>(
     let Some(number) = touched_board(changes) else {
         return Ok(None);
     };
-    let Some(board) = board_at(alloc, conn, cache, number)? else {
-        return Ok(None);
-    };
-    match part_after(alloc, board.get(), changes) {
-        Ok(part) => Ok(Some(part)),
-        Err(_) => Err(StoreFault::Memory),
-    }
+    board_at(alloc, conn, cache, number)
 }
 
-fn part_after(alloc: Global, board: &Board, changes: &[Change]) -> Result<BoardPart, AllocError>
-    ensures { IfOk result
-        (λ part. part ≡ record {
-          tasks_before = length board.now.tasks;
-          later = replayed board.now changes.now;
-        }) }
+fn board_of(part: &Option<Shared<Board>>) -> Option<&Board>
+    ensures { option_map (λ b. b.now) result ≡ part.now }
 {
-    let later = replayed(alloc, board, changes)?;
-    Ok(BoardPart {
-        tasks_before: board.tasks.len(),
-        later,
-    })
+    match part {
+        Some(board) => Some(board.get()),
+        None => None,
+    }
 }
 
 /// The row of a reply, under the number of the call's person.

@@ -2,17 +2,22 @@
 //!
 //! It owns the keeper that looks in the tables at each call and has a few boards at hand. Stands on `tb_stored` for what it means that
 //! tables are the rows of a state, on `tb_lookup` for what is looked up in them, on `tb_cache` for the boards at hand, on `tb_sql` for
-//! the transactions, on `tb_rows` for the rows of a world, and on `tb_calls` for what a keeper promises.
+//! the transactions, on `tb_rows` for the rows of a world, on `tb_calls` for what a keeper promises, and on `tb_report` and `tb_json`
+//! for what an export shows.
 #![tactic(auto)]
 
 mod at_hand;
 mod auditing;
 mod committing;
 mod creating;
+mod export_fault;
+mod exporting;
 pub mod first_version;
 mod forms;
+mod lending;
 mod looking;
 mod members;
+mod noting;
 mod opening;
 mod sound_rows;
 mod sql_keep;
@@ -20,4 +25,6 @@ mod writing;
 
 pub use auditing::Audit;
 pub use creating::CreateFault;
+pub use export_fault::ExportFault;
+pub use lending::{Lent, StoredRow};
 pub use sql_keep::SqlKeep;

@@ -1,3 +1,4 @@
+pub mod Exported
 pub mod Inputs
 pub mod Items
 pub mod Runs

@@ -7,6 +7,7 @@
 mod auditing;
 mod cutting;
 mod ending;
+mod exporting;
 mod faults;
 mod importing;
 mod input;
@@ -20,6 +21,7 @@ mod words;
 
 pub use auditing::print_audit;
 pub use ending::{Ending, fault_of_keep};
+pub use exporting::{Export, print_stored_view};
 pub use faults::{fault_of_making, fault_of_opening, fault_of_script};
 pub use importing::import_text;
 pub use input::import_input;

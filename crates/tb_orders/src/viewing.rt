@@ -36,6 +36,7 @@ pub fn print_view<K: Keep, W: Write>(
         → IfOk result (λ ending. ending ≡ ending_of (shown_by s order.now at)) }
     ensures same { IsStill (K.holds desk.old) (K.after_stop desk.old) (K.holds desk.new)
         (K.after_stop desk.new) }
+    ensures honest { K.is_honest desk.new ≡ true → K.is_honest desk.old ≡ true }
     ensures fault { IfErr result (λ fault. is_of_answers fault ≡ true) }
     ensures store { IsErrOf result Store → K.has_failed desk.new ≡ true }
 {
@@ -45,7 +46,7 @@ pub fn print_view<K: Keep, W: Write>(
     }
 }
 
-fn print_shown<W: Write>(writer: &mut W, reply: &Reply) -> Result<Ending, Fault>
+pub(crate) fn print_shown<W: Write>(writer: &mut W, reply: &Reply) -> Result<Ending, Fault>
     ensures told { OnOk result
         (Appends (W.contents writer.old) (W.contents writer.new) (view_text reply.now)) }
     ensures front { OnErr result
@@ -71,7 +72,7 @@ fn print_body<W: Write>(writer: &mut W, reply: &Reply) -> Result<(), Fault>
     }
 }
 
-fn view_of(order: &ViewOrder) -> View
+pub(crate) fn view_of(order: &ViewOrder) -> View
     ensures { result ≡ view_of order.now }
 {
     match order.kind {

@@ -3,4 +3,4 @@ use Rattle.tb_keeper.proofs.committing.rows_for.Goals as goal
 
 pub returns-in-Ok-clause-leads : goal.returns-in-Ok-clause-leads
 returns-in-Ok-clause-leads g c clean s stored are count call may =
-    part_leads s c.args.people c.in_ok-part.part c.args.changes.now c.in-Ok.rows call stored.rows.good may (c.in_ok-part.ensures.found clean s stored are) count c.in-Ok.ensures.leads
+    part_leads s c.args.people c.in_ok-part.part _ c.args.changes.now c.in-Ok.rows call stored.rows.good may (c.in_ok-part.ensures.found clean s stored are) c.board_of.ensures count c.in-Ok.ensures.leads
