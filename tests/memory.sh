@@ -1,7 +1,8 @@
 #!/bin/sh
 # Refuses each allocation of worked scripts in turn, of a server over a file and of the script over lists: the answer is that there was no
 # memory, and nothing has changed, or the script's own; the same server goes on, and all sent again is answered as written. It needs
-# python3 and a C compiler; `sh tests/memory.sh 1` refuses each allocation of a server's start too, and not one of 100 alone.
+# python3 and a C compiler; `sh tests/memory.sh 1` refuses each allocation of a server's start too; without a number, as the test
+# command calls it by tests/quick.sh, one of 100.
 set -eu
 
 step=${1:-100}

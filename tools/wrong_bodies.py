@@ -7,6 +7,7 @@ one check of what they change. Where that is still proved the whole crate is tri
 own functions, which are taken from its command `rt`."""
 import importlib.machinery
 import importlib.util
+import json
 import os
 import re
 import shutil
@@ -126,6 +127,15 @@ def proved_functions(log):
         return re.findall(r"(?m)^fn (\S+): proved$", it.read())
 
 
+def built_functions(crate):
+    """The functions of a library as it was built: those of one that was taken from an earlier run stand in no log."""
+    try:
+        with open(f"{crate.folder}/out/rlib/{crate.name}.rlib/toolchain/mir.json", encoding="utf-8") as it:
+            return [function[0] for function in json.load(it)]
+    except OSError:
+        return []
+
+
 def try_all(top, log):
     """Tries the edits of all crates of a folder. Returns what to say of each, and how many of them weren't refused."""
     os.chdir(top)
@@ -138,7 +148,7 @@ def try_all(top, log):
         for crate in kit.crates_of(top):
             edits, strange = kit.edits_of(crate)
             told += [(kit.BAD, f"must-fail {crate.name}: {it} is no edit") for it in strange]
-            own = [it for it in proved if it.startswith(f"{crate.name}::")]
+            own = [it for it in proved if it.startswith(f"{crate.name}::")] or built_functions(crate)
             tasks |= tasks_of(kit, crate, edits, own, room)
         told += [it for it in kit.in_lanes(tasks).values() if it]
     failed = sum(kind not in (kit.REFUSED, kit.AT_LIMIT) for kind, _ in told)

@@ -6,6 +6,7 @@
 
 mod at_once;
 mod breaking;
+mod exports;
 mod hiccup;
 mod lines;
 mod looks;

@@ -1,11 +1,12 @@
 //! Steps over boards in two files, as they are read from a file of steps.
 
+use crate::exports::{tell_admission, tell_at_hand, tell_export};
 use crate::lines::{Transcript, compare, unreadable};
 use crate::looks::{count_kept, tell_audit, tell_migrated, tell_tables};
 use crate::openings::open_each;
 use crate::stops::{Frail, read_files, stop_each};
 use crate::store::{Owner, make_first_version, open_store};
-use sqlite::{Connection, FileStore, Files, Options};
+use sqlite::{Alter, Connection, FileStore, Files, Options};
 use sqlite_disk::Crash;
 use std::alloc::AllocError;
 use std::{fs, io};
@@ -210,13 +211,29 @@ impl<'o, 't> Steps<'o, 't> {
             "audit" => tell_audit(&mut keep, &mut self.told)?,
             "migrated" => tell_migrated(&keep, &mut self.told)?,
             "kept" => count_kept(&mut keep, self.sent.as_slice(), &mut self.told)?,
-            line => {
-                let mut desk = Desk::new(keep);
-                self.send(&mut desk, line)?;
-                keep = desk.into_keep();
-            }
+            "at_hand" => tell_at_hand(&keep, &mut self.told)?,
+            line => keep = self.ask_desk(Desk::new(keep), line)?.into_keep(),
         }
         Ok(Stage::Store(keep))
+    }
+
+    /// Asks a desk over the open store.
+    fn ask_desk<S: Alter + Drop>(
+        &mut self,
+        mut desk: Desk<SqlKeep<S>>,
+        step: &'t str,
+    ) -> io::Result<Desk<SqlKeep<S>>> {
+        match step.split_once(' ') {
+            Some(("export", rest)) => tell_export(desk, self.owner, rest, &mut self.told),
+            Some(("admits", rest)) => {
+                tell_admission(&mut desk, rest, &mut self.told)?;
+                Ok(desk)
+            }
+            _ => {
+                self.send(&mut desk, step)?;
+                Ok(desk)
+            }
+        }
     }
 
     /// Sends a line to a desk.

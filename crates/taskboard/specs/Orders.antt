@@ -3,7 +3,7 @@ use Rattle.std.specs.Prelude.{◌≡◌, ℕ, Bool, true, false, List, Option, S
 use Rattle.std.specs.Io.KnownBytes.{Appends}
 use Rattle.sqlite_disk.specs.declared.Disk.{Ghosts as DiskGhosts}
 use Rattle.sqlite_store.specs.declared.store.FileStore.{FileStore}
-use Rattle.taskboard.specs.Serve.{IsServed, is_of_serving}
+use Rattle.taskboard.specs.Serve.{IsServerRun, is_of_serving}
 use Rattle.taskboard.specs.declared.TheConstants.{VERSION}
 use Rattle.tb_calls.specs.Call.{opening}
 use Rattle.tb_calls.specs.declared.keep.Keep.{Ghosts}
@@ -73,7 +73,7 @@ module _ {D L W : Type 0} {d : DiskGhosts D} (g : Ghosts (SqlKeep (FileStore D d
   abbrev pub IsDone : Order → Option (List ℕ) → W → W → Ending → Type 0
   IsDone (Init order) input before after ending =
       (ending ≡ Accepted) × IsMade g (opening order.name order.key)
-  IsDone (Serve order) input before after ending = (ending ≡ Accepted) × IsServed g order
+  IsDone (Serve order) input before after ending = (ending ≡ Accepted) × IsServerRun g order
   IsDone Run input before after ending = (ending ≡ Accepted)
       × IfSome input (λ script. Appends (contents before) (contents after) (script_text script))
   IsDone (Import order) input before after ending =

@@ -10,7 +10,7 @@ use Rattle.tb_command_line.specs.declared.order.ServeOrder.{ServeOrder}
 use Rattle.tb_event_loop.specs.Done.{Done, ends_in}
 use Rattle.tb_event_loop.specs.declared.fault.LoopFault.{LoopFault}
 use Rattle.tb_event_loop.specs.declared.fault.LoopFault.TheVariants as ending
-use Rattle.tb_files.specs.File.{IsSession}
+use Rattle.tb_files.specs.File.{IsFileSession}
 use Rattle.tb_keeper.specs.declared.sql_keep.SqlKeep.{SqlKeep}
 use Rattle.tb_orders.specs.Faults.{is_of_opening}
 use Rattle.tb_peers.specs.Happening.{talk_at}
@@ -40,10 +40,10 @@ module _ {D : Type 0} {d : DiskGhosts D} (g : Ghosts (SqlKeep (FileStore D d))) 
   -- In a session over the file some things were done to connections that were silent at first, with the page that the order names.
   -- These decide what the boards hold at its end and what each connection was told, by `MakesTurns` of `tb_server`; and as many
   -- connections ended among them as the order says.
-  pub record IsServed (order : ServeOrder) : Type 0 where
+  pub record IsServerRun (order : ServeOrder) : Type 0 where
     pub old : SqlKeep (FileStore D d)
     pub new : SqlKeep (FileStore D d)
-    pub session : IsSession g old new
+    pub session : IsFileSession g old new
     pub site : Site
     pub kept : Site
     pub page : IsPageOf order.page site

@@ -1,7 +1,7 @@
 //! The server of a file, on the loopback.
 ghost use Rattle.std.specs.Prelude.{◌≡◌, IfErr, IfOk, IsErrOf, IsSome, true};
 ghost use Rattle.taskboard.specs.Page.{IsPageOf};
-ghost use Rattle.taskboard.specs.Serve.{IsServed, fault_of_loop, is_of_serving, limit_of};
+ghost use Rattle.taskboard.specs.Serve.{IsServerRun, fault_of_loop, is_of_serving, limit_of};
 ghost use Rattle.tb_event_loop.specs.History.{still_to_end};
 ghost use Rattle.tb_program.specs.declared.fault.Fault.TheVariants.{NoPage};
 
@@ -26,7 +26,7 @@ const OTHERS: u32 = 0o077;
 /// Serves a file on a port of the loopback, up to the number of connections, or without end: then it ends by a fault alone.
 pub(crate) fn serve_file(rt: &HostRuntime, order: &ServeOrder) -> Result<Ending, Fault>
     ensures served { IfOk result (λ ending. (ending ≡ Ending.Accepted)
-        × IsServed ⟦<SqlKeep<RealFile> as Keep>⟧ order.now) }
+        × IsServerRun ⟦<SqlKeep<RealFile> as Keep>⟧ order.now) }
     ensures fault { IfErr result (λ fault. is_of_serving fault ≡ true) }
 {
     let page = page_of(rt, order)?;

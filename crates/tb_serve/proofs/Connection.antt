@@ -15,7 +15,7 @@ use Rattle.tb_serve.specs.declared.serving.Exchange.{Exchange}
 use Rattle.tb_serve.specs.declared.serving.ServeEnd.{ServeEnd}
 use Rattle.tb_serve.specs.declared.serving.Turn.{Turn}
 use Rattle.tb_serve.specs.declared.serving.Turn.TheVariants.{Replied, Failed, Unread}
-use Rattle.tb_serve.specs.Serving.{Exchanges, Handles, HandlesMessage, IsServed, Sends, Turns, answer_to, answers, calls_of, ended_by, ended_well, ends_last, goes_on, later, left_by, next, no_start, none_closes}
+use Rattle.tb_serve.specs.Serving.{Exchanges, Handles, HandlesMessage, IsServingEnd, Sends, Turns, answer_to, answers, calls_of, ended_by, ended_well, ends_last, goes_on, later, left_by, next, no_start, none_closes}
 use Rattle.tb_serve.specs.Telling.{StandsAt, after, calls_in}
 use Rattle.tb_serve.proofs.Lists.{answers-push, brings-push, calls-push, ends-push, left-push, none-push, reached, reached-after}
 use Rattle.tb_site.specs.declared.site.Site.{Site}
@@ -206,7 +206,7 @@ sends_behind old new newer front text false before sends = (sends.0, sends.1, Ap
 
 -- the end of a connection whose bytes and moments may be known
 abbrev pub Ends : Site → State → Option (List ℕ) → Option (List (Option ℕ)) → Option (List ℕ) → Option (List ℕ) → (State → Type 0) → (State → Type 0) → ServeEnd → Type 0
-Ends site s source moments old new now stops end = IfSome source (λ bytes. IfSome moments (λ all. IsServed site s all bytes old new now stops end))
+Ends site s source moments old new now stops end = IfSome source (λ bytes. IfSome moments (λ all. IsServingEnd site s all bytes old new now stops end))
 
 -- by an exchange that was no whole answer to a message
 pub run_ends : (site : Site) (s : State) (source : Option (List ℕ)) (moments : Option (List (Option ℕ))) (known : Option (List ℕ)) (clock : Option (List (Option ℕ))) (old new newer : Option (List ℕ)) (now stops next_now next_stops : State → Type 0) (count : ℕ) (is_closing closing : Bool) (exchange : Exchange) (left : Option (List ℕ)) (end : ServeEnd)

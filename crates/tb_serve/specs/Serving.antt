@@ -244,9 +244,9 @@ pub record IsUnstarted (s : State) (old new : Option (List ℕ)) (now : State �
   pub counts : end ≡ no_start
 
 -- how the serving of a connection ends
-abbrev pub IsServed : Site → State → List (Option ℕ) → List ℕ → Option (List ℕ) → Option (List ℕ)
+abbrev pub IsServingEnd : Site → State → List (Option ℕ) → List ℕ → Option (List ℕ) → Option (List ℕ)
     → (State → Type 0) → (State → Type 0) → ServeEnd → Type 0
-IsServed site s clock bytes old new now may_leave end =
+IsServingEnd site s clock bytes old new now may_leave end =
     IsClosed site s clock bytes old new now may_leave end
     ⊎ (IsEnded site s clock bytes old new now may_leave end
     ⊎ IsUnstarted s old new now may_leave end)

@@ -4,7 +4,7 @@ ghost use Rattle.tb_calls.specs.Call.{State};
 ghost use Rattle.tb_calls.specs.Leaving.{Only};
 ghost use Rattle.tb_http.specs.Answer.{answer_text};
 ghost use Rattle.tb_http.specs.Closing.{message_limit};
-ghost use Rattle.tb_serve.specs.Serving.{Exchanges, HandlesMessage, IsServed, Sends, Settles, answers_one, ended_by, exchange_fault, goes_on, owes_one, reads_one, turn_fault, unread_text};
+ghost use Rattle.tb_serve.specs.Serving.{Exchanges, HandlesMessage, IsServingEnd, Sends, Settles, answers_one, ended_by, exchange_fault, goes_on, owes_one, reads_one, turn_fault, unread_text};
 ghost use Rattle.tb_serve.specs.Telling as telling;
 
 use crate::clock::Clock;
@@ -296,7 +296,7 @@ fn serve_all<R: Read + Drop, W: Write, K: Keep, C: Clock>(
     ensures served { K.is_honest desk.new ≡ true → (s : State) → K.holds desk.old s
         → Only s (K.after_stop desk.old)
         → IfSome reader.old.bytes (λ bytes. IfSome (C.answers clock.old) (λ moments.
-        IsServed paths.now.site s moments bytes (W.contents writer.old) (W.contents writer.new)
+        IsServingEnd paths.now.site s moments bytes (W.contents writer.old) (W.contents writer.new)
         (K.holds desk.new) (K.after_stop desk.new) result)) }
     ensures honest { K.is_honest desk.new ≡ true → K.is_honest desk.old ≡ true }
     ensures failed { result.fault ≡ Some ServeFault.Store → K.has_failed desk.new ≡ true }
@@ -331,7 +331,7 @@ pub fn serve_reader<R: Read + Drop, W: Write, K: Keep, C: Clock>(
     ensures served { K.is_honest desk.new ≡ true → (s : State) → K.holds desk.old s
         → Only s (K.after_stop desk.old)
         → IfSome (R.remaining source) (λ bytes. IfSome (C.answers clock.old) (λ moments.
-        IsServed paths.now.site s moments bytes (W.contents writer.old) (W.contents writer.new)
+        IsServingEnd paths.now.site s moments bytes (W.contents writer.old) (W.contents writer.new)
         (K.holds desk.new) (K.after_stop desk.new) result)) }
     ensures honest { K.is_honest desk.new ≡ true → K.is_honest desk.old ≡ true }
     ensures failed { result.fault ≡ Some ServeFault.Store → K.has_failed desk.new ≡ true }

@@ -6,8 +6,8 @@ use crate::given::{halves, read_count, read_place};
 use crate::tasks::read;
 use std::alloc::Global;
 use std::io;
-use tb_board::{Ahead, Board, Change};
-use tb_cache::{BoardCache, MOST_BOARDS_AT_HAND, replayed};
+use tb_board::{Ahead, Board, Change, replayed};
+use tb_cache::{BoardCache, MOST_BOARDS_AT_HAND};
 use tb_values::{Items, Shared};
 
 /// The last board that is asked for.
