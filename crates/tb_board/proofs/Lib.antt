@@ -3,6 +3,7 @@ pub mod Awake
 pub mod BlockedTasks
 pub mod Drafts
 pub mod Extending
+pub mod FirstWaits
 pub mod Fits
 pub mod Fresh
 pub mod GoneOrder
@@ -17,8 +18,8 @@ pub mod Places
 pub mod Relinked
 pub mod Relinking
 pub mod Reinserted
+pub mod Recurring
 pub mod RoleOrder
 pub mod Runs
-pub mod Stirring
 pub mod Walking
 pub mod Worlds

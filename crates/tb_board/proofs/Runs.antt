@@ -15,7 +15,8 @@ use Rattle.tb_board.specs.Tasks.{woken}
 use Rattle.tb_board.specs.First.{change_first}
 use Rattle.tb_board.specs.Instances.{has_template, is_template_with, HasRuns, HasTemplateOn, IsGoneOn}
 use Rattle.tb_board.specs.Statuses.{is_template}
-use Rattle.tb_board.specs.Templates.{gone_places, instance_places, IsRun, place_in, places, with_place}
+use Rattle.tb_board.specs.InstancePlaces.{instance_places, place_in, with_place}
+use Rattle.tb_board.specs.Templates.{gone_places, IsRun, places}
 
 -- a number above all isn't among them
 above_all : (n : ℕ) (xs : List ℕ) → AllByRecursion (λ x. x < n) xs → list_any (nat_eq n) xs ≡ false

@@ -1,11 +1,12 @@
 pub mod Ahead
 pub mod Blocked
 pub mod Board
-pub mod Calm
 pub mod Changing
 pub mod Extends
 pub mod First
+pub mod FirstWait
 pub mod Good
+pub mod InstancePlaces
 pub mod Instances
 pub mod Links
 pub mod Marks
@@ -15,6 +16,7 @@ pub mod Roles
 pub mod Statuses
 pub mod TaskIndex
 pub mod Tasks
+pub mod TemplateIndex
 pub mod Templates
 pub mod Walks
 pub mod World

@@ -1,27 +1,11 @@
 -- The places of a template's mask, and what stands at them.
-use Rattle.std.specs.Prelude.{◌<◌, ℕ, Bool, false, ◌&&◌, ◌==◌, List, [], ◌∷◌, ◌++◌, Option, Some, None, unwrap_or, if◌then◌else◌, length, nat_eq, map, find}
+use Rattle.std.specs.Prelude.{◌<◌, ℕ, Bool, ◌&&◌, ◌==◌, List, [], ◌∷◌, ◌++◌, Option, Some, None, unwrap_or, if◌then◌else◌, length, nat_eq, map, find}
 use Rattle.std.specs.List.{IsDistinct, AllByRecursion, range_with_len}
 use Rattle.tb_task.specs.declared.task.Task.{Task}
 use Rattle.tb_task.specs.Status.{mark_of}
 use Rattle.tb_board.specs.declared.board.Board.{Board}
 use Rattle.tb_board.specs.declared.gone.Gone.{Gone}
-
-abbrev pub is_id : ℕ → Option ℕ → Bool
-is_id id None = false
-is_id id (Some other) = other == id
-
--- the place of a task among the instances of a template, if it is one
-abbrev pub place_in : ℕ → Task → Option ℕ
-place_in id t = if is_id id t.parent then t.imask else None
-
-abbrev pub with_place : Option ℕ → List ℕ → List ℕ
-with_place None places = places
-with_place (Some place) places = place ∷ places
-
--- the places of a template's instances, in order of the tasks
-abbrev pub instance_places : ℕ → List Task → List ℕ
-instance_places id [] = []
-instance_places id (t ∷ ts) = with_place (place_in id t) (instance_places id ts)
+use Rattle.tb_board.specs.InstancePlaces.{instance_places, is_id, place_in}
 
 -- the places of a template that are gone
 abbrev pub gone_places : ℕ → List Gone → List ℕ

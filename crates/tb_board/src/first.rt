@@ -41,12 +41,6 @@ fn first_board(boards: &[Shared<Board>], number: u32) -> Option<usize>
 }
 
 /// The place of the first task of that identifier.
-pub fn place_of_task(tasks: &[Shared<Task>], id: TaskId) -> Option<usize>
-    ensures { MatchOption result (IsNone (has_id id) tasks.now) (IsFirst (has_id id) tasks.now) }
-{
-    first_task(tasks, id)
-}
-
 pub(crate) fn first_task(tasks: &[Shared<Task>], id: TaskId) -> Option<usize>
     ensures { result ≡ position (has_id id) tasks.now }
 {

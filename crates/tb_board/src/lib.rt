@@ -1,17 +1,17 @@
 //! Boards of tasks and the world of people, boards and roles, as they stand at a moment.
 //!
-//! It owns boards, how far they look ahead, names, keys, titles and roles, the list of changes by which a world changes, waking, and the numbers that a board
-//! gives to new tasks. It stands on `tb_task` for tasks and identifiers and on `tb_values` for lists.
+//! It owns boards, the index by which a board's tasks are found, how far boards look ahead, names, keys, titles and roles, the list of changes by
+//! which a world changes, waking, and the numbers that a board gives to new tasks. It stands on `tb_task` for tasks and on `tb_values` for lists.
 #![tactic(auto)]
 
 mod ahead;
 mod blocked;
 mod board;
-mod calm;
 mod change;
 mod changing;
 mod draft;
 mod first;
+mod first_wait;
 mod gone;
 mod key;
 mod links;
@@ -21,6 +21,7 @@ mod replaying;
 mod statuses;
 mod task_index;
 mod task_list;
+mod template_index;
 mod title;
 mod viewing;
 mod waking;
@@ -32,7 +33,7 @@ pub use board::Board;
 pub use change::Change;
 pub use changing::{roles_with, roles_without};
 pub use draft::Draft;
-pub use first::{place_of_board, place_of_task};
+pub use first::place_of_board;
 pub use gone::{Gone, gone_without};
 pub use key::Key;
 pub use links::{
@@ -47,6 +48,7 @@ pub use statuses::{
     is_template_task, settled_status,
 };
 pub use task_list::TaskList;
+pub use template_index::TemplateIndex;
 pub use title::Title;
 pub use viewing::{woken, woken_task};
 pub use waking::{has_waited, wake_draft};

@@ -4,31 +4,34 @@ ghost use Rattle.std.specs.Prelude.{◌≡◌, ◌∷◌, ◌++◌, ◌<◌, ◌
 ghost use Rattle.std.specs.BTreeMap.{get};
 ghost use Rattle.std.specs.Ordering.{nat_cmp};
 ghost use Rattle.tb_board.specs.Tasks.{ids, ArePlaces, place_in};
-ghost use Rattle.tb_board.specs.Calm.{may_stir};
-ghost use Rattle.tb_board.specs.TaskIndex.{IsIndexOf, IsLeastFree};
+ghost use Rattle.tb_board.specs.FirstWait.{may_wake};
+ghost use Rattle.tb_board.specs.TaskIndex.{IsIndexOf, IsLeastFree, IsLike};
 ghost use Rattle.tb_task.specs.TaskId.{made};
 ghost use Rattle.tb_task.specs.declared.task.Task.{Task as TaskValue};
 
-use crate::calm::Calm;
+use crate::first_wait::FirstWait;
 use crate::links::places_of;
+use crate::template_index::TemplateIndex;
 use std::alloc::{AllocError, Global};
 use std::collections::BTreeMap;
 use tb_task::{Moment, Task, TaskId};
 use tb_values::Shared;
 
-/// The places of a list's tasks by their identifiers, the least number that a board can give to a new one, and from when on a task stirs.
+/// The places of a list's tasks by their identifiers, the least number that a board can give to a new one, from when on a task wakes, and
+/// what is noted of templates.
 #[derive(Drop)]
 pub(crate) struct TaskIndex {
     pub(crate) places: BTreeMap<TaskId, usize>,
     pub(crate) board: u32,
     pub(crate) least_free: u32,
-    pub(crate) calm: Calm,
-    /// Whether a task was replaced that may have been the first to stir.
+    pub(crate) first_wait: FirstWait,
+    /// Whether a task was replaced that may have been the first to wake.
     pub(crate) is_loose: bool,
+    pub(crate) templates: TemplateIndex,
 }
 
 impl TaskIndex {
-    /// The index of a list, for the numbers of a board. None where there is no free number.
+    /// The index of a list, for the numbers of a board. None where there is no free number, or more than can be counted.
     pub(crate) fn of(
         alloc: Global,
         tasks: &[Shared<Task>],
@@ -40,12 +43,16 @@ impl TaskIndex {
         let Some(least_free) = next_free(&places, board, 1) else {
             return Ok(None);
         };
+        let Some(templates) = TemplateIndex::of(alloc, tasks)? else {
+            return Ok(None);
+        };
         Ok(Some(TaskIndex {
             places,
             board,
             least_free,
-            calm: Calm::of(tasks),
+            first_wait: FirstWait::of(tasks),
             is_loose: false,
+            templates,
         }))
     }
 
@@ -62,43 +69,50 @@ impl TaskIndex {
             places,
             board,
             least_free,
-            calm,
+            first_wait,
             is_loose,
+            templates,
         } = self;
         let places = places_with(places, tasks, task.id)?;
         let Some(least_free) = next_free(&places, board, least_free) else {
+            return Ok(None);
+        };
+        let Some(templates) = templates.with(tasks.len(), task)? else {
             return Ok(None);
         };
         Ok(Some(TaskIndex {
             places,
             board,
             least_free,
-            calm: calm.with(task),
+            first_wait: first_wait.with(task),
             is_loose,
+            templates,
         }))
     }
 
-    /// The index of a list in which another task of the same identifier takes the place of one.
+    /// The index of a list in which a task takes the place of one that is like it.
     pub(crate) fn with_other(self, old: &Task, new: &Task) -> TaskIndex
-        requires { new.now.id ≡ old.now.id }
+        requires { IsLike old.now new.now }
         ensures { (ts : List TaskValue) (place : ℕ) → IsIndexOf ts self → place < length ts
             → old.now ≡ slice_index_or ts place old.now
             → IsIndexOf (slice_set ts place new.now) result }
     {
-        let was_noted = Calm::new().with(old).is_noted();
+        let was_noted = FirstWait::new().with(old).is_noted();
         let TaskIndex {
             places,
             board,
             least_free,
-            calm,
+            first_wait,
             is_loose,
+            templates,
         } = self;
         TaskIndex {
             places,
             board,
             least_free,
-            calm: calm.with(new),
+            first_wait: first_wait.with(new),
             is_loose: is_loose || was_noted,
+            templates,
         }
     }
 
@@ -114,14 +128,16 @@ impl TaskIndex {
             places,
             board,
             least_free,
+            templates,
             ..
         } = self;
         TaskIndex {
             places,
             board,
             least_free,
-            calm: Calm::of(tasks),
+            first_wait: FirstWait::of(tasks),
             is_loose: false,
+            templates,
         }
     }
 
@@ -132,11 +148,11 @@ impl TaskIndex {
         self.places.get(&id).copied()
     }
 
-    /// Whether a task may wake at the moment, or recurs.
-    pub(crate) fn may_stir(&self, at: Moment) -> bool
-        ensures { result ≡ may_stir at self.now.calm }
+    /// Whether a task may wake at the moment.
+    pub(crate) fn may_wake(&self, at: Moment) -> bool
+        ensures { result ≡ may_wake at self.now.first_wait }
     {
-        self.calm.may_stir(at)
+        self.first_wait.may_wake(at)
     }
 }
 

@@ -2,18 +2,19 @@ ghost use Rattle.std.specs.Prelude.{◌≡◌, ◌↔◌, IsTrue, ◌<◌, [], �
 ghost use Rattle.std.specs.List.{list_any};
 ghost use Rattle.std.specs.Option.{option_copied};
 ghost use Rattle.std.specs.Slice.{IsItemAt};
-ghost use Rattle.tb_board.specs.Tasks.{ArePlaces, has_id, ids, place_in};
-ghost use Rattle.tb_board.specs.Calm.{stirs};
+ghost use Rattle.tb_board.specs.Tasks.{ArePlaces, has_id, ids, place_in, wakes};
 ghost use Rattle.tb_board.specs.First.{IsFirst, IsNone};
-ghost use Rattle.tb_board.specs.TaskIndex.{IsIndexOf, IsLeastFree};
+ghost use Rattle.tb_board.specs.TaskIndex.{IsIndexOf, IsLeastFree, IsLike};
+ghost use Rattle.tb_board.specs.TemplateIndex.{IsTemplateIndex};
 ghost use Rattle.tb_task.specs.declared.task.Task.{Task as TaskValue};
 
 use crate::links::place_by_id;
 use crate::task_index::TaskIndex;
+use crate::template_index::TemplateIndex;
 use std::alloc::{AllocError, Global};
 use std::collections::BTreeMap;
 use std::marker::Model;
-use tb_task::{Moment, Task, TaskId};
+use tb_task::{Moment, Task, TaskId, is_recurring_status};
 use tb_values::{Duplicate, Items, Shared};
 
 /// The tasks of a board in order of entry, with an index if one was made. A contract sees the tasks alone.
@@ -111,7 +112,7 @@ impl TaskList {
         };
     }
 
-    /// Goes through the tasks once more where some were replaced, to note which one stirs first.
+    /// Goes through the tasks once more where some were replaced, to note which one wakes first.
     pub fn tighten_index(&mut self)
         ensures { self.new ≡ self.old }
     {
@@ -148,13 +149,23 @@ impl TaskList {
         }
     }
 
-    /// Whether a task may wake at the moment, or recurs. Where this says no, none does.
-    pub fn may_stir(&self, at: Moment) -> bool
-        ensures { result ≡ false → list_any (stirs at) self.now ≡ false }
+    /// Whether a task may wake at the moment. Where this says no, none does.
+    pub fn may_wake(&self, at: Moment) -> bool
+        ensures { result ≡ false → list_any (wakes at) self.now ≡ false }
     {
         match &self.index {
-            Some(index) => index.may_stir(at),
+            Some(index) => index.may_wake(at),
             None => true,
+        }
+    }
+
+    /// What is noted of templates, if there is an index.
+    pub fn templates(&self) -> Option<&TemplateIndex>
+        ensures { IfSome result (λ templates. IsTemplateIndex self.now templates.now) }
+    {
+        match &self.index {
+            Some(index) => Some(&index.templates),
+            None => None,
         }
     }
 
@@ -179,16 +190,24 @@ fn index_with(index: TaskIndex, tasks: &[Shared<Task>], task: &Task) -> Option<T
     }
 }
 
-/// An identifier that changes takes the index with it.
+/// A task that isn't like the one whose place it takes has the index dropped.
 fn index_with_other(index: TaskIndex, old: &Task, new: &Task) -> Option<TaskIndex>
     ensures { (ts : List TaskValue) (place : ℕ) → IsIndexOf ts index → place < length ts
         → old.now ≡ slice_index_or ts place old.now
         → IfSome result (IsIndexOf (slice_set ts place new.now)) }
 {
-    if new.id != old.id {
+    if !is_like(old, new) {
         return None;
     }
     Some(index.with_other(old, new))
+}
+
+/// Whether the new task can take the old one's place in an index.
+fn is_like(old: &Task, new: &Task) -> bool
+    ensures { IsTrue result → IsLike old.now new.now }
+{
+    let recurs = is_recurring_status(old.status) || !is_recurring_status(new.status);
+    new.id == old.id && new.parent == old.parent && new.imask == old.imask && recurs
 }
 
 /// The tasks are shared with the list that is duplicated, and there is no index.

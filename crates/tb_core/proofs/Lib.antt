@@ -1,6 +1,5 @@
 pub mod Again
 pub mod AheadOne
-pub mod Calm
 pub mod Cycles
 pub mod Decided
 pub mod Depending
@@ -15,6 +14,7 @@ pub mod GoodWorlds
 pub mod Importing
 pub mod Modifying
 pub mod Opening
+pub mod Quiet
 pub mod RoleDecisions
 pub mod Shapes
 pub mod Sound

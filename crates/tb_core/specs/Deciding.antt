@@ -1,9 +1,9 @@
 -- What a decision on a board gives.
-use Rattle.std.specs.Prelude.{◌≡◌, ℕ, None, Result, Ok, Err}
+use Rattle.std.specs.Prelude.{◌≡◌, ℕ, Bool, true, false, None, Result, Ok, Err}
 use Rattle.tb_board.specs.declared.board.Board.{Board}
 use Rattle.tb_core.specs.declared.command.BoardAnswer.{BoardAnswer}
 use Rattle.tb_core.specs.declared.command.Command.{Command}
-use Rattle.tb_core.specs.declared.command.Command.TheVariants.{Add}
+use Rattle.tb_core.specs.declared.command.Command.TheVariants.{Add, OnTask, Modify, ImportJson, ImportTodo, Sweep, SetRole, NewPerson, NewBoard, Depend, Undepend, SetAhead}
 use Rattle.tb_core.specs.declared.deciding.Accepted.{Accepted}
 use Rattle.tb_core.specs.declared.deciding.Drafted.{Drafted}
 use Rattle.tb_core.specs.declared.judged.CommandFailure.{CommandFailure}
@@ -35,3 +35,18 @@ TakesAdded b c = (n : ℕ) (i : Incoming) → c ≡ Add n i → least (add_refus
 -- the command is refused on the board, whenever it wakes
 abbrev pub IsRefused : Board → Command → Refusal → Type 0
 IsRefused b c refusal = (m : ℕ) → outcome b c m ≡ Err refusal
+
+-- the command can change many tasks
+abbrev pub is_import : Command → Bool
+is_import (Add n i) = false
+is_import (OnTask n id a) = false
+is_import (Modify n id edits) = false
+is_import (Depend n id on) = false
+is_import (Undepend n id on) = false
+is_import (ImportJson n is) = true
+is_import (ImportTodo n ts) = true
+is_import (Sweep n) = false
+is_import (SetRole n name role) = false
+is_import (NewPerson name key) = false
+is_import (NewBoard title) = false
+is_import (SetAhead n ahead) = false

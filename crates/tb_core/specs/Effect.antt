@@ -1,10 +1,14 @@
 -- What a command makes of a board of which it changes one task at most.
-use Rattle.std.specs.Prelude.{◌≡◌, ◌<◌, List, [], ◌∷◌, Result, Ok, Err, length, slice_set}
+use Rattle.std.specs.Prelude.{◌≡◌, ◌<◌, ℕ, false, List, [], ◌∷◌, Result, Ok, Err, length, slice_set}
+use Rattle.tb_task.specs.declared.task.Task.{Task}
+use Rattle.tb_task.specs.Checks.{is_recurring}
 use Rattle.tb_board.specs.declared.board.Board.{Board}
 use Rattle.tb_board.specs.declared.change.Change.{Change}
 use Rattle.tb_board.specs.declared.change.Change.TheVariants.{PutTask, SetAhead}
 use Rattle.tb_board.specs.Board.{with_task}
 use Rattle.tb_board.specs.Changing.{with_ahead}
+use Rattle.tb_board.specs.Tasks.{wakes}
+use Rattle.tb_sweep.specs.Quiet.{IsQuiet}
 use Rattle.tb_core.specs.declared.command.AnswerDetail.{AnswerDetail}
 use Rattle.tb_core.specs.declared.effect.Effect.{Effect}
 use Rattle.tb_core.specs.declared.effect.Step.{Step}
@@ -38,3 +42,12 @@ step_changes b (LookAhead ahead) = SetAhead b.number ahead ∷ []
 abbrev pub GivesEffect : Board → Result Effect CommandFailure → Result (Board × AnswerDetail) Refusal → Type 0
 GivesEffect b (Ok e) expected = expected ≡ Ok (after b e.step, e.told)
 GivesEffect b (Err failure) expected = Fails failure expected
+
+-- the task neither wakes at m nor recurs
+pub record IsStill (m : ℕ) (t : Task) : Type 0 where
+  pub sleeps : wakes m t ≡ false
+  pub plain : is_recurring t.status ≡ false
+
+-- the step leaves a quiet board quiet
+abbrev pub KeepsQuiet : ℕ → Board → Step → Type 0
+KeepsQuiet m b s = IsQuiet m b → IsQuiet m (after b s)

@@ -4,7 +4,6 @@ pub mod AheadOne
 pub mod Allowed
 pub mod Apply
 pub mod AtOnce
-pub mod Calm
 pub mod Cycles
 pub mod Deciding
 pub mod Linking

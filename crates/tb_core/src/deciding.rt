@@ -1,10 +1,9 @@
 ghost use Rattle.std.specs.Prelude.{◌≡◌, ℕ, [], List, IfErr, IfOk, IfSome, Ok, Err, MatchOption, false};
 ghost use Rattle.tb_core.specs.Apply.{apply, judged, on_board, outcome, role_given, seen_of, IsDecision};
 ghost use Rattle.tb_board.specs.Changing.{Follows, IsDraft};
-ghost use Rattle.tb_core.specs.Calm.{is_import};
 ghost use Rattle.tb_core.specs.Effect.{Fits, GivesEffect};
 ghost use Rattle.tb_core.specs.Refusals.{Fails, Gives};
-ghost use Rattle.tb_core.specs.Deciding.{GivesDraft, GivesOutcome, IsAccepted, IsRefused, TakesAdded};
+ghost use Rattle.tb_core.specs.Deciding.{GivesDraft, GivesOutcome, IsAccepted, IsRefused, TakesAdded, is_import};
 ghost use Rattle.tb_core.specs.Shapes.{AreOfOne};
 ghost use Rattle.tb_core.specs.declared.command.Answer.TheVariants.{OnBoard};
 ghost use Rattle.tb_core.specs.declared.command.Command.TheVariants.{SetRole};
@@ -14,7 +13,7 @@ use crate::action::act;
 use crate::add::{add, add_refusal};
 use crate::allowed::{allows, is_owner_role};
 use crate::command::{Answer, AnswerDetail, BoardAnswer, Command};
-use crate::effect::{Effect, Step, is_stirred};
+use crate::effect::{Effect, Step};
 use crate::giving::{is_last_owner, role_decision};
 use crate::import_json::import_json;
 use crate::import_todo::import_todo;
@@ -26,7 +25,7 @@ use crate::people::{decide_board, decide_person};
 use crate::refusal::Refusal;
 use std::alloc::{AllocError, Global};
 use tb_board::{Board, Change, Draft, Role, wake_draft};
-use tb_sweep::{Swept, sweep_draft};
+use tb_sweep::{Swept, is_quiet, sweep_draft};
 use tb_task::Moment;
 use tb_values::Items;
 
@@ -174,7 +173,7 @@ fn judge_board(
     if let Some(refusal) = early_refusal(board, command) {
         return Err(CommandFailure::Refused(refusal));
     }
-    if let Some(accepted) = judge_calm(alloc, board, command, at)? {
+    if let Some(accepted) = judge_quiet(alloc, board, command, at)? {
         return Ok(accepted);
     }
     let Drafted { draft, answer } = judge_draft(alloc, board, command, at)?;
@@ -182,9 +181,9 @@ fn judge_board(
     Ok(Accepted { changes, answer })
 }
 
-/// What a command makes of a board on which no task wakes and none recurs, neither before nor after it: no other task changes, so that
-/// the board needn't be copied. It is left to `judge_draft` where the board isn't such a one, and where the command is an import.
-fn judge_calm(
+/// What a command makes of a board that is quiet before and after it: no other task changes, so that the board needn't be copied. It is
+/// left to `judge_draft` where the board isn't such a one, and where the command is an import.
+fn judge_quiet(
     alloc: Global,
     board: &Board,
     command: &Command,
@@ -198,11 +197,11 @@ fn judge_calm(
     if is_import(command) {
         return Ok(None);
     }
-    if is_stirred(board, at) {
+    if !is_quiet(board, at) {
         return Ok(None);
     }
     let effect = effect_of(alloc, board, command, at)?;
-    if effect.step.stirs(at) {
+    if !effect.step.keeps_quiet(board, at) {
         return Ok(None);
     }
     let Effect { step, told } = effect;

@@ -1,10 +1,8 @@
-ghost use Rattle.std.specs.Prelude.{◌≡◌, ◌∷◌, [], IfOk};
-ghost use Rattle.std.specs.List.{list_any};
+ghost use Rattle.std.specs.Prelude.{◌≡◌, ◌∷◌, [], IfOk, IsTrue, slice_set};
 ghost use Rattle.tb_board.specs.Changing.{Follows};
 ghost use Rattle.tb_board.specs.declared.change.Change.TheVariants.{PutTask, SetAhead};
-ghost use Rattle.tb_board.specs.Calm.{stirs};
-ghost use Rattle.tb_core.specs.Calm.{step_stirs};
-ghost use Rattle.tb_core.specs.Effect.{after, Fits, step_changes};
+ghost use Rattle.tb_core.specs.Effect.{after, Fits, IsStill, KeepsQuiet, step_changes};
+ghost use Rattle.tb_sweep.specs.Quiet.{IsQuiet};
 
 use crate::command::AnswerDetail;
 use crate::judged::Judged;
@@ -73,14 +71,15 @@ impl Step {
         }
     }
 
-    /// Whether the task that it puts wakes at the moment, or recurs.
-    pub fn stirs(&self, at: Moment) -> bool
-        ensures { result ≡ step_stirs at self.now }
+    /// Whether it surely leaves a board quiet that is. Else the sweep has to be tried.
+    pub fn keeps_quiet(&self, board: &Board, at: Moment) -> bool
+        ensures { IsTrue result → KeepsQuiet at board.now self.now }
     {
         match self {
-            Step::Set { task, .. } => stirs(task, at),
-            Step::Push { task } => stirs(task, at),
-            Step::Stay | Step::LookAhead { .. } => false,
+            Step::Set { place, task } => keeps_quiet_at(board, *place, task, at),
+            Step::Push { task } => is_still(task, at),
+            Step::Stay => true,
+            Step::LookAhead { .. } => false,
         }
     }
 }
@@ -107,22 +106,28 @@ fn ahead_change(alloc: Global, board: u32, ahead: Ahead) -> Result<Items<Change>
     Ok(changes)
 }
 
-fn stirs(task: &Task, at: Moment) -> bool
-    ensures { result ≡ stirs at task.now }
+/// Whether the task at a place can become another one, and a quiet board stays quiet.
+fn keeps_quiet_at(board: &Board, place: usize, task: &Task, at: Moment) -> bool
+    ensures { IsTrue result → IsQuiet at board.now
+        → IsQuiet at (record board.now { tasks = slice_set board.now.tasks place task.now }) }
 {
-    has_waited(task, at) || is_recurring_status(task.status)
+    match board.tasks.get(place) {
+        Some(old) => is_still(task, at) && has_same_place(old.get(), task),
+        None => false,
+    }
 }
 
-/// Whether a task of the board wakes at the moment, or recurs. The tasks are gone through only where one may.
-pub fn is_stirred(board: &Board, at: Moment) -> bool
-    ensures { result ≡ list_any (stirs at) board.now.tasks }
+/// Whether both are the same instance of a template, or none.
+fn has_same_place(old: &Task, new: &Task) -> bool
+    ensures parent { IsTrue result → new.now.parent ≡ old.now.parent }
+    ensures place { IsTrue result → new.now.imask ≡ old.now.imask }
 {
-    if !board.tasks.may_stir(at) {
-        return false;
-    }
-    board
-        .tasks
-        .as_slice()
-        .iter()
-        .any(|task| stirs(task.get(), at))
+    new.parent == old.parent && new.imask == old.imask
+}
+
+/// Whether the task neither wakes at the moment nor recurs.
+fn is_still(task: &Task, at: Moment) -> bool
+    ensures { IsTrue result → IsStill at task.now }
+{
+    !has_waited(task, at) && !is_recurring_status(task.status)
 }

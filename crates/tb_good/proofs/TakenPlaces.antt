@@ -9,7 +9,8 @@ use Rattle.tb_task.specs.declared.task.Task.{Task}
 use Rattle.tb_board.specs.declared.board.Board.{Board}
 use Rattle.tb_board.specs.declared.gone.Gone.{Gone}
 use Rattle.tb_board.specs.Instances.{HasRuns}
-use Rattle.tb_board.specs.Templates.{gone_places, instance_places, is_id, IsRun, places, with_place}
+use Rattle.tb_board.specs.InstancePlaces.{instance_places, is_id, with_place}
+use Rattle.tb_board.specs.Templates.{gone_places, IsRun, places}
 use Rattle.tb_board.proofs.Pairs.{same_pair}
 use Rattle.tb_good.specs.Taken.{gone_place, instance_place, IsBelowCount, places_among, taken, with_parent}
 

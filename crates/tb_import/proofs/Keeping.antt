@@ -16,7 +16,8 @@ use Rattle.tb_board.specs.Tasks.{ids}
 use Rattle.tb_board.specs.Good.{IsGood, IsLinkedOn, IsSound}
 use Rattle.tb_board.specs.Instances.{by_template, has_template, is_template_with, HasRuns, HasTemplateOn, IsGoneOn}
 use Rattle.tb_board.specs.Links.{links}
-use Rattle.tb_board.specs.Templates.{gone_places, instance_places, is_id}
+use Rattle.tb_board.specs.InstancePlaces.{instance_places, is_id}
+use Rattle.tb_board.specs.Templates.{gone_places}
 use Rattle.tb_board.proofs.Fresh.{on_ids}
 use Rattle.tb_board.proofs.GoneOrder.{template_is_on}
 use Rattle.tb_board.proofs.Runs.{gone-there, parents-there, HasTemplatesOf}

@@ -9,7 +9,8 @@ use Rattle.tb_board.specs.declared.board.Board.{Board}
 use Rattle.tb_board.specs.declared.gone.Gone.{Gone}
 use Rattle.tb_board.specs.Changing.{without_place}
 use Rattle.tb_board.specs.Instances.{HasRuns}
-use Rattle.tb_board.specs.Templates.{gone_places, instance_places, is_gone_at, IsRun, places}
+use Rattle.tb_board.specs.InstancePlaces.{instance_places}
+use Rattle.tb_board.specs.Templates.{gone_places, is_gone_at, IsRun, places}
 use Rattle.tb_board.proofs.Fits.{and_true}
 use Rattle.tb_board.proofs.Runs.{instance_places-push}
 use Rattle.tb_import.specs.Entering.{entered, is_gone, is_parent, is_taken, mask_in, mask_places, marked_from, takes, with_all, with_new, without_taken}

@@ -1,14 +1,14 @@
 -- What the options of a placeholder write, as columns.
 use Rattle.std.proofs.Common.{◌≡◌, ℕ, false, List, [], ◌∷◌, ◌++◌, ◌-◌, ◌^◌, ◌<◌, ◌≤◌, ◌==◌, zero, suc, length, replicate, decimal, ◌*◌, ◌/◌, ◌%◌, ◌&&◌, ℤ, nat_le, unsigned_abs, ap, refl, arith, inl, inr, if◌then◌else◌}
-use Rattle.std.proofs.lemmas.Bool.{cases_Bool, ne_eqb, lt-ltb}
+use Rattle.std.proofs.lemmas.Bool.{cases_Bool, cases_lt, ne_eqb, lt-ltb}
 use Rattle.std.proofs.lemmas.List.{append-nil}
 use Rattle.std.proofs.lemmas.Str.{encode_ascii}
-use Rattle.std.proofs.lemmas.Fmt.{IsAscii-decimal, decimal_digit}
+use Rattle.std.proofs.lemmas.Fmt.{IsAscii-decimal, decimal_digit, decimal_step}
 use Rattle.std.specs.Str.{IsAscii}
 use Rattle.std.specs.List.{repeat}
 use Rattle.std.specs.Char.{encode_utf8}
 use Rattle.std.specs.Fmt.{char_count, take_chars, padded, padded_integral, format_spec, is_char_start}
-use Rattle.tb_report.specs.Row.{right, left, urgency_text, row_text, is_negative, unit}
+use Rattle.tb_report.specs.Row.{right, left, three_digits, urgency_text, row_text, is_negative, unit}
 
 take_all : (n : ℕ) (text : List ℕ) → length text ≤ n → take_chars n text ≡ text
 unfolding take_chars
@@ -73,14 +73,31 @@ written_row place z urgency flags due project description p u d j is =
     let fourth = in_left 12 project (omega arith) in
     rw (first, second, third, fourth, is) refl
 
+-- a number below 1000 with zeros before it
+in_three : (n : ℕ) → n < 1000 → padded_integral (format_spec 32 0 4 3 18446744073709551615) false [] (decimal n) ≡ three_digits n
+unfolding padded_integral char_count
+in_three n h = elim (cases_lt n 10) [
+  | inl one ↦
+      let high : n / 100 ≡ 0 = omega arith in
+      let middle : n / 10 % 10 ≡ 0 = omega arith in
+      let low : n % 10 ≡ n = omega arith in
+      rw (decimal_digit n one, high, middle, low) refl
+  | inr ten ↦ elim (cases_lt n 100) [
+    | inl two ↦
+        let high : n / 100 ≡ 0 = omega arith in
+        let middle : n / 10 % 10 ≡ n / 10 = omega arith in
+        rw (decimal_step n ten (omega arith), decimal_digit (n / 10) (omega arith), high, middle) refl
+    | inr three ↦
+        let high : n / 10 / 10 ≡ n / 100 = omega arith in
+        rw (decimal_step n ten (omega arith), decimal_step (n / 10) (omega arith) (omega arith), decimal_digit (n / 10 / 10) (omega arith), high) refl
+  ]
+]
+
 abbrev pub digits_written : ℕ → List ℕ → List ℕ
-digits_written n sign = sign ++ (decimal (n / 110376000) ++ 46 ∷
-    (decimal (n % 110376000 * 1000 / 110376000 / 100) ++ (decimal (n % 110376000 * 1000 / 110376000 / 10 % 10) ++ decimal (n % 110376000 * 1000 / 110376000 % 10))))
+digits_written n sign = sign ++ (decimal (n / 110376000) ++ 46 ∷ padded_integral (format_spec 32 0 4 3 18446744073709551615) false [] (decimal (n % 110376000 * 1000 / 110376000)))
 
 pub written_urgency : (z : ℤ) (n : ℕ) (sign : List ℕ) → n ≡ unsigned_abs z → sign ≡ (if is_negative z && nat_le unit (n * 1000) then 45 ∷ [] else [])
     → digits_written n sign ≡ urgency_text z
 written_urgency z n sign size is =
-    let h = decimal_digit (n % 110376000 * 1000 / 110376000 / 100) (omega arith) in
-    let t = decimal_digit (n % 110376000 * 1000 / 110376000 / 10 % 10) (omega arith) in
-    let o = decimal_digit (n % 110376000 * 1000 / 110376000 % 10) (omega arith) in
-    rw (is, h, t, o, size) refl
+    let part = in_three (n % 110376000 * 1000 / 110376000) (omega arith) in
+    rw (is, part, size) refl

@@ -3,3 +3,4 @@ pub mod RankOrder
 pub mod Columns
 pub mod Listed
 pub mod Woken
+pub mod Controls

@@ -29,9 +29,12 @@ urgency_text z =
     (if is_negative z && nat_le unit (n * 1000) then 45 ∷ [] else [])
     ++ (decimal (n / unit) ++ 46 ∷ three_digits (n % unit * 1000 / unit))
 
+abbrev pub is_control : ℕ → Bool
+is_control c = nat_lt c 32 || (c == 127)
+
 -- a control character is shown as a space
 abbrev pub shown_char : ℕ → ℕ
-shown_char c = if nat_lt c 32 || (c == 127) then 32 else c
+shown_char c = if is_control c then 32 else c
 
 unfoldable pub shown_text : List ℕ → List ℕ
 shown_text text = encode_utf8_all (map shown_char (chars text))

@@ -11,7 +11,7 @@ use tb_values::Text;
 pub fn listing(alloc: Global, board: &Board, at: Moment) -> Result<Text, AllocError>
     ensures { IfOk result (λ text. text ≡ listing_of board.now at) }
 {
-    if !board.tasks.may_stir(at) {
+    if !board.tasks.may_wake(at) {
         return list_awake(alloc, board, at);
     }
     let awake = wake_draft(alloc, Draft::of(alloc, board)?, at)?;

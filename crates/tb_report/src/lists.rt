@@ -5,7 +5,7 @@ ghost use Rattle.tb_report.specs.Marked.{waits_in};
 
 use crate::cells::{due_of, flags_of, project_of};
 use crate::rank::{Rank, in_order};
-use crate::row::{Row, push_row, without_controls};
+use crate::row::{Row, push_row, shown_cell};
 use crate::urgencies::urgency_of_task;
 use std::alloc::{AllocError, Global};
 use std::cmp::Reverse;
@@ -148,14 +148,13 @@ fn push_task(
 {
     let is_blocked = mark_at(waits.blocked.as_slice(), rank.1);
     let is_blocking = mark_at(waits.blocking.as_slice(), rank.1);
-    let flags = flags_of(alloc, task, is_blocked, is_blocking)?;
     let due = due_of(alloc, task.due)?;
     let project = project_of(alloc, &task.project)?;
-    let description = without_controls(alloc, task.description.as_str())?;
+    let description = shown_cell(alloc, task.description.as_str())?;
     let row = Row {
         place: rank.1 + 1,
         urgency: rank.0.0,
-        flags: flags.as_str(),
+        flags: flags_of(task, is_blocked, is_blocking),
         due: due.as_str(),
         project: project.as_str(),
         description: description.as_str(),

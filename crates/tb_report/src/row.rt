@@ -1,8 +1,11 @@
 ghost use Rattle.std.specs.Prelude.{◌&&◌, ◌*◌, ◌^◌, ◌<◌, length, map, nat_le, if◌then◌else◌, ◌≡◌, ◌++◌, ◌∷◌, [], List, IfOk, OnOk, string_bytes};
+ghost use Rattle.std.specs.Cow.{cow_str_bytes};
+ghost use Rattle.std.specs.List.{list_any};
 ghost use Rattle.std.specs.Str.{chars, encode_utf8_all};
-ghost use Rattle.tb_report.specs.Row.{urgency_text, row_text, shown_text, is_negative, unit, shown_char as visible_char};
+ghost use Rattle.tb_report.specs.Row.{urgency_text, row_text, shown_text, is_control, is_negative, unit, shown_char as visible_char};
 
 use std::alloc::{AllocError, Global};
+use std::borrow::CowStr;
 use std::fmt::Write;
 
 /// How many parts make one unit of urgency. All terms are whole numbers of parts.
@@ -45,10 +48,7 @@ pub fn decimals(alloc: Global, urgency: i64) -> Result<String, AllocError>
     let sign = sign_of(urgency, size);
     let whole = size / URGENCY_UNIT;
     let part = size % URGENCY_UNIT * 1000 / URGENCY_UNIT;
-    let hundreds = part / 100;
-    let tens = part / 10 % 10;
-    let ones = part % 10;
-    format!(in alloc; "{sign}{whole}.{hundreds}{tens}{ones}")
+    format!(in alloc; "{sign}{whole}.{part:03}")
 }
 
 /// Whether a minus sign stands before the digits: not before zeros alone.
@@ -72,6 +72,28 @@ fn sized(text: &str) -> &str
 {
     let _length = text.len();
     text
+}
+
+/// A text in which each control character is a space. It is copied only where it has one.
+pub(crate) fn shown_cell(alloc: Global, text: &str) -> Result<CowStr<'_>, AllocError>
+    ensures { IfOk result (λ shown. cow_str_bytes shown ≡ shown_text text.now) }
+{
+    if has_control(text.as_bytes()) {
+        return Ok(CowStr::Owned(without_controls(alloc, text)?));
+    }
+    Ok(CowStr::Borrowed(text))
+}
+
+fn has_control(bytes: &[u8]) -> bool
+    ensures { result ≡ list_any is_control bytes.now }
+{
+    bytes.iter().any(|byte| is_control_byte(*byte))
+}
+
+fn is_control_byte(byte: u8) -> bool
+    ensures { result ≡ is_control byte }
+{
+    byte < b' ' || byte == 0x7f
 }
 
 /// A text in which each control character is a space.

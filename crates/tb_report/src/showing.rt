@@ -11,7 +11,7 @@ use tb_values::{Items, Shared};
 pub fn shown(alloc: Global, board: &Board, at: Moment) -> Result<Items<Shown>, AllocError>
     ensures { IfOk result (λ tasks. tasks ≡ shown_of board.now at) }
 {
-    if !board.tasks.may_stir(at) {
+    if !board.tasks.may_wake(at) {
         return shown_awake(alloc, board);
     }
     let awake = wake_draft(alloc, Draft::of(alloc, board)?, at)?;

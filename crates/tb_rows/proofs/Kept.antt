@@ -7,7 +7,8 @@ use Rattle.tb_board.specs.declared.board.Board.{Board}
 use Rattle.tb_board.specs.declared.change.Change.{Change}
 use Rattle.tb_board.specs.Good.{IsGood}
 use Rattle.tb_board.specs.Statuses.{is_template}
-use Rattle.tb_board.specs.Templates.{is_id, mask}
+use Rattle.tb_board.specs.InstancePlaces.{is_id}
+use Rattle.tb_board.specs.Templates.{mask}
 use Rattle.tb_board.specs.Extends.{ExtendsBoard, ExtendsTask}
 use Rattle.tb_rows.specs.Rows.{instance_rows_of, mask_cell}
 use Rattle.tb_rows.specs.Steps.{changed_templates, is_among, is_changed, put_place}

@@ -9,7 +9,8 @@ use Rattle.tb_board.specs.declared.change.Change.TheVariants.{PutTask, AddPerson
 use Rattle.tb_board.specs.declared.gone.Gone.{Gone}
 use Rattle.tb_board.specs.Tasks.{ids, place_in as place_among}
 use Rattle.tb_board.specs.Changing.{with_ahead, with_task_at, without_place}
-use Rattle.tb_board.specs.Templates.{count, gone_places, instance_places, is_gone_at, is_id, is_instance_at, mark_at, mark_here, mask, place_in}
+use Rattle.tb_board.specs.InstancePlaces.{instance_places, is_id, place_in}
+use Rattle.tb_board.specs.Templates.{count, gone_places, is_gone_at, is_instance_at, mark_at, mark_here, mask}
 use Rattle.tb_rows.specs.Rows.{rows_from}
 use Rattle.tb_rows.specs.Steps.{changed_templates, gone_template, instance_template, is_among, is_changed, template_place}
 use Rattle.tb_rows.proofs.Evolving.{change_on, replay}

@@ -7,7 +7,8 @@ use Rattle.tb_recur.specs.Instances.{instance}
 use Rattle.tb_board.specs.declared.board.Board.{Board}
 use Rattle.tb_board.specs.Board.{with_task}
 use Rattle.tb_board.proofs.Runs.{places-push}
-use Rattle.tb_board.specs.Templates.{place_in, places, count}
+use Rattle.tb_board.specs.InstancePlaces.{place_in}
+use Rattle.tb_board.specs.Templates.{places, count}
 use Rattle.tb_sweep.specs.declared.counts.Counts.{Counts}
 use Rattle.tb_sweep.specs.Counts.{AreCounts, number_at}
 

@@ -4,4 +4,5 @@ pub mod Counting
 pub mod Extending
 pub mod Keeping
 pub mod Noting
+pub mod QuietBoards
 pub mod Settled

@@ -93,7 +93,7 @@ none_lacking m b t none =
       | inr other ↦ rw other refl
     ]
 
-none_lack : (m : ℕ) (b : Board) (ts : List Task) → list_any (lacks b m) ts ≡ false → grown_all m b ts ≡ b
+pub none_lack : (m : ℕ) (b : Board) (ts : List Task) → list_any (lacks b m) ts ≡ false → grown_all m b ts ≡ b
 none_lack m b [] none = refl
 none_lack m b (t ∷ ts) none =
     elim (cases_Bool (lacks b m t)) [

@@ -3,4 +3,5 @@ pub mod Counts
 pub mod Growing
 pub mod Kept
 pub mod Masks
+pub mod Quiet
 pub mod Sweeping

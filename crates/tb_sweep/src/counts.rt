@@ -1,5 +1,6 @@
 ghost use Rattle.std.specs.Prelude.{◌≡◌, ◌+◌, ◌<◌, ◌≤◌, ◌==◌, ◌∷◌, [], ℕ, min, length, if◌then◌else◌, IfOk, OnOk, MatchOption};
-ghost use Rattle.tb_board.specs.Templates.{gone_places, instance_places};
+ghost use Rattle.tb_board.specs.InstancePlaces.{instance_places};
+ghost use Rattle.tb_board.specs.Templates.{gone_places};
 ghost use Rattle.tb_sweep.specs.Counts.{AreCounts, number_at};
 
 use std::alloc::{AllocError, Global};
@@ -9,7 +10,7 @@ use tb_task::{Task, TaskId};
 use tb_values::Shared;
 
 /// No instance has a due at this place or a later one: the years up to 9999 have fewer days.
-const PLACES_END: u32 = 2932898;
+pub(crate) const PLACES_END: u32 = 2932898;
 
 /// How many places each template of a board has. A template without any isn't in it.
 #[derive(Drop)]

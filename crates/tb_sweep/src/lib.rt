@@ -8,7 +8,9 @@ mod counts;
 mod growing;
 pub mod laws;
 mod masks;
+mod quiet;
 mod sweeping;
 
 pub use masks::mask_of;
+pub use quiet::is_quiet;
 pub use sweeping::{Swept, sweep_draft};

@@ -1,6 +1,7 @@
 ghost use Rattle.std.specs.Prelude.{◌≡◌, ◌+◌, ◌==◌, ℕ, [], ◌∷◌, Some, None, if◌then◌else◌, length, map, unwrap_or, IfOk, OnOk};
 ghost use Rattle.tb_sweep.specs.Masks.{gone_mark, instance_mark, shown_mark, AreBlank, AreNoted};
-ghost use Rattle.tb_board.specs.Templates.{count, gone_places, instance_places, is_id, mask, place_in};
+ghost use Rattle.tb_board.specs.InstancePlaces.{instance_places, is_id, place_in};
+ghost use Rattle.tb_board.specs.Templates.{count, gone_places, mask};
 
 use std::alloc::{AllocError, Global};
 use tb_board::{Board, Gone};

@@ -46,7 +46,7 @@ pub fn sweep_draft(alloc: Global, draft: Draft, at: Moment) -> Result<Swept, All
 }
 
 /// Whether a template recurs. Most boards have none, and need no more than this pass.
-fn has_recurring(tasks: &[Shared<Task>]) -> bool
+pub(crate) fn has_recurring(tasks: &[Shared<Task>]) -> bool
     ensures { result ≡ list_any (λ (t : Task). is_recurring t.status) tasks.now }
 {
     tasks

@@ -1,4 +1,4 @@
-use Rattle.tb_core.proofs.Calm.{draft_accepted}
+use Rattle.tb_core.proofs.Quiet.{draft_accepted}
 use Rattle.tb_core.proofs.deciding.judge_board.Goals as goal
 
 pub returns : goal.returns

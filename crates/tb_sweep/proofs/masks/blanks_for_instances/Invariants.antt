@@ -1,6 +1,6 @@
 use Rattle.std.proofs.Common.{◌≡◌, ◌+◌, ℕ, None, length, drop}
 use Rattle.tb_sweep.specs.Masks.{noted_at}
-use Rattle.tb_board.specs.Templates.{instance_places}
+use Rattle.tb_board.specs.InstancePlaces.{instance_places}
 use Rattle.tb_sweep.proofs.masks.blanks_for_instances.Given as goal
 
 -- the places so far and those that are left are all

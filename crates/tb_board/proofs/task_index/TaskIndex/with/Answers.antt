@@ -1,11 +1,11 @@
-use Rattle.std.proofs.Common.{◌∷◌, ◌++◌, [], sym, subst, ◌∙◌, ◌≡◌}
+use Rattle.std.proofs.Common.{◌∷◌, ◌++◌, [], refl, sym, subst, ◌∙◌, ◌≡◌}
 use Rattle.std.proofs.lemmas.List.{map-append}
 use Rattle.tb_task.specs.declared.task.Task.{Task}
-use Rattle.tb_board.specs.Calm.{may_stir, stirs}
-use Rattle.tb_board.specs.Tasks.{ArePlaces, ids}
+use Rattle.tb_board.specs.FirstWait.{may_wake}
+use Rattle.tb_board.specs.Tasks.{ArePlaces, ids, wakes}
 use Rattle.tb_board.specs.TaskIndex.{IsLeastFree}
 use Rattle.tb_board.proofs.Indexed.{least_found, still_taken}
-use Rattle.tb_board.proofs.Stirring.{neither, push_calm}
+use Rattle.tb_board.proofs.FirstWaits.{neither, none_push}
 use Rattle.tb_board.proofs.task_index.TaskIndex.with.Goals as goal
 
 pub returns : goal.returns
@@ -19,7 +19,8 @@ returns c =
     record {
       places = subst (λ is. ArePlaces is c.in_ok-places.places) (sym joined) places;
       least = subst (λ is. IsLeastFree is c.args.self.board c.in-Some.least_free) (sym joined) least;
-      calm = λ m quiet.
-          let parts = neither (may_stir m c.args.self.calm) (stirs m t) (sym (c.with.ensures m) ∙ quiet) in
-          push_calm m c.args.tasks.now t (c.requires.calm m parts.0) parts.1;
+      waits = λ m none.
+          let parts = neither (may_wake m c.args.self.first_wait) (wakes m t) (sym (c.with-2.ensures m) ∙ none) in
+          none_push (wakes m) c.args.tasks.now t (c.requires.waits m parts.0) parts.1;
+      templates = rw c.in-Some-2.is at (c.in_ok-templates.ensures c.args.tasks.now c.requires.templates refl);
     }

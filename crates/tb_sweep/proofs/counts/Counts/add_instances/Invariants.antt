@@ -1,5 +1,5 @@
 use Rattle.std.proofs.Common.{◌≡◌, ◌+◌, ℕ, min, length, drop}
-use Rattle.tb_board.specs.Templates.{instance_places}
+use Rattle.tb_board.specs.InstancePlaces.{instance_places}
 use Rattle.tb_sweep.specs.Counts.{number_at}
 use Rattle.tb_sweep.proofs.counts.Counts.add_instances.Given as goal
 

@@ -2,8 +2,8 @@ use Rattle.std.proofs.Common.{sym, ap, ◌∙◌, ◌||◌, ◌<◌, length, tak
 use Rattle.std.specs.List.{list_any}
 use Rattle.std.proofs.lemmas.List.Folds.{list_any_more}
 use Rattle.tb_task.specs.declared.task.Task.{Task}
-use Rattle.tb_board.specs.Calm.{stirs}
-use Rattle.tb_board.proofs.calm.Calm.of.Goals as goal
+use Rattle.tb_board.specs.Tasks.{wakes}
+use Rattle.tb_board.proofs.first_wait.FirstWait.of.Goals as goal
 
 pub loop-task-preserved : goal.loop-task-preserved
 loop-task-preserved c = λ m.
@@ -11,6 +11,6 @@ loop-task-preserved c = λ m.
     let i = c.loop-task.task-index in
     let t = c.get.result.now in
     let within : i < length tasks = omega arith in
-    c.with-calm.ensures m ∙ ap (λ b. b || stirs m t) (c.loop-task.invariant m)
-    ∙ ap (λ (x : Task). list_any (stirs m) (take i tasks) || stirs m x) (c.get.ensures ∙ c.task-item.is)
-    ∙ sym (list_any_more (stirs m) tasks i c.task-item.result within)
+    c.with-first.ensures m ∙ ap (λ b. b || wakes m t) (c.loop-task.invariant m)
+    ∙ ap (λ (x : Task). list_any (wakes m) (take i tasks) || wakes m x) (c.get.ensures ∙ c.task-item.is)
+    ∙ sym (list_any_more (wakes m) tasks i c.task-item.result within)

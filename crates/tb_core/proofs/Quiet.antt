@@ -1,17 +1,14 @@
--- On a board on which no task wakes and none recurs, a command changes what it puts and nothing else.
-use Rattle.std.proofs.Common.{◌≡◌, ℕ, zero, suc, Bool, true, false, ◌||◌, List, [], ◌∷◌, ◌++◌, Result, Ok, Err, IfErr, length, map, nat_lt, set, refl, sym, ap, ◌∙◌, subst, arith}
-use Rattle.std.specs.List.{AllByRecursion, list_any}
+-- On a board that is quiet before and after it, a command changes what it puts and nothing else.
+use Rattle.std.proofs.Common.{◌≡◌, ℕ, Bool, true, false, List, [], ◌∷◌, Result, Ok, Err, IfErr, length, nat_lt, refl, sym, ap, ◌∙◌, subst, arith}
+use Rattle.std.specs.List.{AllByRecursion}
 use Rattle.std.proofs.lemmas.Bool.{lt-ltb, le-ltb}
-use Rattle.tb_task.specs.declared.task.Task.{Task}
-use Rattle.tb_task.specs.Checks.{is_recurring}
 use Rattle.tb_board.specs.declared.board.Board.{Board}
 use Rattle.tb_board.specs.declared.draft.Draft.{Draft}
-use Rattle.tb_board.specs.Board.{wake}
-use Rattle.tb_board.specs.Tasks.{wakes, woken}
 use Rattle.tb_board.specs.Changing.{IsDraft, IsOn, replayed}
-use Rattle.tb_board.proofs.Awake.{not_woken}
+use Rattle.tb_board.proofs.FirstWaits.{is_awake}
+use Rattle.tb_sweep.specs.Quiet.{IsQuiet}
 use Rattle.tb_sweep.specs.Sweeping.{added, more, sweep}
-use Rattle.tb_sweep.proofs.Adding.{sweep_none, added_none, more_none}
+use Rattle.tb_sweep.proofs.QuietBoards.{added_quiet, more_quiet, sweep_quiet}
 use Rattle.tb_core.specs.declared.command.BoardAnswer.{BoardAnswer}
 use Rattle.tb_core.specs.declared.command.Command.{Command}
 use Rattle.tb_core.specs.declared.command.AnswerDetail.{AnswerDetail}
@@ -21,29 +18,9 @@ use Rattle.tb_core.specs.declared.judged.CommandFailure.{CommandFailure}
 use Rattle.tb_core.specs.declared.judged.CommandFailure.TheVariants.{Memory, Refused}
 use Rattle.tb_core.specs.declared.refusal.Refusal.{Refusal}
 use Rattle.tb_core.specs.Apply.{answered, judged, outcome}
-use Rattle.tb_board.specs.Calm.{stirs}
-use Rattle.tb_board.proofs.Stirring.{both, calm_awake, neither, push_calm, set_calm}
-use Rattle.tb_core.specs.Calm.{step_stirs}
 use Rattle.tb_core.specs.Deciding.{IsAccepted}
 use Rattle.tb_core.specs.Effect.{after, Fits, step_changes}
 use Rattle.tb_core.specs.Refusals.{Fails}
-
--- ---- a calm board is awake, and none of its tasks recurs
-
-calm_plain : (m : ℕ) (ts : List Task) → list_any (stirs m) ts ≡ false → list_any (λ (t : Task). is_recurring t.status) ts ≡ false
-calm_plain m [] calm = refl
-calm_plain m (t ∷ ts) calm =
-    let parts = neither (stirs m t) (list_any (stirs m) ts) calm in
-    let here = neither (wakes m t) (is_recurring t.status) parts.0 in
-    both (is_recurring t.status) (list_any (λ (t : Task). is_recurring t.status) ts) here.1 (calm_plain m ts parts.1)
-
--- ---- a step that puts no such task leaves it calm
-
-stays_calm : (b : Board) (m : ℕ) (s : Step) → list_any (stirs m) b.tasks ≡ false → step_stirs m s ≡ false → list_any (stirs m) (after b s).tasks ≡ false
-stays_calm b m (Set place t) calm here = set_calm m b.tasks place t calm here
-stays_calm b m (Push t) calm here = push_calm m b.tasks t calm here
-stays_calm b m Stay calm here = calm
-stays_calm b m (LookAhead ahead) calm here = calm
 
 -- ---- the changes of a step make it
 
@@ -69,7 +46,7 @@ same_number b (Push t) = refl
 same_number b Stay = refl
 same_number b (LookAhead ahead) = refl
 
--- ---- what a command makes of a calm board
+-- ---- what a command makes of a quiet board
 
 abbrev answer_of : ℕ → ℕ → Bool → AnswerDetail → BoardAnswer
 answer_of n k more told = record { board = n; added = k; more = more; told = told }
@@ -77,25 +54,22 @@ answer_of n k more told = record { board = n; added = k; more = more; told = tol
 abbrev told_of : Board → BoardAnswer → Result (Board × BoardAnswer) Refusal
 told_of b a = Ok (b, a)
 
-swept_calm : (b : Board) (m : ℕ) (s : Step) (told : AnswerDetail) → list_any (stirs m) b.tasks ≡ false → step_stirs m s ≡ false
+swept_quiet : (b : Board) (m : ℕ) (s : Step) (told : AnswerDetail) → IsQuiet m (after b s)
     → answered m (Ok (after b s, told)) ≡ told_of (after b s) (answer_of b.number 0 false told)
-swept_calm b m s told calm here =
+swept_quiet b m s told quiet =
     let later = after b s in
-    let quiet = stays_calm b m s calm here in
-    let awake = sym (calm_awake later m quiet) in
-    let plain = calm_plain m later.tasks quiet in
-    ap (λ x. told_of x (answer_of later.number (added later m) (more (sweep later m) m) told)) (sweep_none later later m awake plain)
-    ∙ ap (λ k. told_of later (answer_of later.number k (more (sweep later m) m) told)) (sym (added_none later later m awake plain))
-    ∙ ap (λ q. told_of later (answer_of later.number 0 q told)) (sym (more_none later later m awake plain))
+    ap (λ x. told_of x (answer_of later.number (added later m) (more (sweep later m) m) told)) (sweep_quiet later m quiet)
+    ∙ ap (λ k. told_of later (answer_of later.number k (more (sweep later m) m) told)) (added_quiet later m quiet)
+    ∙ ap (λ q. told_of later (answer_of later.number 0 q told)) (more_quiet later m quiet)
     ∙ ap (λ n. told_of later (answer_of n 0 false told)) (same_number b s)
 
-pub calm_accepts : (b : Board) (c : Command) (m : ℕ) (s : Step) (told : AnswerDetail) → list_any (stirs m) b.tasks ≡ false → step_stirs m s ≡ false → Fits b s
+pub quiet_accepts : (b : Board) (c : Command) (m : ℕ) (s : Step) (told : AnswerDetail) → IsQuiet m b → IsQuiet m (after b s) → Fits b s
     → judged b c m ≡ Ok (after b s, told)
     → IsAccepted b c m (record { changes = step_changes b s; answer = record { board = b.number; added = 0; more = false; told = told } })
-calm_accepts b c m s told calm here fits judges =
+quiet_accepts b c m s told quiet later fits judges =
     record {
       made = own b s;
-      gives = ap (λ x. answered m (judged x c m)) (calm_awake b m calm) ∙ ap (answered m) judges ∙ swept_calm b m s told calm here
+      gives = ap (λ x. answered m (judged x c m)) (is_awake b m quiet.awake) ∙ ap (answered m) judges ∙ swept_quiet b m s told later
           ∙ ap (λ x. told_of x (answer_of b.number 0 false told)) (sym (made_by b s fits));
     }
 
@@ -103,14 +77,14 @@ fails_answered : (m : ℕ) (failure : CommandFailure) (expected : Result (Board 
 fails_answered m Memory expected h = tt
 fails_answered m (Refused refusal) expected h = ap (answered m) h
 
-calm_refuses : (b : Board) (c : Command) (m : ℕ) (failure : CommandFailure) → list_any (stirs m) b.tasks ≡ false → Fails failure (judged b c m) → Fails failure (outcome b c m)
-calm_refuses b c m failure calm fails =
-    subst (λ x. Fails failure (answered m (judged x c m))) (sym (calm_awake b m calm)) (fails_answered m failure (judged b c m) fails)
+quiet_refuses : (b : Board) (c : Command) (m : ℕ) (failure : CommandFailure) → IsQuiet m b → Fails failure (judged b c m) → Fails failure (outcome b c m)
+quiet_refuses b c m failure quiet fails =
+    subst (λ x. Fails failure (answered m (judged x c m))) (sym (is_awake b m quiet.awake)) (fails_answered m failure (judged b c m) fails)
 
-pub refused_calm : {X : Type 0} (b : Board) (c : Command) (m : ℕ) (r : Result X CommandFailure) → list_any (stirs m) b.tasks ≡ false
+pub refused_quiet : {X : Type 0} (b : Board) (c : Command) (m : ℕ) (r : Result X CommandFailure) → IsQuiet m b
     → IfErr r (λ failure. Fails failure (judged b c m)) → IfErr r (λ failure. Fails failure (outcome b c m))
-refused_calm b c m (Ok x) calm fails = tt
-refused_calm b c m (Err failure) calm fails = calm_refuses b c m failure calm fails
+refused_quiet b c m (Ok x) quiet fails = tt
+refused_quiet b c m (Err failure) quiet fails = quiet_refuses b c m failure quiet fails
 
 -- ---- the changes of a draft
 
