@@ -49,7 +49,7 @@ own_links b = all_from (λ (row : LinkRow). row.board ≡ b.number) (link_rows b
     each n [] = tt
     each n (id ∷ ids) = (refl, each n ids)
 
-own_instances : (b : Board) → AllByRecursion (λ (row : InstanceRow). row.board ≡ b.number) (board_instances b)
+pub own_instances : (b : Board) → AllByRecursion (λ (row : InstanceRow). row.board ≡ b.number) (board_instances b)
 own_instances b = all_from (λ (row : InstanceRow). row.board ≡ b.number) (instance_rows b) (λ n t. each n t.parent t.imask) 1 b.tasks
   where
     each : (n : ℕ) (parent imask : Option ℕ) → AllByRecursion (λ (row : InstanceRow). row.board ≡ b.number) (instance_rows_of b n parent imask)

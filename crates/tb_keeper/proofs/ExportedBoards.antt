@@ -20,7 +20,7 @@ use Rattle.tb_stored.proofs.Standing.{stored_again}
 use Rattle.tb_values.specs.Appends.{AppendsFront}
 use Rattle.tb_values.proofs.Appends.{AppendsFront-none, Keeps-refl}
 use Rattle.tb_keeper.specs.Exporting.{IsCut, IsExported, export_text, fault_of, tasks_on, text_on}
-use Rattle.tb_keeper.specs.Noting.{notes_of}
+use Rattle.tb_keeper.specs.Noting.{AreNotes}
 use Rattle.tb_keeper.specs.declared.export_fault.ExportFault.{ExportFault}
 use Rattle.tb_keeper.specs.declared.export_fault.ExportFault.TheVariants.{Memory, NoBoard, Store, WriteFailed}
 use Rattle.tb_keeper.specs.declared.noting.Note.{Note}
@@ -70,7 +70,7 @@ cut_missing old new n m known there found missing clean s stored = go (find_boar
     go (Some b) is = absurd (true≢false (sym is))
 
 -- what is told of those notes is told of the board
-pub by_notes : (a b c : Database) (notes : List Note) (n m : ℕ) (P : Option Board → Type 0) → IsAsBefore a b → b.in_transaction ≡ false → IsAsBefore b c → OfState a b (λ s. notes ≡ notes_of m (tasks_on (find_board s.world n)))
+pub by_notes : (a b c : Database) (notes : List Note) (n m : ℕ) (P : Option Board → Type 0) → IsAsBefore a b → b.in_transaction ≡ false → IsAsBefore b c → OfState a b (λ s. AreNotes m (tasks_on (find_board s.world n)) notes)
     → OfState b c (ByNotes notes m n P) → OfState a c (λ s. P (find_board s.world n))
 by_notes a b c notes n m P one idle two noted told clean s stored = told clean s (stored_again s a b stored one idle) (noted (two.clean clean) s stored)
 

@@ -2,7 +2,7 @@
 use Rattle.std.proofs.Common.{◌≡◌, ◌∙◌, ◌+◌, ◌≤◌, ℕ, suc, zero, Bool, true, false, cond, List, [], ◌∷◌, ◌++◌, Option, Some, None, option_map, find, slice_get, drop, map, length, refl, sym, ap, subst, arith, append_assoc}
 use Rattle.std.specs.List.{AllByRecursion}
 use Rattle.std.specs.Io.KnownBytes.{Appends}
-use Rattle.std.proofs.lemmas.List.{append-nil, drop_more, length-map}
+use Rattle.std.proofs.lemmas.List.{length-map}
 use Rattle.std.proofs.lemmas.Option.{get_or_from_slice_get, same_Some, slice_get-map, slice_get_within}
 use Rattle.sqlite.specs.State.{State as Database}
 use Rattle.tb_task.specs.declared.incoming.Shown.{Shown}
@@ -24,12 +24,13 @@ use Rattle.tb_stored.specs.Reopening.{OfState}
 use Rattle.tb_stored.specs.Stored.{IsStored}
 use Rattle.tb_stored.proofs.Standing.{stored_again}
 use Rattle.tb_values.specs.Appends.{AppendsFront}
-use Rattle.tb_values.proofs.Appends.{Appends-then, AppendsFront-more, AppendsFront-then}
-use Rattle.tb_keeper.specs.Exporting.{shown_on, tasks_on, text_on}
+use Rattle.tb_values.proofs.Appends.{Appends-nil, Appends-then, AppendsFront-more, AppendsFront-then}
+use Rattle.tb_keeper.specs.Exporting.{AppendsBut, shown_on, tasks_on, text_on}
 use Rattle.tb_keeper.specs.Lending.{lent_row, row_behind, stored_row}
-use Rattle.tb_keeper.specs.Noting.{marks_by, note_of, notes_of, shown_row}
+use Rattle.tb_keeper.specs.Noting.{AreNotes, marks_by, notes_of, shown_row}
 use Rattle.tb_keeper.specs.declared.lending.StoredRow.{StoredRow}
 use Rattle.tb_keeper.specs.declared.noting.Note.{Note}
+use Rattle.tb_keeper.proofs.NotedMarks.{row_same}
 use Rattle.tb_keeper.proofs.WokenMasks.{woken_mask}
 
 -- ---- a board of a good world
@@ -105,107 +106,84 @@ drop_past [] (suc k) le = refl
 drop_past (x ∷ xs) zero le = absurd (omega (arith, le))
 drop_past (x ∷ xs) (suc k) le = drop_past xs k (omega (arith, le))
 
--- ---- the first way through the rows
+-- ---- the way through the rows
 
--- what is noted, and what is still to be noted
-abbrev pub AreNoted : List Note → ℕ → Option Board → ℕ → Type 0
-AreNoted notes m b k = notes ++ notes_of m (drop k (tasks_on b)) ≡ notes_of m (tasks_on b)
-
-module _ (start before after : Database) (n m k : ℕ) (same : IsAsBefore start before) (idle : before.in_transaction ≡ false) (later : IsAsBefore before after) where
-  was : (s : State) → IsStored s start → IsStored s before
-  was s stored = stored_again s start before stored same idle
-
-  pub noted_more : (notes : List Note) (row : StoredRow) → OfState start before (λ s. AreNoted notes m (find_board s.world n) k) → OfState before after (λ s. Some row ≡ stored_row s.world n k)
-      → OfState start after (λ s. AreNoted (notes ++ note_of m row.task) m (find_board s.world n) (k + 1))
-  noted_more notes row noted found clean s stored =
-      let b = find_board s.world n in
-      let is = one_behind b k row (found clean s (was s stored)) in
-      let within = slice_get_within (tasks_on b) k row.task is in
-      let rest = drop_more (tasks_on b) k row.task within in
-      let here = get_or_from_slice_get (tasks_on b) k row.task row.task is in
-      append_assoc notes (note_of m row.task) (notes_of m (drop (k + 1) (tasks_on b)))
-      ∙ ap (λ (t : Task). notes ++ (note_of m t ++ notes_of m (drop (k + 1) (tasks_on b)))) (sym here)
-      ∙ ap (λ ts. notes ++ notes_of m ts) (sym rest)
-      ∙ noted (later.clean clean) s stored
-
-  pub noted_all : (notes : List Note) → OfState start before (λ s. AreNoted notes m (find_board s.world n) k) → OfState before after (λ s. None ≡ stored_row s.world n k)
-      → OfState start after (λ s. notes ≡ notes_of m (tasks_on (find_board s.world n)))
-  noted_all notes noted found clean s stored =
-      let b = find_board s.world n in
-      let past = none_behind b k (found clean s (was s stored)) in
-      sym (append-nil notes)
-      ∙ ap (λ ts. notes ++ notes_of m ts) (sym (drop_past (tasks_on b) k past))
-      ∙ noted (later.clean clean) s stored
-
--- ---- the second way
-
--- So much of the text is out, and so much of it is still to be written.
-pub record IsOut (b : Option Board) (m k : ℕ) (is_first : Bool) (old new : Option (List ℕ)) : Type 0 where
+-- So much of the text is out, so much of it is pending, and so much of it is still to be made.
+pub record IsOut (b : Option Board) (m k : ℕ) (is_first : Bool) (old new : Option (List ℕ)) (pending : List ℕ) : Type 0 where
   pub within : k ≤ length (tasks_on b)
   pub out : List ℕ
-  pub whole : out ++ tail_of is_first (map shown_text (drop k (shown_on b m))) ≡ text_on b m
+  pub whole : (out ++ pending) ++ tail_of is_first (map shown_text (drop k (shown_on b m))) ≡ text_on b m
   pub written : Appends old new out
 
-pub first_out : (b : Option Board) (m : ℕ) (old new : Option (List ℕ)) → Appends old new (91 ∷ 10 ∷ []) → IsOut b m 0 true old new
-first_out b m old new begun = record {
+first_out : (b : Option Board) (m : ℕ) (old : Option (List ℕ)) → IsOut b m 0 true old old (91 ∷ 10 ∷ [])
+first_out b m old = record {
   within = omega arith;
-  out = 91 ∷ 10 ∷ [];
+  out = [];
   whole = list_text-tail (map shown_text (shown_on b m));
-  written = begun;
+  written = Appends-nil old;
 }
 
-pub front_out : (b : Option Board) (m k : ℕ) (is_first : Bool) (old new : Option (List ℕ)) → IsOut b m k is_first old new → AppendsFront old new (text_on b m)
-front_out b m k is_first old new is = (is.out, tail_of is_first (map shown_text (drop k (shown_on b m))), sym is.whole, is.written)
+module _ (b : Option Board) (m k : ℕ) (is_first : Bool) (old mid : Option (List ℕ)) (pending : List ℕ) (is : IsOut b m k is_first old mid pending) where
+  abbrev tail : List ℕ
+  tail = tail_of is_first (map shown_text (drop k (shown_on b m)))
 
-front_begun : (b : Option Board) (m : ℕ) (old new : Option (List ℕ)) → AppendsFront old new (91 ∷ 10 ∷ []) → AppendsFront old new (text_on b m)
-front_begun b m old new front =
-    subst (AppendsFront old new) (list_text-tail (map shown_text (shown_on b m))) (AppendsFront-more old new (91 ∷ 10 ∷ []) (tail_of true (map shown_text (shown_on b m))) front)
+  front_out : AppendsFront old mid (text_on b m)
+  front_out = (is.out, pending ++ tail, sym is.whole ∙ append_assoc is.out pending tail, is.written)
 
-module _ (b : Option Board) (m k : ℕ) (is_first : Bool) (old mid new : Option (List ℕ)) (is : IsOut b m k is_first old mid) where
+  module _ (new : Option (List ℕ)) where
+    -- more of what is pending goes out
+    moved_out : (left : List ℕ) → AppendsBut mid new pending left → IsOut b m k is_first old new left
+    moved_out left moved = record {
+      within = is.within;
+      out = is.out ++ moved.0;
+      whole = ap (λ l. l ++ tail) (append_assoc is.out moved.0 left ∙ ap (λ l. is.out ++ l) (sym moved.1)) ∙ is.whole;
+      written = Appends-then old mid new is.out moved.0 is.written moved.2;
+    }
+
+    moved_front : AppendsFront mid new pending → AppendsFront old new (text_on b m)
+    moved_front front = subst (AppendsFront old new) is.whole (AppendsFront-more old new (is.out ++ pending) tail (AppendsFront-then old mid new is.out pending is.written front))
+
   module _ (row : StoredRow) (good : IsGoodOn b) (one : Some row ≡ row_behind b k) where
     abbrev seen : Shown
     seen = shown_row (notes_of m (tasks_on b)) m row
 
-    split : is.out ++ tail_of is_first (map shown_text (drop k (shown_on b m))) ≡ (is.out ++ piece is_first (shown_text seen)) ++ tail_of false (map shown_text (drop (suc k) (shown_on b m)))
+    split : (is.out ++ pending) ++ tail ≡ ((is.out ++ pending) ++ piece is_first (shown_text seen)) ++ tail_of false (map shown_text (drop (suc k) (shown_on b m)))
     split =
         let at = shown_behind b m k row good one in
-        tail-more (shown_on b m) k seen is_first is.out (slice_get_within (shown_on b m) k seen at) (sym (get_or_from_slice_get (shown_on b m) k seen seen at))
+        tail-more (shown_on b m) k seen is_first (is.out ++ pending) (slice_get_within (shown_on b m) k seen at) (sym (get_or_from_slice_get (shown_on b m) k seen seen at))
 
-    more_out : Appends mid new (piece is_first (shown_text seen)) → IsOut b m (k + 1) false old new
-    more_out written = record {
+    more_out : IsOut b m (k + 1) false old mid (pending ++ piece is_first (shown_text seen))
+    more_out = record {
       within =
           let below = slice_get_within (tasks_on b) k row.task (one_behind b k row one) in
           omega (arith, below);
-      out = is.out ++ piece is_first (shown_text seen);
+      out = is.out;
       whole =
           let next : suc k ≡ k + 1 = omega arith in
-          subst (λ j. (is.out ++ piece is_first (shown_text seen)) ++ tail_of false (map shown_text (drop j (shown_on b m))) ≡ text_on b m) next (sym split ∙ is.whole);
-      written = Appends-then old mid new is.out (piece is_first (shown_text seen)) is.written written;
+          ap (λ l. l ++ tail_of false (map shown_text (drop (k + 1) (shown_on b m)))) (sym (append_assoc is.out pending (piece is_first (shown_text seen))))
+          ∙ subst (λ j. ((is.out ++ pending) ++ piece is_first (shown_text seen)) ++ tail_of false (map shown_text (drop j (shown_on b m))) ≡ text_on b m) next (sym split ∙ is.whole);
+      written = is.written;
     }
-
-    more_front : AppendsFront mid new (piece is_first (shown_text seen)) → AppendsFront old new (text_on b m)
-    more_front front =
-        subst (AppendsFront old new) (sym split ∙ is.whole)
-        (AppendsFront-more old new (is.out ++ piece is_first (shown_text seen)) (tail_of false (map shown_text (drop (suc k) (shown_on b m))))
-        (AppendsFront-then old mid new is.out (piece is_first (shown_text seen)) is.written front))
 
   module _ (none : None ≡ row_behind b k) where
     past : length (tasks_on b) ≤ k
     past = none_behind b k none
 
-    at_end : is.out ++ (line_end is_first [] ++ 93 ∷ 10 ∷ []) ≡ text_on b m
+    at_end : is.out ++ (pending ++ (line_end is_first [] ++ 93 ∷ 10 ∷ [])) ≡ text_on b m
     at_end =
         let beyond : length (shown_on b m) ≤ k = subst (λ n. n ≤ k) (sym (size_shown b m)) past in
-        ap (λ l. is.out ++ tail_of is_first (map shown_text l)) (sym (drop_past (shown_on b m) k beyond)) ∙ is.whole
+        sym (append_assoc is.out pending (line_end is_first [] ++ 93 ∷ 10 ∷ []))
+        ∙ ap (λ l. (is.out ++ pending) ++ tail_of is_first (map shown_text l)) (sym (drop_past (shown_on b m) k beyond))
+        ∙ is.whole
 
-    all_out : Appends mid new (line_end is_first [] ++ 93 ∷ 10 ∷ []) → (k ≡ length (tasks_on b)) × Appends old new (text_on b m)
-    all_out ended =
+    all_out : (new : Option (List ℕ)) → Appends mid new (pending ++ (line_end is_first [] ++ 93 ∷ 10 ∷ [])) → (k ≡ length (tasks_on b)) × Appends old new (text_on b m)
+    all_out new ended =
         let within = is.within in
         let beyond = past in
-        (omega (arith, within, beyond), subst (Appends old new) at_end (Appends-then old mid new is.out (line_end is_first [] ++ 93 ∷ 10 ∷ []) is.written ended))
+        (omega (arith, within, beyond), subst (Appends old new) at_end (Appends-then old mid new is.out (pending ++ (line_end is_first [] ++ 93 ∷ 10 ∷ [])) is.written ended))
 
-    end_front : AppendsFront mid new (line_end is_first [] ++ 93 ∷ 10 ∷ []) → AppendsFront old new (text_on b m)
-    end_front front = subst (AppendsFront old new) at_end (AppendsFront-then old mid new is.out (line_end is_first [] ++ 93 ∷ 10 ∷ []) is.written front)
+    end_front : (new : Option (List ℕ)) → AppendsFront mid new (pending ++ (line_end is_first [] ++ 93 ∷ 10 ∷ [])) → AppendsFront old new (text_on b m)
+    end_front new front = subst (AppendsFront old new) at_end (AppendsFront-then old mid new is.out (pending ++ (line_end is_first [] ++ 93 ∷ 10 ∷ [])) is.written front)
 
 -- ---- of what is stored
 
@@ -214,39 +192,36 @@ as_before d = record { clean = λ clean. clean; was_open = λ clean is_open. is_
 
 -- by these notes
 abbrev pub ByNotes : List Note → ℕ → ℕ → (Option Board → Type 0) → State → Type 0
-ByNotes notes m n P s = notes ≡ notes_of m (tasks_on (find_board s.world n)) → P (find_board s.world n)
+ByNotes notes m n P s = AreNotes m (tasks_on (find_board s.world n)) notes → P (find_board s.world n)
 
-pub begun_state : (d : Database) (notes : List Note) (m n : ℕ) (old new : Option (List ℕ)) → Appends old new (91 ∷ 10 ∷ []) → OfState d d (ByNotes notes m n (λ b. IsOut b m 0 true old new))
-begun_state d notes m n old new begun clean s stored noted = first_out (find_board s.world n) m old new begun
+pub begun_state : (d : Database) (notes : List Note) (m n : ℕ) (old : Option (List ℕ)) → OfState d d (ByNotes notes m n (λ b. IsOut b m 0 true old old (91 ∷ 10 ∷ [])))
+begun_state d notes m n old clean s stored noted = first_out (find_board s.world n) m old
 
-pub front_begun_state : (d : Database) (notes : List Note) (m n : ℕ) (old new : Option (List ℕ)) → AppendsFront old new (91 ∷ 10 ∷ []) → OfState d d (ByNotes notes m n (λ b. AppendsFront old new (text_on b m)))
-front_begun_state d notes m n old new front clean s stored noted = front_begun (find_board s.world n) m old new front
-
-module _ (start before after : Database) (notes : List Note) (n m k : ℕ) (is_first : Bool) (old mid new : Option (List ℕ)) (same : IsAsBefore start before) (idle : before.in_transaction ≡ false) (later : IsAsBefore before after)
-    (out : OfState start before (ByNotes notes m n (λ b. IsOut b m k is_first old mid))) where
-  been : (s : State) → IsStored s start → IsStored s before
-  been s stored = stored_again s start before stored same idle
-
+module _ (start before : Database) (notes : List Note) (n m k : ℕ) (is_first : Bool) (old mid : Option (List ℕ)) (pending : List ℕ) (out : OfState start before (ByNotes notes m n (λ b. IsOut b m k is_first old mid pending))) where
   pub front_now : OfState start before (ByNotes notes m n (λ b. AppendsFront old mid (text_on b m)))
-  front_now clean s stored noted = front_out (find_board s.world n) m k is_first old mid (out clean s stored noted)
+  front_now clean s stored noted = front_out (find_board s.world n) m k is_first old mid pending (out clean s stored noted)
 
-  pub front_state : OfState start after (ByNotes notes m n (λ b. AppendsFront old mid (text_on b m)))
-  front_state clean s stored noted = front_out (find_board s.world n) m k is_first old mid (out (later.clean clean) s stored noted)
+  pub moved_state : (new : Option (List ℕ)) (left : List ℕ) → AppendsBut mid new pending left → OfState start before (ByNotes notes m n (λ b. IsOut b m k is_first old new left))
+  moved_state new left moved clean s stored noted = moved_out (find_board s.world n) m k is_first old mid pending (out clean s stored noted) new left moved
 
-  module _ (row : StoredRow) (found : OfState before after (λ s. Some row ≡ stored_row s.world n k)) where
-    pub more_state : Appends mid new (piece is_first (shown_text (shown_row notes m row))) → OfState start after (ByNotes notes m n (λ b. IsOut b m (k + 1) false old new))
-    more_state written clean s stored noted =
-        more_out (find_board s.world n) m k is_first old mid new (out (later.clean clean) s stored noted) row (good_on s start n stored) (found clean s (been s stored))
-        (subst (λ ns. Appends mid new (piece is_first (shown_text (shown_row ns m row)))) noted written)
+  pub moved_front_state : (new : Option (List ℕ)) → AppendsFront mid new pending → OfState start before (ByNotes notes m n (λ b. AppendsFront old new (text_on b m)))
+  moved_front_state new front clean s stored noted = moved_front (find_board s.world n) m k is_first old mid pending (out clean s stored noted) new front
 
-    pub more_front_state : AppendsFront mid new (piece is_first (shown_text (shown_row notes m row))) → OfState start after (ByNotes notes m n (λ b. AppendsFront old new (text_on b m)))
-    more_front_state front clean s stored noted =
-        more_front (find_board s.world n) m k is_first old mid new (out (later.clean clean) s stored noted) row (good_on s start n stored) (found clean s (been s stored))
-        (subst (λ ns. AppendsFront mid new (piece is_first (shown_text (shown_row ns m row)))) noted front)
+  module _ (after : Database) (same : IsAsBefore start before) (idle : before.in_transaction ≡ false) (later : IsAsBefore before after) where
+    been : (s : State) → IsStored s start → IsStored s before
+    been s stored = stored_again s start before stored same idle
 
-  module _ (found : OfState before after (λ s. None ≡ stored_row s.world n k)) where
-    pub all_state : Appends mid new (line_end is_first [] ++ 93 ∷ 10 ∷ []) → OfState start after (ByNotes notes m n (λ b. (k ≡ length (tasks_on b)) × Appends old new (text_on b m)))
-    all_state ended clean s stored noted = all_out (find_board s.world n) m k is_first old mid new (out (later.clean clean) s stored noted) (found clean s (been s stored)) ended
+    pub front_state : OfState start after (ByNotes notes m n (λ b. AppendsFront old mid (text_on b m)))
+    front_state clean s stored noted = front_now (later.clean clean) s stored noted
 
-    pub end_front_state : AppendsFront mid new (line_end is_first [] ++ 93 ∷ 10 ∷ []) → OfState start after (ByNotes notes m n (λ b. AppendsFront old new (text_on b m)))
-    end_front_state front clean s stored noted = end_front (find_board s.world n) m k is_first old mid new (out (later.clean clean) s stored noted) (found clean s (been s stored)) front
+    pub more_state : (row : StoredRow) → OfState before after (λ s. Some row ≡ stored_row s.world n k) → OfState start after (ByNotes notes m n (λ b. IsOut b m (k + 1) false old mid (pending ++ piece is_first (shown_text (shown_row notes m row)))))
+    more_state row found clean s stored noted =
+        subst (λ seen. IsOut (find_board s.world n) m (k + 1) false old mid (pending ++ piece is_first (shown_text seen))) (row_same notes m (tasks_on (find_board s.world n)) row noted)
+        (more_out (find_board s.world n) m k is_first old mid pending (out (later.clean clean) s stored noted) row (good_on s start n stored) (found clean s (been s stored)))
+
+    module _ (found : OfState before after (λ s. None ≡ stored_row s.world n k)) (new : Option (List ℕ)) where
+      pub all_state : Appends mid new (pending ++ (line_end is_first [] ++ 93 ∷ 10 ∷ [])) → OfState start after (ByNotes notes m n (λ b. (k ≡ length (tasks_on b)) × Appends old new (text_on b m)))
+      all_state ended clean s stored noted = all_out (find_board s.world n) m k is_first old mid pending (out (later.clean clean) s stored noted) (found clean s (been s stored)) new ended
+
+      pub end_front_state : AppendsFront mid new (pending ++ (line_end is_first [] ++ 93 ∷ 10 ∷ [])) → OfState start after (ByNotes notes m n (λ b. AppendsFront old new (text_on b m)))
+      end_front_state front clean s stored noted = end_front (find_board s.world n) m k is_first old mid pending (out (later.clean clean) s stored noted) (found clean s (been s stored)) new front

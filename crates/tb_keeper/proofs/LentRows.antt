@@ -95,7 +95,7 @@ at_get P [] k x all is = absurd (cc)
 at_get P (y ∷ ys) zero x all is = let same : y ≡ x = cc in subst P same all.0
 at_get P (y ∷ ys) (suc k) x all is = at_get P ys k x all.1 is
 
-found_has : {X : Type 0} (P : X → Type 0) (p : X → Bool) (xs : List X) (x : X) → AllByRecursion P xs → find p xs ≡ Some x → P x
+pub found_has : {X : Type 0} (P : X → Type 0) (p : X → Bool) (xs : List X) (x : X) → AllByRecursion P xs → find p xs ≡ Some x → P x
 found_has P p [] x all is = absurd (cc)
 found_has P p (y ∷ ys) x all is = elim (cases_Bool (p y)) [
   | inl here ↦ let same : Some y ≡ Some x = rw here at is in let it : y ≡ x = cc in subst P it all.0

@@ -12,6 +12,8 @@ pub mod Images
 pub mod KnownAhead
 pub mod LentRows
 pub mod Looked
+pub mod NotedMarks
+pub mod NotedRows
 pub mod SeenPeople
 pub mod Taken
 pub mod WholeCount

@@ -11,7 +11,8 @@ use Rattle.tb_board.specs.declared.board.Board.{Board}
 use Rattle.tb_board.specs.declared.gone.Gone.{Gone}
 use Rattle.tb_board.specs.Board.{wake}
 use Rattle.tb_board.specs.Tasks.{wakes, woken}
-use Rattle.tb_board.specs.Templates.{count, gone_places, instance_places, is_gone_at, is_id, is_instance_at, mark_at, mark_here, mask, place_in, places, with_place}
+use Rattle.tb_board.specs.InstancePlaces.{instance_places, is_id, place_in, with_place}
+use Rattle.tb_board.specs.Templates.{count, gone_places, is_gone_at, is_instance_at, mark_at, mark_here, mask, places}
 use Rattle.tb_keeper.specs.Noting.{is_note, is_noted, mark_by, marks_by, note_at, note_of, notes_of}
 use Rattle.tb_keeper.specs.declared.noting.Note.{Note}
 

@@ -1,5 +1,5 @@
 -- What an export writes of a board.
-use Rattle.std.specs.Prelude.{◌≡◌, ℕ, Bool, true, false, List, [], Option, Some, None, Result, Ok, Err, length, map}
+use Rattle.std.specs.Prelude.{◌≡◌, ◌++◌, ℕ, Bool, true, false, List, [], Option, Some, None, Result, Ok, Err, length, map}
 use Rattle.std.specs.Io.KnownBytes.{Appends}
 use Rattle.tb_task.specs.declared.incoming.Shown.{Shown}
 use Rattle.tb_task.specs.declared.task.Task.{Task}
@@ -56,3 +56,7 @@ shown_on (Some b) m = shown b m
 
 abbrev pub text_on : Option Board → ℕ → List ℕ
 text_on b m = list_text (map shown_text (shown_on b m))
+
+-- known bytes grow by all of a text but this rest of it
+abbrev pub AppendsBut : Option (List ℕ) → Option (List ℕ) → List ℕ → List ℕ → Type 0
+AppendsBut old new text rest = (front : List ℕ) × (text ≡ front ++ rest) × Appends old new front

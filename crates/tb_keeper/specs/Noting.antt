@@ -1,10 +1,13 @@
--- What an export notes on its first way through the rows of a board, and the marks by its notes.
-use Rattle.std.specs.Prelude.{ℕ, Bool, ◌&&◌, ◌==◌, ◌+◌, List, [], ◌∷◌, ◌++◌, Option, Some, None, if◌then◌else◌}
+-- What an export notes of the instances of a board, and the marks by its notes.
+use Rattle.std.specs.Prelude.{◌≡◌, ◌-◌, ℕ, Bool, ◌&&◌, ◌==◌, ◌+◌, List, [], ◌∷◌, ◌++◌, Option, Some, None, if◌then◌else◌}
 use Rattle.std.specs.List.{list_any}
 use Rattle.std.specs.Option.{option_map}
 use Rattle.tb_task.specs.declared.task.Task.{Task}
 use Rattle.tb_task.specs.declared.incoming.Shown.{Shown}
 use Rattle.tb_board.specs.Tasks.{wakes, woken}
+use Rattle.tb_board.specs.declared.board.Board.{Board}
+use Rattle.tb_sql_tables.specs.declared.rows.InstanceRow.{InstanceRow}
+use Rattle.tb_keeper.specs.Lending.{row_behind}
 use Rattle.tb_keeper.specs.declared.lending.StoredRow.{StoredRow}
 use Rattle.tb_keeper.specs.declared.noting.Note.{Note}
 
@@ -23,11 +26,33 @@ abbrev pub notes_of : ℕ → List Task → List Note
 notes_of m [] = []
 notes_of m (t ∷ ts) = note_of m t ++ notes_of m ts
 
+-- of the task of a row, if there is one
+abbrev pub note_of_row : ℕ → Option StoredRow → List Note
+note_of_row m None = []
+note_of_row m (Some row) = note_of m row.task
+
+-- of the task to which the row of an instance leads
+abbrev pub note_by : ℕ → Option Board → InstanceRow → List Note
+note_by m b instance = note_of_row m (row_behind b (instance.place - 1))
+
+-- What the row of an instance leads to is added.
+pub record IsNotedBy (m : ℕ) (b : Option Board) (instance : InstanceRow)
+    (old new : List Note) : Type 0 where
+  pub more : new ≡ old ++ note_by m b instance
+
+-- it is of an instance of this template
+abbrev pub is_of : ℕ → Note → Bool
+is_of id n = n.template == id
+
 abbrev pub is_note : ℕ → ℕ → Note → Bool
 is_note id k n = (n.template == id) && (n.place == k)
 
 abbrev pub is_noted : List Note → ℕ → ℕ → Bool
 is_noted notes id k = list_any (is_note id k) notes
+
+-- the places of all of them are noted, in any order
+abbrev pub AreNotes : ℕ → List Task → List Note → Type 0
+AreNotes m ts notes = (id k : ℕ) → is_noted notes id k ≡ is_noted (notes_of m ts) id k
 
 -- a hyphen where the place is noted, and else the mark as it was
 abbrev pub mark_by : List Note → ℕ → ℕ → ℕ → ℕ

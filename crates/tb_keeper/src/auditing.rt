@@ -112,7 +112,7 @@ fn link_rows<S: Alter>(conn: &mut Connection<S>, board: u32) -> Result<Items<Lin
 }
 
 /// The instances on a board, in order of template and number.
-fn instance_rows<S: Alter>(
+pub(crate) fn instance_rows<S: Alter>(
     conn: &mut Connection<S>,
     board: u32,
 ) -> Result<Items<InstanceRow>, StoreFault>

@@ -1,6 +1,6 @@
 //! The export of a board from its rows, which never holds the board as a whole.
 
-ghost use Rattle.std.specs.Prelude.{◌≡◌, ◌++◌, ◌∷◌, [], IfErr, IfOk, IsErrOf, OnErr, OnOk, Err, false, is_some, length, true};
+ghost use Rattle.std.specs.Prelude.{◌≡◌, ◌++◌, ◌∷◌, [], IfErr, IfOk, IsErrOf, OnErr, OnOk, Err, false, flat_map, is_some, length, string_bytes, true};
 ghost use Rattle.std.specs.Io.KnownBytes.{Appends};
 ghost use Rattle.sqlite.specs.Held.{state};
 ghost use Rattle.tb_board.specs.World.{find_board};
@@ -13,22 +13,27 @@ ghost use Rattle.tb_stored.specs.Reopening.{OfState};
 ghost use Rattle.tb_stored.specs.Stored.{MayLeave};
 ghost use Rattle.tb_values.specs.Appends.{AppendsFront};
 ghost use Rattle.tb_keeper.specs.declared.export_fault.ExportFault.TheVariants.{NoBoard, WriteFailed};
-ghost use Rattle.tb_keeper.specs.Exporting.{IsCut, IsExported, fault_of, is_store, tasks_on, text_on};
+ghost use Rattle.tb_keeper.specs.Exporting.{AppendsBut, IsCut, IsExported, fault_of, is_store, tasks_on, text_on};
 ghost use Rattle.tb_keeper.specs.Holds.{Holds};
-ghost use Rattle.tb_keeper.specs.Noting.{notes_of, shown_row};
+ghost use Rattle.tb_keeper.specs.Noting.{AreNotes, IsNotedBy, note_by, shown_row};
 
+use crate::auditing::instance_rows;
 use crate::export_fault::ExportFault;
 use crate::lending::{StoredRow, find_row};
-use crate::noting::{Note, add_note, shown_row};
+use crate::noting::{Note, note_row, shown_row};
 use crate::sql_keep::SqlKeep;
 use sqlite::{Alter, Connection};
-use std::alloc::Global;
+use std::alloc::{AllocError, Global};
 use std::io::Write;
 use tb_json::write_task;
 use tb_sql::store::StoreFault;
+use tb_sql_tables::rows::InstanceRow;
 use tb_stored::by_key::board_row_at;
 use tb_task::Moment;
 use tb_values::{Items, write_whole};
+
+/// Text of so many bytes is written.
+const LONG: usize = 65_536;
 
 impl<S: Alter> SqlKeep<S> {
     /// Writes all tasks of a board as JSON, as they are at a moment. Returns how many there are.
@@ -156,7 +161,7 @@ fn has_board<S: Alter>(conn: &mut Connection<S>, board: u32) -> Result<bool, Sto
     Ok(found.is_some())
 }
 
-/// Goes through the rows of a board, and notes the places of instances whose wait is over.
+/// Notes the places of a board's instances whose wait is over.
 fn noted_rows<S: Alter>(
     alloc: Global,
     conn: &mut Connection<S>,
@@ -166,18 +171,55 @@ fn noted_rows<S: Alter>(
     requires { conn.old.in_transaction ≡ false }
     ensures idle { conn.new.in_transaction ≡ false }
     ensures found { IfOk result (λ notes. OfState (state S.Store conn.old) (state S.Store conn.new)
-        (λ s. notes ≡ notes_of at (tasks_on (find_board s.world board)))) }
+        (λ s. AreNotes at (tasks_on (find_board s.world board)) notes)) }
+    ensures fault { result ≡ Err NoBoard → ⊥ }
+    ensures same { IsAsBefore (state S.Store conn.old) (state S.Store conn.new) }
+{
+    let instances = instance_rows(conn, board)?;
+    note_instances(alloc, conn, board, instances.as_slice(), at)
+}
+
+/// The same, of these instances. A place without a task isn't noted.
+fn note_instances<S: Alter>(
+    alloc: Global,
+    conn: &mut Connection<S>,
+    board: u32,
+    instances: &[InstanceRow],
+    at: Moment,
+) -> Result<Items<Note>, ExportFault>
+    requires { conn.old.in_transaction ≡ false }
+    ensures idle { conn.new.in_transaction ≡ false }
+    ensures found { IfOk result (λ notes. OfState (state S.Store conn.old) (state S.Store conn.new)
+        (λ s. notes ≡ flat_map (note_by at (find_board s.world board)) instances.now)) }
     ensures fault { result ≡ Err NoBoard → ⊥ }
     ensures same { IsAsBefore (state S.Store conn.old) (state S.Store conn.new) }
 {
     let mut notes = Items::new(alloc);
-    for behind in 0..u32::MAX {
-        let Some(row) = find_row(alloc, conn, board, behind)? else {
-            return Ok(notes);
-        };
-        add_note(&mut notes, &row.task, at)?;
+    for instance in instances {
+        note_instance(alloc, conn, board, instance, at, &mut notes)?;
     }
-    Err(ExportFault::Store) // Never: no board has so many tasks.
+    Ok(notes)
+}
+
+/// Notes the place of an instance, if its wait is over.
+fn note_instance<S: Alter>(
+    alloc: Global,
+    conn: &mut Connection<S>,
+    board: u32,
+    instance: &InstanceRow,
+    at: Moment,
+    notes: &mut Items<Note>,
+) -> Result<(), ExportFault>
+    requires { conn.old.in_transaction ≡ false }
+    ensures idle { conn.new.in_transaction ≡ false }
+    ensures noted { OnOk result (OfState (state S.Store conn.old) (state S.Store conn.new)
+        (λ s. IsNotedBy at (find_board s.world board) instance.now notes.old notes.new)) }
+    ensures fault { result ≡ Err NoBoard → ⊥ }
+    ensures same { IsAsBefore (state S.Store conn.old) (state S.Store conn.new) }
+{
+    let row = find_row(alloc, conn, board, instance.place.saturating_sub(1))?;
+    note_row(notes, &row, at)?;
+    Ok(())
 }
 
 /// Writes the rows of a board by these notes. Returns how many there are.
@@ -192,79 +234,87 @@ fn write_rows<S: Alter, W: Write>(
     requires { conn.old.in_transaction ≡ false }
     ensures idle { conn.new.in_transaction ≡ false }
     ensures told { IfOk result (λ count. OfState (state S.Store conn.old) (state S.Store conn.new)
-        (λ s. notes.now ≡ notes_of at (tasks_on (find_board s.world board))
+        (λ s. AreNotes at (tasks_on (find_board s.world board)) notes.now
         → (count ≡ length (tasks_on (find_board s.world board)))
         × Appends (W.contents writer.old) (W.contents writer.new)
         (text_on (find_board s.world board) at))) }
     ensures front { OnErr result (OfState (state S.Store conn.old) (state S.Store conn.new)
-        (λ s. notes.now ≡ notes_of at (tasks_on (find_board s.world board))
+        (λ s. AreNotes at (tasks_on (find_board s.world board)) notes.now
         → AppendsFront (W.contents writer.old) (W.contents writer.new)
         (text_on (find_board s.world board) at))) }
     ensures fault { result ≡ Err NoBoard → ⊥ }
     ensures same { IsAsBefore (state S.Store conn.old) (state S.Store conn.new) }
 {
-    write_text(writer, "[\n")?;
+    let mut pending = String::from_str(alloc, "[\n")?;
     let mut is_first = true;
     for behind in 0..u32::MAX {
         let Some(row) = find_row(alloc, conn, board, behind)? else {
-            write_end(writer, is_first)?;
+            push_end(&mut pending, is_first)?;
+            write_text(writer, pending.as_str())?;
             return Ok(behind);
         };
-        write_row(alloc, row, notes, at, is_first, writer)?;
+        push_row(alloc, &mut pending, row, notes, at, is_first)?;
+        write_long(writer, &mut pending)?;
         is_first = false;
     }
     Err(ExportFault::Store)
 }
 
-fn write_row<W: Write>(
+/// Puts a row at the end of what is pending, and before it what ends the row before.
+fn push_row(
     alloc: Global,
+    pending: &mut String,
     row: StoredRow,
     notes: &[Note],
     at: Moment,
     is_first: bool,
-    writer: &mut W,
 ) -> Result<(), ExportFault>
-    ensures told { OnOk result (Appends (W.contents writer.old) (W.contents writer.new)
-        (piece is_first (shown_text (shown_row notes.now at row)))) }
-    ensures front { OnErr result (AppendsFront (W.contents writer.old) (W.contents writer.new)
-        (piece is_first (shown_text (shown_row notes.now at row)))) }
+    ensures put { OnOk result (string_bytes pending.new
+        ≡ string_bytes pending.old ++ piece is_first (shown_text (shown_row notes.now at row))) }
     ensures fault { result ≡ Err NoBoard → ⊥ }
 {
     let shown = shown_row(alloc, row, notes, at)?;
     let text = write_task(alloc, &shown)?;
-    write_piece(writer, is_first, text.as_str())
+    push_piece(pending, is_first, text.as_str())?;
+    Ok(())
 }
 
-/// Writes a text, and before it what ends the text before.
-fn write_piece<W: Write>(writer: &mut W, is_first: bool, text: &str) -> Result<(), ExportFault>
-    ensures told { OnOk result
-        (Appends (W.contents writer.old) (W.contents writer.new) (piece is_first text.now)) }
-    ensures front { OnErr result
-        (AppendsFront (W.contents writer.old) (W.contents writer.new) (piece is_first text.now)) }
-    ensures fault { IfErr result (λ fault. fault ≡ WriteFailed) }
+fn push_piece(pending: &mut String, is_first: bool, text: &str) -> Result<(), AllocError>
+    ensures { OnOk result
+        (string_bytes pending.new ≡ string_bytes pending.old ++ piece is_first text.now) }
 {
-    if is_first {
-        return write_text(writer, text);
+    if !is_first {
+        pending.push_str(",\n")?;
     }
-    match write_text(writer, ",\n") {
-        Ok(()) => write_text(writer, text),
-        Err(fault) => Err(fault),
-    }
+    pending.push_str(text)
 }
 
-/// Writes the end of the list.
-fn write_end<W: Write>(writer: &mut W, is_first: bool) -> Result<(), ExportFault>
-    ensures told { OnOk result (Appends (W.contents writer.old) (W.contents writer.new)
-        (line_end is_first [] ++ 93 ∷ 10 ∷ [])) }
-    ensures front { OnErr result (AppendsFront (W.contents writer.old) (W.contents writer.new)
-        (line_end is_first [] ++ 93 ∷ 10 ∷ [])) }
-    ensures fault { IfErr result (λ fault. fault ≡ WriteFailed) }
+/// Puts the end of the list at the end of what is pending.
+fn push_end(pending: &mut String, is_first: bool) -> Result<(), AllocError>
+    ensures { OnOk result (string_bytes pending.new
+        ≡ string_bytes pending.old ++ (line_end is_first [] ++ 93 ∷ 10 ∷ [])) }
 {
     if is_first {
-        write_text(writer, "]\n")
+        pending.push_str("]\n")
     } else {
-        write_text(writer, "\n]\n")
+        pending.push_str("\n]\n")
     }
+}
+
+/// Writes what is pending, once it is long.
+fn write_long<W: Write>(writer: &mut W, pending: &mut String) -> Result<(), ExportFault>
+    ensures told { OnOk result (AppendsBut (W.contents writer.old) (W.contents writer.new)
+        (string_bytes pending.old) (string_bytes pending.new)) }
+    ensures front { OnErr result (AppendsFront (W.contents writer.old) (W.contents writer.new)
+        (string_bytes pending.old)) }
+    ensures fault { IfErr result (λ fault. fault ≡ WriteFailed) }
+{
+    if pending.len() < LONG {
+        return Ok(());
+    }
+    write_text(writer, pending.as_str())?;
+    pending.clear();
+    Ok(())
 }
 
 fn write_text<W: Write>(writer: &mut W, text: &str) -> Result<(), ExportFault>

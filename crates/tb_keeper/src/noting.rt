@@ -1,9 +1,9 @@
-//! What an export notes of a board's rows, and rows as they are shown by the notes.
+//! What an export notes of a board's instances, and rows as they are shown by the notes.
 
-ghost use Rattle.std.specs.Prelude.{◌≡◌, ◌++◌, Err, IfOk, OnOk};
+ghost use Rattle.std.specs.Prelude.{◌≡◌, ◌++◌, Err, IfOk, OnOk, filter};
 ghost use Rattle.std.specs.Option.{option_map};
 ghost use Rattle.tb_keeper.specs.declared.export_fault.ExportFault.TheVariants.{NoBoard};
-ghost use Rattle.tb_keeper.specs.Noting.{is_note, is_noted, mark_by, marks_by, note_of, shown_row};
+ghost use Rattle.tb_keeper.specs.Noting.{is_note, is_noted, is_of, mark_by, marks_by, note_of, note_of_row, shown_row};
 
 use crate::export_fault::ExportFault;
 use crate::lending::StoredRow;
@@ -19,8 +19,22 @@ pub(crate) struct Note {
     pub place: u32,
 }
 
+/// Notes the place of the task of a row, if it is an instance whose wait is over.
+pub(crate) fn note_row(
+    notes: &mut Items<Note>,
+    row: &Option<StoredRow>,
+    at: Moment,
+) -> Result<(), AllocError>
+    ensures { OnOk result (notes.new ≡ notes.old ++ note_of_row at row.now) }
+{
+    match row {
+        Some(row) => add_note(notes, &row.task, at),
+        None => Ok(()),
+    }
+}
+
 /// Notes the place of a task whose wait is over, if it is an instance.
-pub(crate) fn add_note(notes: &mut Items<Note>, task: &Task, at: Moment) -> Result<(), AllocError>
+fn add_note(notes: &mut Items<Note>, task: &Task, at: Moment) -> Result<(), AllocError>
     ensures { OnOk result (notes.new ≡ notes.old ++ note_of at task.now) }
 {
     if !has_waited(task, at) {
@@ -72,6 +86,27 @@ fn noted_mask(
 }
 
 fn marked(alloc: Global, id: TaskId, stored: &Mask, notes: &[Note]) -> Result<Mask, AllocError>
+    ensures { IfOk result (λ mask. mask ≡ marks_by notes.now id 0 stored.now) }
+{
+    let own = own_notes(alloc, notes, id)?;
+    marked_by(alloc, id, stored, own.as_slice())
+}
+
+/// The notes of a template.
+fn own_notes(alloc: Global, notes: &[Note], id: TaskId) -> Result<Items<Note>, AllocError>
+    ensures { IfOk result (λ own. own ≡ filter (is_of id) notes.now) }
+{
+    let mut own = Items::new(alloc);
+    for note in notes {
+        if note.template == id {
+            own.push(*note)?;
+        }
+    }
+    Ok(own)
+}
+
+/// The marks by these notes.
+fn marked_by(alloc: Global, id: TaskId, stored: &Mask, notes: &[Note]) -> Result<Mask, AllocError>
     ensures { IfOk result (λ mask. mask ≡ marks_by notes.now id 0 stored.now) }
 {
     let mut mask = Mask::new(alloc);

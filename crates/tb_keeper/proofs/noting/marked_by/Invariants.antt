@@ -1,6 +1,6 @@
 use Rattle.std.proofs.Common.{◌≡◌, ◌++◌, drop}
 use Rattle.tb_keeper.specs.Noting.{marks_by}
-use Rattle.tb_keeper.proofs.noting.marked.Given as goal
+use Rattle.tb_keeper.proofs.noting.marked_by.Given as goal
 
 -- the marks before the place are there
 abbrev pub invariant-loop-place : goal.invariant-loop-place
