@@ -1,4 +1,4 @@
-//! Exports of an open store from its rows, and the boards that it has at hand.
+//! Exports of an open store from its rows, the rows that it lends, and the boards that it has at hand.
 
 use crate::lines::{Transcript, unreadable};
 use crate::store::Owner;
@@ -8,7 +8,7 @@ use std::io;
 use tb_board::{Key, Name};
 use tb_calls::View;
 use tb_desk::Desk;
-use tb_keeper::SqlKeep;
+use tb_keeper::{Lent, SqlKeep, StoredRow};
 use tb_reply::Reply;
 use tb_task::Moment;
 
@@ -38,7 +38,7 @@ pub fn tell_export<S: Alter + Drop>(
 ) -> io::Result<Desk<SqlKeep<S>>> {
     let (moment, board) = words.split_once(' ').ok_or(unreadable())?;
     let at = Moment::read(moment.as_bytes()).ok_or(unreadable())?;
-    let board = read_board(board)?;
+    let board = read_number(board)?;
     let mut keep = desk.into_keep();
     let mut text = Vec::new(told.alloc);
     let end = keep.export(told.alloc, board, at, &mut text);
@@ -72,6 +72,46 @@ fn compare_view<S: Alter>(
     }
 }
 
+/// The rows of a board that the store lends, `BOARD COUNT`, so many at most, behind which they are let go: place, mask and description.
+pub fn tell_lent<S: Alter + Drop>(
+    desk: Desk<SqlKeep<S>>,
+    words: &str,
+    told: &mut Transcript,
+) -> io::Result<Desk<SqlKeep<S>>> {
+    let (board, count) = words.split_once(' ').ok_or(unreadable())?;
+    let (board, count) = (read_number(board)?, read_number(count)?);
+    let mut keep = desk.into_keep();
+    match keep.rows(board) {
+        Ok(mut lent) => tell_rows(&mut lent, count, told)?,
+        Err(fault) => told.answer(&format!(in told.alloc; "{fault:?}")?)?,
+    }
+    Ok(Desk::new(keep))
+}
+
+fn tell_rows<S: Alter>(
+    lent: &mut Lent<'_, S>,
+    count: u32,
+    told: &mut Transcript,
+) -> Result<(), AllocError> {
+    for _ in 0..count {
+        match lent.next(told.alloc) {
+            Ok(Some(row)) => tell_row(&row, told)?,
+            Ok(None) => return told.answer("no more"),
+            Err(fault) => return told.answer(&format!(in told.alloc; "{fault:?}")?),
+        }
+    }
+    Ok(())
+}
+
+fn tell_row(row: &StoredRow, told: &mut Transcript) -> Result<(), AllocError> {
+    let mask = match &row.mask {
+        Some(mask) => mask.as_str(),
+        None => "none",
+    };
+    let (place, description) = (row.place, row.task.description.as_str());
+    told.answer(&format!(in told.alloc; "{place} {mask} {description}")?)
+}
+
 /// What a person with a key is told who asks for an export, `NAME KEY BOARD`, where it is refused.
 pub fn tell_admission<S: Alter>(
     desk: &mut Desk<SqlKeep<S>>,
@@ -82,7 +122,7 @@ pub fn tell_admission<S: Alter>(
     let (key, board) = rest.split_once(' ').ok_or(unreadable())?;
     let name = Name::read(told.alloc, name)?.ok_or(unreadable())?;
     let key = Key::read(told.alloc, key)?.ok_or(unreadable())?;
-    let view = View::Export(read_board(board)?);
+    let view = View::Export(read_number(board)?);
     match desk.admits(told.alloc, &name, &key, &view) {
         Ok(None) => told.answer("accepted")?,
         Ok(Some(refusal)) => told.answer(&line_of(told.alloc, &refusal)?)?,
@@ -97,6 +137,6 @@ fn line_of(alloc: Global, reply: &Reply) -> Result<String, AllocError> {
     format!(in alloc; "{status} {number} {body}")
 }
 
-fn read_board(text: &str) -> io::Result<u32> {
+fn read_number(text: &str) -> io::Result<u32> {
     text.parse::<u32>().or(Err(unreadable()))
 }

@@ -1,6 +1,6 @@
 //! Steps over boards in two files, as they are read from a file of steps.
 
-use crate::exports::{tell_admission, tell_at_hand, tell_export};
+use crate::exports::{tell_admission, tell_at_hand, tell_export, tell_lent};
 use crate::lines::{Transcript, compare, unreadable};
 use crate::looks::{count_kept, tell_audit, tell_migrated, tell_tables};
 use crate::openings::open_each;
@@ -225,6 +225,7 @@ impl<'o, 't> Steps<'o, 't> {
     ) -> io::Result<Desk<SqlKeep<S>>> {
         match step.split_once(' ') {
             Some(("export", rest)) => tell_export(desk, self.owner, rest, &mut self.told),
+            Some(("lend", rest)) => tell_lent(desk, rest, &mut self.told),
             Some(("admits", rest)) => {
                 tell_admission(&mut desk, rest, &mut self.told)?;
                 Ok(desk)
