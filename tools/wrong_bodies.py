@@ -2,9 +2,10 @@
 """Tries the must-fail edits of crates that `rt ci` has proved in a folder: none may leave what it changes provable.
 
 `rt ci` and `rt must-fail` prove a whole crate with each edit, and begin by proving it once more without. An edit is refused as soon as one function that it changes
-isn't proved, so this checks those alone (`rattle check --only`), over the statements that `rt ci` left of the libraries below, and for several edits of a crate over
-one check of what they change. Where that is still proved the whole crate is tried, as `rt must-fail` does it. Edits are read, applied and judged by the kit's
-own functions, which are taken from its command `rt`."""
+isn't proved, so this checks those alone (`rattle check --only`), over the statements that `rt ci` left of the libraries below. A function is proved over the
+contracts of what it calls, never over their bodies: so edits of a crate that change different functions are tried at once, each by what is told of its own. Where
+that tells nothing the edit is tried alone, and where what it changes is still proved the whole crate is tried, as `rt must-fail` does it. Edits are read, applied
+and judged by the kit's own functions, which are taken from its command `rt`."""
 import importlib.machinery
 import importlib.util
 import json
@@ -49,17 +50,17 @@ def changed_functions(old, new):
     return found or None
 
 
-def paths_of(crate, texts, proved):
-    """What an edit changes, by the paths of functions where these are known, and by modules."""
-    functions, modules = [], []
+def functions_of(crate, texts, proved):
+    """The functions that an edit changes, by their paths, or none where a line of it stands outside of all."""
+    found = []
     for path, text in texts.items():
-        module = module_of(path)
-        modules.append(module)
         with open(f"{crate.folder}/{path}", encoding="utf-8") as it:
             names = changed_functions(it.read(), text)
-        inside = f"{crate.name}::{module}::"
-        functions += [it.removeprefix(f"{crate.name}::") for it in proved if it.startswith(inside) and it.split("::")[-1] in (names or ())]
-    return [it for it in (functions, modules) if it]
+        if not names:
+            return []
+        inside = f"{crate.name}::{module_of(path)}::"
+        found += [it.removeprefix(f"{crate.name}::") for it in proved if it.startswith(inside) and it.split("::")[-1] in names]
+    return found
 
 
 def what_fails(kit, lines, texts):
@@ -74,48 +75,87 @@ def only(paths):
     return ["--jobs", "1", *[word for path in paths for word in ("--only", path)]]
 
 
+def own_failure(lines, functions):
+    """The line that says that one of the functions isn't proved for a reason of its own, and not only since something that it calls isn't."""
+    own = re.compile(rf"fn ({'|'.join(map(re.escape, functions))}): (not proved|no proof: expected answers)")
+    return next((it for it in lines if own.match(it)), None)
+
+
 class TriedCrate:
-    """A crate's edits, with what each changes, and where what they change is proved as it stands."""
+    """A crate's edits, with what each changes, and how those fail that were tried at once."""
 
     def __init__(self, kit, crate, edits, proved):
-        self.kit, self.crate, self.edits, self.seed = kit, crate, edits, None
+        self.kit, self.crate, self.edits, self.failures = kit, crate, edits, {}
         self.texts = [kit.read_edit(it, crate.folder)[0] for it in edits]
-        self.paths = [paths_of(crate, texts, proved) if texts else [] for texts in self.texts]
+        self.functions = [functions_of(crate, texts, proved) if texts else [] for texts in self.texts]
+        self.modules = [[module_of(it) for it in texts or ()] for texts in self.texts]
 
-    def prove(self, folder):
-        """Proves what the edits change, as it stands, into a new folder, from which the edits' checks take what they leave as it was."""
-        wanted = sorted({path for paths in self.paths for path in (paths[0] if paths else [])})
-        os.mkdir(folder)
-        if wanted and self.kit.checked(self.crate, {}, only(wanted), folder).returncode == 0:
-            self.seed = folder
+    def joined(self, wanted):
+        """The texts with as many of these edits as change different functions, and the numbers of those."""
+        texts, numbers, taken = {}, [], set()
+        with tempfile.TemporaryDirectory(prefix="rt-joined-") as room:
+            shutil.copytree(f"{self.crate.folder}/src", f"{room}/src")
+            for number in wanted:
+                changed = self.kit.read_edit(self.edits[number], room)[0]
+                if not changed or taken & set(self.functions[number]):
+                    continue
+                for path, text in changed.items():
+                    with open(f"{room}/{path}", "w", encoding="utf-8") as it:
+                        it.write(text)
+                texts |= changed
+                taken |= set(self.functions[number])
+                numbers.append(number)
+        return texts, numbers
 
-    def try_over_seed(self, number, paths):
-        with tempfile.TemporaryDirectory(prefix="rt-kept-") as room:
-            kept = f"{room}/kept" if self.seed else None
-            if kept:
-                self.kit.linked(self.seed, kept)
-            return self.kit.checked(self.crate, self.texts[number], only(paths), kept)
+    def try_together(self):
+        """Tries edits at once, as many as change different functions, then those that are left, and keeps how each fails."""
+        left = [number for number, functions in enumerate(self.functions) if functions]
+        while len(left) > 1:
+            texts, numbers = self.joined(left)
+            if not numbers:
+                return
+            self.try_joined(texts, numbers)
+            left = [it for it in left if it not in numbers]
+
+    def try_joined(self, texts, numbers):
+        """Tries these edits at once. Where one of them can't be read all are left to be tried alone."""
+        ran = self.kit.checked(self.crate, texts, only([it for number in numbers for it in self.functions[number]]), None)
+        lines = ran.stdout.rstrip("\n").split("\n")
+        if ran.returncode != 1 or any(self.kit.unread(it, texts) for it in lines):
+            return
+        for number in numbers:
+            failure = own_failure(lines, [f"{self.crate.name}::{it}" for it in self.functions[number]])
+            if failure:
+                self.failures[number] = failure
+
+    def fails_alone(self, number, paths):
+        """How an edit fails where these paths are checked, or None."""
+        ran = self.kit.checked(self.crate, self.texts[number], only(paths), None)
+        lines = ran.stdout.rstrip("\n").split("\n")
+        ended = re.fullmatch(r"only=(\d+) proved=(\d+)", lines[-1])
+        if ran.returncode == 1 and ended and ended[1] != ended[2]:
+            return what_fails(self.kit, lines, self.texts[number])
+        return None
 
     def try_edit(self, number):
         """What a try of an edit comes to, and what to say of it, by the kit's words."""
-        for paths in self.paths[number]:
-            ran = self.try_over_seed(number, paths)
-            lines = ran.stdout.rstrip("\n").split("\n")
-            ended = re.fullmatch(r"only=(\d+) proved=(\d+)", lines[-1])
-            failure = what_fails(self.kit, lines, self.texts[number])
-            if ran.returncode == 1 and ended and ended[1] != ended[2] and failure:
-                label = f"must-fail {self.crate.name}/{os.path.basename(self.edits[number])}"
-                return self.kit.REFUSED, f"{label}: refused, as it must be: {failure[:160]}"
-        return self.kit.must_fail(self.crate, self.edits[number], ["--jobs", "1"])
+        failure = self.failures.get(number)
+        for paths in (self.functions[number], self.modules[number]):
+            if paths and not failure:
+                failure = self.fails_alone(number, paths)
+        if not failure:
+            return self.kit.must_fail(self.crate, self.edits[number], ["--jobs", "1"])
+        label = f"must-fail {self.crate.name}/{os.path.basename(self.edits[number])}"
+        return self.kit.REFUSED, f"{label}: refused, as it must be: {failure[:160]}"
 
 
-def tasks_of(kit, crate, edits, proved, room):
+def tasks_of(kit, crate, edits, proved):
     """The tasks that try a crate's edits, for the kit's scheduler: what each waits for, its length, its memory, and its call."""
     tried, needs = TriedCrate(kit, crate, edits, proved), kit.OVER * kit.need(crate)
     tasks, first, length = {}, [], crate.count(rb"\n")
     if len(edits) > 1:
-        first = [(crate.name, "seed")]
-        tasks[first[0]] = ([], length, needs, lambda given, jobs: tried.prove(f"{room}/{crate.name}"))
+        first = [(crate.name, "together")]
+        tasks[first[0]] = ([], length, needs, lambda given, jobs: tried.try_together())
     for number in range(len(edits)):
         tasks[crate.name, "edits", number] = (first, length, needs, lambda given, jobs, number=number: tried.try_edit(number))
     return tasks
@@ -144,13 +184,12 @@ def try_all(top, log):
     kit.rtlib.guarded()
     kit.Crate.allowed = kit.handles_of(top)
     proved = proved_functions(log)
-    with tempfile.TemporaryDirectory(prefix="taskboard-edits-") as room:
-        for crate in kit.crates_of(top):
-            edits, strange = kit.edits_of(crate)
-            told += [(kit.BAD, f"must-fail {crate.name}: {it} is no edit") for it in strange]
-            own = [it for it in proved if it.startswith(f"{crate.name}::")] or built_functions(crate)
-            tasks |= tasks_of(kit, crate, edits, own, room)
-        told += [it for it in kit.in_lanes(tasks).values() if it]
+    for crate in kit.crates_of(top):
+        edits, strange = kit.edits_of(crate)
+        told += [(kit.BAD, f"must-fail {crate.name}: {it} is no edit") for it in strange]
+        own = [it for it in proved if it.startswith(f"{crate.name}::")] or built_functions(crate)
+        tasks |= tasks_of(kit, crate, edits, own)
+    told += [it for it in kit.in_lanes(tasks).values() if it]
     failed = sum(kind not in (kit.REFUSED, kit.AT_LIMIT) for kind, _ in told)
     return [text for _, text in told], failed
 
