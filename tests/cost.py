@@ -15,6 +15,8 @@ WHO = ["ann", "ann-key-1"]
 # Each figure is the median over so many calls.
 CALLS = 200
 FEW, MANY = 10, 9700
+# Recurring tasks on a board, none of which wants an instance.
+TEMPLATES = 50
 LINKED, TARGETS = 200, 1000
 BOARDS, TASKS, REPLIES = 30, 9000, 30000
 
@@ -61,12 +63,20 @@ def on_tasks(what, body, first=1):
     return [(f"/boards/1/tasks/{uuid_of(first + number)}/{what}", body(number)) for number in range(CALLS)]
 
 
-def times_on(tasks):
-    """The medians of an add, a modification and a done on a board that has so many tasks."""
+def add_templates(calls, templates):
+    """Adds recurring tasks that are due tomorrow, so that each has its first instance and wants no other."""
+    due = time.strftime("%Y%m%dT%H%M%SZ", time.gmtime(time.time() + 86400))
+    for number in range(templates):
+        calls.call("/boards/1/tasks", json.dumps({"description": f"Chore {number}", "due": due, "recur": "daily"}).encode())
+
+
+def times_on(tasks, templates=0):
+    """The medians of an add, a modification and a done on a board that has so many tasks beside recurring ones."""
     make_file(PROGRAM)
     with Server(PROGRAM, PORT, errors=subprocess.DEVNULL) as server:
         calls = Calls(server)
         import_tasks(calls, 1, range(1, tasks + 1))
+        add_templates(calls, templates)
         times = {"add": calls.median(adding())}
         one = lambda number: f"/boards/1/tasks/{uuid_of(1 + number % tasks)}"
         edit = lambda number: (f"{one(number)}/modify", json.dumps({"description": f"Changed {number}"}).encode())
@@ -201,6 +211,8 @@ def main():
     few, many = times_on(FEW), times_on(MANY)
     for name, took in many.items():
         tell(f"{name} at {MANY:,} to 9,900 tasks", f"{milliseconds(took)}, at {FEW} tasks {milliseconds(few[name])}, {took / few[name]:.2f} times")
+    for name, took in times_on(MANY - 2 * TEMPLATES, TEMPLATES).items():
+        tell(f"{name} at as many tasks, {TEMPLATES} of them recurring", f"{milliseconds(took)}, {took / few[name]:.2f} times")
     tell("depend at 9,600 tasks", milliseconds(depending_time()))
     linked = linked_times()
     tell(f"add on a board with {LINKED * TARGETS:,} links", f"{milliseconds(linked)}, {linked / few['add']:.2f} times that of {FEW} tasks")
