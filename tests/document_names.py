@@ -7,6 +7,8 @@ import sys
 TOP = pathlib.Path(__file__).resolve().parent.parent
 DOCUMENTS = [TOP / "README.md", *sorted((TOP / "docs").glob("*.md"))]
 ENDINGS = r"\.(?:md|sh|py|rt|antt|txt|json|gz|case|wire|script|answers|html)"
+# An example goes by its name alone, whatever crate it is told of.
+EXAMPLES = (".script", ".answers", ".wire", ".case")
 # What the program and the provers make, so that a clone needn't have it.
 MADE = re.compile(r"(out/.*|.*\.db(-wal)?)")
 PLACEHOLDER = re.compile(r"NAME|FILE|MINUTES")
@@ -43,6 +45,8 @@ def is_there(word, crates):
     pattern = PLACEHOLDER.sub("*", word)
     if any(next((TOP / folder).glob(pattern), None) for folder in FOLDERS):
         return True
+    if "/" not in word and word.endswith(EXAMPLES):
+        crates = ("scenario_tests", "value_tests")
     inside = [f"crates/{crate}/" for crate in crates] or ["crates/"]
     if "*" in pattern:
         return True
