@@ -56,6 +56,9 @@ expect "add" "$added" "$(add)"
 expect "the same add again" "$added" "$(add)"
 "$program" init other.db ann ann-key-1
 ends 1 "taskboard: NoListen" serve other.db --port "$port"
+# The file that is served is the server's alone.
+ends 1 "taskboard: Store" list b.db ann ann-key-1 1
+ends 1 "taskboard: Store" serve b.db --port "$port"
 expect "list" "$listed" "$(send GET /boards/1/list '')"
 
 status=0
@@ -65,6 +68,35 @@ expect "status of serve after its connections" 0 "$status"
 ends 0 "$listed" list b.db ann ann-key-1 1
 ends 1 '{"name":"UnknownCaller","refused":1}' list b.db ann ann-key-2 1
 ends 1 '{"name":"NoBoard","refused":3}' todo b.db ann ann-key-1 2
+
+# A line for each message, without its key: moment, name, method, path, status, bytes of the answer, milliseconds.
+timeout 120 "$program" serve other.db --port "$port" --connections 3 --log 2>log &
+server=$!
+send GET /boards/1/list '' >/dev/null
+python3 "$top/tests/send.py" "$port" GET /boards/1/list '' x-member:ann x-key:ann-key-2 >/dev/null
+python3 "$top/tests/send.py" "$port" GET '/no"\x01' '' >/dev/null
+wait "$server"
+server=
+logged='MOMENT ann GET /boards/1/list 200 BYTES MS
+MOMENT ann GET /boards/1/list 401 BYTES MS
+MOMENT - GET /no"\x5cx01 404 BYTES MS'
+expect "the log" "$logged" "$(sed -n 's/^[0-9]\{8\}T[0-9]\{6\}Z \(.*\) [0-9][0-9]* [0-9][0-9]*$/MOMENT \1 BYTES MS/p' log)"
+
+# A folder is a page where it has an index.html, and at most 64 files.
+mkdir page
+ends 1 "taskboard: NoPage" serve other.db --port "$port" --page nowhere
+ends 1 "taskboard: NoPage" serve other.db --port "$port" --page page
+for number in $(seq 64); do
+    echo "// $number" >"page/$number.js"
+done
+echo '<p>Hi</p>' >page/index.html
+ends 1 "taskboard: NoPage" serve other.db --port "$port" --page page
+rm page/64.js
+timeout 120 "$program" serve other.db --port "$port" --connections 1 --page page 2>/dev/null &
+server=$!
+expect "a page of 64 files" '<p>Hi</p>' "$(send GET / '')"
+wait "$server"
+server=
 
 # Imports a text, which `ends` passes on.
 import() {

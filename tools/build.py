@@ -32,12 +32,13 @@ def is_built(wanted):
         return False
 
 
-def copy_crates(room, names):
-    """Copies these crates without their must-fail edits, and a crates.txt of these alone. An empty `.git` says that this is the top of a repository."""
+def copy_crates(room, names, left_out=("out", "must-fail")):
+    """Copies these crates without what they made and, as a rule, their must-fail edits, and a crates.txt of these alone. An empty `.git` says that this is the top
+    of a repository."""
     os.mkdir(f"{room}/.git")
     shutil.copy(f"{TOP}/HANDLES", room)
     for name in names:
-        shutil.copytree(f"{TOP}/crates/{name}", f"{room}/crates/{name}", ignore=shutil.ignore_patterns("out", "must-fail"))
+        shutil.copytree(f"{TOP}/crates/{name}", f"{room}/crates/{name}", ignore=shutil.ignore_patterns(*left_out))
     with open(f"{TOP}/crates.txt") as whole, open(f"{room}/crates.txt", "w") as cut:
         cut.writelines(line for line in whole if re.split(r"[\s:]", line, maxsplit=1)[0] in names)
 

@@ -1,12 +1,12 @@
 #!/usr/bin/env python3
 """Proves and tests all crates by `rt ci`, from nothing, compares the program that it built with the one in `dist/`, and tries every must-fail edit.
 
-It does so in a copy in a temporary folder (where TMPDIR says), without the edits: `wrong_bodies.py` tries these behind the proofs. `out/times.txt` has the
-processor minutes of each crate, the longest first; `out/gate.log` all that `rt ci` said, and `out/edits.log` what each edit came to."""
+It does so in a copy in a temporary folder (where TMPDIR says), without the edits: `wrong_bodies.py` tries those of each crate once it is proved, beside the proofs
+of the others. Where the kit at hand has other functions than that calls, the copy has the edits, and `rt ci` tries them. `out/times.txt` has the processor minutes of
+each crate, the longest first; `out/gate.log` all that `rt ci` said, and `out/edits.log` what each edit came to."""
 import gzip
 import os
 import re
-import shutil
 import subprocess
 import sys
 import tempfile
@@ -14,9 +14,10 @@ import time
 
 import build
 import proving
+import wrong_bodies
 
 TOP = build.TOP
-TOOL = os.path.join(os.path.dirname(os.path.abspath(__file__)), "wrong_bodies.py")
+LOG = f"{TOP}/out/gate.log"
 
 
 def manifest():
@@ -46,9 +47,9 @@ def is_as_shipped(wanted, program):
     return is_same
 
 
-def prove(room, wanted):
-    """Proves the crates of the folder. Returns whether all is well, and the processor seconds that it took."""
-    status, lines, sums = proving.prove(room, f"{TOP}/out/gate.log")
+def prove(room, wanted, heard):
+    """Proves the crates of the folder; each is heard once it is proved. Returns whether all is well, and the processor seconds that it took."""
+    status, lines, sums = proving.prove(room, LOG, heard)
     for line in proving.failures(lines):
         print(line)
     is_well, program = status == 0, f"{room}/crates/taskboard/out/taskboard"
@@ -60,29 +61,58 @@ def prove(room, wanted):
     return is_well, sums
 
 
-def try_edits(room):
-    """Tries the must-fail edits of the crates that are proved in the folder. Returns whether each is refused, and the processor seconds that it took."""
-    for name in proving.crates_of(TOP):
-        if os.path.isdir(f"{TOP}/crates/{name}/must-fail"):
-            shutil.copytree(f"{TOP}/crates/{name}/must-fail", f"{room}/crates/{name}/must-fail")
-    words = [sys.executable, TOOL, room, f"{TOP}/out/gate.log"]
-    status, lines, sums = proving.run(words, TOP, f"{TOP}/out/edits.log", lambda line: None)
-    for line in lines:
-        if not re.fullmatch(r"must-fail \S+: refused, as it must be.*", line):
-            print(line)
-    return status == 0, sums
+class Edits:
+    """The must-fail edits, which are tried while crates are proved in the folder."""
+
+    def __init__(self, room):
+        words = [sys.executable, wrong_bodies.__file__, TOP, room, LOG]
+        reads, names = os.pipe()
+        self.names = os.fdopen(names, "w", buffering=1)
+        self.command = proving.Command(words, TOP, f"{TOP}/out/edits.log", lambda line: None, reads)
+        os.close(reads)
+
+    def begin(self, name):
+        """Lets the edits of a crate be tried, which is proved."""
+        try:
+            print(name, file=self.names)
+        except BrokenPipeError:
+            # (what tries them has ended, and its status says why)
+            pass
+
+    def end(self):
+        """Waits for all that have begun. Returns whether each is refused, and the processor seconds that they took."""
+        self.names.close()
+        status, lines, sums = self.command.end()
+        for line in lines:
+            if not re.fullmatch(r"must-fail \S+: refused, as it must be.*", line):
+                print(line)
+        return status == 0, sums
+
+
+def prove_and_try(room, wanted):
+    """Proves the crates of the folder, and tries their edits beside. Returns whether all is well, and the processor seconds that it took."""
+    edits = Edits(room)
+    try:
+        is_well, sums = prove(room, wanted, edits.begin)
+        if not is_well:
+            return False, sums
+        is_well, of_edits = edits.end()
+        return is_well, sums | of_edits
+    finally:
+        edits.command.stop()
 
 
 def main():
     os.makedirs(f"{TOP}/out", exist_ok=True)
-    wanted, began = build.sources(), time.time()
+    wanted, began, names = build.sources(), time.time(), proving.crates_of(TOP)
     with tempfile.TemporaryDirectory(prefix="taskboard-gate-") as room:
         os.chmod(room, 0o755)
-        build.copy_crates(room, proving.crates_of(TOP))
-        is_well, sums = prove(room, wanted)
-        if is_well:
-            is_well, of_edits = try_edits(room)
-            sums |= of_edits
+        if wrong_bodies.fits():
+            build.copy_crates(room, names)
+            is_well, sums = prove_and_try(room, wanted)
+        else:
+            build.copy_crates(room, names, left_out=("out",))
+            is_well, sums = prove(room, wanted, lambda name: None)
     proving.write_times(f"{TOP}/out/times.txt", sums, began)
     with open(f"{TOP}/out/times.txt") as it:
         print(it.read(), end="")

@@ -156,41 +156,57 @@ def end_by_signals():
         signal.signal(number, lambda number, _: sys.exit(128 + number))
 
 
-def run(words, top, log, hear):
-    """Runs a command in a folder, writes what it says into a file, and lets each line be heard. Returns its status, its lines, and the processor seconds of its provers."""
-    end_by_signals()
-    child = subprocess.Popen(
-        words, cwd=top, stdin=subprocess.DEVNULL, stdout=subprocess.PIPE, stderr=subprocess.STDOUT,
-        text=True, errors="replace", start_new_session=True,
-    )
-    measured, lines = Times(child.pid), []
-    try:
+class Command:
+    """A command that runs in a folder. What it says goes into a file, each line is heard, and the processor time of its provers is measured."""
+
+    def __init__(self, words, top, log, hear, reads=subprocess.DEVNULL):
+        self.child = subprocess.Popen(
+            words, cwd=top, stdin=reads, stdout=subprocess.PIPE, stderr=subprocess.STDOUT,
+            text=True, errors="replace", start_new_session=True,
+        )
+        self.measured, self.lines = Times(self.child.pid), []
+        self.listening = threading.Thread(target=self.listen, args=(log, hear), daemon=True)
+        self.listening.start()
+
+    def listen(self, log, hear):
         with open(log, "w") as kept:
-            for line in child.stdout:
+            for line in self.child.stdout:
                 kept.write(line)
                 kept.flush()
-                lines.append(line.rstrip("\n"))
-                hear(lines[-1])
-        status = child.wait()
-    except BaseException:
-        os.killpg(child.pid, signal.SIGTERM)
-        child.wait()
-        raise
-    return status, lines, measured.by_crate()
+                self.lines.append(line.rstrip("\n"))
+                hear(self.lines[-1])
+
+    def end(self):
+        """Waits until it has ended. Returns its status, its lines, and the processor seconds of its provers."""
+        self.listening.join()
+        return self.child.wait(), self.lines, self.measured.by_crate()
+
+    def stop(self):
+        """Ends it, if it hasn't ended."""
+        if self.child.poll() is None:
+            os.killpg(self.child.pid, signal.SIGTERM)
+            self.child.wait()
 
 
-def prove(top, log):
-    """Runs `rt ci` at the top of a repository, as `run` runs a command, and tells how far it is."""
+def prove(top, log, heard=lambda name: None):
+    """Runs `rt ci` at the top of a repository, and tells how far it is. The name of each crate is heard once it is proved."""
+    end_by_signals()
     progress = Progress(top)
 
     def hear(line):
         proved = re.fullmatch(r"rt: (\w+) proved", line)
         if proved:
             progress.tell(proved[1])
+            heard(proved[1])
         elif re.fullmatch(r"rt: .* NOT PROVED.*", line):
             print(line, file=sys.stderr, flush=True)
 
-    return run(["rt", "ci"], top, log, hear)
+    command = Command(["rt", "ci"], top, log, hear)
+    try:
+        return command.end()
+    except BaseException:
+        command.stop()
+        raise
 
 
 def write_times(file, sums, began):

@@ -1,21 +1,37 @@
 #!/usr/bin/env python3
-"""Tries the must-fail edits of crates that `rt ci` has proved in a folder: none may leave what it changes provable.
+"""Tries must-fail edits of crates that `rt ci` proves in a folder: none may leave what it changes provable.
 
-`rt ci` and `rt must-fail` prove a whole crate with each edit, and begin by proving it once more without. An edit is refused as soon as one function that it changes
-isn't proved, so this checks those alone (`rattle check --only`), over the statements that `rt ci` left of the libraries below. A function is proved over the
-contracts of what it calls, never over their bodies: so edits of a crate that change different functions are tried at once, each by what is told of its own. Where
-that tells nothing the edit is tried alone, and where what it changes is still proved the whole crate is tried, as `rt must-fail` does it. Edits are read, applied
-and judged by the kit's own functions, which are taken from its command `rt`."""
+    wrong_bodies.py TOP ROOM LOG
+
+TOP has the edits, ROOM is the folder of the proofs, and LOG what `rt ci` says. Standard input has the name of each crate once it is proved, a line each, and ends
+with the proofs: until then edits are tried beside them, with what processors and memory they leave, and from then on with all.
+
+`rt ci` and `rt must-fail` prove a whole crate for its edits. An edit is refused as soon as one function that it changes isn't proved, so this checks those alone
+(`rattle check --only`), over the statements that `rt ci` left of the libraries below. A function is proved over the contracts of what it calls, never over their
+bodies: so edits of a crate that change different functions are tried at once, each by what is told of its own. Where that tells nothing the edit is tried alone,
+and where what it changes is still proved the whole crate is tried, as `rt must-fail` does it. Edits are read, applied and judged by the kit's own functions, which
+are taken from its command `rt`; of a kit whose functions have other forms `fits` says so, and then `rt ci` has to try the edits."""
 import importlib.machinery
 import importlib.util
+import inspect
 import json
 import os
 import re
 import shutil
 import sys
 import tempfile
+import threading
+import types
 
 FUNCTION = re.compile(r"\s*(?:pub(?:\(crate\))? )?(?:const )?fn (\w+)")
+
+# How many edits are tried at once while the proofs go on, and how many bytes have to be free for one more, then and behind them.
+BESIDE = 2
+FREE_BESIDE = 9_000_000_000
+FREE_BEHIND = 4_000_000_000
+
+# The kit's functions that are called here, with a value for each of their parameters.
+CALLED = {"read_edit": 2, "unread": 2, "checked": 4, "must_fail": 3, "edits_of": 1, "handles_of": 1}
 
 
 def load_kit():
@@ -25,8 +41,28 @@ def load_kit():
     words, sys.argv = sys.argv, ["rt"]
     loader.exec_module(kit)
     sys.argv = words
-    kit.rtlib.Crate.cuts_libraries = True
+    kit.rtlib.Crate = kit.Crate
+    kit.Crate.cuts_libraries = True
     return kit
+
+
+def fits():
+    """Whether the kit at hand has the functions that are called here, in these forms."""
+    try:
+        kit = load_kit()
+        for name, count in CALLED.items():
+            inspect.signature(getattr(kit, name)).bind(*[None] * count)
+        inspect.signature(kit.rtlib.crates_below).bind(None)
+        inspect.signature(kit.rtlib.guarded).bind()
+        return True
+    except Exception:
+        return False
+
+
+def is_refused(kit, kind):
+    """Whether the kit's word for what a try came to means that the edit was refused. Some kits say True, others a word of theirs."""
+    words = [getattr(kit, it) for it in ("REFUSED", "AT_LIMIT") if hasattr(kit, it)]
+    return kind in (words or [True])
 
 
 def module_of(path):
@@ -138,27 +174,16 @@ class TriedCrate:
         return None
 
     def try_edit(self, number):
-        """What a try of an edit comes to, and what to say of it, by the kit's words."""
+        """Whether an edit is refused, and what to say of it, by the kit's words."""
         failure = self.failures.get(number)
         for paths in (self.functions[number], self.modules[number]):
             if paths and not failure:
                 failure = self.fails_alone(number, paths)
         if not failure:
-            return self.kit.must_fail(self.crate, self.edits[number], ["--jobs", "1"])
+            kind, text = self.kit.must_fail(self.crate, self.edits[number], ["--jobs", "1"])
+            return is_refused(self.kit, kind), text
         label = f"must-fail {self.crate.name}/{os.path.basename(self.edits[number])}"
-        return self.kit.REFUSED, f"{label}: refused, as it must be: {failure[:160]}"
-
-
-def tasks_of(kit, crate, edits, proved):
-    """The tasks that try a crate's edits, for the kit's scheduler: what each waits for, its length, its memory, and its call."""
-    tried, needs = TriedCrate(kit, crate, edits, proved), kit.OVER * kit.need(crate)
-    tasks, first, length = {}, [], crate.count(rb"\n")
-    if len(edits) > 1:
-        first = [(crate.name, "together")]
-        tasks[first[0]] = ([], length, needs, lambda given, jobs: tried.try_together())
-    for number in range(len(edits)):
-        tasks[crate.name, "edits", number] = (first, length, needs, lambda given, jobs, number=number: tried.try_edit(number))
-    return tasks
+        return True, f"{label}: refused, as it must be: {failure[:160]}"
 
 
 def proved_functions(log):
@@ -176,29 +201,107 @@ def built_functions(crate):
         return []
 
 
-def try_all(top, log):
-    """Tries the edits of all crates of a folder. Returns what to say of each, and how many of them weren't refused."""
-    os.chdir(top)
-    kit, told, tasks = load_kit(), [], {}
-    # (its first call sets the handler of a signal, which only the main thread may)
-    kit.rtlib.guarded()
-    kit.Crate.allowed = kit.handles_of(top)
-    proved = proved_functions(log)
-    for crate in kit.crates_of(top):
-        edits, strange = kit.edits_of(crate)
-        told += [(kit.BAD, f"must-fail {crate.name}: {it} is no edit") for it in strange]
-        own = [it for it in proved if it.startswith(f"{crate.name}::")] or built_functions(crate)
-        tasks |= tasks_of(kit, crate, edits, own)
-    told += [it for it in kit.in_lanes(tasks).values() if it]
-    failed = sum(kind not in (kit.REFUSED, kit.AT_LIMIT) for kind, _ in told)
-    return [text for _, text in told], failed
+def free_memory():
+    with open("/proc/meminfo") as it:
+        return 1024 * int(re.search(r"(?m)^MemAvailable:\s+(\d+)", it.read())[1])
+
+
+class Lanes:
+    """Runs calls side by side: few of them while the proofs go on, then one a processor, as many as memory holds."""
+
+    def __init__(self):
+        self.waiting, self.running, self.is_beside, self.faults = [], 0, True, []
+        self.changed = threading.Condition()
+        self.most = len(os.sched_getaffinity(0))
+        self.threads = [threading.Thread(target=self.work, daemon=True) for _ in range(self.most)]
+        for it in self.threads:
+            it.start()
+
+    def put(self, calls):
+        with self.changed:
+            self.waiting += calls
+            self.changed.notify_all()
+
+    def may_begin(self):
+        most, wanted = (BESIDE, FREE_BESIDE) if self.is_beside else (self.most, FREE_BEHIND)
+        has_room = free_memory() >= wanted or not self.is_beside and self.running == 0
+        return bool(self.waiting) and self.running < most and has_room
+
+    def is_over(self):
+        return not self.is_beside and not self.waiting and self.running == 0
+
+    def work(self):
+        while True:
+            with self.changed:
+                while not self.may_begin():
+                    if self.is_over():
+                        return
+                    self.changed.wait(2)
+                call = self.waiting.pop(0)
+                self.running += 1
+            try:
+                call()
+            except BaseException as fault:
+                self.faults.append(fault)
+            with self.changed:
+                self.running -= 1
+                self.changed.notify_all()
+
+    def end(self):
+        """Has all processors work, and waits until nothing is left."""
+        with self.changed:
+            self.is_beside = False
+            self.changed.notify_all()
+        for it in self.threads:
+            it.join()
+        if self.faults:
+            raise self.faults[0]
+
+
+class Trial:
+    """The edits of all crates, and what each came to."""
+
+    def __init__(self, top, room, log):
+        self.top, self.log, self.told, self.lanes = top, log, [], Lanes()
+        self.kit = load_kit()
+        # (its first call sets the handler of a signal, which only the main thread may)
+        self.kit.rtlib.guarded()
+        self.kit.Crate.allowed = self.kit.handles_of(room)
+        self.crates = {it.name: it for it in self.kit.rtlib.crates_below(room)}
+
+    def tell(self, is_good, text):
+        self.told.append(is_good)
+        print(text, flush=True)
+
+    def begin(self, name):
+        """Lets a crate's edits be tried: first those that can be tried at once, then what that left."""
+        crate = self.crates[name]
+        edits, strange = self.kit.edits_of(types.SimpleNamespace(folder=f"{self.top}/crates/{name}"))
+        for it in strange:
+            self.tell(False, f"must-fail {name}: {it} is no edit")
+        if edits:
+            own = [it for it in proved_functions(self.log) if it.startswith(f"{name}::")] or built_functions(crate)
+            tried = TriedCrate(self.kit, crate, edits, own)
+            self.lanes.put([lambda: self.try_crate(tried)])
+
+    def try_crate(self, tried):
+        tried.try_together()
+        self.lanes.put([lambda number=number: self.tell(*tried.try_edit(number)) for number in range(len(tried.edits))])
+
+    def end(self):
+        self.lanes.end()
+        return sum(self.told), len(self.told) - sum(self.told)
 
 
 def main():
-    top, log = sys.argv[1:3]
-    lines, failed = try_all(os.path.abspath(top), os.path.abspath(log))
-    print("\n".join(lines))
-    print(f"{len(lines) - failed} edits refused, {failed} not")
+    os.nice(19)
+    top, room, log = (os.path.abspath(it) for it in sys.argv[1:4])
+    os.chdir(room)
+    trial = Trial(top, room, log)
+    for line in sys.stdin:
+        trial.begin(line.strip())
+    refused, failed = trial.end()
+    print(f"{refused} edits refused, {failed} not")
     sys.exit(1 if failed else 0)
 
 
