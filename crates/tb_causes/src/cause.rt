@@ -43,7 +43,7 @@ const NO_KEY: &str =
 const NO_LISTEN: &str = "The port can't be listened on.";
 
 const NO_PAGE: &str =
-    "The folder of --page can't be read: write its name right, or let this user read it and its files.";
+    "The folder of --page can't be read, has no index.html, or has more than 64 files or 4 MiB of a page: write its name right, or let this user read it and its files.";
 
 const NOT_EMPTY: &str =
     "The file has tables already, and is as it was: give a name that no file has.";
