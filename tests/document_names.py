@@ -10,7 +10,7 @@ ENDINGS = r"\.(?:md|sh|py|rt|antt|txt|json|gz|case|wire|script|answers|html)"
 # An example goes by its name alone, whatever crate it is told of.
 EXAMPLES = (".script", ".answers", ".wire", ".case")
 # What the program and the provers make, so that a clone needn't have it.
-MADE = re.compile(r"(out/.*|.*\.db(-wal)?)")
+MADE = re.compile(r"((crates/\w+/)?out/.*|.*\.db(-wal)?)")
 PLACEHOLDER = re.compile(r"NAME|FILE|MINUTES")
 FOLDERS = ("", "crates", "docs", "tests", "tools", "contrib")
 faults = []

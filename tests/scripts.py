@@ -1,4 +1,4 @@
-"""Answers each worked script by `taskboard run`, and compares with the answers that stand beside it: scripts.py PROGRAM"""
+"""Answers each worked script by `taskboard run`, and compares with the answers that stand beside it: scripts.py PROGRAM [NAME ..]"""
 import pathlib
 import subprocess
 import sys
@@ -20,7 +20,7 @@ def is_answered(script):
     return False
 
 
-scripts = sorted(folder.glob("*.script"))
+scripts = sorted(it for it in folder.glob("*.script") if it.stem in sys.argv[2:] or not sys.argv[2:])
 answered = [is_answered(script) for script in scripts]
 if not scripts or not all(answered):
     sys.exit(1)

@@ -1,4 +1,4 @@
-"""Plays the connections of the wire examples against a real server, and compares the bytes that it answers: wire.py PROGRAM
+"""Plays the connections of the wire examples against a real server, and compares the bytes that it answers: wire.py PROGRAM [NAME ..]
 
 What a real socket and clock can't be told to do is left out: scenes with moments of their own, readers that fail, writers that fail at
 each byte or stall, and connections at once in every order. A writer that fails behind some bytes is a client that goes away behind them.
@@ -92,6 +92,8 @@ def bytes_behind_are_dropped():
 
 played, left = [], 0
 for path in files_of_scenes():
+    if sys.argv[2:] and path.stem not in sys.argv[2:]:
+        continue
     scenes = scenes_of(path)
     left += not scenes
     played += [is_played(path.stem, scene) for scene in scenes]
