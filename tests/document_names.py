@@ -1,4 +1,4 @@
-"""Looks up what the documents name: files, links, crates, contracts, examples and numbers. Prints each that isn't there: python3 document_names.py"""
+"""Looks up what the documents name: files, links, crates, contracts, examples, numbers and the kit. Prints each that isn't there: python3 document_names.py"""
 import collections
 import pathlib
 import re
@@ -170,6 +170,15 @@ def check_numbers():
                     tell(path, number, f"{told} {what}: there are {numbers[what]}")
 
 
+def check_kit():
+    """The README, `--version` and the manifest of dist/ name one kit."""
+    shown = re.search(r"(?m)^    (rattle-kit-.*)$", (TOP / "README.md").read_text())
+    version = re.search(r"(?m)^proved with (.*)$", (TOP / "crates/taskboard/src/main.rt").read_text())
+    manifest = re.search(r"(?m)^kit (.*)$", (TOP / "dist/manifest").read_text())
+    if len({it and it[1] for it in (shown, version, manifest)}) != 1:
+        faults.append("README.md, --version and dist/manifest name different kits")
+
+
 FILES = every_file()
 CRATES = {path.name for path in (TOP / "crates").iterdir() if (path / "src").is_dir()}
 BELOW = {line.partition(":")[0]: line.partition(":")[2].split() for line in (TOP / "crates.txt").read_text().split("\n") if ":" in line}
@@ -181,5 +190,6 @@ check_crates()
 check_examples()
 check_tests()
 check_numbers()
+check_kit()
 print("\n".join(faults) or f"what {len(DOCUMENTS)} documents name is there")
 sys.exit(bool(faults))
