@@ -86,7 +86,7 @@ def declared(crate):
         names.add(path.stem)
         names |= set(re.findall(r"\b(?:fn|struct|enum|trait|type|const|mod|ensures|requires) +(\w+)", path.read_text()))
     for path in (TOP / "crates" / crate / "specs").rglob("*.antt"):
-        names |= set(re.findall(r"\bpub (\w+) :", path.read_text()))
+        names |= set(re.findall(r"\bpub (?:record )?(\w+) [:({]", path.read_text()))
     return names
 
 
