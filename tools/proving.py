@@ -164,7 +164,7 @@ class Command:
             words, cwd=top, stdin=reads, stdout=subprocess.PIPE, stderr=subprocess.STDOUT,
             text=True, errors="replace", start_new_session=True,
         )
-        self.measured, self.lines = Times(self.child.pid), []
+        self.measured, self.lines, self.fault = Times(self.child.pid), [], None
         self.listening = threading.Thread(target=self.listen, args=(log, hear), daemon=True)
         self.listening.start()
 
@@ -174,11 +174,20 @@ class Command:
                 kept.write(line)
                 kept.flush()
                 self.lines.append(line.rstrip("\n"))
-                hear(self.lines[-1])
+                self.let_hear(hear)
+
+    def let_hear(self, hear):
+        """Lets the last line be heard. A fault is raised in the end, since the command would wait for ever where nobody reads on."""
+        try:
+            hear(self.lines[-1])
+        except Exception as fault:
+            self.fault = self.fault or fault
 
     def end(self):
         """Waits until it has ended. Returns its status, its lines, and the processor seconds of its provers."""
         self.listening.join()
+        if self.fault:
+            raise self.fault
         return self.child.wait(), self.lines, self.measured.by_crate()
 
     def stop(self):
