@@ -293,8 +293,19 @@ class Trial:
         return sum(self.told), len(self.told) - sum(self.told)
 
 
-def main():
+def give_way():
+    """Has this program, and all that it starts, take what processors others leave: by itself, and as a group of the scheduler where a session is one."""
     os.nice(19)
+    try:
+        with open("/proc/self/autogroup", "w") as it:
+            it.write("19")
+    except OSError:
+        # (the system has no such groups)
+        pass
+
+
+def main():
+    give_way()
     top, room, log = (os.path.abspath(it) for it in sys.argv[1:4])
     os.chdir(room)
     trial = Trial(top, room, log)
