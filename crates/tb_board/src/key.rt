@@ -1,4 +1,4 @@
-ghost use Rattle.std.specs.Prelude.{◌≡◌, ◌&&◌, nat_le, length, IfOk};
+ghost use Rattle.std.specs.Prelude.{◌≡◌, ◌&&◌, nat_le, length, true, IfOk};
 ghost use Rattle.std.specs.List.{list_all};
 ghost use Rattle.tb_board.specs.Names.{is_key, is_key_byte, read_key};
 
@@ -32,7 +32,7 @@ impl Key {
     pub fn read(alloc: Global, text: &str) -> Result<Option<Key>, AllocError>
         ensures { IfOk result (λ key. key ≡ read_key text.now) }
     {
-        if !has_form(text.as_bytes()) {
+        if !is_key(text.as_bytes()) {
             return Ok(None);
         }
         let text = Text::from_str(alloc, text)?;
@@ -44,10 +44,17 @@ impl Key {
     {
         self.text.as_str()
     }
+
+    /// Does nothing: its contract is that the bytes have the form of a key.
+    pub fn has_form(&self)
+        ensures { is_key self.now ≡ true }
+    {
+        let _text = self.text.as_str();
+    }
 }
 
 #[tactic(auto, unfolding(crate::specs::Names::is_key))]
-fn has_form(bytes: &[u8]) -> bool
+fn is_key(bytes: &[u8]) -> bool
     ensures { result ≡ is_key bytes.now }
 {
     bytes.len() >= SHORTEST && bytes.len() <= LONGEST && has_key_bytes(bytes)

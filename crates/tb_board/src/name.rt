@@ -1,4 +1,4 @@
-ghost use Rattle.std.specs.Prelude.{◌≡◌, ◌&&◌, nat_le, length, IfOk};
+ghost use Rattle.std.specs.Prelude.{◌≡◌, ◌&&◌, nat_le, length, true, IfOk};
 ghost use Rattle.std.specs.List.{list_all};
 ghost use Rattle.tb_board.specs.Names.{is_name, is_name_byte, read_name};
 
@@ -30,7 +30,7 @@ impl Name {
     pub fn read(alloc: Global, text: &str) -> Result<Option<Name>, AllocError>
         ensures { IfOk result (λ name. name ≡ read_name text.now) }
     {
-        if !has_form(text.as_bytes()) {
+        if !is_name(text.as_bytes()) {
             return Ok(None);
         }
         let text = Text::from_str(alloc, text)?;
@@ -42,10 +42,17 @@ impl Name {
     {
         self.text.as_str()
     }
+
+    /// Does nothing: its contract is that the bytes have the form of a name.
+    pub fn has_form(&self)
+        ensures { is_name self.now ≡ true }
+    {
+        let _text = self.text.as_str();
+    }
 }
 
 #[tactic(auto, unfolding(crate::specs::Names::is_name))]
-fn has_form(bytes: &[u8]) -> bool
+fn is_name(bytes: &[u8]) -> bool
     ensures { result ≡ is_name bytes.now }
 {
     !bytes.is_empty() && bytes.len() <= LONGEST && has_name_bytes(bytes)

@@ -21,13 +21,14 @@ use Rattle.tb_sweep.proofs.Settled.{adds_last, sweep_ends, sweep_fits, wake_swep
 use Rattle.tb_core.specs.declared.command.Answer.{Answer}
 use Rattle.tb_core.specs.declared.command.Answer.TheVariants.{OnBoard, NewPerson, NewBoard}
 use Rattle.tb_core.specs.declared.command.BoardAnswer.{BoardAnswer}
-use Rattle.tb_core.specs.declared.command.Command.TheVariants.{ImportTodo}
+use Rattle.tb_core.specs.declared.command.BoardCommand.TheVariants.{Import}
+use Rattle.tb_core.specs.declared.command.Import.TheVariants.{Todo}
 use Rattle.tb_core.specs.declared.command.AnswerDetail.{AnswerDetail}
 use Rattle.tb_core.specs.declared.command.AnswerDetail.TheVariants.{TodoImported}
 use Rattle.tb_core.specs.declared.refusal.Refusal.{Refusal}
 use Rattle.tb_core.specs.declared.refusal.Refusal.TheVariants.{Full}
 use Rattle.tb_core.specs.Apply.{answered, applied, apply, board_answer, board_for, decided, if_allowed, outcome, seen_with}
-use Rattle.tb_core.specs.ImportAgain.{known_answer, ImportTodoAgain}
+use Rattle.tb_core.specs.ImportAgain.{known_answer, todo_import, ImportTodoAgain}
 use Rattle.tb_core.specs.ImportTodo.{first_bad, imported, judged_import_todo, new_beside, new_tasks}
 use Rattle.tb_core.specs.Refusals.{least, unless_refused, where_holds}
 
@@ -92,17 +93,17 @@ abbrev answer_in : BoardAnswer → Result (Board × BoardAnswer) Refusal → Boa
 answer_in a (Ok r) = r.1
 answer_in a (Err refusal) = a
 
-record IsTaken (o : Option Refusal) (full : Bool) (v : Board) (told : AnswerDetail) (m : ℕ) (y : Board) (a : BoardAnswer) : Type 0 where
+record IsTaken (o : Option Refusal) (full : Bool) (v : Board) (detail : AnswerDetail) (m : ℕ) (y : Board) (a : BoardAnswer) : Type 0 where
   good : o ≡ None
   room : full ≡ false
   board : sweep v m ≡ y
-  answer : board_answer v m told ≡ a
+  answer : board_answer v m detail ≡ a
 
-taken : (o : Option Refusal) (full : Bool) (v : Board) (told : AnswerDetail) (m : ℕ) (y : Board) (a : BoardAnswer)
-    → answered m (unless_refused (least (o ∷ where_holds Full full ∷ [])) v told) ≡ Ok (y, a) → IsTaken o full v told m y a
-taken (Some r) full v told m y a h = absurd (cc)
-taken None true v told m y a h = absurd (cc)
-taken None false v told m y a h = record { good = refl; room = refl; board = ap (board_in y) h; answer = ap (answer_in a) h }
+taken : (o : Option Refusal) (full : Bool) (v : Board) (detail : AnswerDetail) (m : ℕ) (y : Board) (a : BoardAnswer)
+    → answered m (unless_refused (least (o ∷ where_holds Full full ∷ [])) v detail) ≡ Ok (y, a) → IsTaken o full v detail m y a
+taken (Some r) full v detail m y a h = absurd (cc)
+taken None true v detail m y a h = absurd (cc)
+taken None false v detail m y a h = record { good = refl; room = refl; board = ap (board_in y) h; answer = ap (answer_in a) h }
 
 accepted : (b : Board) (ts : List Task) (m : ℕ) (y : Board) (a : BoardAnswer) → answered m (judged_import_todo b ts) ≡ Ok (y, a) → IsImported b ts m y a
 accepted b ts m y a h =
@@ -130,9 +131,9 @@ answered_again y ts m same none =
     rw (same, none, added) refl
 
 -- the same import on the board that it made
-outcome_again : (x : Board) (n : ℕ) (ts : List Task) (m : ℕ) (y : Board) (a : BoardAnswer) → outcome x (ImportTodo n ts) m ≡ Ok (y, a) → a.more ≡ false
-    → outcome y (ImportTodo n ts) m ≡ Ok (y, known_answer a.board ts)
-outcome_again x n ts m y a h enough =
+outcome_again : (x : Board) (ts : List Task) (m : ℕ) (y : Board) (a : BoardAnswer) → outcome x (Import (Todo ts)) m ≡ Ok (y, a) → a.more ≡ false
+    → outcome y (Import (Todo ts)) m ≡ Ok (y, known_answer a.board ts)
+outcome_again x ts m y a h enough =
     let b = wake x m in
     let is = accepted b ts m y a h in
     let v = imported b ts in
@@ -146,8 +147,8 @@ outcome_again x n ts m y a h enough =
     ∙ answered_again y ts m same (is.more_left ∙ enough)
     ∙ ap (λ k. Ok (y, known_answer k ts)) is.number
 
-number_kept : (x : Board) (n : ℕ) (ts : List Task) (m : ℕ) (y : Board) (a : BoardAnswer) → outcome x (ImportTodo n ts) m ≡ Ok (y, a) → y.number ≡ x.number
-number_kept x n ts m y a h =
+number_kept : (x : Board) (ts : List Task) (m : ℕ) (y : Board) (a : BoardAnswer) → outcome x (Import (Todo ts)) m ≡ Ok (y, a) → y.number ≡ x.number
+number_kept x ts m y a h =
     let is = accepted (wake x m) ts m y a h in
     ap (λ (c : Board). c.number) (sym is.board) ∙ number-sweep (imported (wake x m) ts) m
 
@@ -175,26 +176,26 @@ answer_on a (Ok (NewBoard n)) = a
 answer_on a (Err refusal) = a
 
 abbrev IsKnownAgain : World → List ℕ → ℕ → List Task → ℕ → BoardAnswer → World → Type 0
-IsKnownAgain w name n ts m a later = apply later name (ImportTodo n ts) m ≡ record { world = later; answer = Ok (OnBoard (known_answer a.board ts)) }
+IsKnownAgain w name n ts m a later = apply later name (todo_import n ts) m ≡ record { world = later; answer = Ok (OnBoard (known_answer a.board ts)) }
 
 again_at : (w : World) (name : List ℕ) (n : ℕ) (ts : List Task) (m : ℕ) (a : BoardAnswer) (caller : ℕ) (role : Role) (x y : Board)
-    → number_of w name ≡ Some caller → role_of w n caller ≡ Some role → find_board w n ≡ Some x → may_change role ≡ true → outcome x (ImportTodo n ts) m ≡ Ok (y, a) → a.more ≡ false
+    → number_of w name ≡ Some caller → role_of w n caller ≡ Some role → find_board w n ≡ Some x → may_change role ≡ true → outcome x (Import (Todo ts)) m ≡ Ok (y, a) → a.more ≡ false
     → IsKnownAgain w name n ts m a (record w { boards = change_board y.number (λ _. y) w.boards })
 again_at w name n ts m a caller role x y known own found allowed gives enough =
     let later : World = record w { boards = change_board y.number (λ _. y) w.boards } in
-    let c = ImportTodo n ts in
-    let number : y.number ≡ n = number_kept x n ts m y a gives ∙ number_found n w.boards x found in
+    let c = Import (Todo ts) in
+    let number : y.number ≡ n = number_kept x ts m y a gives ∙ number_found n w.boards x found in
     let there : find_board later n ≡ Some y =
     subst (λ k. find (has_number n) (change_board k (λ _. y) w.boards) ≡ Some y) (sym number) (found_put n y w.boards x number found) in
     ap (λ k. applied later (decided k (board_for later k (Some n)) c m)) known
     ∙ ap (λ r. applied later (decided (Some caller) (seen_with r (find_board later n)) c m)) own
     ∙ ap (λ o. applied later (decided (Some caller) (seen_with (Some role) o) c m)) there
     ∙ ap (λ q. applied later (if_allowed q (outcome y c m))) allowed
-    ∙ ap (applied later) (outcome_again x n ts m y a gives enough)
+    ∙ ap (applied later) (outcome_again x ts m y a gives enough)
     ∙ ap (λ bs. record { world = record later { boards = bs }; answer = Ok (OnBoard (known_answer a.board ts)) }) (put_twice y.number y w.boards refl)
 
 again_outcome : (w : World) (name : List ℕ) (n : ℕ) (ts : List Task) (m : ℕ) (a : BoardAnswer) (caller : ℕ) (role : Role) (x : Board) (r : Result (Board × BoardAnswer) Refusal)
-    → number_of w name ≡ Some caller → role_of w n caller ≡ Some role → find_board w n ≡ Some x → may_change role ≡ true → outcome x (ImportTodo n ts) m ≡ r
+    → number_of w name ≡ Some caller → role_of w n caller ≡ Some role → find_board w n ≡ Some x → may_change role ≡ true → outcome x (Import (Todo ts)) m ≡ r
     → (applied w r).answer ≡ Ok (OnBoard a) → a.more ≡ false → IsKnownAgain w name n ts m a (applied w r).world
 again_outcome w name n ts m a caller role x (Err refusal) known own found allowed gives h enough = absurd (cc)
 again_outcome w name n ts m a caller role x (Ok r) known own found allowed gives h enough =
@@ -203,24 +204,24 @@ again_outcome w name n ts m a caller role x (Ok r) known own found allowed gives
 
 again_allowed : (w : World) (name : List ℕ) (n : ℕ) (ts : List Task) (m : ℕ) (a : BoardAnswer) (caller : ℕ) (role : Role) (x : Board) (allowed : Bool)
     → number_of w name ≡ Some caller → role_of w n caller ≡ Some role → find_board w n ≡ Some x → may_change role ≡ allowed
-    → (applied w (if_allowed allowed (outcome x (ImportTodo n ts) m))).answer ≡ Ok (OnBoard a) → a.more ≡ false
-    → IsKnownAgain w name n ts m a (applied w (if_allowed allowed (outcome x (ImportTodo n ts) m))).world
+    → (applied w (if_allowed allowed (outcome x (Import (Todo ts)) m))).answer ≡ Ok (OnBoard a) → a.more ≡ false
+    → IsKnownAgain w name n ts m a (applied w (if_allowed allowed (outcome x (Import (Todo ts)) m))).world
 again_allowed w name n ts m a caller role x true known own found allowed h enough =
-    again_outcome w name n ts m a caller role x (outcome x (ImportTodo n ts) m) known own found allowed refl h enough
+    again_outcome w name n ts m a caller role x (outcome x (Import (Todo ts)) m) known own found allowed refl h enough
 again_allowed w name n ts m a caller role x false known own found refused h enough = absurd (cc)
 
 again_seen : (w : World) (name : List ℕ) (n : ℕ) (ts : List Task) (m : ℕ) (a : BoardAnswer) (caller : ℕ) (role : Option Role) (o : Option Board)
     → number_of w name ≡ Some caller → role_of w n caller ≡ role → find_board w n ≡ o
-    → (applied w (decided (Some caller) (seen_with role o) (ImportTodo n ts) m)).answer ≡ Ok (OnBoard a) → a.more ≡ false
-    → IsKnownAgain w name n ts m a (applied w (decided (Some caller) (seen_with role o) (ImportTodo n ts) m)).world
+    → (applied w (decided (Some caller) (seen_with role o) (Import (Todo ts)) m)).answer ≡ Ok (OnBoard a) → a.more ≡ false
+    → IsKnownAgain w name n ts m a (applied w (decided (Some caller) (seen_with role o) (Import (Todo ts)) m)).world
 again_seen w name n ts m a caller None o known own found h enough = absurd (cc)
 again_seen w name n ts m a caller (Some role) None known own found h enough = absurd (cc)
 again_seen w name n ts m a caller (Some role) (Some x) known own found h enough =
     again_allowed w name n ts m a caller role x (may_change role) known own found refl h enough
 
 again_by : (w : World) (name : List ℕ) (n : ℕ) (ts : List Task) (m : ℕ) (a : BoardAnswer) (caller : Option ℕ) → number_of w name ≡ caller
-    → (applied w (decided caller (board_for w caller (Some n)) (ImportTodo n ts) m)).answer ≡ Ok (OnBoard a) → a.more ≡ false
-    → IsKnownAgain w name n ts m a (applied w (decided caller (board_for w caller (Some n)) (ImportTodo n ts) m)).world
+    → (applied w (decided caller (board_for w caller (Some n)) (Import (Todo ts)) m)).answer ≡ Ok (OnBoard a) → a.more ≡ false
+    → IsKnownAgain w name n ts m a (applied w (decided caller (board_for w caller (Some n)) (Import (Todo ts)) m)).world
 again_by w name n ts m a None known h enough = absurd (cc)
 again_by w name n ts m a (Some caller) known h enough =
     again_seen w name n ts m a caller (role_of w n caller) (find_board w n) known refl refl h enough

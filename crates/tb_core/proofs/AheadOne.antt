@@ -26,14 +26,17 @@ use Rattle.tb_core.specs.declared.command.Answer.{Answer}
 use Rattle.tb_core.specs.declared.command.Answer.TheVariants as Answers
 use Rattle.tb_core.specs.declared.command.BoardAnswer.{BoardAnswer}
 use Rattle.tb_core.specs.declared.command.Command.{Command}
-use Rattle.tb_core.specs.declared.command.Command.TheVariants.{Add, OnTask, Modify, ImportJson, ImportTodo, Sweep, SetRole, NewPerson, NewBoard, Depend, Undepend, SetAhead}
+use Rattle.tb_core.specs.declared.command.Command.TheVariants as Commands
+use Rattle.tb_core.specs.declared.command.BoardCommand.{BoardCommand}
+use Rattle.tb_core.specs.declared.command.BoardCommand.TheVariants.{Add, OnTask, Modify, Depend, Undepend, SetAhead, Sweep, Import}
+use Rattle.tb_core.specs.declared.command.Import.TheVariants.{Json, Todo}
 use Rattle.tb_core.specs.declared.command.AnswerDetail.{AnswerDetail}
 use Rattle.tb_core.specs.declared.command.AnswerDetail.TheVariants.{Swept}
 use Rattle.tb_core.specs.declared.look.Seen.{Seen}
 use Rattle.tb_core.specs.declared.refusal.Refusal.{Refusal}
 use Rattle.tb_core.specs.Action.{action_refusals}
 use Rattle.tb_core.specs.Add.{add_refusals}
-use Rattle.tb_core.specs.AheadOne.{answers_by, is_first_command, is_first_role, world_by, AheadOne, IsFirstRequest, IsFirstWorld, IsNoReader, LooksOne, Request}
+use Rattle.tb_core.specs.AheadOne.{answers_by, is_first_command, is_first_role, world_by, AheadOne, IsFirstWorld, IsNoReader, LooksOne}
 use Rattle.tb_core.specs.Allowed.{allows}
 use Rattle.tb_core.specs.Apply.{answered, applied, apply, board_answer, board_for, decided, if_allowed, judged, outcome, role_answer, role_given, role_refusals, seen_of, seen_with, with_role}
 use Rattle.tb_core.specs.AtOnce.{answer_at_once, answered_at_once, apply_at_once, decided_at_once, outcome_at_once, role_at_once}
@@ -50,9 +53,9 @@ use Rattle.tb_core.proofs.GoodWorlds.{all-changed, all-found}
 
 -- ---- how far a board looks stays
 
-looks_unless : (b c : Board) (o : Option Refusal) (told : AnswerDetail) → c.ahead ≡ b.ahead → IfOk (unless_refused o c told) (λ after. after.0.ahead ≡ b.ahead)
-looks_unless b c None told same = same
-looks_unless b c (Some refusal) told same = tt
+looks_unless : (b c : Board) (o : Option Refusal) (detail : AnswerDetail) → c.ahead ≡ b.ahead → IfOk (unless_refused o c detail) (λ after. after.0.ahead ≡ b.ahead)
+looks_unless b c None detail same = same
+looks_unless b c (Some refusal) detail same = tt
 
 looks_all : (first : Board) (new : List Incoming) (b : Board) (is : List Incoming) → (with_all first new b is).ahead ≡ b.ahead
 looks_all first new b [] = refl
@@ -63,25 +66,22 @@ looks_import : (b : Board) (is : List Incoming) (o : Option ImportRefusal)
 looks_import b is None = looks_all b (import_new.new_tasks b is) (with_masks b (import_new.new_tasks b is)) (import_new.new_tasks b is)
 looks_import b is (Some refusal) = tt
 
-looks_judged : (b : Board) (c : Command) (m : ℕ) → is_first_command c ≡ true → IfOk (judged b c m) (λ after. after.0.ahead ≡ b.ahead)
-looks_judged b (Add n i) m command = looks_unless b _ (least (add_refusals b i)) _ refl
-looks_judged b (OnTask n id a) m command = looks_unless b _ (least (action_refusals b id a)) _ refl
-looks_judged b (Modify n id es) m command = looks_unless b _ (least (modify_refusals b id es m)) _ refl
-looks_judged b (Depend n id on) m command = looks_unless b _ (least (depend_refusals b id on)) _ refl
-looks_judged b (Undepend n id on) m command = looks_unless b _ (least (undepend_refusals b id on)) _ refl
-looks_judged b (ImportJson n is) m command = looks_import b is (import.least (import.import_refusals b is))
-looks_judged b (ImportTodo n ts) m command = looks_unless b _ (least (import_todo_refusals b ts)) _ refl
-looks_judged b (Sweep n) m command = refl
-looks_judged b (SetRole n name role) m command = refl
-looks_judged b (NewPerson name key) m command = refl
-looks_judged b (NewBoard title) m command = refl
-looks_judged b (SetAhead n ahead) m command = absurd (true≢false (sym command))
+looks_judged : (b : Board) (c : BoardCommand) (m : ℕ) → leaves_ahead c ≡ true → IfOk (judged b c m) (λ after. after.0.ahead ≡ b.ahead)
+looks_judged b (Add i) m command = looks_unless b _ (least (add_refusals b i)) _ refl
+looks_judged b (OnTask id a) m command = looks_unless b _ (least (action_refusals b id a)) _ refl
+looks_judged b (Modify id es) m command = looks_unless b _ (least (modify_refusals b id es m)) _ refl
+looks_judged b (Depend id on) m command = looks_unless b _ (least (depend_refusals b id on)) _ refl
+looks_judged b (Undepend id on) m command = looks_unless b _ (least (undepend_refusals b id on)) _ refl
+looks_judged b (SetAhead ahead) m command = absurd (true≢false (sym command))
+looks_judged b Sweep m command = refl
+looks_judged b (Import (Json is)) m command = looks_import b is (import.least (import.import_refusals b is))
+looks_judged b (Import (Todo ts)) m command = looks_unless b _ (least (import_todo_refusals b ts)) _ refl
 
 one_if_same : (n : ℕ) (r : Result (Board × AnswerDetail) Refusal) → IfOk r (λ after. after.0.ahead ≡ n) → n ≡ 1 → IfOk r (λ after. LooksOne after.0)
 one_if_same n (Ok after) same one = same ∙ one
 one_if_same n (Err refusal) same one = tt
 
-one_judged : (b : Board) (c : Command) (m : ℕ) → is_first_command c ≡ true → LooksOne b → IfOk (judged (wake b m) c m) (λ after. LooksOne after.0)
+one_judged : (b : Board) (c : BoardCommand) (m : ℕ) → leaves_ahead c ≡ true → LooksOne b → IfOk (judged (wake b m) c m) (λ after. LooksOne after.0)
 one_judged b c m command one = one_if_same b.ahead (judged (wake b m) c m) (looks_judged (wake b m) c m command) one
 
 one_answered : (m : ℕ) (r : Result (Board × AnswerDetail) Refusal) → IfOk r (λ after. LooksOne after.0) → IfOk (answered m r) (λ after. LooksOne after.0)
@@ -94,11 +94,11 @@ abbrev taken : Board → BoardAnswer → Result (Board × BoardAnswer) Refusal
 taken b a = Ok (b, a)
 
 abbrev answer_with : Board → Board → Bool → AnswerDetail → BoardAnswer
-answer_with b swept more told = record { board = b.number; added = length swept.tasks - length b.tasks; more = more; told = told }
+answer_with b swept more detail = record { board = b.number; added = length swept.tasks - length b.tasks; more = more; detail = detail }
 
-answer_same : (b : Board) (m : ℕ) (told : AnswerDetail) → LooksOne b → board_answer b m told ≡ answer_at_once b m told
-answer_same b m told one =
-    ap (λ (s : Board). answer_with b s (more (sweep b m) m) told) (sweep_same b m one) ∙ ap (λ q. answer_with b (sweep_at_once b m) q told) (more_same b m one)
+answer_same : (b : Board) (m : ℕ) (detail : AnswerDetail) → LooksOne b → board_answer b m detail ≡ answer_at_once b m detail
+answer_same b m detail one =
+    ap (λ (s : Board). answer_with b s (more (sweep b m) m) detail) (sweep_same b m one) ∙ ap (λ q. answer_with b (sweep_at_once b m) q detail) (more_same b m one)
 
 answered_same : (m : ℕ) (r : Result (Board × AnswerDetail) Refusal) → IfOk r (λ after. LooksOne after.0) → answered m r ≡ answered_at_once m r
 answered_same m (Ok after) one =
@@ -106,7 +106,7 @@ answered_same m (Ok after) one =
     ∙ ap (taken (sweep_at_once after.0 m)) (answer_same after.0 m after.1 one)
 answered_same m (Err refusal) one = refl
 
-outcome_same : (b : Board) (c : Command) (m : ℕ) → is_first_command c ≡ true → LooksOne b → outcome b c m ≡ outcome_at_once b c m
+outcome_same : (b : Board) (c : BoardCommand) (m : ℕ) → leaves_ahead c ≡ true → LooksOne b → outcome b c m ≡ outcome_at_once b c m
 outcome_same b c m command one = answered_same m (judged (wake b m) c m) (one_judged b c m command one)
 
 -- ---- and so is each command, and leaves such a world
@@ -134,10 +134,10 @@ role_found test (r ∷ rs) role all h =
     ]
 
 -- the command is for whoever isn't a reader
-abbrev IsForMembers : Command → Type 0
+abbrev IsForMembers : BoardCommand → Type 0
 IsForMembers c = (role : Role) → may_change role ≡ true → allows role c ≡ true
 
-seen_same : (w : World) (caller n : ℕ) (own : Option Role) (o : Option Board) (c : Command) (m : ℕ) → IsFirstWorld w → is_first_command c ≡ true → IsForMembers c
+seen_same : (w : World) (caller n : ℕ) (own : Option Role) (o : Option Board) (c : BoardCommand) (m : ℕ) → IsFirstWorld w → leaves_ahead c ≡ true → IsForMembers c
     → role_of w n caller ≡ own → find_board w n ≡ o
     → IsSame (applied w (decided (Some caller) (seen_with own o) c m)) (applied w (decided_at_once (Some caller) (seen_with own o) c m))
 seen_same w caller n None o c m first command lets known found = record { same = refl; first = first }
@@ -152,7 +152,7 @@ seen_same w caller n (Some role) (Some x) c m first command lets known found =
           (applied_first w (outcome x c m) first (one_answered m (judged (wake x m) c m) (one_judged x c m command one)));
     }
 
-decided_same : (w : World) (caller n : Option ℕ) (c : Command) (m : ℕ) → IsFirstWorld w → is_first_command c ≡ true → IsForMembers c
+decided_same : (w : World) (caller n : Option ℕ) (c : BoardCommand) (m : ℕ) → IsFirstWorld w → leaves_ahead c ≡ true → IsForMembers c
     → IsSame (applied w (decided caller (board_for w caller n) c m)) (applied w (decided_at_once caller (board_for w caller n) c m))
 decided_same w None n c m first command lets = record { same = refl; first = first }
 decided_same w (Some caller) None c m first command lets = record { same = refl; first = first }
@@ -207,19 +207,22 @@ board_same w seen (Some caller) title first =
     given_same (least (board_refusals seen)) w later later (Answers.NewBoard number) (Answers.NewBoard number) first refl refl
     (record { boards = all_push LooksOne w.boards board first.boards refl; roles = roles_set w.roles number caller (Some Owner) first.roles refl })
 
+command_same : (w : World) (name : List ℕ) (n : ℕ) (c : BoardCommand) (m : ℕ) → IsFirstWorld w → leaves_ahead c ≡ true
+    → IsSame (apply w name (Commands.OnBoard n c) m) (apply_at_once w name (Commands.OnBoard n c) m)
+command_same w name n (Add i) m first command = decided_same w (number_of w name) (Some n) (Add i) m first command (λ role may. may)
+command_same w name n (OnTask id a) m first command = decided_same w (number_of w name) (Some n) (OnTask id a) m first command (λ role may. may)
+command_same w name n (Modify id es) m first command = decided_same w (number_of w name) (Some n) (Modify id es) m first command (λ role may. may)
+command_same w name n (Depend id on) m first command = decided_same w (number_of w name) (Some n) (Depend id on) m first command (λ role may. may)
+command_same w name n (Undepend id on) m first command = decided_same w (number_of w name) (Some n) (Undepend id on) m first command (λ role may. may)
+command_same w name n (SetAhead ahead) m first command = absurd (true≢false (sym command))
+command_same w name n Sweep m first command = decided_same w (number_of w name) (Some n) Sweep m first command (λ role may. may)
+command_same w name n (Import tasks) m first command = decided_same w (number_of w name) (Some n) (Import tasks) m first command (λ role may. may)
+
 step_same : (w : World) (name : List ℕ) (c : Command) (m : ℕ) → IsFirstWorld w → is_first_command c ≡ true → IsSame (apply w name c m) (apply_at_once w name c m)
-step_same w name (Add n i) m first command = decided_same w (number_of w name) (Some n) (Add n i) m first command (λ role may. may)
-step_same w name (OnTask n id a) m first command = decided_same w (number_of w name) (Some n) (OnTask n id a) m first command (λ role may. may)
-step_same w name (Modify n id es) m first command = decided_same w (number_of w name) (Some n) (Modify n id es) m first command (λ role may. may)
-step_same w name (Depend n id on) m first command = decided_same w (number_of w name) (Some n) (Depend n id on) m first command (λ role may. may)
-step_same w name (Undepend n id on) m first command = decided_same w (number_of w name) (Some n) (Undepend n id on) m first command (λ role may. may)
-step_same w name (ImportJson n is) m first command = decided_same w (number_of w name) (Some n) (ImportJson n is) m first command (λ role may. may)
-step_same w name (ImportTodo n ts) m first command = decided_same w (number_of w name) (Some n) (ImportTodo n ts) m first command (λ role may. may)
-step_same w name (Sweep n) m first command = decided_same w (number_of w name) (Some n) (Sweep n) m first command (λ role may. may)
-step_same w name (SetRole n other role) m first command = role_same w (seen_of w name (SetRole n other role)) (number_of w name) n role m first command
-step_same w name (NewPerson p k) m first command = person_same w (seen_of w name (NewPerson p k)) (number_of w name) p k first
-step_same w name (NewBoard title) m first command = board_same w (seen_of w name (NewBoard title)) (number_of w name) title first
-step_same w name (SetAhead n ahead) m first command = absurd (true≢false (sym command))
+step_same w name (Commands.NewPerson p k) m first command = person_same w (seen_of w name (Commands.NewPerson p k)) (number_of w name) p k first
+step_same w name (Commands.NewBoard title) m first command = board_same w (seen_of w name (Commands.NewBoard title)) (number_of w name) title first
+step_same w name (Commands.SetRole n other role) m first command = role_same w (seen_of w name (Commands.SetRole n other role)) (number_of w name) n role m first command
+step_same w name (Commands.OnBoard n c) m first command = command_same w name n c m first command
 
 pub ahead_one : AheadOne
 ahead_one w [] first all = (refl, refl)

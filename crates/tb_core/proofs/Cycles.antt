@@ -16,13 +16,13 @@ use Rattle.tb_core.specs.Linking.{closes_walk, depends_on, is_open_task, lacks_e
 use Rattle.tb_core.specs.Refusals.{least, unless_refused, where_holds}
 
 -- the last of three refusals is answered exactly where it alone holds
-last_alone : (lacks wrong closes : Bool) (b : Board) (told : AnswerDetail)
-    → (unless_refused (least (where_holds NoTask lacks ∷ where_holds WrongStatus wrong ∷ where_holds Cycle closes ∷ [])) b told ≡ Err Cycle)
+last_alone : (lacks wrong closes : Bool) (b : Board) (detail : AnswerDetail)
+    → (unless_refused (least (where_holds NoTask lacks ∷ where_holds WrongStatus wrong ∷ where_holds Cycle closes ∷ [])) b detail ≡ Err Cycle)
     ↔ ((least (where_holds NoTask lacks ∷ where_holds WrongStatus wrong ∷ None ∷ []) ≡ None) × (closes ≡ true))
-last_alone true wrong closes b told = (λ h. absurd (cc), λ h. absurd (cc))
-last_alone false true closes b told = (λ h. absurd (cc), λ h. absurd (cc))
-last_alone false false true b told = (λ h. (refl, refl), λ h. refl)
-last_alone false false false b told = (λ h. absurd (cc), λ h. absurd (true≢false (sym h.1)))
+last_alone true wrong closes b detail = (λ h. absurd (cc), λ h. absurd (cc))
+last_alone false true closes b detail = (λ h. absurd (cc), λ h. absurd (cc))
+last_alone false false true b detail = (λ h. (refl, refl), λ h. refl)
+last_alone false false false b detail = (λ h. absurd (cc), λ h. absurd (true≢false (sym h.1)))
 
 closes_if : (b : Board) (id on : ℕ) → closes_walk b id on ≡ true → (id ≡ on) ⊎ DependsOn b on id
 closes_if b id on h = elim (either (id == on) (leads_on b on id) h) [

@@ -4,7 +4,8 @@ use Rattle.tb_board.specs.declared.board.Board.{Board}
 use Rattle.tb_board.specs.declared.change.Change.TheVariants as change
 use Rattle.tb_core.specs.declared.command.Answer.TheVariants.{OnBoard}
 use Rattle.tb_core.specs.declared.command.Command.{Command}
-use Rattle.tb_core.specs.declared.command.Command.TheVariants.{SetRole}
+use Rattle.tb_core.specs.declared.command.Command.TheVariants as Commands
+use Rattle.tb_core.specs.declared.command.BoardCommand.{BoardCommand}
 use Rattle.tb_core.specs.declared.deciding.Accepted.{Accepted}
 use Rattle.tb_core.specs.declared.deciding.Decision.{Decision}
 use Rattle.tb_core.specs.declared.look.Seen.{Seen}
@@ -47,16 +48,16 @@ there : (w : World) (seen : Seen) (name : List ℕ) (c : Command) (found : SeenB
 there w seen name c found is board =
     stands_there w (seen_of w name c).caller (board_of c) found (ap (λ (s : Seen). s.board) (sym is) ∙ board)
 
-on_known : (caller : Option ℕ) (found : SeenBoard) (c : Command) (m : ℕ) → is_none caller ≡ false → allows found.role c ≡ true
+on_known : (caller : Option ℕ) (found : SeenBoard) (c : BoardCommand) (m : ℕ) → is_none caller ≡ false → allows found.role c ≡ true
     → decided caller (Some found) c m ≡ outcome found.board c m
 on_known None found c m h allowed = absurd (cc)
 on_known (Some caller) found c m h allowed = rw allowed refl
 
-pub is_accepted : (w : World) (seen : Seen) (name : List ℕ) (c : Command) (m : ℕ) (found : SeenBoard) (a : Accepted)
-    → seen ≡ seen_of w name c → is_none seen.caller ≡ false → seen.board ≡ Some found → allows found.role c ≡ true → IsAccepted found.board c m a
+pub is_accepted : (w : World) (seen : Seen) (name : List ℕ) (n : ℕ) (c : BoardCommand) (m : ℕ) (found : SeenBoard) (a : Accepted)
+    → seen ≡ seen_of w name (Commands.OnBoard n c) → is_none seen.caller ≡ false → seen.board ≡ Some found → allows found.role c ≡ true → IsAccepted found.board c m a
     → IsDecision w (record { changes = a.changes; answer = Ok (OnBoard a.answer) }) (on_board w seen c m)
-is_accepted w seen name c m found a is known board allowed accepts =
-    let at = there w seen name c found is board in
+is_accepted w seen name n c m found a is known board allowed accepts =
+    let at = there w seen name (Commands.OnBoard n c) found is board in
     let later = replayed found.board a.changes in
     let here : decided seen.caller seen.board c m ≡ Ok (later, a.answer)
     = ap (λ (b : Option SeenBoard). decided seen.caller b c m) board ∙ on_known seen.caller found c m known allowed ∙ accepts.gives in
@@ -70,11 +71,11 @@ role_known w seen (Some caller) found role m h = refl
 
 -- the role is set, and the sweep follows
 pub is_role : (w : World) (seen : Seen) (name : List ℕ) (n : ℕ) (other : List ℕ) (role : Option Role) (m : ℕ) (found : SeenBoard) (p : SeenPerson) (d : Decision)
-    → seen ≡ seen_of w name (SetRole n other role) → is_none seen.caller ≡ false → seen.board ≡ Some found → seen.other ≡ Some p
+    → seen ≡ seen_of w name (Commands.SetRole n other role) → is_none seen.caller ≡ false → seen.board ≡ Some found → seen.other ≡ Some p
     → is_owner found.role ≡ true → leaves_none (Some p) role seen.owners ≡ false → IsRoleDecision found.board p.number role m d
     → IsDecision w d (role_given w seen seen.caller seen.board role m)
 is_role w seen name n other role m found p d is known board person owner stays decides =
-    let at = there w seen name (SetRole n other role) found is board in
+    let at = there w seen name (Commands.SetRole n other role) found is board in
     let draft = decides.draft in
     let woke = changed-draft w at.0 found.board draft at.1 decides.made in
     let accepted : least (role_refusals seen found role) ≡ None = rw (owner, person, stays) refl in
@@ -92,6 +93,6 @@ is_role w seen name n other role m found p d is known board person owner stays d
     })
 
 pub role_applies : (w : World) (seen : Seen) (name : List ℕ) (n : ℕ) (other : List ℕ) (role : Option Role) (m : ℕ) (d : Decision)
-    → seen ≡ seen_of w name (SetRole n other role) → IsDecision w d (role_given w seen seen.caller seen.board role m)
-    → IsDecision w d (apply w name (SetRole n other role) m)
+    → seen ≡ seen_of w name (Commands.SetRole n other role) → IsDecision w d (role_given w seen seen.caller seen.board role m)
+    → IsDecision w d (apply w name (Commands.SetRole n other role) m)
 role_applies w seen name n other role m d is decides = subst (λ (s : Seen). IsDecision w d (role_given w s s.caller s.board role m)) is decides

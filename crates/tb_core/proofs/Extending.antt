@@ -25,8 +25,10 @@ use Rattle.tb_core.specs.declared.action.Action.TheVariants.{Done, Delete, Reope
 use Rattle.tb_core.specs.declared.command.Answer.{Answer}
 use Rattle.tb_core.specs.declared.command.Answer.TheVariants as Answers
 use Rattle.tb_core.specs.declared.command.BoardAnswer.{BoardAnswer}
-use Rattle.tb_core.specs.declared.command.Command.{Command}
-use Rattle.tb_core.specs.declared.command.Command.TheVariants.{Add, OnTask, Modify, ImportJson, ImportTodo, Sweep, SetRole, NewPerson, NewBoard, Depend, Undepend, SetAhead}
+use Rattle.tb_core.specs.declared.command.Command.TheVariants as Commands
+use Rattle.tb_core.specs.declared.command.BoardCommand.{BoardCommand}
+use Rattle.tb_core.specs.declared.command.BoardCommand.TheVariants.{Add, OnTask, Modify, Depend, Undepend, SetAhead, Sweep, Import}
+use Rattle.tb_core.specs.declared.command.Import.TheVariants.{Json, Todo}
 use Rattle.tb_core.specs.declared.command.AnswerDetail.{AnswerDetail}
 use Rattle.tb_core.specs.declared.look.Seen.{Seen}
 use Rattle.tb_core.specs.declared.refusal.Refusal.{Refusal}
@@ -67,28 +69,25 @@ linked_task m on t =
       | inr new ↦ rw new (record { id = refl; parent = refl; imask = refl })
     ]
 
-unless : (b c : Board) (o : Option Refusal) (told : AnswerDetail) → ExtendsBoard b c → IfOk (unless_refused o c told) (λ after. ExtendsBoard b after.0)
-unless b c None told extends = extends
-unless b c (Some refusal) told extends = tt
+unless : (b c : Board) (o : Option Refusal) (detail : AnswerDetail) → ExtendsBoard b c → IfOk (unless_refused o c detail) (λ after. ExtendsBoard b after.0)
+unless b c None detail extends = extends
+unless b c (Some refusal) detail extends = tt
 
 told_import : (b : Board) (r : Result (Board × ImportCounts) ImportRefusal) → IfOk r (λ after. ExtendsBoard b after.0) → IfOk (told_of r) (λ after. ExtendsBoard b after.0)
 told_import b (Ok after) extends = extends
 told_import b (Err refusal) extends = tt
 
-extends_judged : (b : Board) (c : Command) (m : ℕ) → IfOk (judged b c m) (λ after. ExtendsBoard b after.0)
-extends_judged b (Add n i) m = unless b (with_task b (entered b i m)) (least (add_refusals b i)) _ (board-append b (with_task b (entered b i m)) (entered b i m ∷ []) refl refl refl)
-extends_judged b (OnTask n id a) m = unless b _ (least (action_refusals b id a)) _ (board-change b (has_id id) (acted m a) (acted_task m a))
-extends_judged b (Modify n id es) m = unless b _ (least (modify_refusals b id es m)) _ (board-change b (has_id id) (modified m es) (modified_task m es))
-extends_judged b (Depend n id on) m = unless b _ (least (depend_refusals b id on)) _ (board-change b (has_id id) (linked m on) (linked_task m on))
-extends_judged b (Undepend n id on) m =
+extends_judged : (b : Board) (c : BoardCommand) (m : ℕ) → IfOk (judged b c m) (λ after. ExtendsBoard b after.0)
+extends_judged b (Add i) m = unless b (with_task b (entered b i m)) (least (add_refusals b i)) _ (board-append b (with_task b (entered b i m)) (entered b i m ∷ []) refl refl refl)
+extends_judged b (OnTask id a) m = unless b _ (least (action_refusals b id a)) _ (board-change b (has_id id) (acted m a) (acted_task m a))
+extends_judged b (Modify id es) m = unless b _ (least (modify_refusals b id es m)) _ (board-change b (has_id id) (modified m es) (modified_task m es))
+extends_judged b (Depend id on) m = unless b _ (least (depend_refusals b id on)) _ (board-change b (has_id id) (linked m on) (linked_task m on))
+extends_judged b (Undepend id on) m =
     unless b _ (least (undepend_refusals b id on)) _ (board-change b (has_id id) (unlinked m on) (λ t. record { id = refl; parent = refl; imask = refl }))
-extends_judged b (ImportJson n is) m = told_import b (judged_import b is) (extends-import b is)
-extends_judged b (ImportTodo n ts) m = unless b (imported b ts) (least (import_todo_refusals b ts)) _ (board-append b (imported b ts) (new_tasks b ts) refl refl refl)
-extends_judged b (Sweep n) m = board-refl b
-extends_judged b (SetRole n name role) m = board-refl b
-extends_judged b (NewPerson name key) m = board-refl b
-extends_judged b (NewBoard title) m = board-refl b
-extends_judged b (SetAhead n ahead) m = record { number = refl; title = refl; tasks = (board-refl b).tasks }
+extends_judged b (SetAhead ahead) m = record { number = refl; title = refl; tasks = (board-refl b).tasks }
+extends_judged b Sweep m = board-refl b
+extends_judged b (Import (Json is)) m = told_import b (judged_import b is) (extends-import b is)
+extends_judged b (Import (Todo ts)) m = unless b (imported b ts) (least (import_todo_refusals b ts)) _ (board-append b (imported b ts) (new_tasks b ts) refl refl refl)
 
 extends_answered : (b : Board) (m : ℕ) (r : Result (Board × AnswerDetail) Refusal) → IfOk r (λ after. ExtendsBoard b after.0) → IfOk (answered m r) (λ after. ExtendsBoard b after.0)
 extends_answered b m (Ok after) extends = board-trans b after.0 (sweep after.0 m) extends (extends-sweep after.0 m)
@@ -98,7 +97,7 @@ first_awake : (b : Board) (m : ℕ) (r : Result (Board × BoardAnswer) Refusal) 
 first_awake b m (Ok after) extends = board-trans b (wake b m) after.0 (board-wake b m) extends
 first_awake b m (Err refusal) extends = tt
 
-extends_outcome : (b : Board) (c : Command) (m : ℕ) → IfOk (outcome b c m) (λ after. ExtendsBoard b after.0)
+extends_outcome : (b : Board) (c : BoardCommand) (m : ℕ) → IfOk (outcome b c m) (λ after. ExtendsBoard b after.0)
 extends_outcome b c m = first_awake b m (outcome b c m) (extends_answered (wake b m) m (judged (wake b m) c m) (extends_judged (wake b m) c m))
 
 -- ---- what it makes of the world
@@ -118,14 +117,14 @@ extends_allowed : (w : World) (allowed : Bool) (r : Result (Board × BoardAnswer
 extends_allowed w true r extends = extends
 extends_allowed w false r extends = extends-refl w
 
-extends_seen : (w : World) (caller n : ℕ) (role : Option Role) (o : Option Board) (c : Command) (m : ℕ) → find_board w n ≡ o
+extends_seen : (w : World) (caller n : ℕ) (role : Option Role) (o : Option Board) (c : BoardCommand) (m : ℕ) → find_board w n ≡ o
     → Extends w (applied w (decided (Some caller) (seen_with role o) c m)).world
 extends_seen w caller n None o c m is = extends-refl w
 extends_seen w caller n (Some role) None c m is = extends-refl w
 extends_seen w caller n (Some role) (Some x) c m is =
     extends_allowed w (allows role c) (outcome x c m) (extends_applied w n x (outcome x c m) is (extends_outcome x c m))
 
-extends_decided : (w : World) (caller n : Option ℕ) (c : Command) (m : ℕ) → Extends w (applied w (decided caller (board_for w caller n) c m)).world
+extends_decided : (w : World) (caller n : Option ℕ) (c : BoardCommand) (m : ℕ) → Extends w (applied w (decided caller (board_for w caller n) c m)).world
 extends_decided w None n c m = extends-refl w
 extends_decided w (Some caller) None c m = extends-refl w
 extends_decided w (Some caller) (Some n) c m = extends_seen w caller n (role_of w n caller) (find_board w n) c m refl
@@ -161,15 +160,7 @@ extends_new_board w seen (Some caller) title =
     (record { more = []; people = sym (append-nil w.people); boards = front-append ExtendsBoard board-refl w.boards (board ∷ []) })
 
 pub extends : AlwaysExtends
-extends w name (Add n i) m = extends_decided w (number_of w name) (Some n) (Add n i) m
-extends w name (OnTask n id a) m = extends_decided w (number_of w name) (Some n) (OnTask n id a) m
-extends w name (Modify n id es) m = extends_decided w (number_of w name) (Some n) (Modify n id es) m
-extends w name (Depend n id on) m = extends_decided w (number_of w name) (Some n) (Depend n id on) m
-extends w name (Undepend n id on) m = extends_decided w (number_of w name) (Some n) (Undepend n id on) m
-extends w name (ImportJson n is) m = extends_decided w (number_of w name) (Some n) (ImportJson n is) m
-extends w name (ImportTodo n ts) m = extends_decided w (number_of w name) (Some n) (ImportTodo n ts) m
-extends w name (Sweep n) m = extends_decided w (number_of w name) (Some n) (Sweep n) m
-extends w name (SetRole n other role) m = extends_role_by w (seen_of w name (SetRole n other role)) (number_of w name) n role m
-extends w name (NewPerson p k) m = extends_person w (seen_of w name (NewPerson p k)) (number_of w name) p k
-extends w name (NewBoard title) m = extends_new_board w (seen_of w name (NewBoard title)) (number_of w name) title
-extends w name (SetAhead n ahead) m = extends_decided w (number_of w name) (Some n) (SetAhead n ahead) m
+extends w name (Commands.NewPerson p k) m = extends_person w (seen_of w name (Commands.NewPerson p k)) (number_of w name) p k
+extends w name (Commands.NewBoard title) m = extends_new_board w (seen_of w name (Commands.NewBoard title)) (number_of w name) title
+extends w name (Commands.SetRole n other role) m = extends_role_by w (seen_of w name (Commands.SetRole n other role)) (number_of w name) n role m
+extends w name (Commands.OnBoard n c) m = extends_decided w (number_of w name) (Some n) c m

@@ -14,8 +14,10 @@ use Rattle.tb_core.specs.declared.command.BoardAnswer.{BoardAnswer}
 use Rattle.tb_core.specs.declared.look.Seen.{Seen}
 use Rattle.tb_core.specs.declared.look.SeenBoard.{SeenBoard}
 use Rattle.tb_board.specs.declared.world.Person.{Person}
-use Rattle.tb_core.specs.declared.command.Command.{Command}
-use Rattle.tb_core.specs.declared.command.Command.TheVariants.{Add, OnTask, Modify, ImportJson, ImportTodo, Sweep, SetRole, NewPerson, NewBoard, Depend, Undepend, SetAhead}
+use Rattle.tb_core.specs.declared.command.Command.TheVariants as Commands
+use Rattle.tb_core.specs.declared.command.BoardCommand.{BoardCommand}
+use Rattle.tb_core.specs.declared.command.BoardCommand.TheVariants.{Add, OnTask, Modify, Depend, Undepend, SetAhead, Sweep, Import}
+use Rattle.tb_core.specs.declared.command.Import.TheVariants.{Json, Todo}
 use Rattle.tb_core.specs.declared.command.AnswerDetail.{AnswerDetail}
 use Rattle.tb_core.specs.declared.command.AnswerDetail.TheVariants.{Added, Changed, TodoImported, Swept}
 use Rattle.tb_core.specs.declared.refusal.Refusal.{Refusal}
@@ -230,10 +232,10 @@ record Follows (x b : Board) : Type 0 where
   good : IsGood b
 
 -- where a world is good unless the command is refused
-kept : (m : ℕ) (w : World) (x : Board) (o : Option Refusal) (b : Board) (told : AnswerDetail) → IsGoodWorld w → find (has_number x.number) w.boards ≡ Some x → (o ≡ None → Follows x b)
-    → IsGoodWorld (applied w (answered m (unless_refused o b told))).world
-kept m w x (Some r) b told good found later = good
-kept m w x None b told good found later =
+kept : (m : ℕ) (w : World) (x : Board) (o : Option Refusal) (b : Board) (detail : AnswerDetail) → IsGoodWorld w → find (has_number x.number) w.boards ≡ Some x → (o ≡ None → Follows x b)
+    → IsGoodWorld (applied w (answered m (unless_refused o b detail))).world
+kept m w x (Some r) b detail good found later = good
+kept m w x None b detail good found later =
     good-with_board w x (sweep b m) good found (number-sweep b m ∙ (later refl).number) (sweep_kept b m (later refl).good)
 
 number_all : (first : Board) (new : List Incoming) (b : Board) (is : List Incoming) → (with_all first new b is).number ≡ b.number
@@ -257,42 +259,39 @@ kept_import m w x b (Err refusal) good found number later = good
 kept_import m w x b (Ok after) good found number later =
     good-with_board w x (sweep after.0 m) good found (number-sweep after.0 m ∙ later.number ∙ number) (sweep_kept after.0 m later.good)
 
-kept_outcome : (w : World) (x : Board) (c : Command) (m : ℕ) → IsGoodWorld w → find (has_number x.number) w.boards ≡ Some x → IsGood x
+kept_outcome : (w : World) (x : Board) (c : BoardCommand) (m : ℕ) → IsGoodWorld w → find (has_number x.number) w.boards ≡ Some x → IsGood x
     → IsGoodWorld (applied w (outcome x c m)).world
-kept_outcome w x (Add n i) m good found is_good =
+kept_outcome w x (Add i) m good found is_good =
     kept m w x (least (add_refusals (wake x m) i)) (with_task (wake x m) (entered (wake x m) i m)) (Added (entered_id (wake x m) i) i.dropped) good found
     (λ none. record { number = refl; good = good-add (wake x m) i m (good-wake x m is_good) none })
-kept_outcome w x (OnTask n id a) m good found is_good =
+kept_outcome w x (OnTask id a) m good found is_good =
     kept m w x (least (action_refusals (wake x m) id a)) (record (wake x m) { tasks = change_first (has_id id) (acted m a) (wake x m).tasks }) (Changed id) good found
     (λ none. record { number = refl; good = good-action (wake x m) id a m (good-wake x m is_good) none })
-kept_outcome w x (Modify n id es) m good found is_good =
+kept_outcome w x (Modify id es) m good found is_good =
     kept m w x (least (modify_refusals (wake x m) id es m)) (record (wake x m) { tasks = change_first (has_id id) (modified m es) (wake x m).tasks }) (Changed id) good found
     (λ none. record { number = refl; good = good-modify (wake x m) id es m (good-wake x m is_good) none })
-kept_outcome w x (Depend n id on) m good found is_good =
+kept_outcome w x (Depend id on) m good found is_good =
     kept m w x (least (depend_refusals (wake x m) id on)) (record (wake x m) { tasks = change_first (has_id id) (linked m on) (wake x m).tasks }) (Changed id) good found
     (λ none. record { number = refl; good = good-depend (wake x m) id on m (good-wake x m is_good) none })
-kept_outcome w x (Undepend n id on) m good found is_good =
+kept_outcome w x (Undepend id on) m good found is_good =
     kept m w x (least (undepend_refusals (wake x m) id on)) (record (wake x m) { tasks = change_first (has_id id) (unlinked m on) (wake x m).tasks }) (Changed id) good found
     (λ none. record { number = refl; good = good-undepend (wake x m) id on m (good-wake x m is_good) none })
-kept_outcome w x (ImportJson n is) m good found is_good =
+kept_outcome w x (SetAhead ahead) m good found is_good =
+    kept m w x None (with_ahead ahead (wake x m)) Swept good found (λ none. record { number = refl; good = good-ahead (wake x m) ahead (good-wake x m is_good) })
+kept_outcome w x Sweep m good found is_good = kept m w x None (wake x m) Swept good found (λ none. record { number = refl; good = good-wake x m is_good })
+kept_outcome w x (Import (Json is)) m good found is_good =
     kept_import m w x (wake x m) (judged_import (wake x m) is) good found refl (import_kept (wake x m) is (good-wake x m is_good))
-kept_outcome w x (ImportTodo n ts) m good found is_good =
+kept_outcome w x (Import (Todo ts)) m good found is_good =
     kept m w x (least (import_todo_refusals (wake x m) ts)) (imported (wake x m) ts)
     (TodoImported (length ts - length (new_tasks (wake x m) ts)) (length (new_tasks (wake x m) ts))) good found
     (λ none. record { number = refl; good = good-import (wake x m) ts (good-wake x m is_good) none })
-kept_outcome w x (Sweep n) m good found is_good = kept m w x None (wake x m) Swept good found (λ none. record { number = refl; good = good-wake x m is_good })
-kept_outcome w x (SetRole n name role) m good found is_good = kept m w x None (wake x m) Swept good found (λ none. record { number = refl; good = good-wake x m is_good })
-kept_outcome w x (NewPerson name key) m good found is_good = kept m w x None (wake x m) Swept good found (λ none. record { number = refl; good = good-wake x m is_good })
-kept_outcome w x (NewBoard title) m good found is_good = kept m w x None (wake x m) Swept good found (λ none. record { number = refl; good = good-wake x m is_good })
-kept_outcome w x (SetAhead n ahead) m good found is_good =
-    kept m w x None (with_ahead ahead (wake x m)) Swept good found (λ none. record { number = refl; good = good-ahead (wake x m) ahead (good-wake x m is_good) })
 
 kept_allowed : (w : World) (allowed : Bool) (r : Result (Board × BoardAnswer) Refusal) → IsGoodWorld w → IsGoodWorld (applied w r).world
     → IsGoodWorld (applied w (if_allowed allowed r)).world
 kept_allowed w true r good later = later
 kept_allowed w false r good later = good
 
-kept_seen : (w : World) (caller n : ℕ) (role : Option Role) (o : Option Board) (c : Command) (m : ℕ) → IsGoodWorld w → find_board w n ≡ o
+kept_seen : (w : World) (caller n : ℕ) (role : Option Role) (o : Option Board) (c : BoardCommand) (m : ℕ) → IsGoodWorld w → find_board w n ≡ o
     → IsGoodWorld (applied w (decided (Some caller) (seen_with role o) c m)).world
 kept_seen w caller n None o c m good is = good
 kept_seen w caller n (Some role) None c m good is = good
@@ -302,7 +301,7 @@ kept_seen w caller n (Some role) (Some x) c m good is =
     kept_allowed w (allows role c) (outcome x c m) good
     (kept_outcome w x c m good found (all-found IsGood (has_number n) w.boards x good.good is))
 
-kept_decided : (w : World) (caller n : Option ℕ) (c : Command) (m : ℕ) → IsGoodWorld w → IsGoodWorld (applied w (decided caller (board_for w caller n) c m)).world
+kept_decided : (w : World) (caller n : Option ℕ) (c : BoardCommand) (m : ℕ) → IsGoodWorld w → IsGoodWorld (applied w (decided caller (board_for w caller n) c m)).world
 kept_decided w None n c m good = good
 kept_decided w (Some caller) None c m good = good
 kept_decided w (Some caller) (Some n) c m good = kept_seen w caller n (role_of w n caller) (find_board w n) c m good refl
@@ -384,19 +383,11 @@ kept_board w seen (Some caller) title good boards within =
     rw boards (good-new_board w caller title good (omega (arith, room, boards)) bounds.0 bounds.1))
 
 pub stays_good : KeepsGood
-stays_good w name (Add n i) m good = kept_decided w (number_of w name) (Some n) (Add n i) m good
-stays_good w name (OnTask n id a) m good = kept_decided w (number_of w name) (Some n) (OnTask n id a) m good
-stays_good w name (Modify n id es) m good = kept_decided w (number_of w name) (Some n) (Modify n id es) m good
-stays_good w name (Depend n id on) m good = kept_decided w (number_of w name) (Some n) (Depend n id on) m good
-stays_good w name (Undepend n id on) m good = kept_decided w (number_of w name) (Some n) (Undepend n id on) m good
-stays_good w name (ImportJson n is) m good = kept_decided w (number_of w name) (Some n) (ImportJson n is) m good
-stays_good w name (ImportTodo n ts) m good = kept_decided w (number_of w name) (Some n) (ImportTodo n ts) m good
-stays_good w name (Sweep n) m good = kept_decided w (number_of w name) (Some n) (Sweep n) m good
-stays_good w name (SetRole n other role) m good =
-    kept_role_by w (seen_of w name (SetRole n other role)) (number_of w name) n (number_of w other) role m good refl refl (number_in w other)
-stays_good w name (NewPerson p k) m good = kept_person w (seen_of w name (NewPerson p k)) (number_of w name) p k good refl refl
-stays_good w name (NewBoard title) m good = kept_board w (seen_of w name (NewBoard title)) (number_of w name) title good refl (number_in w name)
-stays_good w name (SetAhead n ahead) m good = kept_decided w (number_of w name) (Some n) (SetAhead n ahead) m good
+stays_good w name (Commands.NewPerson p k) m good = kept_person w (seen_of w name (Commands.NewPerson p k)) (number_of w name) p k good refl refl
+stays_good w name (Commands.NewBoard title) m good = kept_board w (seen_of w name (Commands.NewBoard title)) (number_of w name) title good refl (number_in w name)
+stays_good w name (Commands.SetRole n other role) m good =
+    kept_role_by w (seen_of w name (Commands.SetRole n other role)) (number_of w name) n (number_of w other) role m good refl refl (number_in w other)
+stays_good w name (Commands.OnBoard n c) m good = kept_decided w (number_of w name) (Some n) c m good
 
 same_people : (w : World) (r : Result (Board × BoardAnswer) Refusal) → (applied w r).world.people ≡ w.people
 same_people w (Ok r) = refl
@@ -436,16 +427,10 @@ known_board w seen (Some caller) title person key known =
     known_given (least (board_refusals seen)) w (with_new_board w (seen.boards + 1) caller title) (Answers.NewBoard (seen.boards + 1)) person key known known
 
 pub stay_known : KeepsPeople
-stay_known w name (Add n i) m person key known = rw (same_people w (decided (number_of w name) (board_for w (number_of w name) (Some n)) (Add n i) m)) known
-stay_known w name (OnTask n id a) m person key known = rw (same_people w (decided (number_of w name) (board_for w (number_of w name) (Some n)) (OnTask n id a) m)) known
-stay_known w name (Modify n id es) m person key known = rw (same_people w (decided (number_of w name) (board_for w (number_of w name) (Some n)) (Modify n id es) m)) known
-stay_known w name (Depend n id on) m person key known = rw (same_people w (decided (number_of w name) (board_for w (number_of w name) (Some n)) (Depend n id on) m)) known
-stay_known w name (Undepend n id on) m person key known = rw (same_people w (decided (number_of w name) (board_for w (number_of w name) (Some n)) (Undepend n id on) m)) known
-stay_known w name (ImportJson n is) m person key known = rw (same_people w (decided (number_of w name) (board_for w (number_of w name) (Some n)) (ImportJson n is) m)) known
-stay_known w name (ImportTodo n ts) m person key known = rw (same_people w (decided (number_of w name) (board_for w (number_of w name) (Some n)) (ImportTodo n ts) m)) known
-stay_known w name (Sweep n) m person key known = rw (same_people w (decided (number_of w name) (board_for w (number_of w name) (Some n)) (Sweep n) m)) known
-stay_known w name (SetRole n other role) m person key known =
-    let seen = seen_of w name (SetRole n other role) in known_role w seen seen.caller seen.board role m person key known
-stay_known w name (NewPerson p k) m person key known = let seen = seen_of w name (NewPerson p k) in known_person w seen seen.caller p k person key known
-stay_known w name (NewBoard title) m person key known = let seen = seen_of w name (NewBoard title) in known_board w seen seen.caller title person key known
-stay_known w name (SetAhead n ahead) m person key known = rw (same_people w (decided (number_of w name) (board_for w (number_of w name) (Some n)) (SetAhead n ahead) m)) known
+stay_known w name (Commands.NewPerson p k) m person key known =
+    let seen = seen_of w name (Commands.NewPerson p k) in known_person w seen seen.caller p k person key known
+stay_known w name (Commands.NewBoard title) m person key known =
+    let seen = seen_of w name (Commands.NewBoard title) in known_board w seen seen.caller title person key known
+stay_known w name (Commands.SetRole n other role) m person key known =
+    let seen = seen_of w name (Commands.SetRole n other role) in known_role w seen seen.caller seen.board role m person key known
+stay_known w name (Commands.OnBoard n c) m person key known = rw (same_people w (decided (number_of w name) (board_for w (number_of w name) (Some n)) c m)) known

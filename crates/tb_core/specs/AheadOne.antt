@@ -8,7 +8,9 @@ use Rattle.tb_board.specs.declared.world.World.{World}
 use Rattle.tb_board.specs.World.{may_change}
 use Rattle.tb_core.specs.declared.command.Answer.{Answer}
 use Rattle.tb_core.specs.declared.command.Command.{Command}
-use Rattle.tb_core.specs.declared.command.Command.TheVariants.{Add, OnTask, Modify, ImportJson, ImportTodo, Sweep, SetRole, NewPerson, NewBoard, Depend, Undepend, SetAhead}
+use Rattle.tb_core.specs.declared.command.Command.TheVariants as command
+use Rattle.tb_core.specs.declared.command.BoardCommand.{BoardCommand}
+use Rattle.tb_core.specs.declared.command.BoardCommand.TheVariants.{Add, OnTask, Modify, Depend, Undepend, SetAhead, Sweep, Import}
 use Rattle.tb_core.specs.declared.refusal.Refusal.{Refusal}
 use Rattle.tb_core.specs.Apply.{apply}
 use Rattle.tb_core.specs.AtOnce.{apply_at_once}
@@ -30,20 +32,23 @@ abbrev pub is_first_role : Option Role → Bool
 is_first_role None = true
 is_first_role (Some role) = may_change role
 
+-- doesn't say how far a board looks ahead
+abbrev pub leaves_ahead : BoardCommand → Bool
+leaves_ahead (Add i) = true
+leaves_ahead (OnTask id a) = true
+leaves_ahead (Modify id edits) = true
+leaves_ahead (Depend id on) = true
+leaves_ahead (Undepend id on) = true
+leaves_ahead (SetAhead ahead) = false
+leaves_ahead Sweep = true
+leaves_ahead (Import tasks) = true
+
 -- neither lets a board look ahead nor makes a reader
 abbrev pub is_first_command : Command → Bool
-is_first_command (Add n i) = true
-is_first_command (OnTask n id a) = true
-is_first_command (Modify n id edits) = true
-is_first_command (Depend n id on) = true
-is_first_command (Undepend n id on) = true
-is_first_command (ImportJson n is) = true
-is_first_command (ImportTodo n ts) = true
-is_first_command (Sweep n) = true
-is_first_command (SetRole n name role) = is_first_role role
-is_first_command (NewPerson name key) = true
-is_first_command (NewBoard title) = true
-is_first_command (SetAhead n ahead) = false
+is_first_command (command.NewPerson name key) = true
+is_first_command (command.NewBoard title) = true
+is_first_command (command.SetRole n name role) = is_first_role role
+is_first_command (command.OnBoard n c) = leaves_ahead c
 
 -- a person's command at a moment
 pub record Request : Type 0 where

@@ -5,7 +5,11 @@ use Rattle.tb_core.specs.declared.command.Answer.{Answer}
 use Rattle.tb_core.specs.declared.command.Answer.TheVariants.{OnBoard}
 use Rattle.tb_core.specs.declared.command.BoardAnswer.{BoardAnswer}
 use Rattle.tb_core.specs.declared.command.Command.{Command}
-use Rattle.tb_core.specs.declared.command.Command.TheVariants.{Add, OnTask, Modify, ImportJson, ImportTodo, Sweep, SetRole, NewPerson, NewBoard, Depend, Undepend, SetAhead}
+use Rattle.tb_core.specs.declared.command.Command.TheVariants as command
+use Rattle.tb_core.specs.declared.command.BoardCommand.{BoardCommand}
+use Rattle.tb_core.specs.declared.command.BoardCommand.TheVariants.{Add, OnTask, Modify, Depend, Undepend, SetAhead, Sweep, Import}
+use Rattle.tb_core.specs.declared.command.Import.{Import as ImportedTasks}
+use Rattle.tb_core.specs.declared.command.Import.TheVariants.{Json, Todo}
 use Rattle.tb_core.specs.declared.command.AnswerDetail.{AnswerDetail}
 use Rattle.tb_core.specs.declared.command.AnswerDetail.TheVariants.{Swept}
 use Rattle.tb_core.specs.declared.deciding.Decision.{Decision}
@@ -35,33 +39,17 @@ use Rattle.tb_board.specs.World.{find_board, is_owner, number_of, owners, role_o
 
 -- the board that a command names
 abbrev pub board_of : Command → Option ℕ
-board_of (Add n i) = Some n
-board_of (OnTask n id a) = Some n
-board_of (Modify n id edits) = Some n
-board_of (Depend n id on) = Some n
-board_of (Undepend n id on) = Some n
-board_of (ImportJson n is) = Some n
-board_of (ImportTodo n ts) = Some n
-board_of (Sweep n) = Some n
-board_of (SetRole n name role) = Some n
-board_of (NewPerson name key) = None
-board_of (NewBoard title) = None
-board_of (SetAhead n ahead) = Some n
+board_of (command.NewPerson name key) = None
+board_of (command.NewBoard title) = None
+board_of (command.SetRole n name role) = Some n
+board_of (command.OnBoard n c) = Some n
 
 -- the other person whom a command names
 abbrev pub other_of : Command → Option (List ℕ)
-other_of (Add n i) = None
-other_of (OnTask n id a) = None
-other_of (Modify n id edits) = None
-other_of (Depend n id on) = None
-other_of (Undepend n id on) = None
-other_of (ImportJson n is) = None
-other_of (ImportTodo n ts) = None
-other_of (Sweep n) = None
-other_of (SetRole n name role) = Some name
-other_of (NewPerson name key) = Some name
-other_of (NewBoard title) = None
-other_of (SetAhead n ahead) = None
+other_of (command.NewPerson name key) = Some name
+other_of (command.NewBoard title) = None
+other_of (command.SetRole n name role) = Some name
+other_of (command.OnBoard n c) = None
 
 abbrev pub seen_with : Option Role → Option Board → Option SeenBoard
 seen_with None b = None
@@ -103,25 +91,26 @@ seen_of w name c = record {
   boards = length w.boards;
 }
 
--- what a command makes of a board that is awake; those that aren't on a board's tasks leave it
-abbrev pub judged : Board → Command → ℕ → Result (Board × AnswerDetail) Refusal
-judged b (Add n i) m = judged_add b i m
-judged b (OnTask n id a) m = judged_action b id a m
-judged b (Modify n id edits) m = judged_modify b id edits m
-judged b (Depend n id on) m = judged_depend b id on m
-judged b (Undepend n id on) m = judged_undepend b id on m
-judged b (ImportJson n is) m = judged_import_json b is
-judged b (ImportTodo n ts) m = judged_import_todo b ts
-judged b (Sweep n) m = Ok (b, Swept)
-judged b (SetRole n name role) m = Ok (b, Swept)
-judged b (NewPerson name key) m = Ok (b, Swept)
-judged b (NewBoard title) m = Ok (b, Swept)
-judged b (SetAhead n ahead) m = Ok (with_ahead ahead b, Swept)
+-- what an import makes of a board that is awake
+abbrev pub judged_tasks : Board → ImportedTasks → Result (Board × AnswerDetail) Refusal
+judged_tasks b (Json is) = judged_import_json b is
+judged_tasks b (Todo ts) = judged_import_todo b ts
+
+-- what a command makes of a board that is awake
+abbrev pub judged : Board → BoardCommand → ℕ → Result (Board × AnswerDetail) Refusal
+judged b (Add i) m = judged_add b i m
+judged b (OnTask id a) m = judged_action b id a m
+judged b (Modify id edits) m = judged_modify b id edits m
+judged b (Depend id on) m = judged_depend b id on m
+judged b (Undepend id on) m = judged_undepend b id on m
+judged b (SetAhead ahead) m = Ok (with_ahead ahead b, Swept)
+judged b Sweep m = Ok (b, Swept)
+judged b (Import tasks) m = judged_tasks b tasks
 
 -- the answer about a board that the sweep follows
 abbrev pub board_answer : Board → ℕ → AnswerDetail → BoardAnswer
-board_answer b m told =
-    record { board = b.number; added = added b m; more = more (sweep b m) m; told = told }
+board_answer b m detail =
+    record { board = b.number; added = added b m; more = more (sweep b m) m; detail = detail }
 
 -- the sweep follows a command that is accepted
 abbrev pub answered : ℕ → Result (Board × AnswerDetail) Refusal
@@ -130,7 +119,7 @@ answered m (Ok r) = Ok (sweep r.0 m, board_answer r.0 m r.1)
 answered m (Err refusal) = Err refusal
 
 -- what a command makes of a board: it is judged on the board that is awake, and the sweep follows
-abbrev pub outcome : Board → Command → ℕ → Result (Board × BoardAnswer) Refusal
+abbrev pub outcome : Board → BoardCommand → ℕ → Result (Board × BoardAnswer) Refusal
 outcome b c m = answered m (judged (wake b m) c m)
 
 -- a role that doesn't suffice is refused
@@ -140,7 +129,7 @@ if_allowed true r = r
 if_allowed false r = Err NotAllowed
 
 -- who isn't known is refused, then who has no role on the board, or where there is none, and then whose role doesn't suffice
-abbrev pub decided : Option ℕ → Option SeenBoard → Command → ℕ
+abbrev pub decided : Option ℕ → Option SeenBoard → BoardCommand → ℕ
     → Result (Board × BoardAnswer) Refusal
 decided None b c m = Err UnknownCaller
 decided (Some caller) None c m = Err NoBoard
@@ -155,7 +144,7 @@ applied w (Ok r) =
     }
 applied w (Err refusal) = record { world = w; answer = Err refusal }
 
-abbrev pub on_board : World → Seen → Command → ℕ → Outcome
+abbrev pub on_board : World → Seen → BoardCommand → ℕ → Outcome
 on_board w seen c m = applied w (decided seen.caller seen.board c m)
 
 -- an owner gives roles, and a board is left with an owner
@@ -186,18 +175,11 @@ role_given w seen (Some caller) (Some b) role m =
 
 -- a command at a moment, by what it looks at
 abbrev pub apply_seen : World → Seen → Command → ℕ → Outcome
-apply_seen w seen (Add n i) m = on_board w seen (Add n i) m
-apply_seen w seen (OnTask n id a) m = on_board w seen (OnTask n id a) m
-apply_seen w seen (Modify n id edits) m = on_board w seen (Modify n id edits) m
-apply_seen w seen (Depend n id on) m = on_board w seen (Depend n id on) m
-apply_seen w seen (Undepend n id on) m = on_board w seen (Undepend n id on) m
-apply_seen w seen (ImportJson n is) m = on_board w seen (ImportJson n is) m
-apply_seen w seen (ImportTodo n ts) m = on_board w seen (ImportTodo n ts) m
-apply_seen w seen (Sweep n) m = on_board w seen (Sweep n) m
-apply_seen w seen (SetRole n name role) m = role_given w seen seen.caller seen.board role m
-apply_seen w seen (NewPerson name key) m = new_person w seen seen.caller name key
-apply_seen w seen (NewBoard title) m = new_board w seen seen.caller title
-apply_seen w seen (SetAhead n ahead) m = on_board w seen (SetAhead n ahead) m
+apply_seen w seen (command.NewPerson name key) m = new_person w seen seen.caller name key
+apply_seen w seen (command.NewBoard title) m = new_board w seen seen.caller title
+apply_seen w seen (command.SetRole n name role) m =
+    role_given w seen seen.caller seen.board role m
+apply_seen w seen (command.OnBoard n c) m = on_board w seen c m
 
 -- a person's command at a moment
 abbrev pub apply : World → List ℕ → Command → ℕ → Outcome

@@ -9,7 +9,9 @@ use Rattle.tb_sweep.specs.AtOnce.{added_at_once, more_at_once, sweep_at_once}
 use Rattle.tb_core.specs.declared.command.Answer.TheVariants.{OnBoard}
 use Rattle.tb_core.specs.declared.command.BoardAnswer.{BoardAnswer}
 use Rattle.tb_core.specs.declared.command.Command.{Command}
-use Rattle.tb_core.specs.declared.command.Command.TheVariants.{Add, OnTask, Modify, ImportJson, ImportTodo, Sweep, SetRole, NewPerson, NewBoard, Depend, Undepend, SetAhead}
+use Rattle.tb_core.specs.declared.command.Command.TheVariants as command
+use Rattle.tb_core.specs.declared.command.BoardCommand.{BoardCommand}
+use Rattle.tb_core.specs.declared.command.BoardCommand.TheVariants.{Add, OnTask, Modify, Depend, Undepend, SetAhead, Sweep, Import}
 use Rattle.tb_core.specs.declared.command.AnswerDetail.{AnswerDetail}
 use Rattle.tb_core.specs.declared.command.AnswerDetail.TheVariants.{Swept}
 use Rattle.tb_core.specs.declared.look.Seen.{Seen}
@@ -24,12 +26,12 @@ use Rattle.tb_core.specs.Refusals.{least}
 
 -- the answer about a board that the sweep follows
 abbrev pub answer_at_once : Board → ℕ → AnswerDetail → BoardAnswer
-answer_at_once b m told =
+answer_at_once b m detail =
     record {
       board = b.number;
       added = added_at_once b m;
       more = more_at_once (sweep_at_once b m) m;
-      told = told;
+      detail = detail;
     }
 
 -- the sweep follows a command that is accepted
@@ -39,17 +41,17 @@ answered_at_once m (Ok r) = Ok (sweep_at_once r.0 m, answer_at_once r.0 m r.1)
 answered_at_once m (Err refusal) = Err refusal
 
 -- a command is judged on the board that is awake, and the sweep follows
-abbrev pub outcome_at_once : Board → Command → ℕ → Result (Board × BoardAnswer) Refusal
+abbrev pub outcome_at_once : Board → BoardCommand → ℕ → Result (Board × BoardAnswer) Refusal
 outcome_at_once b c m = answered_at_once m (judged (wake b m) c m)
 
 -- who isn't known is refused, and then who has no role on the board, or where there is none
-abbrev pub decided_at_once : Option ℕ → Option SeenBoard → Command → ℕ
+abbrev pub decided_at_once : Option ℕ → Option SeenBoard → BoardCommand → ℕ
     → Result (Board × BoardAnswer) Refusal
 decided_at_once None b c m = Err UnknownCaller
 decided_at_once (Some caller) None c m = Err NoBoard
 decided_at_once (Some caller) (Some b) c m = outcome_at_once b.board c m
 
-abbrev pub on_board_at_once : World → Seen → Command → ℕ → Outcome
+abbrev pub on_board_at_once : World → Seen → BoardCommand → ℕ → Outcome
 on_board_at_once w seen c m = applied w (decided_at_once seen.caller seen.board c m)
 
 -- the role is set, and the sweep follows
@@ -61,20 +63,24 @@ role_at_once w seen (Some caller) (Some b) role m =
     (with_role w (sweep_at_once b.board m) (person_number seen.other) role)
     (OnBoard (answer_at_once b.board m Swept))
 
--- a command at a moment, by what it looks at; the text has no command by which a board looks ahead
+-- a command on a board; the text has none by which a board looks ahead
+abbrev pub command_at_once : World → Seen → BoardCommand → ℕ → Outcome
+command_at_once w seen (Add i) m = on_board_at_once w seen (Add i) m
+command_at_once w seen (OnTask id a) m = on_board_at_once w seen (OnTask id a) m
+command_at_once w seen (Modify id edits) m = on_board_at_once w seen (Modify id edits) m
+command_at_once w seen (Depend id on) m = on_board_at_once w seen (Depend id on) m
+command_at_once w seen (Undepend id on) m = on_board_at_once w seen (Undepend id on) m
+command_at_once w seen (SetAhead ahead) m = record { world = w; answer = Err NoBoard }
+command_at_once w seen Sweep m = on_board_at_once w seen Sweep m
+command_at_once w seen (Import tasks) m = on_board_at_once w seen (Import tasks) m
+
+-- a command at a moment, by what it looks at
 abbrev pub seen_at_once : World → Seen → Command → ℕ → Outcome
-seen_at_once w seen (Add n i) m = on_board_at_once w seen (Add n i) m
-seen_at_once w seen (OnTask n id a) m = on_board_at_once w seen (OnTask n id a) m
-seen_at_once w seen (Modify n id edits) m = on_board_at_once w seen (Modify n id edits) m
-seen_at_once w seen (Depend n id on) m = on_board_at_once w seen (Depend n id on) m
-seen_at_once w seen (Undepend n id on) m = on_board_at_once w seen (Undepend n id on) m
-seen_at_once w seen (ImportJson n is) m = on_board_at_once w seen (ImportJson n is) m
-seen_at_once w seen (ImportTodo n ts) m = on_board_at_once w seen (ImportTodo n ts) m
-seen_at_once w seen (Sweep n) m = on_board_at_once w seen (Sweep n) m
-seen_at_once w seen (SetRole n name role) m = role_at_once w seen seen.caller seen.board role m
-seen_at_once w seen (NewPerson name key) m = new_person w seen seen.caller name key
-seen_at_once w seen (NewBoard title) m = new_board w seen seen.caller title
-seen_at_once w seen (SetAhead n ahead) m = record { world = w; answer = Err NoBoard }
+seen_at_once w seen (command.NewPerson name key) m = new_person w seen seen.caller name key
+seen_at_once w seen (command.NewBoard title) m = new_board w seen seen.caller title
+seen_at_once w seen (command.SetRole n name role) m =
+    role_at_once w seen seen.caller seen.board role m
+seen_at_once w seen (command.OnBoard n c) m = command_at_once w seen c m
 
 -- a person's command at a moment
 abbrev pub apply_at_once : World → List ℕ → Command → ℕ → Outcome

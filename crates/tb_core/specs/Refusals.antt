@@ -25,8 +25,8 @@ least (Some r ∷ rs) = Some r
 
 abbrev pub unless_refused : Option Refusal → Board → AnswerDetail
     → Result (Board × AnswerDetail) Refusal
-unless_refused None b told = Ok (b, told)
-unless_refused (Some r) b told = Err r
+unless_refused None b detail = Ok (b, detail)
+unless_refused (Some r) b detail = Err r
 
 -- a failure is the refusal that is expected, unless memory ran out
 abbrev pub Fails : {Y : Type 0} → CommandFailure → Result Y Refusal → Type 0
@@ -35,5 +35,5 @@ Fails (Refused r) expected = expected ≡ Err r
 
 -- what a command made of a draft is what is expected of its board
 abbrev pub Gives : Result Judged CommandFailure → Result (Board × AnswerDetail) Refusal → Type 0
-Gives (Ok j) expected = expected ≡ Ok (j.draft.board, j.told)
+Gives (Ok j) expected = expected ≡ Ok (j.draft.board, j.detail)
 Gives (Err e) expected = Fails e expected

@@ -3,7 +3,7 @@ ghost use Rattle.tb_core.specs.Action.{acted, action_fault, judged_action, lacks
 ghost use Rattle.tb_core.specs.Effect.{Fits, GivesEffect};
 
 use crate::command::AnswerDetail;
-use crate::effect::{Effect, Step};
+use crate::effect::{BoardChange, Effect};
 use crate::judged::CommandFailure;
 use crate::notes::{annotated_task, denotated_task, fault_in_note, has_note_of};
 use crate::refusal::Refusal;
@@ -28,7 +28,7 @@ pub enum Action {
 /// What it makes of a task of a board that is awake.
 pub fn act(board: &Board, id: TaskId, action: &Action, at: Moment) -> Result<Effect, CommandFailure>
     ensures gives { GivesEffect board.now result (judged_action board.now id action.now at) }
-    ensures fits { IfOk result (λ effect. Fits board.now effect.step) }
+    ensures fits { IfOk result (λ effect. Fits board.now effect.change) }
 {
     let Some(place) = board.tasks.place_of(id) else {
         return Err(CommandFailure::Refused(Refusal::NoTask));
@@ -45,8 +45,8 @@ pub fn act(board: &Board, id: TaskId, action: &Action, at: Moment) -> Result<Eff
     }
     let task = acted_task(task, action, at)?;
     Ok(Effect {
-        step: Step::Set { place, task },
-        told: AnswerDetail::Changed { id },
+        change: BoardChange::Set { place, task },
+        detail: AnswerDetail::Changed { id },
     })
 }
 

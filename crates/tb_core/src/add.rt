@@ -7,7 +7,7 @@ ghost use Rattle.tb_core.specs.Refusals.{least};
 ghost use Rattle.tb_task.specs.Limits.{most_tasks};
 
 use crate::command::AnswerDetail;
-use crate::effect::{Effect, Step};
+use crate::effect::{BoardChange, Effect};
 use crate::judged::CommandFailure;
 use crate::refusal::Refusal;
 use std::alloc::{AllocError, Global};
@@ -43,16 +43,16 @@ pub fn add(
 ) -> Result<Effect, CommandFailure>
     requires { least (add_refusals board.now incoming.now) ≡ None }
     ensures gives { GivesEffect board.now result (judged_add board.now incoming.now at) }
-    ensures fits { IfOk result (λ effect. Fits board.now effect.step) }
+    ensures fits { IfOk result (λ effect. Fits board.now effect.change) }
 {
     let id = id_for(alloc, board, incoming)?;
     let task = entered_task(&incoming.task, id, at)?;
-    let told = AnswerDetail::Added {
+    let detail = AnswerDetail::Added {
         id,
         dropped: incoming.dropped,
     };
-    let step = Step::Push { task };
-    Ok(Effect { step, told })
+    let change = BoardChange::Push { task };
+    Ok(Effect { change, detail })
 }
 
 /// Whether one of these isn't on the board.

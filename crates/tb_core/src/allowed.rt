@@ -2,24 +2,22 @@ ghost use Rattle.std.specs.Prelude.{◌≡◌};
 ghost use Rattle.tb_board.specs.World.{is_owner, may_change};
 ghost use Rattle.tb_core.specs.Allowed.{allows};
 
-use crate::command::Command;
+use crate::command::BoardCommand;
 use tb_board::Role;
 
 /// Whether the role suffices for the command on a board.
-pub fn allows(role: Role, command: &Command) -> bool
+pub fn allows(role: Role, command: &BoardCommand) -> bool
     ensures { result ≡ allows role command.now }
 {
     match command {
-        Command::Add { .. }
-        | Command::OnTask { .. }
-        | Command::Modify { .. }
-        | Command::Depend { .. }
-        | Command::Undepend { .. }
-        | Command::ImportJson { .. }
-        | Command::ImportTodo { .. }
-        | Command::Sweep { .. } => may_change(role),
-        Command::SetRole { .. } | Command::SetAhead { .. } => is_owner_role(role),
-        Command::NewPerson { .. } | Command::NewBoard { .. } => true,
+        BoardCommand::Add { .. }
+        | BoardCommand::OnTask { .. }
+        | BoardCommand::Modify { .. }
+        | BoardCommand::Depend { .. }
+        | BoardCommand::Undepend { .. }
+        | BoardCommand::Import(_)
+        | BoardCommand::Sweep => may_change(role),
+        BoardCommand::SetAhead { .. } => is_owner_role(role),
     }
 }
 

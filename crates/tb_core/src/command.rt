@@ -1,3 +1,6 @@
+ghost use Rattle.std.specs.Prelude.{◌≡◌, option_map};
+ghost use Rattle.tb_core.specs.Apply.{board_of, other_of};
+
 use crate::action::Action;
 use tb_board::{Ahead, Key, Name, Role, Title};
 use tb_import::ImportCounts;
@@ -7,56 +10,6 @@ use tb_values::Items;
 /// What a person asks for.
 #[derive(Drop)]
 pub enum Command {
-    /// Adds a task to a board.
-    Add {
-        board: u32,
-        incoming: Incoming,
-    },
-    /// Does something to one task of a board.
-    OnTask {
-        board: u32,
-        id: TaskId,
-        action: Action,
-    },
-    /// Sets and removes attributes of one task of a board.
-    Modify {
-        board: u32,
-        id: TaskId,
-        /// One after the other. A value of another kind than its attribute's, which no edit has that was read, counts as none.
-        edits: Items<Edit>,
-    },
-    /// Makes a task of a board depend on another one.
-    Depend {
-        board: u32,
-        id: TaskId,
-        on: TaskId,
-    },
-    /// Ends that a task of a board depends on another one.
-    Undepend {
-        board: u32,
-        id: TaskId,
-        on: TaskId,
-    },
-    /// Adds the tasks of a Taskwarrior export, but those that are known.
-    ImportJson {
-        board: u32,
-        tasks: Items<Incoming>,
-    },
-    /// Adds tasks that lines of todo.txt made, but those that are known.
-    ImportTodo {
-        board: u32,
-        tasks: Items<Task>,
-    },
-    /// Lets a board come up to the moment.
-    Sweep {
-        board: u32,
-    },
-    /// Gives a person a role on a board, or takes it.
-    SetRole {
-        board: u32,
-        name: Name,
-        role: Option<Role>,
-    },
     /// Lets a person in.
     NewPerson {
         name: Name,
@@ -66,11 +19,86 @@ pub enum Command {
     NewBoard {
         title: Title,
     },
-    /// Lets a board look so many instances ahead.
-    SetAhead {
+    /// Gives a person a role on a board, or takes it.
+    SetRole {
         board: u32,
+        name: Name,
+        role: Option<Role>,
+    },
+    /// Changes a board and its tasks.
+    OnBoard {
+        board: u32,
+        command: BoardCommand,
+    },
+}
+
+/// What a person asks for on one board.
+#[derive(Drop)]
+pub enum BoardCommand {
+    /// Adds a task.
+    Add {
+        incoming: Incoming,
+    },
+    /// Does something to one task.
+    OnTask {
+        id: TaskId,
+        action: Action,
+    },
+    /// Sets and removes attributes of one task.
+    Modify {
+        id: TaskId,
+        /// One after the other. A value of another kind than its attribute's, which no edit has that was read, counts as none.
+        edits: Items<Edit>,
+    },
+    /// Makes a task depend on another one.
+    Depend {
+        id: TaskId,
+        on: TaskId,
+    },
+    /// Ends that a task depends on another one.
+    Undepend {
+        id: TaskId,
+        on: TaskId,
+    },
+    /// Lets the board look so many instances ahead.
+    SetAhead {
         ahead: Ahead,
     },
+    /// Lets the board come up to the moment.
+    Sweep,
+    /// Adds many tasks, but those that are known.
+    Import(Import),
+}
+
+/// The tasks of an import.
+#[derive(Drop)]
+pub enum Import {
+    /// Of a Taskwarrior export.
+    Json { tasks: Items<Incoming> },
+    /// Made of lines of todo.txt.
+    Todo { tasks: Items<Task> },
+}
+
+impl Command {
+    /// The number of the board that the command names.
+    pub fn board(&self) -> Option<u32>
+        ensures { result ≡ board_of self.now }
+    {
+        match self {
+            Command::SetRole { board, .. } | Command::OnBoard { board, .. } => Some(*board),
+            Command::NewPerson { .. } | Command::NewBoard { .. } => None,
+        }
+    }
+
+    /// The name of the other person whom the command names.
+    pub fn other(&self) -> Option<&Name>
+        ensures { option_map (λ name. name.now) result ≡ other_of self.now }
+    {
+        match self {
+            Command::NewPerson { name, .. } | Command::SetRole { name, .. } => Some(name),
+            Command::NewBoard { .. } | Command::OnBoard { .. } => None,
+        }
+    }
 }
 
 /// What the reply to an accepted command says.
@@ -88,7 +116,7 @@ pub struct BoardAnswer {
     pub board: u32,
     pub added: usize,
     pub more: bool,
-    pub told: AnswerDetail,
+    pub detail: AnswerDetail,
 }
 
 /// What an accepted command on a board tells besides.

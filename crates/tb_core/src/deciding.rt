@@ -1,19 +1,19 @@
-ghost use Rattle.std.specs.Prelude.{◌≡◌, ℕ, [], List, IfErr, IfOk, IfSome, Ok, Err, MatchOption, false};
-ghost use Rattle.tb_core.specs.Apply.{apply, judged, on_board, outcome, role_given, seen_of, IsDecision};
+ghost use Rattle.std.specs.Prelude.{◌≡◌, ℕ, [], List, IfErr, IfOk, IfSome, Ok, Err, MatchOption};
+ghost use Rattle.tb_core.specs.Apply.{apply, judged, judged_tasks, on_board, outcome, role_given, seen_of, IsDecision};
 ghost use Rattle.tb_board.specs.Changing.{Follows, IsDraft};
-ghost use Rattle.tb_core.specs.Effect.{Fits, GivesEffect};
+ghost use Rattle.tb_core.specs.Effect.{GivesPlan, PlanFits, planned};
 ghost use Rattle.tb_core.specs.Refusals.{Fails, Gives};
-ghost use Rattle.tb_core.specs.Deciding.{GivesDraft, GivesOutcome, IsAccepted, IsRefused, TakesAdded, is_import};
+ghost use Rattle.tb_core.specs.Deciding.{GivesDraft, GivesOutcome, IsAccepted, IsRefused, TakesAdded};
 ghost use Rattle.tb_core.specs.Shapes.{AreOfOne};
 ghost use Rattle.tb_core.specs.declared.command.Answer.TheVariants.{OnBoard};
-ghost use Rattle.tb_core.specs.declared.command.Command.TheVariants.{SetRole};
+ghost use Rattle.tb_core.specs.declared.command.Command.TheVariants as command;
 ghost use Rattle.tb_board.specs.declared.world.World.{World};
 
 use crate::action::act;
 use crate::add::{add, add_refusal};
 use crate::allowed::{allows, is_owner_role};
-use crate::command::{Answer, AnswerDetail, BoardAnswer, Command};
-use crate::effect::{Effect, Step};
+use crate::command::{Answer, AnswerDetail, BoardAnswer, BoardCommand, Command, Import};
+use crate::effect::{BoardChange, Effect, Plan};
 use crate::giving::{is_last_owner, role_decision};
 use crate::import_json::import_json;
 use crate::import_todo::import_todo;
@@ -79,26 +79,19 @@ pub fn decide(
         Command::NewPerson { name, key } => decide_person(alloc, seen, name, key),
         Command::NewBoard { title } => decide_board(alloc, seen, title),
         Command::SetRole { role, .. } => decide_role(alloc, seen, *role, at),
-        Command::Add { .. }
-        | Command::OnTask { .. }
-        | Command::Modify { .. }
-        | Command::Depend { .. }
-        | Command::Undepend { .. }
-        | Command::ImportJson { .. }
-        | Command::ImportTodo { .. }
-        | Command::Sweep { .. }
-        | Command::SetAhead { .. } => decide_on_board(alloc, seen, command, at),
+        Command::OnBoard { board, command } => decide_on_board(alloc, seen, *board, command, at),
     }
 }
 
 fn decide_on_board(
     alloc: Global,
     seen: &Seen,
-    command: &Command,
+    board: u32,
+    command: &BoardCommand,
     at: Moment,
 ) -> Result<Decision, AllocError>
     ensures decided { IfOk result
-        (λ d. (w : World) (name : List ℕ) → seen.now ≡ seen_of w name command.now
+        (λ d. (w : World) (name : List ℕ) → seen.now ≡ seen_of w name (command.OnBoard board command.now)
         → IsDecision w d (on_board w seen.now command.now at)) }
     ensures unchanged { IfOk result (λ d. IfErr d.answer (λ refusal. d.changes ≡ [])) }
     ensures shape { IfOk result (λ d. AreOfOne d.changes) }
@@ -127,7 +120,7 @@ fn decide_role(
 ) -> Result<Decision, AllocError>
     ensures decided { IfOk result
         (λ d. (w : World) (name : List ℕ) (n : ℕ) (other : List ℕ)
-        → seen.now ≡ seen_of w name (SetRole n other role)
+        → seen.now ≡ seen_of w name (command.SetRole n other role)
         → IsDecision w d (role_given w seen.now seen.now.caller seen.now.board role at)) }
     ensures unchanged { IfOk result (λ d. IfErr d.answer (λ refusal. d.changes ≡ [])) }
     ensures shape { IfOk result (λ d. AreOfOne d.changes) }
@@ -165,7 +158,7 @@ pub fn refused(alloc: Global, refusal: Refusal) -> Decision
 fn judge_board(
     alloc: Global,
     board: &Board,
-    command: &Command,
+    command: &BoardCommand,
     at: Moment,
 ) -> Result<Accepted, CommandFailure>
     ensures { GivesOutcome board.now command.now at result }
@@ -186,7 +179,7 @@ fn judge_board(
 fn judge_quiet(
     alloc: Global,
     board: &Board,
-    command: &Command,
+    command: &BoardCommand,
     at: Moment,
 ) -> Result<Option<Accepted>, CommandFailure>
     requires { TakesAdded board.now command.now }
@@ -194,23 +187,22 @@ fn judge_quiet(
         (λ found. IfSome found (λ accepted. IsAccepted board.now command.now at accepted)) }
     ensures refused { IfErr result (λ failure. Fails failure (outcome board.now command.now at)) }
 {
-    if is_import(command) {
-        return Ok(None);
-    }
     if !is_quiet(board, at) {
         return Ok(None);
     }
-    let effect = effect_of(alloc, board, command, at)?;
-    if !effect.step.keeps_quiet(board, at) {
+    let Plan::Effect(effect) = plan(alloc, board, command, at)? else {
+        return Ok(None);
+    };
+    if !effect.change.keeps_quiet(board, at) {
         return Ok(None);
     }
-    let Effect { step, told } = effect;
-    let changes = step.into_changes(alloc, board)?;
+    let Effect { change, detail } = effect;
+    let changes = change.into_changes(alloc, board)?;
     let answer = BoardAnswer {
         board: board.number,
         added: 0,
         more: false,
-        told,
+        detail,
     };
     Ok(Some(Accepted { changes, answer }))
 }
@@ -219,7 +211,7 @@ fn judge_quiet(
 fn judge_draft(
     alloc: Global,
     board: &Board,
-    command: &Command,
+    command: &BoardCommand,
     at: Moment,
 ) -> Result<Drafted, CommandFailure>
     requires { TakesAdded board.now command.now }
@@ -228,25 +220,25 @@ fn judge_draft(
 {
     let draft = Draft::of(alloc, board)?;
     let draft = wake_draft(alloc, draft, at)?;
-    let Judged { draft, told } = judge(alloc, draft, command, at)?;
+    let Judged { draft, detail } = judge(alloc, draft, command, at)?;
     let board = draft.board.number;
     let Swept { draft, added, more } = sweep_draft(alloc, draft, at)?;
     let answer = BoardAnswer {
         board,
         added,
         more,
-        told,
+        detail,
     };
     Ok(Drafted { draft, answer })
 }
 
 /// Why a command is refused, where the board needn't wake for it to show.
-fn early_refusal(board: &Board, command: &Command) -> Option<Refusal>
+fn early_refusal(board: &Board, command: &BoardCommand) -> Option<Refusal>
     ensures { MatchOption result (TakesAdded board.now command.now)
         (IsRefused board.now command.now) }
 {
     match command {
-        Command::Add { incoming, .. } => add_refusal(board, incoming),
+        BoardCommand::Add { incoming } => add_refusal(board, incoming),
         _ => None,
     }
 }
@@ -255,84 +247,63 @@ fn early_refusal(board: &Board, command: &Command) -> Option<Refusal>
 fn judge(
     alloc: Global,
     draft: Draft,
-    command: &Command,
+    command: &BoardCommand,
     at: Moment,
 ) -> Result<Judged, CommandFailure>
     requires { TakesAdded draft.board command.now }
     ensures gives { Gives result (judged draft.board command.now at) }
     ensures follows { IfOk result (λ judged. Follows draft judged.draft) }
 {
-    match command {
-        Command::ImportJson { tasks, .. } => import_json(alloc, draft, tasks.as_slice()),
-        Command::ImportTodo { tasks, .. } => import_todo(alloc, draft, tasks.as_slice()),
-        Command::Add { .. }
-        | Command::OnTask { .. }
-        | Command::Modify { .. }
-        | Command::Depend { .. }
-        | Command::Undepend { .. }
-        | Command::Sweep { .. }
-        | Command::SetRole { .. }
-        | Command::NewPerson { .. }
-        | Command::NewBoard { .. }
-        | Command::SetAhead { .. } => judge_one(alloc, draft, command, at),
+    match plan(alloc, &draft.board, command, at)? {
+        Plan::Effect(effect) => Ok(effect.make(alloc, draft)?),
+        Plan::Import(import) => judge_import(alloc, draft, import),
     }
 }
 
-fn judge_one(
-    alloc: Global,
-    draft: Draft,
-    command: &Command,
-    at: Moment,
-) -> Result<Judged, CommandFailure>
-    requires takes { TakesAdded draft.board command.now }
-    requires few { is_import command.now ≡ false }
-    ensures gives { Gives result (judged draft.board command.now at) }
+/// What an import makes of a board that is awake.
+fn judge_import(alloc: Global, draft: Draft, import: &Import) -> Result<Judged, CommandFailure>
+    ensures gives { Gives result (judged_tasks draft.board import.now) }
     ensures follows { IfOk result (λ judged. Follows draft judged.draft) }
 {
-    let effect = effect_of(alloc, &draft.board, command, at)?;
-    Ok(effect.make(alloc, draft)?)
-}
-
-/// What a command that isn't an import makes of a board that is awake.
-fn effect_of(
-    alloc: Global,
-    board: &Board,
-    command: &Command,
-    at: Moment,
-) -> Result<Effect, CommandFailure>
-    requires takes { TakesAdded board.now command.now }
-    requires few { is_import command.now ≡ false }
-    ensures gives { GivesEffect board.now result (judged board.now command.now at) }
-    ensures fits { IfOk result (λ effect. Fits board.now effect.step) }
-{
-    match command {
-        Command::Add { incoming, .. } => add(alloc, board, incoming, at),
-        Command::OnTask { id, action, .. } => act(board, *id, action, at),
-        Command::Modify { id, edits, .. } => modify(alloc, board, *id, edits.as_slice(), at),
-        Command::Depend { id, on, .. } => depend(alloc, board, *id, *on, at),
-        Command::Undepend { id, on, .. } => undepend(board, *id, *on, at),
-        Command::Sweep { .. }
-        | Command::SetRole { .. }
-        | Command::NewPerson { .. }
-        | Command::NewBoard { .. } => Ok(Effect {
-            step: Step::Stay,
-            told: AnswerDetail::Swept,
-        }),
-        Command::SetAhead { ahead, .. } => Ok(Effect {
-            step: Step::LookAhead { ahead: *ahead },
-            told: AnswerDetail::Swept,
-        }),
-        Command::ImportJson { .. } => unreachable!(),
-        Command::ImportTodo { .. } => unreachable!(),
+    match import {
+        Import::Json { tasks } => import_json(alloc, draft, tasks.as_slice()),
+        Import::Todo { tasks } => import_todo(alloc, draft, tasks.as_slice()),
     }
 }
 
-/// Whether the command can change many tasks.
-fn is_import(command: &Command) -> bool
-    ensures { result ≡ is_import command.now }
+/// What a command is to make of a board that is awake.
+fn plan<'c>(
+    alloc: Global,
+    board: &Board,
+    command: &'c BoardCommand,
+    at: Moment,
+) -> Result<Plan<'c>, CommandFailure>
+    requires { TakesAdded board.now command.now }
+    ensures gives { GivesPlan board.now command.now result (judged board.now command.now at) }
+    ensures fits { IfOk result (PlanFits board.now) }
 {
-    matches!(
-        command,
-        Command::ImportJson { .. } | Command::ImportTodo { .. }
-    )
+    match command {
+        BoardCommand::Add { incoming } => planned(add(alloc, board, incoming, at)),
+        BoardCommand::OnTask { id, action } => planned(act(board, *id, action, at)),
+        BoardCommand::Modify { id, edits } => {
+            planned(modify(alloc, board, *id, edits.as_slice(), at))
+        }
+        BoardCommand::Depend { id, on } => planned(depend(alloc, board, *id, *on, at)),
+        BoardCommand::Undepend { id, on } => planned(undepend(board, *id, *on, at)),
+        BoardCommand::SetAhead { ahead } => Ok(Plan::Effect(Effect {
+            change: BoardChange::LookAhead { ahead: *ahead },
+            detail: AnswerDetail::Swept,
+        })),
+        BoardCommand::Sweep => Ok(Plan::Effect(Effect {
+            change: BoardChange::Stay,
+            detail: AnswerDetail::Swept,
+        })),
+        BoardCommand::Import(import) => Ok(Plan::Import(import)),
+    }
+}
+
+fn planned<'c>(effect: Result<Effect, CommandFailure>) -> Result<Plan<'c>, CommandFailure>
+    ensures { result ≡ planned effect }
+{
+    Ok(Plan::Effect(effect?))
 }

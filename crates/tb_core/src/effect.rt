@@ -1,10 +1,10 @@
 ghost use Rattle.std.specs.Prelude.{◌≡◌, ◌∷◌, [], IfOk, IsTrue, slice_set};
 ghost use Rattle.tb_board.specs.Changing.{Follows};
 ghost use Rattle.tb_board.specs.declared.change.Change.TheVariants.{PutTask, SetAhead};
-ghost use Rattle.tb_core.specs.Effect.{after, Fits, IsStill, KeepsQuiet, step_changes};
+ghost use Rattle.tb_core.specs.Effect.{after, Fits, IsStill, KeepsQuiet, changes_by};
 ghost use Rattle.tb_sweep.specs.Quiet.{IsQuiet};
 
-use crate::command::AnswerDetail;
+use crate::command::{AnswerDetail, Import};
 use crate::judged::Judged;
 use std::alloc::{AllocError, Global};
 use tb_board::{Ahead, Board, Change, Draft, has_waited};
@@ -13,7 +13,7 @@ use tb_values::{Items, Shared};
 
 /// How a command changes a board.
 #[derive(Drop)]
-pub enum Step {
+pub enum BoardChange {
     /// Another task stands at this place.
     Set { place: usize, task: Task },
     /// A task goes last.
@@ -27,47 +27,56 @@ pub enum Step {
 /// What an accepted command makes of a board, of which it changes one task at most.
 #[derive(Drop)]
 pub struct Effect {
-    pub step: Step,
-    pub told: AnswerDetail,
+    pub change: BoardChange,
+    pub detail: AnswerDetail,
+}
+
+/// What a command is to make of a board.
+#[derive(Drop)]
+pub enum Plan<'c> {
+    /// One change at most.
+    Effect(Effect),
+    /// What an import adds.
+    Import(&'c Import),
 }
 
 impl Effect {
     /// Makes it on a draft.
     pub fn make(self, alloc: Global, draft: Draft) -> Result<Judged, AllocError>
-        requires { Fits draft.board self.step }
-        ensures board { IfOk result (λ judged. judged.draft.board ≡ after draft.board self.step) }
-        ensures told { IfOk result (λ judged. judged.told ≡ self.told) }
+        requires { Fits draft.board self.change }
+        ensures board { IfOk result (λ judged. judged.draft.board ≡ after draft.board self.change) }
+        ensures detail { IfOk result (λ judged. judged.detail ≡ self.detail) }
         ensures follows { IfOk result (λ judged. Follows draft judged.draft) }
     {
-        let Effect { step, told } = self;
-        let draft = step.make(alloc, draft)?;
-        Ok(Judged { draft, told })
+        let Effect { change, detail } = self;
+        let draft = change.make(alloc, draft)?;
+        Ok(Judged { draft, detail })
     }
 }
 
-impl Step {
+impl BoardChange {
     fn make(self, alloc: Global, draft: Draft) -> Result<Draft, AllocError>
         requires { Fits draft.board self }
         ensures board { IfOk result (λ later. later.board ≡ after draft.board self) }
         ensures follows { IfOk result (Follows draft) }
     {
         match self {
-            Step::Set { place, task } => draft.set(alloc, place, task),
-            Step::Push { task } => draft.push(alloc, task),
-            Step::Stay => Ok(draft),
-            Step::LookAhead { ahead } => draft.set_ahead(ahead),
+            BoardChange::Set { place, task } => draft.set(alloc, place, task),
+            BoardChange::Push { task } => draft.push(alloc, task),
+            BoardChange::Stay => Ok(draft),
+            BoardChange::LookAhead { ahead } => draft.set_ahead(ahead),
         }
     }
 
     /// The changes by which it is made on a board.
     pub fn into_changes(self, alloc: Global, board: &Board) -> Result<Items<Change>, AllocError>
-        ensures { IfOk result (λ changes. changes ≡ step_changes board.now self) }
+        ensures { IfOk result (λ changes. changes ≡ changes_by board.now self) }
     {
         match self {
-            Step::Set { place, task } => one_change(alloc, board.number, place, task),
-            Step::Push { task } => one_change(alloc, board.number, board.tasks.len(), task),
-            Step::Stay => Ok(Items::new(alloc)),
-            Step::LookAhead { ahead } => ahead_change(alloc, board.number, ahead),
+            BoardChange::Set { place, task } => one_change(alloc, board.number, place, task),
+            BoardChange::Push { task } => one_change(alloc, board.number, board.tasks.len(), task),
+            BoardChange::Stay => Ok(Items::new(alloc)),
+            BoardChange::LookAhead { ahead } => ahead_change(alloc, board.number, ahead),
         }
     }
 
@@ -76,10 +85,10 @@ impl Step {
         ensures { IsTrue result → KeepsQuiet at board.now self.now }
     {
         match self {
-            Step::Set { place, task } => keeps_quiet_at(board, *place, task, at),
-            Step::Push { task } => is_still(task, at),
-            Step::Stay => true,
-            Step::LookAhead { .. } => false,
+            BoardChange::Set { place, task } => keeps_quiet_at(board, *place, task, at),
+            BoardChange::Push { task } => is_still(task, at),
+            BoardChange::Stay => true,
+            BoardChange::LookAhead { .. } => false,
         }
     }
 }

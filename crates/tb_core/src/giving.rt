@@ -44,7 +44,7 @@ pub fn role_decision(
         board: board.number,
         added,
         more,
-        told: AnswerDetail::Swept,
+        detail: AnswerDetail::Swept,
     };
     let mut changes = draft.into_changes();
     changes.push(Change::SetRole {

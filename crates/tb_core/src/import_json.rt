@@ -23,7 +23,7 @@ pub fn import_json(
     match import_tasks(alloc, draft, tasks) {
         Ok(Imported { draft, counts }) => Ok(Judged {
             draft,
-            told: AnswerDetail::Imported(counts),
+            detail: AnswerDetail::Imported(counts),
         }),
         Err(ImportFailure::Refused(refusal)) => Err(CommandFailure::Refused(refusal_from(refusal))),
         Err(ImportFailure::Memory) => Err(CommandFailure::Memory),

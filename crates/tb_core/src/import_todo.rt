@@ -28,12 +28,12 @@ pub fn import_todo(alloc: Global, draft: Draft, tasks: &[Task]) -> Result<Judged
     if draft.board.tasks.len().saturating_add(new.len()) > MOST_TASKS {
         return Err(CommandFailure::Refused(Refusal::Full));
     }
-    let told = AnswerDetail::TodoImported {
+    let detail = AnswerDetail::TodoImported {
         known: tasks.len().saturating_sub(new.len()),
         new: new.len(),
     };
     let draft = push_all(alloc, draft, &new)?;
-    Ok(Judged { draft, told })
+    Ok(Judged { draft, detail })
 }
 
 /// The first task with a fault, known or not.

@@ -7,7 +7,7 @@ use tb_board::Draft;
 #[derive(Drop)]
 pub struct Judged {
     pub draft: Draft,
-    pub told: AnswerDetail,
+    pub detail: AnswerDetail,
 }
 
 /// Why a command failed: it is refused, or memory ran out.

@@ -26,7 +26,7 @@ mod transitions;
 
 pub use action::Action;
 pub use add::lacks_one;
-pub use command::{Answer, AnswerDetail, BoardAnswer, Command};
+pub use command::{Answer, AnswerDetail, BoardAnswer, BoardCommand, Command, Import};
 pub use deciding::{Decision, decide};
 pub use look::{Seen, SeenBoard, SeenPerson, look_for};
 pub use refusal::Refusal;

@@ -11,7 +11,7 @@ ghost use Rattle.tb_core.specs.declared.refusal.Refusal.{Refusal};
 ghost use Rattle.tb_board.specs.declared.board.Board.{Board};
 
 use crate::command::AnswerDetail;
-use crate::effect::{Effect, Step};
+use crate::effect::{BoardChange, Effect};
 use crate::judged::CommandFailure;
 use crate::refusal::Refusal;
 use std::alloc::{AllocError, Global};
@@ -28,7 +28,7 @@ pub fn depend(
     at: Moment,
 ) -> Result<Effect, CommandFailure>
     ensures gives { GivesEffect board.now result (judged_depend board.now id on at) }
-    ensures fits { IfOk result (λ effect. Fits board.now effect.step) }
+    ensures fits { IfOk result (λ effect. Fits board.now effect.change) }
 {
     let place = place_to_link(board, id, on)?;
     let task = board.task_at(place);
@@ -37,21 +37,21 @@ pub fn depend(
     }
     if is_linked_to(task, on) {
         return Ok(Effect {
-            step: Step::Stay,
-            told: AnswerDetail::Changed { id },
+            change: BoardChange::Stay,
+            detail: AnswerDetail::Changed { id },
         });
     }
     let task = linked_task(task, on, at)?;
     Ok(Effect {
-        step: Step::Set { place, task },
-        told: AnswerDetail::Changed { id },
+        change: BoardChange::Set { place, task },
+        detail: AnswerDetail::Changed { id },
     })
 }
 
 /// A task depends no more on another one, on a board that is awake.
 pub fn undepend(board: &Board, id: TaskId, on: TaskId, at: Moment) -> Result<Effect, CommandFailure>
     ensures gives { GivesEffect board.now result (judged_undepend board.now id on at) }
-    ensures fits { IfOk result (λ effect. Fits board.now effect.step) }
+    ensures fits { IfOk result (λ effect. Fits board.now effect.change) }
 {
     let place = place_to_link(board, id, on)?;
     let task = board.task_at(place);
@@ -60,8 +60,8 @@ pub fn undepend(board: &Board, id: TaskId, on: TaskId, at: Moment) -> Result<Eff
     }
     let task = unlinked_task(task, on, at)?;
     Ok(Effect {
-        step: Step::Set { place, task },
-        told: AnswerDetail::Changed { id },
+        change: BoardChange::Set { place, task },
+        detail: AnswerDetail::Changed { id },
     })
 }
 
@@ -69,8 +69,8 @@ pub fn undepend(board: &Board, id: TaskId, on: TaskId, at: Moment) -> Result<Eff
 fn place_to_link(board: &Board, id: TaskId, on: TaskId) -> Result<usize, CommandFailure>
     ensures place { IfOk result (IsPlaceToLink board.now id on) }
     ensures refused { IfErr result
-        (λ failure. (last : Option Refusal) (later : Board) (told : AnswerDetail)
-        → Fails failure (unless_refused (least (link_refusals board.now id on last)) later told)) }
+        (λ failure. (last : Option Refusal) (later : Board) (detail : AnswerDetail)
+        → Fails failure (unless_refused (least (link_refusals board.now id on last)) later detail)) }
 {
     let Some(place) = board.tasks.place_of(id) else {
         return Err(CommandFailure::Refused(Refusal::NoTask));

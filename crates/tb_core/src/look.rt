@@ -41,22 +41,14 @@ pub fn look_for(world: &World, name: &Name, command: &Command) -> Result<Seen, A
     ensures { IfOk result (λ seen. seen ≡ seen_of world.now name.now command.now) }
 {
     match command {
-        Command::Add { board, .. }
-        | Command::OnTask { board, .. }
-        | Command::Modify { board, .. }
-        | Command::Depend { board, .. }
-        | Command::Undepend { board, .. }
-        | Command::ImportJson { board, .. }
-        | Command::ImportTodo { board, .. }
-        | Command::Sweep { board }
-        | Command::SetAhead { board, .. } => look_at_board(world, name, *board),
+        Command::NewPerson { name: other, .. } => Ok(look_at_people(world, name, other)),
+        Command::NewBoard { .. } => Ok(look_at_counts(world, name)),
         Command::SetRole {
             board,
             name: other,
             ..
         } => look_at_person(world, name, *board, other),
-        Command::NewPerson { name: other, .. } => Ok(look_at_people(world, name, other)),
-        Command::NewBoard { .. } => Ok(look_at_counts(world, name)),
+        Command::OnBoard { board, .. } => look_at_board(world, name, *board),
     }
 }
 

@@ -4,7 +4,7 @@ ghost use Rattle.tb_core.specs.Modify.{is_fixed, is_misplaced, judged_modify};
 
 use crate::command::AnswerDetail;
 use crate::edits::{is_named, modified_task};
-use crate::effect::{Effect, Step};
+use crate::effect::{BoardChange, Effect};
 use crate::judged::CommandFailure;
 use crate::refusal::Refusal;
 use std::alloc::Global;
@@ -20,7 +20,7 @@ pub fn modify(
     at: Moment,
 ) -> Result<Effect, CommandFailure>
     ensures gives { GivesEffect board.now result (judged_modify board.now id edits.now at) }
-    ensures fits { IfOk result (λ effect. Fits board.now effect.step) }
+    ensures fits { IfOk result (λ effect. Fits board.now effect.change) }
 {
     let Some(place) = board.tasks.place_of(id) else {
         return Err(CommandFailure::Refused(Refusal::NoTask));
@@ -40,8 +40,8 @@ pub fn modify(
         return Err(CommandFailure::Refused(Refusal::TemplateFixed));
     }
     Ok(Effect {
-        step: Step::Set { place, task: later },
-        told: AnswerDetail::Changed { id },
+        change: BoardChange::Set { place, task: later },
+        detail: AnswerDetail::Changed { id },
     })
 }
 

@@ -15,7 +15,7 @@ ghost use Rattle.tb_desk.specs.Viewing.{export_text, one_text, people_shown, see
 use std::alloc::{AllocError, Global};
 use tb_board::{Board, Key, Name};
 use tb_calls::{Keep, KeepFault, View};
-use tb_core::{Command, Refusal, SeenBoard};
+use tb_core::{BoardCommand, Command, Refusal, SeenBoard};
 use tb_json::{write_task, write_tasks};
 use tb_reply::{PersonRole, Reply, reply_to_refused, write_me, write_people};
 use tb_report::{listing, shown, shown_task};
@@ -109,7 +109,11 @@ pub(crate) fn see<K: Keep>(
     ensures failed { K.has_failed keep.new ≡ is_store result }
     ensures closed { K.has_failed keep.old ≡ true → IsErrOf result Store }
 {
-    let seen = keep.look(alloc, name, &Command::Sweep { board })?;
+    let command = Command::OnBoard {
+        board,
+        command: BoardCommand::Sweep,
+    };
+    let seen = keep.look(alloc, name, &command)?;
     Ok(seen.board)
 }
 

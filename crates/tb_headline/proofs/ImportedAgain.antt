@@ -30,7 +30,8 @@ use Rattle.tb_import.proofs.Templates.{shape}
 use Rattle.tb_core.specs.declared.command.Answer.{Answer}
 use Rattle.tb_core.specs.declared.command.Answer.TheVariants.{OnBoard, NewPerson, NewBoard}
 use Rattle.tb_core.specs.declared.command.BoardAnswer.{BoardAnswer}
-use Rattle.tb_core.specs.declared.command.Command.TheVariants.{ImportJson}
+use Rattle.tb_core.specs.declared.command.BoardCommand.TheVariants.{Import}
+use Rattle.tb_core.specs.declared.command.Import.TheVariants.{Json}
 use Rattle.tb_core.specs.declared.command.AnswerDetail.TheVariants.{Imported}
 use Rattle.tb_core.specs.declared.refusal.Refusal.{Refusal}
 use Rattle.tb_core.specs.Apply.{answered, applied, apply, board_answer, board_for, decided, if_allowed, outcome, seen_with}
@@ -38,7 +39,7 @@ use Rattle.tb_core.specs.GoodWorld.{IsGoodWorld}
 use Rattle.tb_core.specs.ImportJson.{judged_import_json, told_of}
 use Rattle.tb_core.proofs.GoodWorlds.{all-found}
 use Rattle.tb_core.proofs.Stays.{stays_good}
-use Rattle.tb_headline.specs.ImportAgain.{known_answer, ImportJsonAgain}
+use Rattle.tb_headline.specs.ImportAgain.{json_import, known_answer, ImportJsonAgain}
 
 abbrev known_counts : List Incoming → ImportCounts
 known_counts is = record { known = length is; new = 0; dropped = 0; orphans = 0; unlinked = 0 }
@@ -107,9 +108,9 @@ answered_again y is m same none =
     rw (same, none, added) refl
 
 -- the same import on the board that it made
-outcome_again : (x : Board) (n : ℕ) (is : List Incoming) (m : ℕ) (y : Board) (a : BoardAnswer) → IsGood y
-    → outcome x (ImportJson n is) m ≡ Ok (y, a) → a.more ≡ false → outcome y (ImportJson n is) m ≡ Ok (y, known_answer a.board is)
-outcome_again x n is m y a good h enough =
+outcome_again : (x : Board) (is : List Incoming) (m : ℕ) (y : Board) (a : BoardAnswer) → IsGood y
+    → outcome x (Import (Json is)) m ≡ Ok (y, a) → a.more ≡ false → outcome y (Import (Json is)) m ≡ Ok (y, known_answer a.board is)
+outcome_again x is m y a good h enough =
     let b = wake x m in
     let v = board_after b is in
     let told = taken (least (import_refusals b is)) v (counts_after b is) m y a h in
@@ -123,8 +124,8 @@ outcome_again x n is m y a good h enough =
     ∙ answered_again y is m same (told.more_left ∙ enough)
     ∙ ap (λ k. Ok (y, known_answer k is)) told.number
 
-number_kept : (x : Board) (n : ℕ) (is : List Incoming) (m : ℕ) (y : Board) (a : BoardAnswer) → outcome x (ImportJson n is) m ≡ Ok (y, a) → y.number ≡ x.number
-number_kept x n is m y a h =
+number_kept : (x : Board) (is : List Incoming) (m : ℕ) (y : Board) (a : BoardAnswer) → outcome x (Import (Json is)) m ≡ Ok (y, a) → y.number ≡ x.number
+number_kept x is m y a h =
     let b = wake x m in
     let told = taken (least (import_refusals b is)) (board_after b is) (counts_after b is) m y a h in
     let new = new_tasks b is in
@@ -156,17 +157,17 @@ answer_on a (Ok (NewBoard n)) = a
 answer_on a (Err refusal) = a
 
 abbrev IsKnownAgain : List ℕ → ℕ → List Incoming → ℕ → BoardAnswer → World → Type 0
-IsKnownAgain name n is m a later = apply later name (ImportJson n is) m ≡ record { world = later; answer = Ok (OnBoard (known_answer a.board is)) }
+IsKnownAgain name n is m a later = apply later name (json_import n is) m ≡ record { world = later; answer = Ok (OnBoard (known_answer a.board is)) }
 
 again_at : (w : World) (name : List ℕ) (n : ℕ) (is : List Incoming) (m : ℕ) (a : BoardAnswer) (caller : ℕ) (role : Role) (x y : Board)
     → IsGoodWorld (record w { boards = change_board y.number (λ _. y) w.boards })
     → number_of w name ≡ Some caller → role_of w n caller ≡ Some role → find_board w n ≡ Some x → may_change role ≡ true
-    → outcome x (ImportJson n is) m ≡ Ok (y, a) → a.more ≡ false
+    → outcome x (Import (Json is)) m ≡ Ok (y, a) → a.more ≡ false
     → IsKnownAgain name n is m a (record w { boards = change_board y.number (λ _. y) w.boards })
 again_at w name n is m a caller role x y good known own found allowed gives enough =
     let later : World = record w { boards = change_board y.number (λ _. y) w.boards } in
-    let c = ImportJson n is in
-    let number : y.number ≡ n = number_kept x n is m y a gives ∙ number_found n w.boards x found in
+    let c = Import (Json is) in
+    let number : y.number ≡ n = number_kept x is m y a gives ∙ number_found n w.boards x found in
     let there : find_board later n ≡ Some y =
     subst (λ k. find (has_number n) (change_board k (λ _. y) w.boards) ≡ Some y) (sym number) (found_put n y w.boards x number found) in
     let good_board = all-found IsGood (has_number n) later.boards y good.good there in
@@ -174,13 +175,13 @@ again_at w name n is m a caller role x y good known own found allowed gives enou
     ∙ ap (λ r. applied later (decided (Some caller) (seen_with r (find_board later n)) c m)) own
     ∙ ap (λ o. applied later (decided (Some caller) (seen_with (Some role) o) c m)) there
     ∙ ap (λ q. applied later (if_allowed q (outcome y c m))) allowed
-    ∙ ap (applied later) (outcome_again x n is m y a good_board gives enough)
+    ∙ ap (applied later) (outcome_again x is m y a good_board gives enough)
     ∙ ap (λ bs. record { world = record later { boards = bs }; answer = Ok (OnBoard (known_answer a.board is)) }) (put_twice y.number y w.boards refl)
 
 again_outcome : (w : World) (name : List ℕ) (n : ℕ) (is : List Incoming) (m : ℕ) (a : BoardAnswer) (caller : ℕ) (role : Role) (x : Board)
     (r : Result (Board × BoardAnswer) Refusal) → IsGoodWorld (applied w r).world
     → number_of w name ≡ Some caller → role_of w n caller ≡ Some role → find_board w n ≡ Some x → may_change role ≡ true
-    → outcome x (ImportJson n is) m ≡ r
+    → outcome x (Import (Json is)) m ≡ r
     → (applied w r).answer ≡ Ok (OnBoard a) → a.more ≡ false → IsKnownAgain name n is m a (applied w r).world
 again_outcome w name n is m a caller role x (Err refusal) good known own found allowed gives h enough = absurd (cc)
 again_outcome w name n is m a caller role x (Ok r) good known own found allowed gives h enough =
@@ -188,32 +189,32 @@ again_outcome w name n is m a caller role x (Ok r) good known own found allowed 
     again_at w name n is m a caller role x r.0 good known own found allowed (gives ∙ ap (λ b. Ok (r.0, b)) told) enough
 
 again_allowed : (w : World) (name : List ℕ) (n : ℕ) (is : List Incoming) (m : ℕ) (a : BoardAnswer) (caller : ℕ) (role : Role) (x : Board)
-    (allowed : Bool) → IsGoodWorld (applied w (if_allowed allowed (outcome x (ImportJson n is) m))).world
+    (allowed : Bool) → IsGoodWorld (applied w (if_allowed allowed (outcome x (Import (Json is)) m))).world
     → number_of w name ≡ Some caller → role_of w n caller ≡ Some role → find_board w n ≡ Some x → may_change role ≡ allowed
-    → (applied w (if_allowed allowed (outcome x (ImportJson n is) m))).answer ≡ Ok (OnBoard a) → a.more ≡ false
-    → IsKnownAgain name n is m a (applied w (if_allowed allowed (outcome x (ImportJson n is) m))).world
+    → (applied w (if_allowed allowed (outcome x (Import (Json is)) m))).answer ≡ Ok (OnBoard a) → a.more ≡ false
+    → IsKnownAgain name n is m a (applied w (if_allowed allowed (outcome x (Import (Json is)) m))).world
 again_allowed w name n is m a caller role x true good known own found allowed h enough =
-    again_outcome w name n is m a caller role x (outcome x (ImportJson n is) m) good known own found allowed refl h enough
+    again_outcome w name n is m a caller role x (outcome x (Import (Json is)) m) good known own found allowed refl h enough
 again_allowed w name n is m a caller role x false good known own found refused h enough = absurd (cc)
 
 again_seen : (w : World) (name : List ℕ) (n : ℕ) (is : List Incoming) (m : ℕ) (a : BoardAnswer) (caller : ℕ) (role : Option Role) (o : Option Board)
-    → IsGoodWorld (applied w (decided (Some caller) (seen_with role o) (ImportJson n is) m)).world
+    → IsGoodWorld (applied w (decided (Some caller) (seen_with role o) (Import (Json is)) m)).world
     → number_of w name ≡ Some caller → role_of w n caller ≡ role → find_board w n ≡ o
-    → (applied w (decided (Some caller) (seen_with role o) (ImportJson n is) m)).answer ≡ Ok (OnBoard a) → a.more ≡ false
-    → IsKnownAgain name n is m a (applied w (decided (Some caller) (seen_with role o) (ImportJson n is) m)).world
+    → (applied w (decided (Some caller) (seen_with role o) (Import (Json is)) m)).answer ≡ Ok (OnBoard a) → a.more ≡ false
+    → IsKnownAgain name n is m a (applied w (decided (Some caller) (seen_with role o) (Import (Json is)) m)).world
 again_seen w name n is m a caller None o good known own found h enough = absurd (cc)
 again_seen w name n is m a caller (Some role) None good known own found h enough = absurd (cc)
 again_seen w name n is m a caller (Some role) (Some x) good known own found h enough =
     again_allowed w name n is m a caller role x (may_change role) good known own found refl h enough
 
 again_by : (w : World) (name : List ℕ) (n : ℕ) (is : List Incoming) (m : ℕ) (a : BoardAnswer) (caller : Option ℕ)
-    → IsGoodWorld (applied w (decided caller (board_for w caller (Some n)) (ImportJson n is) m)).world → number_of w name ≡ caller
-    → (applied w (decided caller (board_for w caller (Some n)) (ImportJson n is) m)).answer ≡ Ok (OnBoard a) → a.more ≡ false
-    → IsKnownAgain name n is m a (applied w (decided caller (board_for w caller (Some n)) (ImportJson n is) m)).world
+    → IsGoodWorld (applied w (decided caller (board_for w caller (Some n)) (Import (Json is)) m)).world → number_of w name ≡ caller
+    → (applied w (decided caller (board_for w caller (Some n)) (Import (Json is)) m)).answer ≡ Ok (OnBoard a) → a.more ≡ false
+    → IsKnownAgain name n is m a (applied w (decided caller (board_for w caller (Some n)) (Import (Json is)) m)).world
 again_by w name n is m a None good known h enough = absurd (cc)
 again_by w name n is m a (Some caller) good known h enough =
     again_seen w name n is m a caller (role_of w n caller) (find_board w n) good known refl refl h enough
 
 pub json_again : ImportJsonAgain
 json_again w name n is m a good h enough =
-    again_by w name n is m a (number_of w name) (stays_good w name (ImportJson n is) m good) refl h enough
+    again_by w name n is m a (number_of w name) (stays_good w name (json_import n is) m good) refl h enough

@@ -27,13 +27,14 @@ use Rattle.tb_task.specs.declared.task.Annotation.{Annotation}
 use Rattle.tb_json.specs.Annotations.{annotation_form, annotations_of, annotations_form}
 use Rattle.tb_json.specs.Attribute.{unless_blank, optional, moment_form, id_form, text_form, status_form, priority_form}
 use Rattle.tb_json.specs.Extras.{value_form, extra_form, extras_of}
-use Rattle.tb_json.specs.Lists.{texts_of, with_texts, ids_of, with_ids, tags_form, depends_form}
+use Rattle.tb_json.specs.Lists.{texts_of, ids_of, with_ids, tags_form, depends_form}
+use Rattle.tb_values.specs.Texts.{with_texts}
 use Rattle.tb_json.specs.Numbers.{imask_form, small}
 use Rattle.tb_json.specs.Writing.{moment_data, id_data, status_data, priority_data, imask_data, items_of_texts, texts_data, items_of_ids, ids_data, annotation_data, items_of_annotations, annotations_data, value_data, with_fields, extra_fields}
 use Rattle.tb_json.proofs.ExtraSteps.{names_of}
 use Rattle.tb_json.proofs.Names.{names}
 use Rattle.tb_json.proofs.ReadBack.{joined, joined-nothing, joined-joined, put_last, sorted_on}
-use Rattle.tb_json.proofs.TextLists.{text_cmp}
+use Rattle.tb_values.proofs.TextSets.{text_cmp}
 
 -- a value that was written under a name, as reading is given it
 abbrev pub given_again : Option Data → Option Data

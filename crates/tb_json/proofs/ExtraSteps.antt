@@ -13,7 +13,7 @@ use Rattle.tb_task.specs.declared.extra.Extra.{Extra}
 use Rattle.tb_task.specs.declared.extra.ExtraValue.{ExtraValue}
 use Rattle.tb_json.specs.Extras.{extra_form, before, extras_of, one_if_none, one_more_if_none, dropped_of, capped, put_extra, with_extra, with_member, dropped_with}
 use Rattle.tb_json.proofs.Names.{names, below_later, ordered_without}
-use Rattle.tb_json.proofs.TextLists.{text_cmp}
+use Rattle.tb_values.proofs.TextSets.{text_cmp}
 
 abbrev pub names_of : List Extra → List (List ℕ)
 names_of es = map (λ e. e.name) es

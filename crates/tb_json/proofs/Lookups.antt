@@ -12,7 +12,7 @@ use Rattle.tb_task.specs.Storable.{IsStorableExtra}
 use Rattle.tb_task.specs.declared.extra.Extra.{Extra}
 use Rattle.tb_json.specs.Extras.{extras_of}
 use Rattle.tb_json.specs.Writing.{Field, with_field, with_fields, value_data, extra_fields}
-use Rattle.tb_json.proofs.TextLists.{text_cmp}
+use Rattle.tb_values.proofs.TextSets.{text_cmp}
 
 abbrev pub or_else : Option Data → Option Data → Option Data
 or_else None base = base

@@ -3,7 +3,7 @@ use Rattle.std.proofs.Common.{◌≡◌, ℕ, List, [], ◌∷◌, ◌++◌, Les
 use Rattle.std.specs.List.{AllByRecursion}
 use Rattle.std.specs.List.Sorted.{IsStrictlySortedBy}
 use Rattle.serde_json.specs.Data.{Members, no_members, member}
-use Rattle.tb_json.proofs.TextLists.{text_cmp}
+use Rattle.tb_values.proofs.TextSets.{text_cmp}
 
 abbrev pub names : Members → List (List ℕ)
 names no_members = []

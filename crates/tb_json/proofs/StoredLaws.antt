@@ -16,7 +16,7 @@ use Rattle.tb_json.specs.Stored.{stored_text, stored_of}
 use Rattle.tb_json.specs.Writing.{Field, with_field, with_fields, imask_data, items_of_texts, texts_data, items_of_ids, ids_data, annotation_data, items_of_annotations, annotations_data, value_data, extra_fields, early_fields, middle_fields, late_fields, members_of, task_json}
 use Rattle.tb_json.proofs.Names.{names}
 use Rattle.tb_json.proofs.ReadBack.{IsPlain, ItemsArePlain, MembersArePlain, sorted_put, plain_put, depth_put, read-compact_text}
-use Rattle.tb_json.proofs.TextLists.{text_cmp}
+use Rattle.tb_values.proofs.TextSets.{text_cmp}
 use Rattle.tb_json.proofs.Trip.{task_found}
 
 -- the members can be written and read again

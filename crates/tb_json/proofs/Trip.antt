@@ -27,7 +27,7 @@ use Rattle.tb_json.specs.declared.fields.FieldsToWait.{FieldsToWait}
 use Rattle.tb_json.proofs.Again.{moment_again, id_again, text_again, status_again, priority_again, imask_again, tags_again, depends_again, annotations_again, unless_none, unwrap_unless, in_order, extras-in_order, extras_again}
 use Rattle.tb_json.proofs.ExtraSteps.{names_of}
 use Rattle.tb_json.proofs.Lookups.{or_else, value_in, fields_at, or_nothing, extras_at, AreAttributes, extras-with_fields}
-use Rattle.tb_json.proofs.TextLists.{text_cmp}
+use Rattle.tb_values.proofs.TextSets.{text_cmp}
 
 -- all the attributes that a stored text may have
 abbrev attribute_fields : Task → List Field

@@ -2,11 +2,11 @@
 use Rattle.std.specs.Prelude.{ℕ, ◌==◌, List, [], ◌∷◌, ◌++◌, length, nat_lt, Option, Some, None, option_map, option_and_then}
 use Rattle.std.specs.List.{slice_split, filter}
 use Rattle.std.specs.Ordering.{nat_cmp}
-use Rattle.std.specs.Cmp.Lexicographic.{slice_cmp}
 use Rattle.std.specs.BTreeSet.{insert_key}
 use Rattle.serde_json.specs.Data.{Data, null, boolean, number, string, array, object, Items, no_items, item}
 use Rattle.serde_json.specs.Find.{as_str}
 use Rattle.tb_task.specs.TaskId.{read_id}
+use Rattle.tb_values.specs.Texts.{with_texts}
 
 -- the texts of an array after those found: something other than a text is wrong
 abbrev pub texts_of : List (List ℕ) → Items → Option (List (List ℕ))
@@ -20,11 +20,6 @@ parts_of text = slice_split (λ b. b == 44) text
 -- the parts that aren't empty
 abbrev pub filled : List (List ℕ) → List (List ℕ)
 filled parts = filter (λ part. nat_lt 0 (length part)) parts
-
--- texts go in one after another, each at its place in byte order unless it is there
-abbrev pub with_texts : List (List ℕ) → List (List ℕ) → List (List ℕ)
-with_texts found [] = found
-with_texts found (text ∷ texts) = with_texts (insert_key (slice_cmp nat_cmp) found text) texts
 
 -- the identifiers of texts after those found: a text of another form is wrong
 abbrev pub ids_of : List ℕ → List (List ℕ) → Option (List ℕ)

@@ -7,8 +7,9 @@ ghost use Rattle.std.specs.Cmp.Lexicographic.{slice_cmp};
 ghost use Rattle.std.specs.Ordering.{nat_cmp};
 ghost use Rattle.serde_json.specs.View.{view, items_view};
 ghost use Rattle.tb_json.specs.Attribute.{attribute};
-ghost use Rattle.tb_json.specs.Lists.{texts_of as all_texts, parts_of as parts, filled, with_texts, ids_of as all_ids, with_ids, tags_form, depends_form};
+ghost use Rattle.tb_json.specs.Lists.{texts_of as all_texts, parts_of as parts, filled, ids_of as all_ids, with_ids, tags_form, depends_form};
 ghost use Rattle.tb_json.specs.Outcome.{Reads};
+ghost use Rattle.tb_values.specs.Texts.{with_texts};
 
 use crate::attribute::given;
 use crate::fault::{JsonFault, bad_field};
@@ -16,7 +17,7 @@ use serde_json::Value;
 use std::alloc::{AllocError, Global};
 use std::collections::BTreeSet;
 use tb_task::TaskId;
-use tb_values::{Items, Ordered, Text};
+use tb_values::{Items, Ordered, Text, TextSet};
 
 /// The texts of an array, or nothing where it has something else.
 fn texts_of<'v>(alloc: Global, list: &'v Vec<Value>) -> Result<Option<Vec<&'v str>>, AllocError>
@@ -48,45 +49,15 @@ fn filled_parts(alloc: Global, text: &str) -> Result<Vec<&str>, AllocError>
     text.split(',').filter(|part| part.len() > 0).collect(alloc)
 }
 
-/// Puts the text at its place in byte order, unless it is there.
-fn add_text(alloc: Global, set: &mut BTreeSet<String>, text: &str) -> Result<(), AllocError>
-    ensures { OnOk result
-        (map string_bytes set.new.keys
-        ≡ insert_key (slice_cmp nat_cmp) (map string_bytes set.old.keys) text.now) }
-{
-    set.insert(String::from_str(alloc, text)?)?;
-    Ok(())
-}
-
-fn set_of(alloc: Global, texts: &[&str]) -> Result<BTreeSet<String>, AllocError>
-    ensures { IfOk result
-        (λ set. map string_bytes set.keys ≡ with_texts [] (map (λ text. text.now) texts.now)) }
-{
-    let mut set = BTreeSet::new(alloc);
-    for text in texts {
-        add_text(alloc, &mut set, text)?;
-    }
-    Ok(set)
-}
-
-/// The texts of a set, which are in byte order.
-fn listed(alloc: Global, set: BTreeSet<String>) -> Result<Items<Text>, AllocError>
-    ensures texts { IfOk result (λ list. list ≡ map string_bytes set.keys) }
-    ensures increasing { IfOk result (λ list. IsStrictlySortedBy (slice_cmp nat_cmp) list) }
-{
-    let mut list = Items::new(alloc);
-    for text in set {
-        list.push(Text::from_string(text))?;
-    }
-    Ok(list)
-}
-
 /// The texts in byte order, each once.
 fn ordered_texts(alloc: Global, texts: &[&str]) -> Result<Ordered<Text>, AllocError>
     ensures { IfOk result (λ list. list ≡ with_texts [] (map (λ text. text.now) texts.now)) }
 {
-    let list = listed(alloc, set_of(alloc, texts)?)?;
-    Ok(Ordered::from_increasing(list))
+    let mut set = TextSet::new(alloc);
+    for text in texts {
+        set.insert(alloc, text)?;
+    }
+    set.into_ordered(alloc)
 }
 
 fn ids_of(alloc: Global, texts: &[&str]) -> Result<Option<Vec<TaskId>>, AllocError>

@@ -1,5 +1,5 @@
 -- Changes that have their forms leave a world that has.
-use Rattle.std.proofs.Common.{◌≡◌, ℕ, suc, zero, Bool, true, false, cond, List, [], ◌∷◌, ◌++◌, Some, None, refl, length}
+use Rattle.std.proofs.Common.{ℕ, suc, zero, Bool, true, false, cond, List, [], ◌∷◌, ◌++◌, refl, length}
 use Rattle.std.specs.Prelude.{nat_lt, slice_set, filter}
 use Rattle.std.specs.List.{AllByRecursion}
 use Rattle.tb_task.specs.declared.task.Task.{Task}
@@ -11,7 +11,6 @@ use Rattle.tb_board.specs.declared.change.Change.{Change}
 use Rattle.tb_board.specs.declared.change.Change.TheVariants.{PutTask, AddPerson, AddBoard, SetRole, SetGone, TakeGone, SetAhead}
 use Rattle.tb_board.specs.declared.world.World.{World}
 use Rattle.tb_board.specs.Changing.{changed, changed_by, change_board, put, with_ahead, with_gone, with_task_at, without_gone}
-use Rattle.tb_board.specs.Names.{is_key, is_name, is_title, read_key, read_name, read_title}
 use Rattle.tb_reopen.specs.Forms.{HasBoardForm, HasForm, HasMark, HasPersonForm, HasTaskForm}
 use Rattle.tb_keeper.specs.Forms.{HasChangeForm}
 
@@ -28,20 +27,6 @@ storable_form t storable = record {
     named : (es : List Extra) → AllByRecursion IsStorableExtra es → AllByRecursion IsNamedExtra es
     named [] all = tt
     named (e ∷ es) all = (record { named = all.0.named; value = all.0.value }, named es all.1)
-
--- what reads as a name, a key or a title has its form
-some_only : {X : Type 0} (b : Bool) (x y : X) → Some y ≡ cond b (Some x) None → b ≡ true
-some_only true x y some = refl
-some_only false x y some = absurd (cc)
-
-pub name_read : (text found : List ℕ) → Some found ≡ read_name text → is_name text ≡ true
-name_read text found some = some_only (is_name text) text found some
-
-pub key_read : (text found : List ℕ) → Some found ≡ read_key text → is_key text ≡ true
-key_read text found some = some_only (is_key text) text found some
-
-pub title_read : (text found : List ℕ) → Some found ≡ read_title text → is_title text ≡ true
-title_read text found some = some_only (is_title text) text found some
 
 all_pushed : {X : Type 0} (P : X → Type 0) (xs : List X) (x : X) → AllByRecursion P xs → P x → AllByRecursion P (xs ++ x ∷ [])
 all_pushed P [] x all last = (last, tt)

@@ -32,13 +32,14 @@ use tb_sql_tables::rows::KeptRow;
 use tb_values::{Duplicate, Items, Shared};
 
 /// Values have the forms of their types, and the tasks of a good world are taken.
-pub(crate) fn hold_to_forms(alloc: Global, changes: &[Change]) -> Result<(), StoreFault>
+pub(crate) fn hold_to_forms(changes: &[Change]) -> Result<(), StoreFault>
     ensures ok { OnOk result (AllByRecursion HasChangeForm changes.now) }
     ensures err { OnErr result (result ≡ Err StoreFault.Memory) }
 {
-    match have_forms(alloc, changes) {
-        Ok(true) => Ok(()),
-        Ok(false) | Err(_) => Err(StoreFault::Memory),
+    if have_forms(changes) {
+        Ok(())
+    } else {
+        Err(StoreFault::Memory)
     }
 }
 

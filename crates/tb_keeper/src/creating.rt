@@ -9,7 +9,6 @@ ghost use Rattle.tb_stored.specs.Stored.{AreRowsOf};
 ghost use Rattle.tb_stored.specs.Migrating.{IsEmptyOrStored};
 ghost use Rattle.tb_keeper.specs.Holds.{Holds};
 
-use crate::forms::{is_key_read, is_name_read};
 use crate::sql_keep::SqlKeep;
 use sqlite::{Alter, Connection};
 use std::alloc::{AllocError, Global};
@@ -93,13 +92,7 @@ fn first_state(alloc: Global, name: &Name, key: &Key) -> Result<First, AllocErro
     rows_are_apart();
     let rows = opening_rows(alloc, name, key)?;
     let cache = BoardCache::new(alloc)?;
-    let named = is_name_read(alloc, name)?;
-    let keyed = is_key_read(alloc, key)?;
-    if !named {
-        return Err(AllocError); // Never: a name has the form of its type.
-    }
-    if !keyed {
-        return Err(AllocError);
-    }
+    name.has_form();
+    key.has_form();
     Ok(First { rows, cache })
 }

@@ -11,7 +11,6 @@ ghost use Rattle.tb_stored.specs.Stored.{AreOldRowsOf};
 ghost use Rattle.tb_stored.specs.Migrating.{IsEmptyOrStoredOld, IsStoredOld};
 
 use crate::creating::CreateFault;
-use crate::forms::{is_key_read, is_name_read};
 use sqlite::{Alter, Connection};
 use std::alloc::{AllocError, Global};
 use tb_board::{Key, Name};
@@ -60,13 +59,7 @@ fn first_rows(alloc: Global, name: &Name, key: &Key) -> Result<FirstRows, AllocE
 {
     rows_are_apart();
     let first = FirstRows::of(alloc, name, key)?;
-    let named = is_name_read(alloc, name)?;
-    let keyed = is_key_read(alloc, key)?;
-    if !named {
-        return Err(AllocError); // Never: a name has the form of its type.
-    }
-    if !keyed {
-        return Err(AllocError);
-    }
+    name.has_form();
+    key.has_form();
     Ok(first)
 }

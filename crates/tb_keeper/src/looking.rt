@@ -134,7 +134,7 @@ pub(crate) fn look_up<S: Alter>(
         return Err(StoreFault::Store);
     }
     let parties = find_parties(alloc, conn, name, command)?;
-    match board_of(command) {
+    match command.board() {
         Some(board) => glance_at(alloc, conn, cache, board, parties),
         None => Ok(Glance {
             caller: parties.caller,
@@ -174,7 +174,7 @@ fn find_other<S: Alter>(
         (λ s. number ≡ number_for s.world (other_of command.now))) }
     ensures same { IsAsBefore (state S.Store conn.old) (state S.Store conn.new) }
 {
-    match other_of(command) {
+    match command.other() {
         Some(name) => find_number(alloc, conn, name),
         None => Ok(None),
     }
@@ -268,34 +268,5 @@ fn seen_person(number: Option<usize>, role: Option<Role>) -> Option<SeenPerson>
     match number {
         Some(number) => Some(SeenPerson { number, role }),
         None => None,
-    }
-}
-
-/// The board that a command names.
-fn board_of(command: &Command) -> Option<u32>
-    ensures { result ≡ board_of command.now }
-{
-    match command {
-        Command::Add { board, .. }
-        | Command::OnTask { board, .. }
-        | Command::Modify { board, .. }
-        | Command::Depend { board, .. }
-        | Command::Undepend { board, .. }
-        | Command::ImportJson { board, .. }
-        | Command::ImportTodo { board, .. }
-        | Command::Sweep { board }
-        | Command::SetRole { board, .. }
-        | Command::SetAhead { board, .. } => Some(*board),
-        Command::NewPerson { .. } | Command::NewBoard { .. } => None,
-    }
-}
-
-/// The other person whom a command names.
-fn other_of(command: &Command) -> Option<&Name>
-    ensures { option_map (λ name. name.now) result ≡ other_of command.now }
-{
-    match command {
-        Command::SetRole { name, .. } | Command::NewPerson { name, .. } => Some(name),
-        _ => None,
     }
 }

@@ -55,7 +55,7 @@ impl<S: Alter> SqlKeep<S> {
         if !self.conn.is_autocommit() {
             return Err(StoreFault::Store); // Never: each call ends its transaction.
         }
-        hold_to_forms(alloc, changes)?;
+        hold_to_forms(changes)?;
         let rows = rows_for(alloc, &mut self.conn, &mut self.cache, self.people, changes)?;
         let kept = kept_row_for(alloc, &mut self.conn, call, reply)?;
         write_rows(&mut self.conn, rows.as_slice(), &kept)

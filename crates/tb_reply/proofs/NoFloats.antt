@@ -8,7 +8,7 @@ use Rattle.tb_core.specs.declared.command.BoardAnswer.{BoardAnswer}
 use Rattle.tb_import.specs.declared.imported.ImportCounts.{ImportCounts}
 use Rattle.tb_core.specs.declared.command.AnswerDetail.{AnswerDetail}
 use Rattle.tb_core.specs.declared.command.AnswerDetail.TheVariants.{Added, Changed, Imported, TodoImported, Swept}
-use Rattle.tb_reply.specs.Bodies.{added_body, answer_body, changed_body, swept_body, imported_body, todo_imported_body, told_body}
+use Rattle.tb_reply.specs.Bodies.{added_body, answer_body, changed_body, swept_body, imported_body, todo_imported_body, detail_body}
 
 added_without_float : (a : BoardAnswer) (uuid : List ℕ) (dropped : ℕ) → has_float (added_body a uuid dropped) ≡ false
 unfolding added_body
@@ -30,14 +30,14 @@ swept_without_float : (a : BoardAnswer) → has_float (swept_body a) ≡ false
 unfolding swept_body
 swept_without_float a = refl
 
-told_without_float : (a : BoardAnswer) (told : AnswerDetail) → has_float (told_body a told) ≡ false
-told_without_float a (Added id dropped) = added_without_float a (id_text id) dropped
-told_without_float a (Changed id) = changed_without_float a (id_text id)
-told_without_float a (Imported counts) = imported_without_float a counts
-told_without_float a (TodoImported known new) = todo_imported_without_float a known new
-told_without_float a Swept = swept_without_float a
+detail_without_float : (a : BoardAnswer) (detail : AnswerDetail) → has_float (detail_body a detail) ≡ false
+detail_without_float a (Added id dropped) = added_without_float a (id_text id) dropped
+detail_without_float a (Changed id) = changed_without_float a (id_text id)
+detail_without_float a (Imported counts) = imported_without_float a counts
+detail_without_float a (TodoImported known new) = todo_imported_without_float a known new
+detail_without_float a Swept = swept_without_float a
 
 pub answer_without_float : (a : Answer) → has_float (answer_body a) ≡ false
-answer_without_float (OnBoard a) = told_without_float a a.told
+answer_without_float (OnBoard a) = detail_without_float a a.detail
 answer_without_float (NewPerson name) = refl
 answer_without_float (NewBoard n) = refl

@@ -134,12 +134,12 @@ swept_body a = object
     (member (codes "board") (number (unsigned a.board))
     (member (codes "more") (boolean a.more) no_members)))
 
-abbrev pub told_body : BoardAnswer → AnswerDetail → Data
-told_body a (Added id dropped) = added_body a (id_text id) dropped
-told_body a (Changed id) = changed_body a (id_text id)
-told_body a (Imported counts) = imported_body a counts
-told_body a (TodoImported known new) = todo_imported_body a known new
-told_body a Swept = swept_body a
+abbrev pub detail_body : BoardAnswer → AnswerDetail → Data
+detail_body a (Added id dropped) = added_body a (id_text id) dropped
+detail_body a (Changed id) = changed_body a (id_text id)
+detail_body a (Imported counts) = imported_body a counts
+detail_body a (TodoImported known new) = todo_imported_body a known new
+detail_body a Swept = swept_body a
 
 abbrev pub person_body : List ℕ → Data
 person_body name = object (member (codes "person") (string name) no_members)
@@ -148,6 +148,6 @@ abbrev pub board_body : ℕ → Data
 board_body n = object (member (codes "board") (number (unsigned n)) no_members)
 
 abbrev pub answer_body : Answer → Data
-answer_body (OnBoard a) = told_body a a.told
+answer_body (OnBoard a) = detail_body a a.detail
 answer_body (NewPerson name) = person_body name
 answer_body (NewBoard n) = board_body n

@@ -3,7 +3,7 @@ ghost use Rattle.std.specs.Prelude.{◌≡◌, IfOk};
 ghost use Rattle.std.specs.Option.{option_map};
 ghost use Rattle.serde_json.specs.View.{view};
 ghost use Rattle.tb_task.specs.TaskId.{id_text};
-ghost use Rattle.tb_reply.specs.Bodies.{added_body, answer_body, board_body, changed_body, field_name, person_body, refusal_body, refusal_name, refused_field, refused_place, swept_body, imported_body, todo_imported_body, told_body};
+ghost use Rattle.tb_reply.specs.Bodies.{added_body, answer_body, board_body, changed_body, field_name, person_body, refusal_body, refusal_name, refused_field, refused_place, swept_body, imported_body, todo_imported_body, detail_body};
 
 use serde_json::{Value, json};
 use std::alloc::{AllocError, Global};
@@ -30,7 +30,7 @@ pub(crate) fn body_of_answer(alloc: Global, answer: &Answer) -> Result<Value, Al
     ensures { IfOk result (λ body. view body ≡ answer_body answer.now) }
 {
     match answer {
-        Answer::OnBoard(answer) => body_on_board(alloc, answer, &answer.told),
+        Answer::OnBoard(answer) => body_on_board(alloc, answer, &answer.detail),
         Answer::NewPerson { name } => body_of_person(alloc, name),
         Answer::NewBoard { board } => body_of_board(alloc, *board),
     }
@@ -52,11 +52,11 @@ fn body_of_board(alloc: Global, board: u32) -> Result<Value, AllocError>
 fn body_on_board(
     alloc: Global,
     answer: &BoardAnswer,
-    told: &AnswerDetail,
+    detail: &AnswerDetail,
 ) -> Result<Value, AllocError>
-    ensures { IfOk result (λ body. view body ≡ told_body answer.now told.now) }
+    ensures { IfOk result (λ body. view body ≡ detail_body answer.now detail.now) }
 {
-    match told {
+    match detail {
         AnswerDetail::Added { id, dropped } => body_of_added(alloc, answer, *id, *dropped),
         AnswerDetail::Changed { id } => body_of_changed(alloc, answer, *id),
         AnswerDetail::Imported(counts) => body_of_import(alloc, answer, *counts),

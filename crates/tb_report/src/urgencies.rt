@@ -15,6 +15,24 @@ const SECONDS_BEFORE_DUE: u64 = 1_209_600;
 /// It counts most from a week after it on.
 const MOST_SECONDS: u64 = 1_814_400;
 
+/// What a due date counts two weeks before it, in parts: 2.4 units.
+const LEAST_DUE_PARTS: u64 = 264_902_400;
+
+/// What each second after that adds.
+const DUE_PARTS_A_SECOND: u64 = 584;
+
+/// 3.9 units.
+const MEDIUM_PRIORITY_PARTS: u64 = 430_466_400;
+
+/// 1.8 units.
+const LOW_PRIORITY_PARTS: u64 = 198_676_800;
+
+/// What one note, or one tag, counts: 0.8 units.
+const ONE_COUNTS: u64 = 88_300_800;
+
+/// What two count: 0.9 units.
+const TWO_COUNT: u64 = 99_338_400;
+
 /// The urgency of the task at a place of the board at a moment, in parts. Places of a board count from 1. It takes no memory.
 pub fn urgency(board: &Board, place: usize, at: Moment) -> i64
     requires from_one { 1 ≤ place }
@@ -114,7 +132,7 @@ fn due_parts_of(due: Option<Moment>, at: Moment) -> u64
         return 0;
     };
     let seconds = (at.seconds() + SECONDS_BEFORE_DUE).saturating_sub(due.seconds());
-    seconds.min(MOST_SECONDS) * 584 + 264_902_400
+    seconds.min(MOST_SECONDS) * DUE_PARTS_A_SECOND + LEAST_DUE_PARTS
 }
 
 fn priority_parts_of(priority: Option<Priority>) -> u64
@@ -124,8 +142,8 @@ fn priority_parts_of(priority: Option<Priority>) -> u64
     match priority {
         None => 0,
         Some(Priority::High) => 6 * URGENCY_UNIT,
-        Some(Priority::Medium) => 430_466_400,
-        Some(Priority::Low) => 198_676_800,
+        Some(Priority::Medium) => MEDIUM_PRIORITY_PARTS,
+        Some(Priority::Low) => LOW_PRIORITY_PARTS,
     }
 }
 
@@ -153,8 +171,8 @@ fn count_parts_of(count: usize) -> u64
 {
     match count {
         0 => 0,
-        1 => 88_300_800,
-        2 => 99_338_400,
+        1 => ONE_COUNTS,
+        2 => TWO_COUNT,
         _ => URGENCY_UNIT,
     }
 }

@@ -103,7 +103,7 @@ fn checked_rows(
     if people <= MOST_PEOPLE && is_small(part) {
         return rows_of_part(alloc, people, part, changes);
     }
-    Ok(Items::new(alloc))
+    Err(AllocError) // Never: no good world has more people or tasks, so nothing is committed.
 }
 
 fn is_small(part: &Option<BoardPart>) -> bool

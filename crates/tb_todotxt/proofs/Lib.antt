@@ -6,4 +6,3 @@ pub mod Readings
 pub mod Signs
 pub mod TaskLines
 pub mod FileLines
-pub mod TagLists

@@ -24,4 +24,5 @@ pub use line::{Line, LineParts};
 pub use making::to_task;
 pub use reading::{lines_are_read, lines_are_spelled, one_spelling, read_line, write_line};
 pub use showing::from_task;
+pub use words::{id_in, words_of};
 pub use writing::write_file;

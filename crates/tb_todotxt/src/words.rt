@@ -27,7 +27,7 @@ fn filled_parts(alloc: Global, text: &str) -> Result<Vec<&str>, AllocError>
 }
 
 /// The runs of a text without space and tab.
-fn words_of(alloc: Global, text: &str) -> Result<Vec<&str>, AllocError>
+pub fn words_of(alloc: Global, text: &str) -> Result<Vec<&str>, AllocError>
     ensures { IfOk result (λ v. map (λ word. word.now) v.items ≡ all_words text.now) }
 {
     let parts = parts_of(alloc, text)?;
@@ -81,7 +81,8 @@ fn due_in(word: &str) -> Option<Day>
     Day::read(word.strip_prefix("due:")?)
 }
 
-fn id_in(word: &str) -> Option<TaskId>
+/// The identifier of a word that is `uuid:` with one after it.
+pub fn id_in(word: &str) -> Option<TaskId>
     ensures { result ≡ named_in word.now }
 {
     TaskId::read(word.strip_prefix("uuid:")?)

@@ -5,7 +5,7 @@ use Rattle.tb_core.proofs.deciding.judge_quiet.Goals as goal
 pub returns-clause-gives : goal.returns-clause-gives
 returns-clause-gives c =
     rw c.in_ok-changes.ensures
-    (quiet_accepts c.args.board.now c.args.command.now c.args.at c.in_ok-effect.effect.step c.in_ok-effect.effect.told
+    (quiet_accepts c.args.board.now c.args.command.now c.args.at c.in_ok-effect.effect.change c.in_ok-effect.effect.detail
     (c.is_quiet.ensures c.if-not-is_quiet.false) (c.keeps_quiet.ensures c.if-not-keeps_quiet.false (c.is_quiet.ensures c.if-not-is_quiet.false)) c.in_ok-effect.ensures.fits c.in_ok-effect.ensures.gives)
 
 pub returns-in_err-effect-clause-refused : goal.returns-in_err-effect-clause-refused

@@ -13,7 +13,7 @@ returns-in-Some-clause-found g c =
     let old = state g.S.Store c.args.conn.now in
     let mid = state g.S.Store c.find_parties.new.conn in
     let new = state g.S.Store c.glance_at.new.conn in
-    let on = sym c.board_of.ensures ∙ c.in-Some.is in
+    let on = sym c.board.ensures ∙ c.in-Some.is in
     IfOk-weaker c.glance_at.result (λ glance. OfState mid new (λ s. AreOf s.world c.args.cache.now.entries → IsGlanceAt s.world c.in-Some.board c.in_ok-parties.parties glance))
     (λ glance. OfState old new (λ s. AreOf s.world c.args.cache.now.entries → IsGlance s.world c.args.name.now c.args.command.now glance))
     (λ glance found clean s stored are.
@@ -27,9 +27,9 @@ returns-in-Some-clause-cached g c clean s stored are =
 
 pub returns-in-None-clause-found : goal.returns-in-None-clause-found
 returns-in-None-clause-found g c clean s stored are =
-    glance_off s.world c.args.name.now c.args.command.now c.in_ok-parties.parties c.seen_person.result (sym c.board_of.ensures ∙ c.in-None.is) (c.in_ok-parties.ensures.found clean s stored) c.seen_person.ensures
+    glance_off s.world c.args.name.now c.args.command.now c.in_ok-parties.parties c.seen_person.result (sym c.board.ensures ∙ c.in-None.is) (c.in_ok-parties.ensures.found clean s stored) c.seen_person.ensures
 
 pub returns-in-Some-clause-at_hand : goal.returns-in-Some-clause-at_hand
 returns-in-Some-clause-at_hand g c =
-    let on = sym c.board_of.ensures ∙ c.in-Some.is in
+    let on = sym c.board.ensures ∙ c.in-Some.is in
     IfOk-weaker c.glance_at.result _ _ (λ glance at n other. seen_under c.glance_at.new.cache.entries _ c.in-Some.board glance.board on at n other) c.glance_at.ensures.at_hand

@@ -1,7 +1,7 @@
-use Rattle.tb_core.proofs.deciding.effect_of.Goals as goal
+use Rattle.tb_core.proofs.deciding.plan.Goals as goal
 
 pub add-requires : goal.add-requires
-add-requires c = c.requires.takes _ _ c.in-Add.is
+add-requires c = c.requires _ c.in-Add.is
 
 pub returns-in-OnTask-clause-gives : goal.returns-in-OnTask-clause-gives
 returns-in-OnTask-clause-gives c = rw c.in-OnTask.is c.act.ensures.gives

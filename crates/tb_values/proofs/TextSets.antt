@@ -1,4 +1,4 @@
--- Sets of tags as lists of texts.
+-- Sets of `String`s as lists of texts.
 use Rattle.std.proofs.Common.{◌≡◌, ℕ, List, [], ◌∷◌, map, String, Global, Ordering, Less, Equal, Greater, string_bytes, string_cmp, nat_cmp, refl, ◌∙◌}
 use Rattle.std.specs.BTreeSet.{insert_key}
 use Rattle.std.specs.Cmp.Lexicographic.{slice_cmp}
@@ -18,7 +18,6 @@ bytes_of-match_ordering Less a b c = refl
 bytes_of-match_ordering Equal a b c = refl
 bytes_of-match_ordering Greater a b c = refl
 
--- a set of `String`s, as a list of texts
 pub bytes_of-insert_key : (ks : List (String Global)) (k : String Global) → bytes_of (insert_key string_cmp ks k) ≡ insert_key text_cmp (bytes_of ks) (string_bytes k)
 bytes_of-insert_key [] k = refl
 bytes_of-insert_key (x ∷ ks) k = bytes_of-match_ordering (string_cmp k x) _ _ _ ∙ rw (bytes_of-insert_key ks k)

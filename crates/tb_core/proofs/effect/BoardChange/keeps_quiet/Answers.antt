@@ -1,5 +1,5 @@
 use Rattle.tb_sweep.proofs.QuietBoards.{quiet_push}
-use Rattle.tb_core.proofs.effect.Step.keeps_quiet.Goals as goal
+use Rattle.tb_core.proofs.effect.BoardChange.keeps_quiet.Goals as goal
 
 pub returns-in-Push : goal.returns-in-Push
 returns-in-Push c so quiet =
