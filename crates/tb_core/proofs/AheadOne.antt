@@ -36,7 +36,7 @@ use Rattle.tb_core.specs.declared.look.Seen.{Seen}
 use Rattle.tb_core.specs.declared.refusal.Refusal.{Refusal}
 use Rattle.tb_core.specs.Action.{action_refusals}
 use Rattle.tb_core.specs.Add.{add_refusals}
-use Rattle.tb_core.specs.AheadOne.{answers_by, is_first_command, is_first_role, world_by, AheadOne, IsFirstWorld, IsNoReader, LooksOne}
+use Rattle.tb_core.specs.AheadOne.{answers_by, is_first_command, is_first_role, leaves_ahead, world_by, AheadOne, IsFirstWorld, IsNoReader, LooksOne}
 use Rattle.tb_core.specs.Allowed.{allows}
 use Rattle.tb_core.specs.Apply.{answered, applied, apply, board_answer, board_for, decided, if_allowed, judged, outcome, role_answer, role_given, role_refusals, seen_of, seen_with, with_role}
 use Rattle.tb_core.specs.AtOnce.{answer_at_once, answered_at_once, apply_at_once, decided_at_once, outcome_at_once, role_at_once}

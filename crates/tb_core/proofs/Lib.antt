@@ -14,6 +14,7 @@ pub mod GoodWorlds
 pub mod Importing
 pub mod Modifying
 pub mod Opening
+pub mod Planning
 pub mod Quiet
 pub mod RoleDecisions
 pub mod Shapes

@@ -6,7 +6,7 @@ ghost use Rattle.tb_core.specs.Refusals.{Fails, Gives};
 ghost use Rattle.tb_core.specs.Deciding.{GivesDraft, GivesOutcome, IsAccepted, IsRefused, TakesAdded};
 ghost use Rattle.tb_core.specs.Shapes.{AreOfOne};
 ghost use Rattle.tb_core.specs.declared.command.Answer.TheVariants.{OnBoard};
-ghost use Rattle.tb_core.specs.declared.command.Command.TheVariants as command;
+ghost use Rattle.tb_core.specs.declared.command.Command.TheVariants as Commands;
 ghost use Rattle.tb_board.specs.declared.world.World.{World};
 
 use crate::action::act;
@@ -91,7 +91,7 @@ fn decide_on_board(
     at: Moment,
 ) -> Result<Decision, AllocError>
     ensures decided { IfOk result
-        (λ d. (w : World) (name : List ℕ) → seen.now ≡ seen_of w name (command.OnBoard board command.now)
+        (λ d. (w : World) (name : List ℕ) → seen.now ≡ seen_of w name (Commands.OnBoard board command.now)
         → IsDecision w d (on_board w seen.now command.now at)) }
     ensures unchanged { IfOk result (λ d. IfErr d.answer (λ refusal. d.changes ≡ [])) }
     ensures shape { IfOk result (λ d. AreOfOne d.changes) }
@@ -120,7 +120,7 @@ fn decide_role(
 ) -> Result<Decision, AllocError>
     ensures decided { IfOk result
         (λ d. (w : World) (name : List ℕ) (n : ℕ) (other : List ℕ)
-        → seen.now ≡ seen_of w name (command.SetRole n other role)
+        → seen.now ≡ seen_of w name (Commands.SetRole n other role)
         → IsDecision w d (role_given w seen.now seen.now.caller seen.now.board role at)) }
     ensures unchanged { IfOk result (λ d. IfErr d.answer (λ refusal. d.changes ≡ [])) }
     ensures shape { IfOk result (λ d. AreOfOne d.changes) }
@@ -272,6 +272,7 @@ fn judge_import(alloc: Global, draft: Draft, import: &Import) -> Result<Judged, 
 }
 
 /// What a command is to make of a board that is awake.
+#[tactic(auto, using(crate::proofs::Planning::planned_gives, crate::proofs::Planning::planned_fits))]
 fn plan<'c>(
     alloc: Global,
     board: &Board,

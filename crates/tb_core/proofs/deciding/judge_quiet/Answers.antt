@@ -4,9 +4,11 @@ use Rattle.tb_core.proofs.deciding.judge_quiet.Goals as goal
 
 pub returns-clause-gives : goal.returns-clause-gives
 returns-clause-gives c =
+    let gives = rw c.in-Effect.is at c.in_ok-effect.ensures.gives in
+    let fits = rw c.in-Effect.is at c.in_ok-effect.ensures.fits in
     rw c.in_ok-changes.ensures
-    (quiet_accepts c.args.board.now c.args.command.now c.args.at c.in_ok-effect.effect.change c.in_ok-effect.effect.detail
-    (c.is_quiet.ensures c.if-not-is_quiet.false) (c.keeps_quiet.ensures c.if-not-keeps_quiet.false (c.is_quiet.ensures c.if-not-is_quiet.false)) c.in_ok-effect.ensures.fits c.in_ok-effect.ensures.gives)
+    (quiet_accepts c.args.board.now c.args.command.now c.args.at c.in-Effect.effect.change c.in-Effect.effect.detail
+    (c.is_quiet.ensures c.if-not-is_quiet.false) (c.keeps_quiet.ensures c.if-not-keeps_quiet.false (c.is_quiet.ensures c.if-not-is_quiet.false)) fits gives)
 
 pub returns-in_err-effect-clause-refused : goal.returns-in_err-effect-clause-refused
 returns-in_err-effect-clause-refused c =
