@@ -92,6 +92,10 @@ done
 echo '<p>Hi</p>' >page/index.html
 ends 1 "taskboard: NoPage" serve other.db --port "$port" --page page
 rm page/64.js
+# A folder, a link and a pipe are passed over, so that the files are still 64.
+mkdir page/folder.js
+ln -s index.html page/link.html
+mkfifo page/pipe.js
 timeout 120 "$program" serve other.db --port "$port" --connections 1 --page page 2>/dev/null &
 server=$!
 expect "a page of 64 files" '<p>Hi</p>' "$(send GET / '')"

@@ -3,7 +3,7 @@ use Rattle.std.specs.Prelude.{ℕ, ◌==◌, Bool, true, false, ◌||◌, if◌t
 use Rattle.tb_http.specs.declared.answer.ContentType.{ContentType}
 use Rattle.tb_http.specs.declared.answer.ContentType.TheVariants.{Json, PlainText, File}
 use Rattle.tb_http.specs.declared.answer.MediaType.{MediaType}
-use Rattle.tb_http.specs.declared.answer.MediaType.TheVariants.{Html, Css, JavaScript, Svg, Png, Icon}
+use Rattle.tb_http.specs.declared.answer.MediaType.TheVariants.{Html, Css, JavaScript, Svg, Png, Icon, Manifest}
 use Rattle.tb_http.specs.declared.answer.Answer.{Answer}
 use Rattle.tb_http.specs.declared.route.Verb.{Verb}
 use Rattle.tb_http.specs.declared.fault.WireFault.{WireFault}
@@ -46,18 +46,19 @@ media_text JavaScript = codes "text/javascript; charset=utf-8"
 media_text Svg = codes "image/svg+xml"
 media_text Png = codes "image/png"
 media_text Icon = codes "image/x-icon"
+media_text Manifest = codes "application/manifest+json"
 
 abbrev pub type_text : ContentType → List ℕ
 type_text Json = codes "application/json"
 type_text PlainText = codes "text/plain; charset=utf-8"
 type_text (File media) = media_text media
 
--- what a browser may do with a file of a page (Content Security Policy Level 3): its scripts, styles and pictures are files of the
--- page too, none of them stands within it, it talks to this server alone, and no other page shows it within itself
+-- what a browser may do with a file of a page (Content Security Policy Level 3): its scripts, styles, pictures and manifest are files
+-- of the page too, none of them stands within it, it talks to this server alone, and no other page shows it within itself
 unfoldable pub content_policy : List ℕ
 content_policy =
     codes
-    "default-src 'none'; script-src 'self'; style-src 'self'; img-src 'self'; connect-src 'self'; base-uri 'none'; form-action 'none'; frame-ancestors 'none'"
+    "default-src 'none'; script-src 'self'; style-src 'self'; img-src 'self'; connect-src 'self'; manifest-src 'self'; base-uri 'none'; form-action 'none'; frame-ancestors 'none'"
 
 -- the lines that the answer to a file of a page has beside the others; other answers have none of them
 abbrev pub policy_lines : ContentType → List ℕ

@@ -19,6 +19,7 @@ pub enum MediaType {
     Svg,
     Png,
     Icon,
+    Manifest,
 }
 
 /// What a body is.
@@ -46,10 +47,10 @@ pub struct Answer {
 // The longest head is shorter.
 const HEAD_ROOM: usize = 1024;
 
-// What a browser may do with a file of a page: its scripts, styles and pictures are files of the page too, it talks to this server
-// alone, and no other page shows it within itself.
+// What a browser may do with a file of a page: its scripts, styles, pictures and manifest are files of the page too, it talks to
+// this server alone, and no other page shows it within itself.
 const CONTENT_POLICY: &str =
-    "default-src 'none'; script-src 'self'; style-src 'self'; img-src 'self'; connect-src 'self'; base-uri 'none'; form-action 'none'; frame-ancestors 'none'";
+    "default-src 'none'; script-src 'self'; style-src 'self'; img-src 'self'; connect-src 'self'; manifest-src 'self'; base-uri 'none'; form-action 'none'; frame-ancestors 'none'";
 
 // The phrase of a status that the server answers.
 #[tactic(auto, unfolding(crate::specs::Answer::phrase_of))]
@@ -161,6 +162,7 @@ fn media_name(media: MediaType) -> &'static str
         MediaType::Svg => "image/svg+xml",
         MediaType::Png => "image/png",
         MediaType::Icon => "image/x-icon",
+        MediaType::Manifest => "application/manifest+json",
     }
 }
 

@@ -3,7 +3,7 @@ use Rattle.std.specs.Prelude.{◌≡◌, ℕ, ◌-◌, ◌==◌, Bool, true, fal
 use Rattle.std.specs.List.{ends_with, list_all}
 use Rattle.tb_values.specs.Outcome.{Gives, ◌>>=◌}
 use Rattle.tb_http.specs.declared.answer.MediaType.{MediaType}
-use Rattle.tb_http.specs.declared.answer.MediaType.TheVariants.{Html, Css, JavaScript, Svg, Png, Icon}
+use Rattle.tb_http.specs.declared.answer.MediaType.TheVariants.{Html, Css, JavaScript, Svg, Png, Icon, Manifest}
 use Rattle.tb_site.specs.declared.fault.PageFault.{PageFault}
 use Rattle.tb_site.specs.declared.fault.PageFault.TheVariants.{TooManyFiles, TooLarge, NoIndex, Unreadable, Memory}
 use Rattle.tb_site.specs.declared.page.Draft.{Draft}
@@ -30,7 +30,8 @@ media_by_ending name =
     else (if has_ending name (codes ".svg") then Some Svg
     else (if has_ending name (codes ".png") then Some Png
     else (if has_ending name (codes ".ico") then Some Icon
-    else None)))))
+    else (if has_ending name (codes ".webmanifest") then Some Manifest
+    else None))))))
 
 -- what a file of this name is, if a page has it; others are passed over
 abbrev pub media_of : List ℕ → Option MediaType

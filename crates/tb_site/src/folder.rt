@@ -19,7 +19,7 @@ fn fault_of(error: Error) -> PageFault
     }
 }
 
-// The name of an entry, if a page has a file of that name.
+// The name of an entry that is a file itself, and no link to one, if a page has a file of that name.
 fn name_of(rt: &HostRuntime, entry: io::Result<DirEntry>) -> Result<Option<Text>, PageFault>
     ensures { IfErr result (λ fault. is_of_disk fault ≡ true) }
 {
@@ -31,7 +31,11 @@ fn name_of(rt: &HostRuntime, entry: io::Result<DirEntry>) -> Result<Option<Text>
     if media_of(name).is_none() {
         return Ok(None);
     }
-    Ok(Some(Text::from_str(rt.alloc(), name)?))
+    match entry.file_type() {
+        Ok(kind) if kind.is_file() => Ok(Some(Text::from_str(rt.alloc(), name)?)),
+        Ok(_) => Ok(None),
+        Err(error) => Err(fault_of(error)),
+    }
 }
 
 // The names of the files in a folder that a page has, of so many at most.

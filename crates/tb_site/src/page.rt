@@ -69,6 +69,8 @@ fn media_by_ending(name: &str) -> Option<MediaType>
         Some(MediaType::Png)
     } else if has_ending(name, ".ico") {
         Some(MediaType::Icon)
+    } else if has_ending(name, ".webmanifest") {
+        Some(MediaType::Manifest)
     } else {
         None
     }
