@@ -3,10 +3,15 @@ use Rattle.std.specs.Prelude.{ℕ, List, Option, Some, None, Result, Ok, Err, op
 use Rattle.tb_values.specs.Outcome.{◌>>=◌}
 use Rattle.tb_board.specs.Names.{read_key, read_name}
 use Rattle.tb_core.specs.declared.command.Command.{Command}
-use Rattle.tb_body.specs.Reading.{text_in}
+use Rattle.tb_asking.specs.Bodies.{text_in}
 use Rattle.tb_calls.specs.declared.view.View.{View}
+use Rattle.tb_calls.specs.declared.view.View.TheVariants as view
+use Rattle.tb_http.specs.declared.kind.BoardView.{BoardView}
+use Rattle.tb_http.specs.declared.kind.BoardView.TheVariants.{List as ListTasks, Export, Todo, People}
 use Rattle.tb_http.specs.declared.message.Message.{Message}
+use Rattle.tb_http.specs.declared.resource.CallTarget.{CallTarget}
 use Rattle.tb_http.specs.declared.resource.Resource.{Resource}
+use Rattle.tb_http.specs.declared.resource.Resource.TheVariants as resource
 use Rattle.tb_http.specs.declared.resource.RouteFault.{RouteFault}
 use Rattle.tb_http.specs.Message.{content_of}
 use Rattle.tb_http.specs.Resource.{resource_asked}
@@ -14,13 +19,9 @@ use Rattle.tb_http.specs.Sender.{key_of, member_of, request_id_of}
 use Rattle.tb_asking.specs.declared.asked.Asked.{Asked}
 use Rattle.tb_asking.specs.declared.asked.Asked.TheVariants as asked
 use Rattle.tb_asking.specs.declared.asked.Sender.{Sender}
-use Rattle.tb_asking.specs.declared.form.Form.{Form}
-use Rattle.tb_asking.specs.declared.form.Target.{Target}
-use Rattle.tb_asking.specs.declared.form.Target.TheVariants as target
 use Rattle.tb_asking.specs.declared.rejection.Rejection.{Rejection}
 use Rattle.tb_asking.specs.declared.rejection.Rejection.TheVariants.{Route, NoId}
 use Rattle.tb_asking.specs.Command.{command_in}
-use Rattle.tb_asking.specs.Form.{target_of}
 use Rattle.tb_asking.specs.Rejection.{or_rejected}
 
 -- ---- who sends it
@@ -59,22 +60,29 @@ call_from message id at command (Some sender) = asked.Call (record {
   command = command;
 })
 
--- a call has an identifier, then a body of its form
-abbrev pub asked_under : Option ℕ → Form → Message → ℕ → Result Asked Rejection
-asked_under None form message at = Err NoId
-asked_under (Some id) form message at = do
-  command ← or_rejected (command_in form (text_in message.body) at)
+abbrev pub board_view : ℕ → BoardView → View
+board_view board ListTasks = view.Listing board
+board_view board Export = view.Export board
+board_view board Todo = view.Todo board
+board_view board People = view.People board
+
+-- a call has an identifier, then a body of what it is made on
+abbrev pub asked_under : Option ℕ → CallTarget → Message → ℕ → Result Asked Rejection
+asked_under None target message at = Err NoId
+asked_under (Some id) target message at = do
+  command ← or_rejected (command_in target (text_in message.body) at)
   Ok (call_from message id at command (sender_of message))
 
-abbrev pub asked_by : Form → Message → ℕ → Result Asked Rejection
-asked_by form message at = asked_under (request_id_of message) form message at
-
-abbrev pub asked_for : Target → Message → ℕ → Result Asked Rejection
-asked_for (target.View view) message at = Ok (view_from view (sender_of message))
-asked_for (target.Call form) message at = asked_by form message at
+abbrev pub asked_by : CallTarget → Message → ℕ → Result Asked Rejection
+asked_by target message at = asked_under (request_id_of message) target message at
 
 abbrev pub asked_at : Resource → Message → ℕ → Result Asked Rejection
-asked_at resource message at = asked_for (target_of resource) message at
+asked_at resource.Me message at = Ok (view_from view.Me (sender_of message))
+asked_at (resource.Board board asked) message at =
+    Ok (view_from (board_view board asked) (sender_of message))
+asked_at (resource.Task board id) message at =
+    Ok (view_from (view.One board id) (sender_of message))
+asked_at (resource.Call target) message at = asked_by target message at
 
 -- what is asked on a route, if there is one
 abbrev pub asked_on : Result Resource RouteFault → Message → ℕ → Result Asked Rejection

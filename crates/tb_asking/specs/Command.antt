@@ -9,42 +9,32 @@ use Rattle.tb_board.specs.Names.{read_name, read_key, read_title}
 use Rattle.tb_board.specs.declared.world.Role.{Role}
 use Rattle.tb_board.specs.declared.world.Role.TheVariants.{Owner, Member, Reader}
 use Rattle.tb_core.specs.declared.action.Action.TheVariants as action
+use Rattle.tb_core.specs.declared.command.BoardCommand.{BoardCommand}
+use Rattle.tb_core.specs.declared.command.BoardCommand.TheVariants as board_command
 use Rattle.tb_core.specs.declared.command.Command.{Command}
 use Rattle.tb_core.specs.declared.command.Command.TheVariants as command
-use Rattle.tb_body.specs.declared.fault.BadBody.{BadBody}
-use Rattle.tb_body.specs.declared.fault.BadBody.TheVariants.{Whole}
-use Rattle.tb_body.specs.Reading.{incoming_in, edits_in, import_in, todo_in}
+use Rattle.tb_core.specs.declared.command.Import.TheVariants as tasks
 use Rattle.tb_http.specs.Body.{has_members, person_in, title_in, role_in, ahead_in, description_in, link_in}
-use Rattle.tb_asking.specs.declared.form.Bare.{Bare}
-use Rattle.tb_asking.specs.declared.form.Bare.TheVariants as bare
-use Rattle.tb_asking.specs.declared.form.Small.{Small}
-use Rattle.tb_asking.specs.declared.form.Small.TheVariants as small
-use Rattle.tb_asking.specs.declared.form.Form.{Form}
-use Rattle.tb_asking.specs.declared.form.Form.TheVariants as form
+use Rattle.tb_http.specs.declared.kind.BoardCall.{BoardCall}
+use Rattle.tb_http.specs.declared.kind.BoardCall.TheVariants as to_board
+use Rattle.tb_http.specs.declared.kind.TaskCall.{TaskCall}
+use Rattle.tb_http.specs.declared.kind.TaskCall.TheVariants as to_task
+use Rattle.tb_http.specs.declared.resource.CallTarget.{CallTarget}
+use Rattle.tb_http.specs.declared.resource.CallTarget.TheVariants as target
+use Rattle.tb_asking.specs.declared.body_fault.BadBody.{BadBody}
+use Rattle.tb_asking.specs.declared.body_fault.BadBody.TheVariants.{Whole}
+use Rattle.tb_asking.specs.Bodies.{incoming_in, edits_in, import_in, todo_in}
 
 -- what isn't there is a bad body
 abbrev pub or_whole : {A : Type 0} → Option A → Result A BadBody
 or_whole None = Err Whole
 or_whole (Some x) = Ok x
 
--- ---- a body that says no more than the path
+-- the JSON that a body is
+abbrev pub json_in : List ℕ → Result Data BadBody
+json_in text = or_whole (read text)
 
--- it is empty, or an object without members
-abbrev pub is_bare : List ℕ → Bool
-is_bare text = (length text == 0) || unwrap_or (option_map (has_members 0) (read text)) false
-
-abbrev pub bare_command : Bare → Command
-bare_command (bare.Sweep board) = command.Sweep board
-bare_command (bare.Done board id) = command.OnTask board id action.Done
-bare_command (bare.Delete board id) = command.OnTask board id action.Delete
-bare_command (bare.Reopen board id) = command.OnTask board id action.Reopen
-bare_command (bare.Start board id) = command.OnTask board id action.Start
-bare_command (bare.Stop board id) = command.OnTask board id action.Stop
-
-abbrev pub bare_in : Bare → List ℕ → Result Command BadBody
-bare_in asked text = if is_bare text then Ok (bare_command asked) else Err Whole
-
--- ---- small objects
+-- ---- people, boards and roles
 
 abbrev pub person_named : List ℕ → List ℕ → Result Command BadBody
 person_named name key = do
@@ -52,13 +42,15 @@ person_named name key = do
   secret ← or_whole (read_key key)
   Ok (command.NewPerson person secret)
 
-abbrev pub person_from : Data → Result Command BadBody
-person_from json = do
+abbrev pub new_person : List ℕ → Result Command BadBody
+new_person text = do
+  json ← json_in text
   body ← or_whole (person_in json)
   person_named body.0 body.1
 
-abbrev pub board_from : Data → Result Command BadBody
-board_from json = do
+abbrev pub new_board : List ℕ → Result Command BadBody
+new_board text = do
+  json ← json_in text
   title ← or_whole (title_in json)
   heading ← or_whole (read_title title)
   Ok (command.NewBoard heading)
@@ -70,86 +62,113 @@ role_named word =
     else if bytes_eq word (codes "member") then Member
     else Reader
 
-abbrev pub role_from : ℕ → Data → Result Command BadBody
-role_from board json = do
+abbrev pub set_role : ℕ → List ℕ → Result Command BadBody
+set_role board text = do
+  json ← json_in text
   body ← or_whole (role_in json)
   member ← or_whole (read_name body.0)
   Ok (command.SetRole board member (option_map role_named body.1))
 
-abbrev pub ahead_from : ℕ → Data → Result Command BadBody
-ahead_from board json = do
+-- ---- a body that says no more than the path
+
+-- it is empty, or an object without members
+abbrev pub is_bare : List ℕ → Bool
+is_bare text = (length text == 0) || unwrap_or (option_map (has_members 0) (read text)) false
+
+abbrev pub bare : BoardCommand → List ℕ → Result BoardCommand BadBody
+bare command text = if is_bare text then Ok command else Err Whole
+
+-- ---- on a board
+
+abbrev pub add : List ℕ → ℕ → Result BoardCommand BadBody
+add text at = do
+  incoming ← incoming_in text at
+  Ok (board_command.Add incoming)
+
+abbrev pub set_ahead : List ℕ → Result BoardCommand BadBody
+set_ahead text = do
+  json ← json_in text
   number ← or_whole (ahead_in json)
   ahead ← or_whole (read_ahead number)
-  Ok (command.SetAhead board ahead)
+  Ok (board_command.SetAhead ahead)
 
-abbrev pub annotate_from : ℕ → ℕ → Data → Result Command BadBody
-annotate_from board id json = do
-  text ← or_whole (description_in json)
-  Ok (command.OnTask board id (action.Annotate text))
-
-abbrev pub denotate_from : ℕ → ℕ → Data → Result Command BadBody
-denotate_from board id json = do
-  text ← or_whole (description_in json)
-  Ok (command.OnTask board id (action.Denotate text))
-
-abbrev pub depend_from : ℕ → ℕ → Data → Result Command BadBody
-depend_from board id json = do
-  on ← or_whole (link_in json)
-  Ok (command.Depend board id on)
-
-abbrev pub undepend_from : ℕ → ℕ → Data → Result Command BadBody
-undepend_from board id json = do
-  on ← or_whole (link_in json)
-  Ok (command.Undepend board id on)
-
-abbrev pub small_from : Small → Data → Result Command BadBody
-small_from small.Person json = person_from json
-small_from small.Board json = board_from json
-small_from (small.Role board) json = role_from board json
-small_from (small.Ahead board) json = ahead_from board json
-small_from (small.Annotate board id) json = annotate_from board id json
-small_from (small.Denotate board id) json = denotate_from board id json
-small_from (small.Depend board id) json = depend_from board id json
-small_from (small.Undepend board id) json = undepend_from board id json
-
-abbrev pub small_of : Small → Option Data → Result Command BadBody
-small_of asked None = Err Whole
-small_of asked (Some json) = small_from asked json
-
--- ---- tasks
-
-abbrev pub adding : ℕ → List ℕ → ℕ → Result Command BadBody
-adding board text at = do
-  incoming ← incoming_in text at
-  Ok (command.Add board incoming)
-
-abbrev pub modifying : ℕ → ℕ → List ℕ → Result Command BadBody
-modifying board id text = do
-  edits ← edits_in text
-  Ok (command.Modify board id edits)
-
-abbrev pub importing : ℕ → List ℕ → ℕ → Result Command BadBody
-importing board text at = do
+abbrev pub import : List ℕ → ℕ → Result BoardCommand BadBody
+import text at = do
   tasks ← import_in text at
-  Ok (command.ImportJson board tasks)
+  Ok (board_command.Import (tasks.Json tasks))
 
-abbrev pub importing_todo : ℕ → List ℕ → ℕ → Result Command BadBody
-importing_todo board text at = do
+abbrev pub import_todo : ℕ → List ℕ → ℕ → Result BoardCommand BadBody
+import_todo board text at = do
   tasks ← todo_in text at board
-  Ok (command.ImportTodo board tasks)
+  Ok (board_command.Import (tasks.Todo tasks))
 
--- ---- the forms
+abbrev pub on_board : ℕ → BoardCall → List ℕ → ℕ → Result BoardCommand BadBody
+on_board board to_board.Add text at = add text at
+on_board board to_board.Sweep text at = bare board_command.Sweep text
+on_board board to_board.Ahead text at = set_ahead text
+on_board board to_board.Import text at = import text at
+on_board board to_board.ImportTodo text at = import_todo board text at
+
+-- ---- on a task
+
+abbrev pub modify : ℕ → List ℕ → Result BoardCommand BadBody
+modify id text = do
+  edits ← edits_in text
+  Ok (board_command.Modify id edits)
+
+abbrev pub annotate : ℕ → List ℕ → Result BoardCommand BadBody
+annotate id text = do
+  json ← json_in text
+  note ← or_whole (description_in json)
+  Ok (board_command.OnTask id (action.Annotate note))
+
+abbrev pub denotate : ℕ → List ℕ → Result BoardCommand BadBody
+denotate id text = do
+  json ← json_in text
+  note ← or_whole (description_in json)
+  Ok (board_command.OnTask id (action.Denotate note))
+
+abbrev pub depend : ℕ → List ℕ → Result BoardCommand BadBody
+depend id text = do
+  json ← json_in text
+  on ← or_whole (link_in json)
+  Ok (board_command.Depend id on)
+
+abbrev pub undepend : ℕ → List ℕ → Result BoardCommand BadBody
+undepend id text = do
+  json ← json_in text
+  on ← or_whole (link_in json)
+  Ok (board_command.Undepend id on)
+
+abbrev pub on_task : ℕ → TaskCall → List ℕ → Result BoardCommand BadBody
+on_task id to_task.Done text = bare (board_command.OnTask id action.Done) text
+on_task id to_task.Delete text = bare (board_command.OnTask id action.Delete) text
+on_task id to_task.Reopen text = bare (board_command.OnTask id action.Reopen) text
+on_task id to_task.Start text = bare (board_command.OnTask id action.Start) text
+on_task id to_task.Stop text = bare (board_command.OnTask id action.Stop) text
+on_task id to_task.Modify text = modify id text
+on_task id to_task.Annotate text = annotate id text
+on_task id to_task.Denotate text = denotate id text
+on_task id to_task.Depend text = depend id text
+on_task id to_task.Undepend text = undepend id text
+
+-- ---- what a call is made on
+
+-- a command on the board of this number
+abbrev pub of_board : ℕ → Result BoardCommand BadBody → Result Command BadBody
+of_board board asked = do
+  it ← asked
+  Ok (command.OnBoard board it)
 
 -- the command of a body that is this text, at a moment
-unfoldable pub command_of : Form → List ℕ → ℕ → Result Command BadBody
-command_of (form.Bare asked) text at = bare_in asked text
-command_of (form.Small asked) text at = small_of asked (read text)
-command_of (form.Task board) text at = adding board text at
-command_of (form.Edits board id) text at = modifying board id text
-command_of (form.Import board) text at = importing board text at
-command_of (form.Lines board) text at = importing_todo board text at
+unfoldable pub command_of : CallTarget → List ℕ → ℕ → Result Command BadBody
+command_of target.People text at = new_person text
+command_of target.Boards text at = new_board text
+command_of (target.Roles board) text at = set_role board text
+command_of (target.Board board call) text at = of_board board (on_board board call text at)
+command_of (target.Task board id call) text at = of_board board (on_task id call text)
 
 -- the command of a body, which has to be text
-abbrev pub command_in : Form → Option (List ℕ) → ℕ → Result Command BadBody
-command_in asked None at = Err Whole
-command_in asked (Some text) at = command_of asked text at
+abbrev pub command_in : CallTarget → Option (List ℕ) → ℕ → Result Command BadBody
+command_in call None at = Err Whole
+command_in call (Some text) at = command_of call text at

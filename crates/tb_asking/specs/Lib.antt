@@ -1,4 +1,5 @@
+pub mod BodyFault
+pub mod Bodies
 pub mod Rejection
-pub mod Form
 pub mod Command
 pub mod Asking

@@ -1,8 +1,8 @@
 -- Why a message asks for no call and no view, and what it is answered.
 use Rattle.std.specs.Prelude.{◌≡◌, ℕ, List, Option, None, Result, Ok, Err}
 use Rattle.tb_values.specs.Outcome.{Gives}
-use Rattle.tb_body.specs.declared.fault.BadBody.{BadBody}
-use Rattle.tb_body.specs.Fault.{text_of}
+use Rattle.tb_asking.specs.declared.body_fault.BadBody.{BadBody}
+use Rattle.tb_asking.specs.BodyFault.{text_of}
 use Rattle.tb_http.specs.declared.fault.WireFault.{WireFault}
 use Rattle.tb_http.specs.declared.fault.WireFault.TheVariants as wire
 use Rattle.tb_http.specs.declared.resource.RouteFault.{RouteFault}

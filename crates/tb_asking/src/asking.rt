@@ -1,18 +1,17 @@
 //! What a message asks for, by its route, its fields and its body.
 ghost use Rattle.std.specs.Prelude.{◌≡◌, IfOk, option_map};
-ghost use Rattle.tb_asking.specs.Asking.{asked_at, asked_by, asked_of, call_from, key_in, name_in, sender_of, view_from};
+ghost use Rattle.tb_asking.specs.Asking.{asked_at, asked_by, asked_of, board_view as board_view_so, call_from, key_in, name_in, sender_of, view_from};
 ghost use Rattle.tb_asking.specs.Rejection.{Asks};
 
 use crate::asked::{Asked, Sender};
+use crate::body_fault::BodyFault;
 use crate::command::read_command;
-use crate::form::{Form, Target, target_of};
 use crate::rejection::{CallFault, Rejection};
 use std::alloc::{AllocError, Global};
 use tb_board::{Key, Name};
-use tb_body::BodyFault;
 use tb_calls::{Call, View};
 use tb_core::Command;
-use tb_http::{Message, Resource, Routes};
+use tb_http::{BoardView, CallTarget, Message, Resource, Routes};
 use tb_task::{Moment, TaskId};
 
 /// What a message that came at a moment asks for.
@@ -47,9 +46,23 @@ fn ask_for(
 ) -> Result<Asked, CallFault>
     ensures { Asks result (asked_at resource message.now at) }
 {
-    match target_of(resource) {
-        Target::View(view) => Ok(ask_view(alloc, view, message)?),
-        Target::Call(form) => ask_call(alloc, form, message, at),
+    let view = match resource {
+        Resource::Me => View::Me,
+        Resource::Board(board, view) => board_view(board, view),
+        Resource::Task(board, id) => View::One(board, id),
+        Resource::Call(target) => return ask_call(alloc, target, message, at),
+    };
+    Ok(ask_view(alloc, view, message)?)
+}
+
+fn board_view(board: u32, view: BoardView) -> View
+    ensures { result ≡ board_view_so board view }
+{
+    match view {
+        BoardView::List => View::Listing(board),
+        BoardView::Export => View::Export(board),
+        BoardView::Todo => View::Todo(board),
+        BoardView::People => View::People(board),
     }
 }
 
@@ -62,13 +75,18 @@ fn ask_view(alloc: Global, view: View, message: &Message) -> Result<Asked, Alloc
     }
 }
 
-fn ask_call(alloc: Global, form: Form, message: &Message, at: Moment) -> Result<Asked, CallFault>
-    ensures { Asks result (asked_by form message.now at) }
+fn ask_call(
+    alloc: Global,
+    target: CallTarget,
+    message: &Message,
+    at: Moment,
+) -> Result<Asked, CallFault>
+    ensures { Asks result (asked_by target message.now at) }
 {
     let Some(id) = message.request_id() else {
         return Err(CallFault::Rejected(Rejection::NoId));
     };
-    match read_command(alloc, form, message.body.as_slice(), at) {
+    match read_command(alloc, target, message.body.as_slice(), at) {
         Ok(command) => Ok(make_call(alloc, message, id, at, command)?),
         Err(BodyFault::Refused(fault)) => Err(CallFault::Rejected(Rejection::Body(fault))),
         Err(BodyFault::Memory) => Err(CallFault::Memory),

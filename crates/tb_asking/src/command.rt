@@ -1,19 +1,20 @@
 //! The commands that the bodies of messages hold.
-ghost use Rattle.std.specs.Prelude.{◌≡◌, IfOk, Some, option_map};
-ghost use Rattle.serde_json.specs.Read.{read};
+ghost use Rattle.std.specs.Prelude.{◌≡◌, IfOk, option_map};
+ghost use Rattle.std.specs.Result.{result_map_both};
 ghost use Rattle.serde_json.specs.View.{view};
-ghost use Rattle.tb_body.specs.Fault.{Reads};
-ghost use Rattle.tb_body.specs.Reading.{text_in};
+ghost use Rattle.tb_asking.specs.BodyFault.{Reads};
+ghost use Rattle.tb_asking.specs.Bodies.{text_in};
 ghost use Rattle.tb_asking.specs.Command as commands;
 
-use crate::form::{Bare, Form, Small};
+use crate::bodies::{read_edits, read_imported, read_incoming, read_text, read_todo};
+use crate::body_fault::{BadBody, BodyFault};
 use serde_json::Value;
 use std::alloc::{AllocError, Global};
 use tb_board::{Ahead, Key, Name, Role, Title};
-use tb_body::{BadBody, BodyFault, read_edits, read_imported, read_incoming, read_text, read_todo};
-use tb_core::{Action, Command};
+use tb_core::{Action, BoardCommand, Command, Import};
 use tb_http::{
-    is_empty_object, read_ahead, read_description, read_link, read_person, read_role, read_title,
+    BoardCall, CallTarget, TaskCall, is_empty_object, read_ahead, read_description, read_link,
+    read_person, read_role, read_title,
 };
 use tb_json::parse;
 use tb_task::{Moment, TaskId};
@@ -22,30 +23,78 @@ use tb_values::Text;
 /// The command of a body at a moment.
 pub(crate) fn read_command(
     alloc: Global,
-    form: Form,
+    target: CallTarget,
     body: &[u8],
     at: Moment,
 ) -> Result<Command, BodyFault>
-    ensures { Reads result (commands.command_in form (text_in body.now) at) }
+    ensures { Reads result (commands.command_in target (text_in body.now) at) }
 {
     match read_text(body) {
-        Some(text) => command_of(alloc, form, text, at),
+        Some(text) => command_of(alloc, target, text, at),
         None => Err(BodyFault::Refused(BadBody::Whole)),
     }
 }
 
 #[tactic(auto, unfolding(crate::specs::Command::command_of))]
-fn command_of(alloc: Global, form: Form, text: &str, at: Moment) -> Result<Command, BodyFault>
-    ensures { Reads result (commands.command_of form text.now at) }
+fn command_of(
+    alloc: Global,
+    target: CallTarget,
+    text: &str,
+    at: Moment,
+) -> Result<Command, BodyFault>
+    ensures { Reads result (commands.command_of target text.now at) }
 {
-    match form {
-        Form::Bare(asked) => read_bare(alloc, asked, text),
-        Form::Small(asked) => read_small(alloc, asked, text),
-        Form::Task(board) => read_task(alloc, board, text, at),
-        Form::Edits(board, id) => read_changes(alloc, board, id, text),
-        Form::Import(board) => read_import(alloc, board, text, at),
-        Form::Lines(board) => read_lines(alloc, board, text, at),
+    let (board, command) = match target {
+        CallTarget::People => return new_person(alloc, text),
+        CallTarget::Boards => return new_board(alloc, text),
+        CallTarget::Roles(board) => return set_role(alloc, board, text),
+        CallTarget::Board(board, call) => (board, on_board(alloc, board, call, text, at)?),
+        CallTarget::Task(board, id, call) => (board, on_task(alloc, id, call, text)?),
+    };
+    Ok(Command::OnBoard { board, command })
+}
+
+// What a call does to the board of this number.
+fn on_board(
+    alloc: Global,
+    board: u32,
+    call: BoardCall,
+    text: &str,
+    at: Moment,
+) -> Result<BoardCommand, BodyFault>
+    ensures { Reads result (commands.on_board board call text.now at) }
+{
+    match call {
+        BoardCall::Add => add(alloc, text, at),
+        BoardCall::Sweep => bare(alloc, BoardCommand::Sweep, text),
+        BoardCall::Ahead => set_ahead(alloc, text),
+        BoardCall::Import => import(alloc, text, at),
+        BoardCall::ImportTodo => import_todo(alloc, board, text, at),
     }
+}
+
+// What a call does to the task of this identifier.
+fn on_task(alloc: Global, id: TaskId, call: TaskCall, text: &str) -> Result<BoardCommand, BodyFault>
+    ensures { Reads result (commands.on_task id call text.now) }
+{
+    match call {
+        TaskCall::Done => bare(alloc, acting(id, Action::Done), text),
+        TaskCall::Delete => bare(alloc, acting(id, Action::Delete), text),
+        TaskCall::Reopen => bare(alloc, acting(id, Action::Reopen), text),
+        TaskCall::Start => bare(alloc, acting(id, Action::Start), text),
+        TaskCall::Stop => bare(alloc, acting(id, Action::Stop), text),
+        TaskCall::Modify => modify(alloc, id, text),
+        TaskCall::Annotate => annotate(alloc, id, text),
+        TaskCall::Denotate => denotate(alloc, id, text),
+        TaskCall::Depend => depend(alloc, id, text),
+        TaskCall::Undepend => undepend(alloc, id, text),
+    }
+}
+
+fn acting(id: TaskId, action: Action) -> BoardCommand
+    ensures { result ≡ BoardCommand.OnTask id action }
+{
+    BoardCommand::OnTask { id, action }
 }
 
 // Whether a body is empty, or an object without members.
@@ -61,63 +110,32 @@ fn is_bare(alloc: Global, text: &str) -> Result<bool, AllocError>
     }
 }
 
-fn bare_command(asked: Bare) -> Command
-    ensures { result ≡ commands.bare_command asked }
-{
-    match asked {
-        Bare::Sweep(board) => Command::Sweep { board },
-        Bare::Done(board, id) => on_task(board, id, Action::Done),
-        Bare::Delete(board, id) => on_task(board, id, Action::Delete),
-        Bare::Reopen(board, id) => on_task(board, id, Action::Reopen),
-        Bare::Start(board, id) => on_task(board, id, Action::Start),
-        Bare::Stop(board, id) => on_task(board, id, Action::Stop),
-    }
-}
-
-fn on_task(board: u32, id: TaskId, action: Action) -> Command
-    ensures { result ≡ Command.OnTask board id action }
-{
-    Command::OnTask { board, id, action }
-}
-
-fn read_bare(alloc: Global, asked: Bare, text: &str) -> Result<Command, BodyFault>
-    ensures { Reads result (commands.bare_in asked text.now) }
+// A command of which the body says no more than the path.
+fn bare(alloc: Global, command: BoardCommand, text: &str) -> Result<BoardCommand, BodyFault>
+    ensures { Reads result (commands.bare command text.now) }
 {
     if is_bare(alloc, text)? {
-        Ok(bare_command(asked))
+        Ok(command)
     } else {
         Err(BodyFault::Refused(BadBody::Whole))
     }
 }
 
-fn read_small(alloc: Global, asked: Small, text: &str) -> Result<Command, BodyFault>
-    ensures { Reads result (commands.small_of asked (read text.now)) }
+// The JSON that a body is.
+fn read_json(alloc: Global, text: &str) -> Result<Value, BodyFault>
+    ensures { Reads (result_map_both view (λ fault. fault) result) (commands.json_in text.now) }
 {
     match parse(alloc, text)? {
-        Some(value) => small_from(alloc, asked, &value),
+        Some(value) => Ok(value),
         None => Err(BodyFault::Refused(BadBody::Whole)),
     }
 }
 
-fn small_from(alloc: Global, asked: Small, value: &Value) -> Result<Command, BodyFault>
-    ensures { Reads result (commands.small_from asked (view value.now)) }
+fn new_person(alloc: Global, text: &str) -> Result<Command, BodyFault>
+    ensures { Reads result (commands.new_person text.now) }
 {
-    match asked {
-        Small::Person => person_from(alloc, value),
-        Small::Board => board_from(alloc, value),
-        Small::Role(board) => role_from(alloc, board, value),
-        Small::Ahead(board) => ahead_from(board, value),
-        Small::Annotate(board, id) => annotate_from(alloc, board, id, value),
-        Small::Denotate(board, id) => denotate_from(alloc, board, id, value),
-        Small::Depend(board, id) => depend_from(board, id, value),
-        Small::Undepend(board, id) => undepend_from(board, id, value),
-    }
-}
-
-fn person_from(alloc: Global, value: &Value) -> Result<Command, BodyFault>
-    ensures { Reads result (commands.person_from (view value.now)) }
-{
-    match read_person(value) {
+    let value = read_json(alloc, text)?;
+    match read_person(&value) {
         Some(body) => person_named(alloc, body.name, body.key),
         None => Err(BodyFault::Refused(BadBody::Whole)),
     }
@@ -135,10 +153,11 @@ fn person_named(alloc: Global, name: &str, key: &str) -> Result<Command, BodyFau
     Ok(Command::NewPerson { name, key })
 }
 
-fn board_from(alloc: Global, value: &Value) -> Result<Command, BodyFault>
-    ensures { Reads result (commands.board_from (view value.now)) }
+fn new_board(alloc: Global, text: &str) -> Result<Command, BodyFault>
+    ensures { Reads result (commands.new_board text.now) }
 {
-    let Some(title) = read_title(value) else {
+    let value = read_json(alloc, text)?;
+    let Some(title) = read_title(&value) else {
         return Err(BodyFault::Refused(BadBody::Whole));
     };
     match Title::read(alloc, title)? {
@@ -166,10 +185,11 @@ fn role_or_none(word: Option<&str>) -> Option<Role>
     }
 }
 
-fn role_from(alloc: Global, board: u32, value: &Value) -> Result<Command, BodyFault>
-    ensures { Reads result (commands.role_from board (view value.now)) }
+fn set_role(alloc: Global, board: u32, text: &str) -> Result<Command, BodyFault>
+    ensures { Reads result (commands.set_role board text.now) }
 {
-    let Some(body) = read_role(value) else {
+    let value = read_json(alloc, text)?;
+    let Some(body) = read_role(&value) else {
         return Err(BodyFault::Refused(BadBody::Whole));
     };
     match Name::read(alloc, body.member)? {
@@ -182,80 +202,85 @@ fn role_from(alloc: Global, board: u32, value: &Value) -> Result<Command, BodyFa
     }
 }
 
-fn ahead_from(board: u32, value: &Value) -> Result<Command, BodyFault>
-    ensures { Reads result (commands.ahead_from board (view value.now)) }
+fn add(alloc: Global, text: &str, at: Moment) -> Result<BoardCommand, BodyFault>
+    ensures { Reads result (commands.add text.now at) }
 {
-    let Some(number) = read_ahead(value) else {
+    let incoming = read_incoming(alloc, text, at)?;
+    Ok(BoardCommand::Add { incoming })
+}
+
+fn set_ahead(alloc: Global, text: &str) -> Result<BoardCommand, BodyFault>
+    ensures { Reads result (commands.set_ahead text.now) }
+{
+    let value = read_json(alloc, text)?;
+    let Some(number) = read_ahead(&value) else {
         return Err(BodyFault::Refused(BadBody::Whole));
     };
     match Ahead::read(number) {
-        Some(ahead) => Ok(Command::SetAhead { board, ahead }),
+        Some(ahead) => Ok(BoardCommand::SetAhead { ahead }),
         None => Err(BodyFault::Refused(BadBody::Whole)),
     }
 }
 
-fn annotate_from(alloc: Global, board: u32, id: TaskId, value: &Value) -> Result<Command, BodyFault>
-    ensures { Reads result (commands.annotate_from board id (view value.now)) }
-{
-    let Some(text) = read_description(value) else {
-        return Err(BodyFault::Refused(BadBody::Whole));
-    };
-    let text = Text::from_str(alloc, text)?;
-    Ok(on_task(board, id, Action::Annotate(text)))
-}
-
-fn denotate_from(alloc: Global, board: u32, id: TaskId, value: &Value) -> Result<Command, BodyFault>
-    ensures { Reads result (commands.denotate_from board id (view value.now)) }
-{
-    let Some(text) = read_description(value) else {
-        return Err(BodyFault::Refused(BadBody::Whole));
-    };
-    let text = Text::from_str(alloc, text)?;
-    Ok(on_task(board, id, Action::Denotate(text)))
-}
-
-fn depend_from(board: u32, id: TaskId, value: &Value) -> Result<Command, BodyFault>
-    ensures { Reads result (commands.depend_from board id (view value.now)) }
-{
-    match read_link(value) {
-        Some(on) => Ok(Command::Depend { board, id, on }),
-        None => Err(BodyFault::Refused(BadBody::Whole)),
-    }
-}
-
-fn undepend_from(board: u32, id: TaskId, value: &Value) -> Result<Command, BodyFault>
-    ensures { Reads result (commands.undepend_from board id (view value.now)) }
-{
-    match read_link(value) {
-        Some(on) => Ok(Command::Undepend { board, id, on }),
-        None => Err(BodyFault::Refused(BadBody::Whole)),
-    }
-}
-
-fn read_task(alloc: Global, board: u32, text: &str, at: Moment) -> Result<Command, BodyFault>
-    ensures { Reads result (commands.adding board text.now at) }
-{
-    let incoming = read_incoming(alloc, text, at)?;
-    Ok(Command::Add { board, incoming })
-}
-
-fn read_changes(alloc: Global, board: u32, id: TaskId, text: &str) -> Result<Command, BodyFault>
-    ensures { Reads result (commands.modifying board id text.now) }
-{
-    let edits = read_edits(alloc, text)?;
-    Ok(Command::Modify { board, id, edits })
-}
-
-fn read_import(alloc: Global, board: u32, text: &str, at: Moment) -> Result<Command, BodyFault>
-    ensures { Reads result (commands.importing board text.now at) }
+fn import(alloc: Global, text: &str, at: Moment) -> Result<BoardCommand, BodyFault>
+    ensures { Reads result (commands.import text.now at) }
 {
     let tasks = read_imported(alloc, text, at)?;
-    Ok(Command::ImportJson { board, tasks })
+    Ok(BoardCommand::Import(Import::Json { tasks }))
 }
 
-fn read_lines(alloc: Global, board: u32, text: &str, at: Moment) -> Result<Command, BodyFault>
-    ensures { Reads result (commands.importing_todo board text.now at) }
+fn import_todo(alloc: Global, board: u32, text: &str, at: Moment) -> Result<BoardCommand, BodyFault>
+    ensures { Reads result (commands.import_todo board text.now at) }
 {
     let tasks = read_todo(alloc, text, at, board)?;
-    Ok(Command::ImportTodo { board, tasks })
+    Ok(BoardCommand::Import(Import::Todo { tasks }))
+}
+
+fn modify(alloc: Global, id: TaskId, text: &str) -> Result<BoardCommand, BodyFault>
+    ensures { Reads result (commands.modify id text.now) }
+{
+    let edits = read_edits(alloc, text)?;
+    Ok(BoardCommand::Modify { id, edits })
+}
+
+fn annotate(alloc: Global, id: TaskId, text: &str) -> Result<BoardCommand, BodyFault>
+    ensures { Reads result (commands.annotate id text.now) }
+{
+    let value = read_json(alloc, text)?;
+    let Some(text) = read_description(&value) else {
+        return Err(BodyFault::Refused(BadBody::Whole));
+    };
+    let text = Text::from_str(alloc, text)?;
+    Ok(acting(id, Action::Annotate(text)))
+}
+
+fn denotate(alloc: Global, id: TaskId, text: &str) -> Result<BoardCommand, BodyFault>
+    ensures { Reads result (commands.denotate id text.now) }
+{
+    let value = read_json(alloc, text)?;
+    let Some(text) = read_description(&value) else {
+        return Err(BodyFault::Refused(BadBody::Whole));
+    };
+    let text = Text::from_str(alloc, text)?;
+    Ok(acting(id, Action::Denotate(text)))
+}
+
+fn depend(alloc: Global, id: TaskId, text: &str) -> Result<BoardCommand, BodyFault>
+    ensures { Reads result (commands.depend id text.now) }
+{
+    let value = read_json(alloc, text)?;
+    match read_link(&value) {
+        Some(on) => Ok(BoardCommand::Depend { id, on }),
+        None => Err(BodyFault::Refused(BadBody::Whole)),
+    }
+}
+
+fn undepend(alloc: Global, id: TaskId, text: &str) -> Result<BoardCommand, BodyFault>
+    ensures { Reads result (commands.undepend id text.now) }
+{
+    let value = read_json(alloc, text)?;
+    match read_link(&value) {
+        Some(on) => Ok(BoardCommand::Undepend { id, on }),
+        None => Err(BodyFault::Refused(BadBody::Whole)),
+    }
 }

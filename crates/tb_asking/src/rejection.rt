@@ -3,8 +3,8 @@ ghost use Rattle.std.specs.Prelude.{◌≡◌, IfOk};
 ghost use Rattle.tb_asking.specs.declared.rejection.CallFault.TheVariants.{Memory};
 ghost use Rattle.tb_asking.specs.Rejection.{allowed_by, body_of, fault_of};
 
+use crate::body_fault::BadBody;
 use std::alloc::{AllocError, AllocFailed, Global};
-use tb_body::BadBody;
 use tb_http::{RouteFault, Verb, WireFault};
 use tb_values::Text;
 

@@ -1,69 +1,32 @@
-//! What a request's path names, with its numbers and identifiers read.
+//! What a request's path asks for, with its numbers and identifiers read.
 ghost use Rattle.std.specs.Prelude.{◌≡◌, ◌==◌, codes, option_map};
 ghost use Rattle.std.specs.Str.{bytes_eq};
 ghost use Rattle.tb_http.specs.Resource as resources;
 
 use crate::fault::WireFault;
-use crate::route::{Route, Routes, Verb};
+use crate::kind::{BoardCall, BoardView, Kind, TaskCall};
+use crate::route::{Routes, Verb};
 use http::Method;
 use tb_task::TaskId;
 use tb_values::read_number;
 
-/// What a call does to one task.
+/// What a call is made on: people, boards, the roles on a board, the board itself, or a task of it.
 #[derive(Clone, Copy, Debug, PartialEq, Eq)]
-pub enum TaskAction {
-    Done,
-    Delete,
-    Reopen,
-    Start,
-    Stop,
-    Modify,
-    Annotate,
-    Denotate,
-    Depend,
-    Undepend,
-}
-
-impl TaskAction {
-    /// The action of this name.
-    #[tactic(auto, unfolding(crate::specs::Resource::action_named))]
-    pub fn read(name: &str) -> Option<TaskAction>
-        ensures { result ≡ resources.action_named name.now }
-    {
-        match name {
-            "done" => Some(TaskAction::Done),
-            "delete" => Some(TaskAction::Delete),
-            "reopen" => Some(TaskAction::Reopen),
-            "start" => Some(TaskAction::Start),
-            "stop" => Some(TaskAction::Stop),
-            "modify" => Some(TaskAction::Modify),
-            "annotate" => Some(TaskAction::Annotate),
-            "denotate" => Some(TaskAction::Denotate),
-            "depend" => Some(TaskAction::Depend),
-            "undepend" => Some(TaskAction::Undepend),
-            _ => None,
-        }
-    }
-}
-
-/// What a path names: people, boards, the sender, or a part of the board of this number.
-#[derive(Clone, Copy, Debug, PartialEq, Eq)]
-pub enum Resource {
+pub enum CallTarget {
     People,
     Boards,
     Roles(u32),
-    Tasks(u32),
-    Task(u32, TaskId),
-    TaskAction(u32, TaskId, TaskAction),
-    Sweep(u32),
-    Ahead(u32),
-    Import(u32),
-    ImportTodo(u32),
-    List(u32),
-    Export(u32),
-    Todo(u32),
-    PeopleOn(u32),
+    Board(u32, BoardCall),
+    Task(u32, TaskId, TaskCall),
+}
+
+/// What a path asks for: the boards of the sender, a view of a board or of a task, or a call.
+#[derive(Clone, Copy, Debug, PartialEq, Eq)]
+pub enum Resource {
     Me,
+    Board(u32, BoardView),
+    Task(u32, TaskId),
+    Call(CallTarget),
 }
 
 /// Why a request asks for no resource.
@@ -120,38 +83,22 @@ fn task_in(path: &str) -> Option<TaskId>
     TaskId::read(segment(path, 4))
 }
 
-fn action_in(path: &str) -> Option<TaskAction>
-    ensures { result ≡ resources.action_in path.now }
-{
-    TaskAction::read(segment(path, 5))
-}
-
-// What a path of this route names, if its parts can be read.
+// What a path of this kind asks for, if its parts can be read.
 #[tactic(auto, unfolding(crate::specs::Resource::resource_of))]
-fn resource_of(route: Route, path: &str) -> Option<Resource>
-    ensures { result ≡ resources.resource_of route path.now }
+fn resource_of(kind: Kind, path: &str) -> Option<Resource>
+    ensures { result ≡ resources.resource_of kind path.now }
 {
-    match route {
-        Route::People => Some(Resource::People),
-        Route::Boards => Some(Resource::Boards),
-        Route::Roles => Some(Resource::Roles(board_in(path)?)),
-        Route::Tasks => Some(Resource::Tasks(board_in(path)?)),
-        Route::Task => Some(Resource::Task(board_in(path)?, task_in(path)?)),
-        Route::TaskAction => Some(Resource::TaskAction(
-            board_in(path)?,
-            task_in(path)?,
-            action_in(path)?,
-        )),
-        Route::Sweep => Some(Resource::Sweep(board_in(path)?)),
-        Route::Ahead => Some(Resource::Ahead(board_in(path)?)),
-        Route::Import => Some(Resource::Import(board_in(path)?)),
-        Route::ImportTodo => Some(Resource::ImportTodo(board_in(path)?)),
-        Route::List => Some(Resource::List(board_in(path)?)),
-        Route::Export => Some(Resource::Export(board_in(path)?)),
-        Route::Todo => Some(Resource::Todo(board_in(path)?)),
-        Route::PeopleOn => Some(Resource::PeopleOn(board_in(path)?)),
-        Route::Me => Some(Resource::Me),
-    }
+    let target = match kind {
+        Kind::Me => return Some(Resource::Me),
+        Kind::BoardView(view) => return Some(Resource::Board(board_in(path)?, view)),
+        Kind::Task => return Some(Resource::Task(board_in(path)?, task_in(path)?)),
+        Kind::People => CallTarget::People,
+        Kind::Boards => CallTarget::Boards,
+        Kind::Roles => CallTarget::Roles(board_in(path)?),
+        Kind::BoardCall(call) => CallTarget::Board(board_in(path)?, call),
+        Kind::TaskCall(call) => CallTarget::Task(board_in(path)?, task_in(path)?, call),
+    };
+    Some(Resource::Call(target))
 }
 
 fn has_verb(method: &Method, verb: Verb) -> bool
@@ -160,22 +107,35 @@ fn has_verb(method: &Method, verb: Verb) -> bool
     method.as_str() == verb.name()
 }
 
+impl Resource {
+    /// The one method by which it is asked for.
+    pub fn verb(&self) -> Verb
+        ensures { result ≡ resources.verb_of self.now }
+    {
+        match self {
+            Resource::Me | Resource::Board(_, _) | Resource::Task(_, _) => Verb::Get,
+            Resource::Call(_) => Verb::Post,
+        }
+    }
+}
+
 impl Routes {
     /// The resource that a method and a target ask for. A path whose parts can't be read has no route,
     /// whatever the method.
     pub fn resource(&self, method: &Method, target: &str) -> Result<Resource, RouteFault>
         ensures { result ≡ resources.resource_asked method.now target.now }
     {
-        let Some(route) = self.find(target) else {
+        let Some(kind) = self.find(target) else {
             return Err(RouteFault::NoRoute);
         };
-        let Some(resource) = resource_of(route, target) else {
+        let Some(resource) = resource_of(kind, target) else {
             return Err(RouteFault::NoRoute);
         };
-        if has_verb(method, route.verb()) {
+        let verb = resource.verb();
+        if has_verb(method, verb) {
             Ok(resource)
         } else {
-            Err(RouteFault::NoMethod(route.verb()))
+            Err(RouteFault::NoMethod(verb))
         }
     }
 }

@@ -1,30 +1,12 @@
-//! The routes of the server: which resource a request's method and target ask for.
-ghost use Rattle.std.specs.Prelude.{◌≡◌, ◌≤◌, length, IfOk, IfErr, OnOk, IsTrue, Some, None, option_map, codes};
+//! The routes of the server: what kind of request a path is.
+ghost use Rattle.std.specs.Prelude.{◌≡◌, ◌≤◌, [], length, IfOk, IfErr, OnOk, IsTrue, option_map};
 ghost use Rattle.matchit.specs.Seek.{first};
 ghost use Rattle.tb_http.specs.Route as routes;
+ghost use Rattle.tb_http.specs.declared.kind.Kind.TheVariants as kind;
 
+use crate::kind::{BoardCall, BoardView, Kind, TaskCall};
 use matchit::{InsertError, Router};
 use std::alloc::{AllocError, Global};
-
-/// The kinds of path that there are.
-#[derive(Clone, Copy, Debug, PartialEq, Eq)]
-pub enum Route {
-    People,
-    Boards,
-    Roles,
-    Tasks,
-    Task,
-    TaskAction,
-    Sweep,
-    Ahead,
-    Import,
-    ImportTodo,
-    List,
-    Export,
-    Todo,
-    PeopleOn,
-    Me,
-}
 
 /// The methods that routes have.
 #[derive(Clone, Copy, Debug, PartialEq, Eq)]
@@ -46,68 +28,91 @@ impl Verb {
     }
 }
 
-impl Route {
-    /// The one method of the route's paths.
-    pub fn verb(self) -> Verb
-        ensures { result ≡ routes.verb_of self }
-    {
-        match self {
-            Route::Task | Route::List | Route::Export | Route::Todo | Route::PeopleOn | Route::Me =>
-                Verb::Get,
-            Route::People
-            | Route::Boards
-            | Route::Roles
-            | Route::Tasks
-            | Route::TaskAction
-            | Route::Sweep
-            | Route::Ahead
-            | Route::Import
-            | Route::ImportTodo => Verb::Post,
-        }
-    }
-}
-
 // Adds a route that the router takes, so that only memory can be wanting.
-fn add(router: &mut Router<Route>, text: &str, route: Route) -> Result<(), InsertError>
-    requires { IsTrue (routes.fits text.now router.old) }
-    ensures row { OnOk result (router.new ≡ routes.with_route text.now route router.old) }
+fn add(to: &mut Router<Kind>, text: &str, kind: Kind) -> Result<(), InsertError>
+    requires { IsTrue (routes.fits text.now to.old) }
+    ensures row { OnOk result (to.new ≡ routes.with_route text.now kind to.old) }
     ensures memory { IfErr result (λ fault. fault ≡ InsertError.OutOfMemory) }
 {
-    router.insert(text, route)
+    to.insert(text, kind)
+}
+
+fn add_call(to: &mut Router<Kind>, text: &str, call: TaskCall) -> Result<(), InsertError>
+    requires { IsTrue (routes.fits text.now to.old) }
+    ensures row { OnOk result (to.new ≡ routes.with_route text.now (kind.TaskCall call) to.old) }
+    ensures memory { IfErr result (λ fault. fault ≡ InsertError.OutOfMemory) }
+{
+    add(to, text, Kind::TaskCall(call))
+}
+
+// The paths without a number.
+fn add_alone(to: &mut Router<Kind>) -> Result<(), InsertError>
+    requires { to.old ≡ [] }
+    ensures rows { OnOk result (to.new ≡ routes.alone_rows) }
+    ensures memory { IfErr result (λ fault. fault ≡ InsertError.OutOfMemory) }
+{
+    add(to, "/people", Kind::People)?;
+    add(to, "/boards", Kind::Boards)?;
+    add(to, "/me", Kind::Me)
+}
+
+// The paths with the number of a board, behind those without one.
+fn add_boards(to: &mut Router<Kind>) -> Result<(), InsertError>
+    requires { to.old ≡ routes.alone_rows }
+    ensures rows { OnOk result (to.new ≡ routes.board_rows) }
+    ensures memory { IfErr result (λ fault. fault ≡ InsertError.OutOfMemory) }
+{
+    add(to, "/boards/{b}/roles", Kind::Roles)?;
+    add(to, "/boards/{b}/tasks", Kind::BoardCall(BoardCall::Add))?;
+    add(to, "/boards/{b}/sweep", Kind::BoardCall(BoardCall::Sweep))?;
+    add(to, "/boards/{b}/ahead", Kind::BoardCall(BoardCall::Ahead))?;
+    add(to, "/boards/{b}/import", Kind::BoardCall(BoardCall::Import))?;
+    add(
+        to,
+        "/boards/{b}/import-todo",
+        Kind::BoardCall(BoardCall::ImportTodo),
+    )?;
+    add(to, "/boards/{b}/list", Kind::BoardView(BoardView::List))?;
+    add(to, "/boards/{b}/export", Kind::BoardView(BoardView::Export))?;
+    add(to, "/boards/{b}/todo", Kind::BoardView(BoardView::Todo))?;
+    add(to, "/boards/{b}/people", Kind::BoardView(BoardView::People))
+}
+
+// The paths with the identifier of a task, behind the others.
+fn add_tasks(to: &mut Router<Kind>) -> Result<(), InsertError>
+    requires { to.old ≡ routes.board_rows }
+    ensures rows { OnOk result (to.new ≡ routes.route_rows) }
+    ensures memory { IfErr result (λ fault. fault ≡ InsertError.OutOfMemory) }
+{
+    add(to, "/boards/{b}/tasks/{uuid}", Kind::Task)?;
+    add_call(to, "/boards/{b}/tasks/{uuid}/done", TaskCall::Done)?;
+    add_call(to, "/boards/{b}/tasks/{uuid}/delete", TaskCall::Delete)?;
+    add_call(to, "/boards/{b}/tasks/{uuid}/reopen", TaskCall::Reopen)?;
+    add_call(to, "/boards/{b}/tasks/{uuid}/start", TaskCall::Start)?;
+    add_call(to, "/boards/{b}/tasks/{uuid}/stop", TaskCall::Stop)?;
+    add_call(to, "/boards/{b}/tasks/{uuid}/modify", TaskCall::Modify)?;
+    add_call(to, "/boards/{b}/tasks/{uuid}/annotate", TaskCall::Annotate)?;
+    add_call(to, "/boards/{b}/tasks/{uuid}/denotate", TaskCall::Denotate)?;
+    add_call(to, "/boards/{b}/tasks/{uuid}/depend", TaskCall::Depend)?;
+    add_call(to, "/boards/{b}/tasks/{uuid}/undepend", TaskCall::Undepend)
 }
 
 // The rows of the table.
-fn table(alloc: Global) -> Result<Router<Route>, InsertError>
+fn table(alloc: Global) -> Result<Router<Kind>, InsertError>
     ensures rows { IfOk result (λ router. router ≡ routes.route_rows) }
     ensures memory { IfErr result (λ fault. fault ≡ InsertError.OutOfMemory) }
 {
     let mut router = Router::new(alloc);
-    add(&mut router, "/people", Route::People)?;
-    add(&mut router, "/boards", Route::Boards)?;
-    add(&mut router, "/boards/{b}/roles", Route::Roles)?;
-    add(&mut router, "/boards/{b}/tasks", Route::Tasks)?;
-    add(&mut router, "/boards/{b}/tasks/{uuid}", Route::Task)?;
-    add(
-        &mut router,
-        "/boards/{b}/tasks/{uuid}/{action}",
-        Route::TaskAction,
-    )?;
-    add(&mut router, "/boards/{b}/sweep", Route::Sweep)?;
-    add(&mut router, "/boards/{b}/ahead", Route::Ahead)?;
-    add(&mut router, "/boards/{b}/import", Route::Import)?;
-    add(&mut router, "/boards/{b}/import-todo", Route::ImportTodo)?;
-    add(&mut router, "/boards/{b}/list", Route::List)?;
-    add(&mut router, "/boards/{b}/export", Route::Export)?;
-    add(&mut router, "/boards/{b}/todo", Route::Todo)?;
-    add(&mut router, "/boards/{b}/people", Route::PeopleOn)?;
-    add(&mut router, "/me", Route::Me)?;
+    add_alone(&mut router)?;
+    add_boards(&mut router)?;
+    add_tasks(&mut router)?;
     Ok(router)
 }
 
 /// The table of the routes.
 #[derive(Drop)]
 pub struct Routes {
-    router: Router<Route>,
+    router: Router<Kind>,
     ghost rows: { router ≡ routes.route_rows },
 }
 
@@ -121,9 +126,9 @@ impl Routes {
         }
     }
 
-    /// The route that a path has: the whole target of a request, with any query.
-    pub fn find(&self, path: &str) -> Option<Route>
-        ensures { result ≡ routes.route_of path.now }
+    /// The kind of request that a path is: the whole target of a request, with any query.
+    pub fn find(&self, path: &str) -> Option<Kind>
+        ensures { result ≡ routes.kind_of path.now }
     {
         match self.router.at(path) {
             Ok(found) => Some(*found.value),

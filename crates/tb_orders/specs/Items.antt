@@ -4,7 +4,7 @@ use Rattle.tb_asking.specs.Asking.{asked_of}
 use Rattle.tb_asking.specs.declared.asked.Asked.{Asked}
 use Rattle.tb_asking.specs.declared.rejection.Rejection.{Rejection}
 use Rattle.tb_asking.specs.declared.rejection.Rejection.TheVariants.{Route, NoId, Body}
-use Rattle.tb_body.specs.declared.fault.BadBody.TheVariants.{Whole, Field, Item}
+use Rattle.tb_asking.specs.declared.body_fault.BadBody.TheVariants.{Whole, Field, Item}
 use Rattle.tb_command_line.specs.declared.order.ImportOrder.{ImportOrder}
 use Rattle.tb_orders.specs.Cutting.{parts_of}
 use Rattle.tb_orders.specs.Message.{message_of}

@@ -5,8 +5,7 @@ ghost use Rattle.tb_orders.specs.Items.{end_of, item_in, item_of};
 
 use crate::ending::Ending;
 use std::alloc::{AllocError, Global};
-use tb_asking::{CallFault, Rejection, call_of};
-use tb_body::BadBody;
+use tb_asking::{BadBody, CallFault, Rejection, call_of};
 use tb_http::Message;
 use tb_program::Fault;
 use tb_task::Moment;

@@ -4,8 +4,8 @@ use Rattle.std.specs.List.{join_by}
 use Rattle.tb_task.specs.declared.edit.Edit.{Edit}
 use Rattle.tb_task.specs.declared.incoming.Incoming.{Incoming}
 use Rattle.tb_task.specs.declared.task.Task.{Task}
-use Rattle.tb_body.specs.declared.fault.BadBody.{BadBody as BodyRefused}
-use Rattle.tb_body.specs.Reading as body
+use Rattle.tb_asking.specs.declared.body_fault.BadBody.{BadBody as BodyRefused}
+use Rattle.tb_asking.specs.Bodies as body
 use Rattle.tb_script.specs.declared.line_fault.Unreadable.{Unreadable}
 use Rattle.tb_script.specs.declared.line_fault.Unreadable.TheVariants.{BadBody}
 

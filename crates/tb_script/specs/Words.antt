@@ -6,7 +6,9 @@ use Rattle.tb_task.specs.TaskId.{read_id}
 use Rattle.tb_board.specs.Names.{read_name, read_key, read_title}
 use Rattle.tb_core.specs.declared.action.Action.{Action}
 use Rattle.tb_core.specs.declared.action.Action.TheVariants.{Done, Delete, Reopen, Start, Stop, Annotate, Denotate}
-use Rattle.tb_core.specs.declared.command.Command.TheVariants.{Add, Depend, ImportJson, ImportTodo, Modify, NewBoard, NewPerson, OnTask, SetAhead, SetRole, Sweep, Undepend}
+use Rattle.tb_core.specs.declared.command.BoardCommand.TheVariants.{Add, Depend, Import, Modify, OnTask, SetAhead, Sweep, Undepend}
+use Rattle.tb_core.specs.declared.command.Command.TheVariants.{NewBoard, NewPerson, OnBoard, SetRole}
+use Rattle.tb_core.specs.declared.command.Import.TheVariants.{Json, Todo as Lines}
 use Rattle.tb_script.specs.declared.asked.Request.{Request}
 use Rattle.tb_script.specs.declared.asked.Request.TheVariants.{Call, View as ViewOf}
 use Rattle.tb_calls.specs.declared.view.View.TheVariants.{Listing, Export, Todo, One, People, Me}
@@ -89,50 +91,50 @@ abbrev pub adding : ℕ → List ℕ → List ℕ → Result Request Unreadable
 adding at board body = do
   n ← or_bad_line (board_number board)
   incoming ← incoming_in body at
-  Ok (Call (Add n incoming))
+  Ok (Call (OnBoard n (Add incoming)))
 
 abbrev pub acting : Action → List (List ℕ) → Result Request Unreadable
 acting action arguments = do
   t ← two task arguments
-  Ok (Call (OnTask t.0 t.1 action))
+  Ok (Call (OnBoard t.0 (OnTask t.1 action)))
 
 abbrev pub acting_with : (List ℕ → Action) → List ℕ → List ℕ → List ℕ → Result Request Unreadable
 acting_with action board uuid text = do
   t ← task board uuid
-  Ok (Call (OnTask t.0 t.1 (action text)))
+  Ok (Call (OnBoard t.0 (OnTask t.1 (action text))))
 
 abbrev pub modifying : List ℕ → List ℕ → List ℕ → Result Request Unreadable
 modifying board uuid body = do
   t ← task board uuid
   edits ← edits_in body
-  Ok (Call (Modify t.0 t.1 edits))
+  Ok (Call (OnBoard t.0 (Modify t.1 edits)))
 
 abbrev pub linking : List (List ℕ) → Result Request Unreadable
 linking arguments = do
   l ← three link arguments
-  Ok (Call (Depend l.0.0 l.0.1 l.1))
+  Ok (Call (OnBoard l.0.0 (Depend l.0.1 l.1)))
 
 abbrev pub unlinking : List (List ℕ) → Result Request Unreadable
 unlinking arguments = do
   l ← three link arguments
-  Ok (Call (Undepend l.0.0 l.0.1 l.1))
+  Ok (Call (OnBoard l.0.0 (Undepend l.0.1 l.1)))
 
 abbrev pub sweeping : List ℕ → Result Request Unreadable
 sweeping board = do
   n ← or_bad_line (board_number board)
-  Ok (Call (Sweep n))
+  Ok (Call (OnBoard n Sweep))
 
 abbrev pub set_ahead : List ℕ → List ℕ → Result Request Unreadable
 set_ahead board number = do
   n ← or_bad_line (board_number board)
   ahead ← or_bad_line (ahead_number number)
-  Ok (Call (SetAhead n ahead))
+  Ok (Call (OnBoard n (SetAhead ahead)))
 
 abbrev pub importing : ℕ → List ℕ → List ℕ → Result Request Unreadable
 importing at board text = do
   n ← or_bad_line (board_number board)
   tasks ← import_in text at
-  Ok (Call (ImportJson n tasks))
+  Ok (Call (OnBoard n (Import (Json tasks))))
 
 -- each further argument is a line
 abbrev pub importing_todo : ℕ → List (List ℕ) → Result Request Unreadable
@@ -140,7 +142,7 @@ importing_todo at [] = Err BadLine
 importing_todo at (board ∷ lines) = do
   n ← or_bad_line (board_number board)
   tasks ← tasks_in lines at n
-  Ok (Call (ImportTodo n tasks))
+  Ok (Call (OnBoard n (Import (Lines tasks))))
 
 abbrev pub new_person : List ℕ → List ℕ → Result Request Unreadable
 new_person name key = do

@@ -1,13 +1,13 @@
 //! The arguments of a line that hold more than a word: JSON, and lines.
 ghost use Rattle.std.specs.Prelude.{◌≡◌, IfOk, Result, map, string_bytes};
-ghost use Rattle.tb_body.specs.Fault.{Reads as ReadsBody};
-ghost use Rattle.tb_body.specs.declared.fault.BadBody.{BadBody};
+ghost use Rattle.tb_asking.specs.BodyFault.{Reads as ReadsBody};
+ghost use Rattle.tb_asking.specs.declared.body_fault.BadBody.{BadBody};
 ghost use Rattle.tb_script.specs.Body.{edits_in, import_in, incoming_in, joined, or_unreadable, tasks_in};
 ghost use Rattle.tb_script.specs.Outcome.{Reads};
 
 use crate::line_fault::{LineFault, Unreadable};
 use std::alloc::{AllocError, Global};
-use tb_body::BodyFault;
+use tb_asking::BodyFault;
 use tb_task::{Edit, Incoming, Moment, Task};
 use tb_values::Items;
 
@@ -15,14 +15,14 @@ use tb_values::Items;
 pub(crate) fn read_incoming(alloc: Global, text: &str, at: Moment) -> Result<Incoming, LineFault>
     ensures { Reads result (incoming_in text.now at) }
 {
-    or_line_fault(tb_body::read_incoming(alloc, text, at))
+    or_line_fault(tb_asking::read_incoming(alloc, text, at))
 }
 
 /// The edits that a text asks for.
 pub(crate) fn read_edits(alloc: Global, text: &str) -> Result<Items<Edit>, LineFault>
     ensures { Reads result (edits_in text.now) }
 {
-    or_line_fault(tb_body::read_edits(alloc, text))
+    or_line_fault(tb_asking::read_edits(alloc, text))
 }
 
 /// The tasks of an import's text at a moment.
@@ -33,7 +33,7 @@ pub(crate) fn read_imported(
 ) -> Result<Items<Incoming>, LineFault>
     ensures { Reads result (import_in text.now at) }
 {
-    or_line_fault(tb_body::read_imported(alloc, text, at))
+    or_line_fault(tb_asking::read_imported(alloc, text, at))
 }
 
 /// The tasks that lines make on a board at a moment.
@@ -46,7 +46,7 @@ pub(crate) fn read_tasks(
     ensures { Reads result (tasks_in (map (λ line. line.now) lines.now) at board) }
 {
     let text = join_lines(alloc, lines)?;
-    or_line_fault(tb_body::read_todo(alloc, text.as_str(), at, board))
+    or_line_fault(tb_asking::read_todo(alloc, text.as_str(), at, board))
 }
 
 /// A line whose body can't be taken can't be read.

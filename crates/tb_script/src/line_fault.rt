@@ -4,7 +4,7 @@ ghost use Rattle.tb_script.specs.declared.line_fault.LineFault.TheVariants.{Memo
 ghost use Rattle.tb_script.specs.declared.line_fault.Unreadable.TheVariants.{BadLine};
 
 use std::alloc::{AllocError, AllocFailed};
-use tb_body::BadBody;
+use tb_asking::BadBody;
 
 /// Why a line can't be read.
 #[derive(Debug, Drop)]

@@ -1,8 +1,9 @@
 //! What the words of a line ask of their arguments.
 ghost use Rattle.std.specs.Prelude.{◌≡◌, map};
 ghost use Rattle.tb_core.specs.declared.action.Action.TheVariants.{Annotate, Denotate};
+ghost use Rattle.tb_core.specs.declared.command.Command.TheVariants.{OnBoard};
 ghost use Rattle.tb_script.specs.Outcome.{Reads};
-ghost use Rattle.tb_script.specs.declared.asked.Request.TheVariants.{View as ViewOf};
+ghost use Rattle.tb_script.specs.declared.asked.Request.TheVariants.{Call, View as ViewOf};
 ghost use Rattle.tb_calls.specs.declared.view.View.TheVariants.{Me};
 ghost use Rattle.tb_script.specs.Words.{acting, acting_with, adding, new_board, export, set_role, importing, importing_todo, new_person, link, linking, listing, modifying, none, one, people, request_in, set_ahead, showing, sweeping, task, three, todo, two, unlinking};
 
@@ -14,7 +15,7 @@ use crate::body::{read_edits, read_imported, read_incoming, read_tasks};
 use crate::line_fault::LineFault;
 use std::alloc::Global;
 use tb_calls::View;
-use tb_core::{Action, Command};
+use tb_core::{Action, BoardCommand, Command, Import};
 use tb_task::{Moment, TaskId};
 use tb_values::Text;
 
@@ -55,6 +56,12 @@ pub(crate) fn read_request(
         "me" => read_me(arguments),
         _ => Err(LineFault::bad_line()),
     }
+}
+
+fn on_board(board: u32, command: BoardCommand) -> Request
+    ensures { result ≡ Call (OnBoard board command) }
+{
+    Request::Call(Command::OnBoard { board, command })
 }
 
 fn read_task_alone(arguments: &[&str]) -> Result<(u32, TaskId), LineFault>
@@ -157,10 +164,7 @@ fn read_add(alloc: Global, arguments: &[&str], at: Moment) -> Result<Request, Li
     };
     let number = read_board(board)?;
     let incoming = read_incoming(alloc, body, at)?;
-    Ok(Request::Call(Command::Add {
-        board: number,
-        incoming,
-    }))
+    Ok(on_board(number, BoardCommand::Add { incoming }))
 }
 
 fn read_import(alloc: Global, arguments: &[&str], at: Moment) -> Result<Request, LineFault>
@@ -172,7 +176,7 @@ fn read_import(alloc: Global, arguments: &[&str], at: Moment) -> Result<Request,
     };
     let board = read_board(board)?;
     let tasks = read_imported(alloc, text, at)?;
-    Ok(Request::Call(Command::ImportJson { board, tasks }))
+    Ok(on_board(board, BoardCommand::Import(Import::Json { tasks })))
 }
 
 fn read_import_todo(alloc: Global, arguments: &[&str], at: Moment) -> Result<Request, LineFault>
@@ -184,14 +188,14 @@ fn read_import_todo(alloc: Global, arguments: &[&str], at: Moment) -> Result<Req
     };
     let board = read_board(board)?;
     let tasks = read_tasks(alloc, lines, at, board)?;
-    Ok(Request::Call(Command::ImportTodo { board, tasks }))
+    Ok(on_board(board, BoardCommand::Import(Import::Todo { tasks })))
 }
 
 fn read_action(arguments: &[&str], action: Action) -> Result<Request, LineFault>
     ensures { Reads result (acting action (map (λ argument. argument.now) arguments.entry.now)) }
 {
     let (board, id) = read_task_alone(arguments)?;
-    Ok(Request::Call(Command::OnTask { board, id, action }))
+    Ok(on_board(board, BoardCommand::OnTask { id, action }))
 }
 
 fn read_annotate(alloc: Global, arguments: &[&str]) -> Result<Request, LineFault>
@@ -206,7 +210,7 @@ fn read_annotate(alloc: Global, arguments: &[&str]) -> Result<Request, LineFault
         Err(fault) => return Err(fault),
     };
     let action = Action::Annotate(Text::from_str(alloc, text)?);
-    Ok(Request::Call(Command::OnTask { board, id, action }))
+    Ok(on_board(board, BoardCommand::OnTask { id, action }))
 }
 
 fn read_denotate(alloc: Global, arguments: &[&str]) -> Result<Request, LineFault>
@@ -221,7 +225,7 @@ fn read_denotate(alloc: Global, arguments: &[&str]) -> Result<Request, LineFault
         Err(fault) => return Err(fault),
     };
     let action = Action::Denotate(Text::from_str(alloc, text)?);
-    Ok(Request::Call(Command::OnTask { board, id, action }))
+    Ok(on_board(board, BoardCommand::OnTask { id, action }))
 }
 
 fn read_modify(alloc: Global, arguments: &[&str]) -> Result<Request, LineFault>
@@ -235,21 +239,21 @@ fn read_modify(alloc: Global, arguments: &[&str]) -> Result<Request, LineFault>
         Err(fault) => return Err(fault),
     };
     let edits = read_edits(alloc, body)?;
-    Ok(Request::Call(Command::Modify { board, id, edits }))
+    Ok(on_board(board, BoardCommand::Modify { id, edits }))
 }
 
 fn read_depend(arguments: &[&str]) -> Result<Request, LineFault>
     ensures { Reads result (linking (map (λ argument. argument.now) arguments.entry.now)) }
 {
     let ((board, id), on) = read_link(arguments)?;
-    Ok(Request::Call(Command::Depend { board, id, on }))
+    Ok(on_board(board, BoardCommand::Depend { id, on }))
 }
 
 fn read_undepend(arguments: &[&str]) -> Result<Request, LineFault>
     ensures { Reads result (unlinking (map (λ argument. argument.now) arguments.entry.now)) }
 {
     let ((board, id), on) = read_link(arguments)?;
-    Ok(Request::Call(Command::Undepend { board, id, on }))
+    Ok(on_board(board, BoardCommand::Undepend { id, on }))
 }
 
 fn read_sweep(arguments: &[&str]) -> Result<Request, LineFault>
@@ -259,7 +263,7 @@ fn read_sweep(arguments: &[&str]) -> Result<Request, LineFault>
         return Err(LineFault::bad_line());
     };
     let board = read_board(board)?;
-    Ok(Request::Call(Command::Sweep { board }))
+    Ok(on_board(board, BoardCommand::Sweep))
 }
 
 fn read_set_ahead(arguments: &[&str]) -> Result<Request, LineFault>
@@ -270,7 +274,7 @@ fn read_set_ahead(arguments: &[&str]) -> Result<Request, LineFault>
     };
     let board = read_board(board)?;
     let ahead = read_ahead(number)?;
-    Ok(Request::Call(Command::SetAhead { board, ahead }))
+    Ok(on_board(board, BoardCommand::SetAhead { ahead }))
 }
 
 fn read_new_person(alloc: Global, arguments: &[&str]) -> Result<Request, LineFault>

@@ -1,8 +1,8 @@
 //! Why a body isn't what its call takes.
 ghost use Rattle.std.specs.Prelude.{◌≡◌, IfOk};
 ghost use Rattle.serde_json.specs.View.{view};
-ghost use Rattle.tb_body.specs.declared.fault.BodyFault.TheVariants.{Memory};
-ghost use Rattle.tb_body.specs.Fault.{item_json, json_of, text_of};
+ghost use Rattle.tb_asking.specs.declared.body_fault.BodyFault.TheVariants.{Memory};
+ghost use Rattle.tb_asking.specs.BodyFault.{item_json, json_of, text_of};
 
 use serde_json::{Value, json};
 use std::alloc::{AllocError, AllocFailed, Global};

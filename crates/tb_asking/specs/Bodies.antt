@@ -16,8 +16,8 @@ use Rattle.tb_json.specs.declared.import_fault.ImportFault.TheVariants as import
 use Rattle.tb_json.specs.Import.{import_of}
 use Rattle.tb_json.specs.Modify.{modify_of}
 use Rattle.tb_json.specs.Reading.{task_of}
-use Rattle.tb_body.specs.declared.fault.BadBody.{BadBody}
-use Rattle.tb_body.specs.declared.fault.BadBody.TheVariants.{Whole, Field, Item}
+use Rattle.tb_asking.specs.declared.body_fault.BadBody.{BadBody}
+use Rattle.tb_asking.specs.declared.body_fault.BadBody.TheVariants.{Whole, Field, Item}
 
 -- the text that bytes are, if they are one
 abbrev pub text_in : List ℕ → Option (List ℕ)

@@ -3,10 +3,10 @@ use Rattle.std.specs.Prelude.{◌≡◌, ℕ, List, codes, Result, Err}
 use Rattle.serde_json.specs.Data.{Data, number, unsigned, string, object, member, no_members}
 use Rattle.serde_json.specs.Written.{compact_text}
 use Rattle.tb_values.specs.Outcome.{Gives}
-use Rattle.tb_body.specs.declared.fault.BadBody.{BadBody}
-use Rattle.tb_body.specs.declared.fault.BadBody.TheVariants.{Whole, Field, Item}
-use Rattle.tb_body.specs.declared.fault.BodyFault.{BodyFault}
-use Rattle.tb_body.specs.declared.fault.BodyFault.TheVariants.{Refused, Memory}
+use Rattle.tb_asking.specs.declared.body_fault.BadBody.{BadBody}
+use Rattle.tb_asking.specs.declared.body_fault.BadBody.TheVariants.{Whole, Field, Item}
+use Rattle.tb_asking.specs.declared.body_fault.BodyFault.{BodyFault}
+use Rattle.tb_asking.specs.declared.body_fault.BodyFault.TheVariants.{Refused, Memory}
 
 -- the fault is the one that is expected, unless memory ran out
 abbrev pub Fails : {X : Type 0} → BodyFault → Result X BadBody → Type 0

@@ -1,10 +1,10 @@
 //! Bodies that hold tasks.
 ghost use Rattle.std.specs.Prelude.{◌≡◌, Some, option_map};
 ghost use Rattle.serde_json.specs.View.{view};
-ghost use Rattle.tb_body.specs.Fault.{Reads};
-ghost use Rattle.tb_body.specs.Reading.{edits_in, edits_of, import_in, incoming_in, incoming_of, text_in, todo_in};
+ghost use Rattle.tb_asking.specs.BodyFault.{Reads};
+ghost use Rattle.tb_asking.specs.Bodies.{edits_in, edits_of, import_in, incoming_in, incoming_of, text_in, todo_in};
 
-use crate::fault::{BadBody, BodyFault};
+use crate::body_fault::{BadBody, BodyFault};
 use serde_json::Value;
 use std::alloc::Global;
 use tb_json::{ImportFault, JsonFault, parse, read_import, read_modify, read_task};

@@ -1,7 +1,7 @@
 use Rattle.std.proofs.Common.{◌≡◌, ℕ, List, Bool, true, false, cond, Some, None, refl, sym, ap, ◌∙◌}
 use Rattle.std.proofs.lemmas.Str.{IsUtf8-from_is_utf8, is_utf8-from_IsUtf8}
 use Rattle.std.specs.Str.{IsUtf8, is_utf8}
-use Rattle.tb_body.proofs.reading.read_text.Goals as goal
+use Rattle.tb_asking.proofs.bodies.read_text.Goals as goal
 
 no_text : (b : Bool) (bytes : List ℕ) → is_utf8 bytes ≡ b → (IsUtf8 bytes → ⊥) → None ≡ cond b (Some bytes) None
 no_text true bytes is isnt = absurd (isnt (IsUtf8-from_is_utf8 bytes is))

@@ -1,0 +1,52 @@
+//! What paths ask for, but for the numbers and identifiers in them.
+
+/// What is looked at of a board.
+#[derive(Clone, Copy, Debug, PartialEq, Eq)]
+pub enum BoardView {
+    List,
+    Export,
+    Todo,
+    People,
+}
+
+/// What a call does to a board.
+#[derive(Clone, Copy, Debug, PartialEq, Eq)]
+pub enum BoardCall {
+    Add,
+    Sweep,
+    Ahead,
+    Import,
+    ImportTodo,
+}
+
+/// What a call does to one task.
+#[derive(Clone, Copy, Debug, PartialEq, Eq)]
+pub enum TaskCall {
+    Done,
+    Delete,
+    Reopen,
+    Start,
+    Stop,
+    Modify,
+    Annotate,
+    Denotate,
+    Depend,
+    Undepend,
+}
+
+/// What the paths of a route ask for.
+#[derive(Clone, Copy, Debug, PartialEq, Eq)]
+pub enum Kind {
+    Me,
+    BoardView(BoardView),
+    /// One task.
+    Task,
+    /// A new person.
+    People,
+    /// A new board.
+    Boards,
+    /// A role on a board.
+    Roles,
+    BoardCall(BoardCall),
+    TaskCall(TaskCall),
+}
