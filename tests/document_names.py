@@ -179,6 +179,22 @@ def check_kit():
         faults.append("README.md, --version and dist/manifest name different kits")
 
 
+def check_words():
+    """Each word of a script stands where people look for it: in a table of the README, in the help of `send`, and behind its completion, which offers no others."""
+    words = set(re.findall(r'(?m)^ +"([a-z-]+)" => Word::', (TOP / "crates/tb_calls/src/word.rt").read_text()))
+    rows = re.findall(r"(?m)^\| (`.*?`) \| ", (TOP / "README.md").read_text())
+    read = {word for row in rows for word in re.findall(r"`([a-z-]+)", row)}
+    help_text = (TOP / "crates/tb_command_line/src/help.rt").read_text()
+    helped = set(re.findall(r"[a-z-]+", help_text.partition("\n    WORD ")[2].partition("\n    TASK ")[0]))
+    shell = re.search(r'(?s)_of_send\(\).*?\n +\*\) _taskboard_words "([^"]*)"', (TOP / "contrib/taskboard.bash").read_text())
+    offered = set(shell[1].split()) if shell else set()
+    if not words:
+        faults.append("crates/tb_calls/src/word.rt names no words")
+    for place, told in (("README.md", read), ("the help of send", helped), ("contrib/taskboard.bash", offered)):
+        faults.extend(f"{place} lacks the word {word}" for word in sorted(words - told))
+    faults.extend(f"contrib/taskboard.bash offers {word}, which is no word" for word in sorted(offered - words))
+
+
 FILES = every_file()
 CRATES = {path.name for path in (TOP / "crates").iterdir() if (path / "src").is_dir()}
 BELOW = {line.partition(":")[0]: line.partition(":")[2].split() for line in (TOP / "crates.txt").read_text().split("\n") if ":" in line}
@@ -191,5 +207,6 @@ check_examples()
 check_tests()
 check_numbers()
 check_kit()
+check_words()
 print("\n".join(faults) or f"what {len(DOCUMENTS)} documents name is there")
 sys.exit(bool(faults))

@@ -2,3 +2,4 @@ pub mod Call
 pub mod Keep
 pub mod Leaving
 pub mod Roles
+pub mod Word

@@ -1,12 +1,13 @@
 -- Tasks by their places on a board, in the order in which the board is exported, from 1.
-use Rattle.std.specs.Prelude.{ℕ, pred, Bool, List, [], ◌∷◌, ◌++◌, ◌==◌, ◌&&◌, nat_lt, length, codes, slice_get, Option, Some, None, option_map, option_and_then, if◌then◌else◌}
-use Rattle.std.specs.List.{list_any}
-use Rattle.std.specs.Str.{bytes_eq}
+use Rattle.std.specs.Prelude.{ℕ, pred, Bool, List, [], ◌∷◌, ◌++◌, ◌==◌, nat_lt, length, codes, slice_get, Option, Some, None, option_map, option_and_then, unwrap_or, if◌then◌else◌}
 use Rattle.serde_json.specs.Data.{Data, null, boolean, number, string, array, object, Items, no_items, item}
 use Rattle.serde_json.specs.Find.{as_str, get}
 use Rattle.serde_json.specs.Read.{read}
 use Rattle.tb_task.specs.TaskId.{id_text, read_id}
 use Rattle.tb_values.specs.Numerals.{number_to}
+use Rattle.tb_calls.specs.Word.{word_named}
+use Rattle.tb_calls.specs.declared.word.Word.{Word}
+use Rattle.tb_calls.specs.declared.word.Word.TheVariants as word
 use Rattle.tb_client.specs.Answer.{text_in}
 use Rattle.tb_client.specs.Request.{Text, board_target, view_at}
 use Rattle.tb_client.specs.declared.places.BoardTask.{BoardTask}
@@ -14,29 +15,46 @@ use Rattle.tb_client.specs.declared.request.Request.{Request}
 
 -- ---- the words that hold places
 
--- words with one task and nothing behind it
-abbrev pub takes_task : Text → Bool
-takes_task word =
-    list_any (bytes_eq word)
-    (codes "task" ∷ codes "done" ∷ codes "delete" ∷ codes "reopen" ∷ codes "start"
-    ∷ codes "stop" ∷ [])
+-- behind the board stands one task and nothing else, one task and a text, or two tasks
+abbrev pub one_task : ℕ → ℕ
+one_task size = if size == 1 then 1 else 0
 
--- words with one task and a text behind it
-abbrev pub takes_text : Text → Bool
-takes_text word =
-    list_any (bytes_eq word) (codes "annotate" ∷ codes "denotate" ∷ codes "modify" ∷ [])
+abbrev pub task_and_text : ℕ → ℕ
+task_and_text size = if size == 2 then 1 else 0
 
--- words with two tasks
-abbrev pub takes_two : Text → Bool
-takes_two word = list_any (bytes_eq word) (codes "depend" ∷ codes "undepend" ∷ [])
+abbrev pub two_tasks : ℕ → ℕ
+two_tasks size = if size == 2 then 2 else 0
 
 -- how many of so many arguments behind the board are tasks
-abbrev pub task_count : Text → ℕ → ℕ
-task_count word size =
-    if takes_task word && size == 1 then 1
-    else if takes_text word && size == 2 then 1
-    else if takes_two word && size == 2 then 2
-    else 0
+abbrev pub task_count : Word → ℕ → ℕ
+task_count word.List size = 0
+task_count word.Export size = 0
+task_count word.Todo size = 0
+task_count word.Task size = one_task size
+task_count word.Add size = 0
+task_count word.Import size = 0
+task_count word.ImportTodo size = 0
+task_count word.Done size = one_task size
+task_count word.Delete size = one_task size
+task_count word.Reopen size = one_task size
+task_count word.Start size = one_task size
+task_count word.Stop size = one_task size
+task_count word.Annotate size = task_and_text size
+task_count word.Denotate size = task_and_text size
+task_count word.Modify size = task_and_text size
+task_count word.Depend size = two_tasks size
+task_count word.Undepend size = two_tasks size
+task_count word.Sweep size = 0
+task_count word.Ahead size = 0
+task_count word.Person size = 0
+task_count word.Board size = 0
+task_count word.Role size = 0
+task_count word.People size = 0
+task_count word.Me size = 0
+
+-- the same by the word's name, of which none is no word
+abbrev pub named_count : Text → ℕ → ℕ
+named_count name size = unwrap_or (option_map (λ word. task_count word size) (word_named name)) 0
 
 -- the place that an argument is, if it is one: a number from 1, without a zero in front
 abbrev pub place_in : Text → Option ℕ
@@ -61,7 +79,7 @@ abbrev pub places_of : List Text → List ℕ
 places_of [] = []
 places_of (word ∷ []) = []
 places_of (word ∷ board ∷ arguments) =
-    with_arguments [] (task_count word (length arguments)) arguments
+    with_arguments [] (named_count word (length arguments)) arguments
 
 -- ---- the tasks of a board
 
@@ -125,4 +143,4 @@ abbrev pub named_words : List BoardTask → List Text → Option (List Text)
 named_words tasks [] = Some []
 named_words tasks (word ∷ []) = Some (word ∷ [])
 named_words tasks (word ∷ board ∷ arguments) =
-    with_named tasks (word ∷ board ∷ []) (task_count word (length arguments)) arguments
+    with_named tasks (word ∷ board ∷ []) (named_count word (length arguments)) arguments

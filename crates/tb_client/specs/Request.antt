@@ -6,6 +6,9 @@ use Rattle.serde_json.specs.Written.{compact_text}
 use Rattle.tb_task.specs.TaskId.{id_text, read_id}
 use Rattle.tb_values.specs.Numerals.{number_to}
 use Rattle.tb_board.specs.Ahead.{read_ahead}
+use Rattle.tb_calls.specs.Word.{word_named}
+use Rattle.tb_calls.specs.declared.word.Word.{Word}
+use Rattle.tb_calls.specs.declared.word.Word.TheVariants as word
 use Rattle.tb_client.specs.Line.{add_body}
 use Rattle.tb_client.specs.declared.message.Sender.{Sender}
 use Rattle.tb_client.specs.declared.request.Request.{Request}
@@ -156,37 +159,35 @@ ahead_call [] = None
 ahead_call (a ∷ []) = None
 ahead_call (a ∷ b ∷ c ∷ more) = None
 
+unfoldable pub request_for : Word → List Text → Option Request
+request_for word.List arguments = board_view (codes "/list") arguments
+request_for word.Export arguments = board_view (codes "/export") arguments
+request_for word.Todo arguments = board_view (codes "/todo") arguments
+request_for word.People arguments = board_view (codes "/people") arguments
+request_for word.Me arguments = me_view arguments
+request_for word.Task arguments = task_view arguments
+request_for word.Add arguments = add_call arguments
+request_for word.Import arguments = board_call (codes "/import") arguments
+request_for word.ImportTodo arguments = lines_call arguments
+request_for word.Done arguments = task_call (codes "/done") arguments
+request_for word.Delete arguments = task_call (codes "/delete") arguments
+request_for word.Reopen arguments = task_call (codes "/reopen") arguments
+request_for word.Start arguments = task_call (codes "/start") arguments
+request_for word.Stop arguments = task_call (codes "/stop") arguments
+request_for word.Annotate arguments = task_call_with note_body (codes "/annotate") arguments
+request_for word.Denotate arguments = task_call_with note_body (codes "/denotate") arguments
+request_for word.Modify arguments = task_call_with (λ body. body) (codes "/modify") arguments
+request_for word.Depend arguments = task_call_with link_body (codes "/depend") arguments
+request_for word.Undepend arguments = task_call_with link_body (codes "/undepend") arguments
+request_for word.Sweep arguments = sweep_call arguments
+request_for word.Person arguments = person_call arguments
+request_for word.Board arguments = title_call arguments
+request_for word.Role arguments = role_call arguments
+request_for word.Ahead arguments = ahead_call arguments
+
 unfoldable pub request_named : Text → List Text → Option Request
-request_named word arguments =
-    if bytes_eq word (codes "list") then board_view (codes "/list") arguments
-    else if bytes_eq word (codes "export") then board_view (codes "/export") arguments
-    else if bytes_eq word (codes "todo") then board_view (codes "/todo") arguments
-    else if bytes_eq word (codes "people") then board_view (codes "/people") arguments
-    else if bytes_eq word (codes "me") then me_view arguments
-    else if bytes_eq word (codes "task") then task_view arguments
-    else if bytes_eq word (codes "add") then add_call arguments
-    else if bytes_eq word (codes "import") then board_call (codes "/import") arguments
-    else if bytes_eq word (codes "import-todo") then lines_call arguments
-    else if bytes_eq word (codes "done") then task_call (codes "/done") arguments
-    else if bytes_eq word (codes "delete") then task_call (codes "/delete") arguments
-    else if bytes_eq word (codes "reopen") then task_call (codes "/reopen") arguments
-    else if bytes_eq word (codes "start") then task_call (codes "/start") arguments
-    else if bytes_eq word (codes "stop") then task_call (codes "/stop") arguments
-    else if bytes_eq word (codes "annotate")
-    then task_call_with note_body (codes "/annotate") arguments
-    else if bytes_eq word (codes "denotate")
-    then task_call_with note_body (codes "/denotate") arguments
-    else if bytes_eq word (codes "modify")
-    then task_call_with (λ body. body) (codes "/modify") arguments
-    else if bytes_eq word (codes "depend") then task_call_with link_body (codes "/depend") arguments
-    else if bytes_eq word (codes "undepend")
-    then task_call_with link_body (codes "/undepend") arguments
-    else if bytes_eq word (codes "sweep") then sweep_call arguments
-    else if bytes_eq word (codes "person") then person_call arguments
-    else if bytes_eq word (codes "board") then title_call arguments
-    else if bytes_eq word (codes "role") then role_call arguments
-    else if bytes_eq word (codes "ahead") then ahead_call arguments
-    else None
+request_named name arguments =
+    option_and_then (λ word. request_for word arguments) (word_named name)
 
 -- what the words of a script ask a server for
 abbrev pub request_of : List Text → Option Request

@@ -1,13 +1,14 @@
 //! Tasks by their places on a board, in the order in which the board is exported, from 1.
-ghost use Rattle.std.specs.Prelude.{◌≡◌, ◌∷◌, [], IfOk, OnOk, option_copied, option_map};
+ghost use Rattle.std.specs.Prelude.{◌≡◌, ◌==◌, ◌∷◌, [], if◌then◌else◌, IfOk, OnOk, option_copied, option_map};
 ghost use Rattle.serde_json.specs.Read.{read};
 ghost use Rattle.serde_json.specs.View.{items_view, view};
-ghost use Rattle.tb_client.specs.Places.{board_task, board_tasks, export_of, named_argument, named_words, place_in, places_of, task_at, task_count, takes_task, takes_text, takes_two, tasks_in, with_argument, with_arguments, with_tasks};
+ghost use Rattle.tb_client.specs.Places.{board_task, board_tasks, export_of, named_argument, named_count, named_words, place_in, places_of, task_at, task_count, tasks_in, with_argument, with_arguments, with_tasks};
 
 use crate::answer::text_in;
 use crate::request::{Request, board_target, view_at};
 use serde_json::Value;
 use std::alloc::{AllocError, Global};
+use tb_calls::Word;
 use tb_json::parse;
 use tb_task::TaskId;
 use tb_values::{Duplicate, Items, Text, read_number};
@@ -26,7 +27,7 @@ pub fn places_of(alloc: Global, words: &[Text]) -> Result<Vec<u32>, AllocError>
     let [word, _, arguments @ ..] = words else {
         return Ok(Vec::new(alloc));
     };
-    let count = task_count(word.as_str(), arguments.len());
+    let count = named_count(word.as_str(), arguments.len());
     places_among(alloc, count, arguments)
 }
 
@@ -44,39 +45,44 @@ fn places_among(alloc: Global, count: usize, arguments: &[Text]) -> Result<Vec<u
 }
 
 /// How many of so many arguments behind the board are tasks.
-fn task_count(word: &str, size: usize) -> usize
-    ensures { result ≡ task_count word.now size }
+fn named_count(name: &str, size: usize) -> usize
+    ensures { result ≡ named_count name.now size }
 {
-    if takes_task(word) && size == 1 {
-        1
-    } else if takes_text(word) && size == 2 {
-        1
-    } else if takes_two(word) && size == 2 {
-        2
-    } else {
-        0
+    match Word::read(name) {
+        Some(word) => task_count(word, size),
+        None => 0,
     }
 }
 
-fn takes_task(word: &str) -> bool
-    ensures { result ≡ takes_task word.now }
+fn task_count(word: Word, size: usize) -> usize
+    ensures { result ≡ task_count word size }
 {
-    matches!(
-        word,
-        "task" | "done" | "delete" | "reopen" | "start" | "stop"
-    )
+    match word {
+        Word::Task | Word::Done | Word::Delete | Word::Reopen | Word::Start | Word::Stop =>
+            count_at(1, size, 1),
+        Word::Annotate | Word::Denotate | Word::Modify => count_at(2, size, 1),
+        Word::Depend | Word::Undepend => count_at(2, size, 2),
+        Word::List
+        | Word::Export
+        | Word::Todo
+        | Word::Add
+        | Word::Import
+        | Word::ImportTodo
+        | Word::Sweep
+        | Word::Ahead
+        | Word::Person
+        | Word::Board
+        | Word::Role
+        | Word::People
+        | Word::Me => 0,
+    }
 }
 
-fn takes_text(word: &str) -> bool
-    ensures { result ≡ takes_text word.now }
+/// So many tasks where there are so many arguments as they need.
+fn count_at(needed: usize, size: usize, tasks: usize) -> usize
+    ensures { result ≡ (if size == needed then tasks else 0) }
 {
-    matches!(word, "annotate" | "denotate" | "modify")
-}
-
-fn takes_two(word: &str) -> bool
-    ensures { result ≡ takes_two word.now }
-{
-    matches!(word, "depend" | "undepend")
+    if size == needed { tasks } else { 0 }
 }
 
 fn place_in(argument: &str) -> Option<u32>
@@ -179,7 +185,7 @@ pub fn named_words(
     let mut named = Items::new(alloc);
     named.push(word.duplicate()?)?;
     named.push(board.duplicate()?)?;
-    let mut left = task_count(word.as_str(), arguments.len());
+    let mut left = named_count(word.as_str(), arguments.len());
     for argument in arguments {
         let Some(text) = named_argument(alloc, tasks, left > 0, argument)? else {
             return Ok(None);

@@ -2,12 +2,13 @@
 ghost use Rattle.std.specs.Prelude.{◌≡◌, ◌++◌, ◌∷◌, IfOk, codes, false, option_map};
 ghost use Rattle.serde_json.specs.View.{view};
 ghost use Rattle.serde_json.specs.Written.{compact_text, has_float};
-ghost use Rattle.tb_client.specs.Request.{add_call, ahead_call, ahead_data, ahead_request, board_call, board_target, board_view, call_at, lines_call, lines_text, link_body, link_data, me_view, note_body, note_data, person_call, person_data, request_named, request_of, role_call, role_data, sweep_call, task_call, task_call_with, task_target, task_view, title_call, title_data, view_at};
+ghost use Rattle.tb_client.specs.Request.{add_call, ahead_call, ahead_data, ahead_request, board_call, board_target, board_view, call_at, lines_call, lines_text, link_body, link_data, me_view, note_body, note_data, person_call, person_data, request_for, request_named, request_of, role_call, role_data, sweep_call, task_call, task_call_with, task_target, task_view, title_call, title_data, view_at};
 
 use crate::line::add_body;
 use serde_json::{Value, json};
 use std::alloc::{AllocError, Global};
 use tb_board::Ahead;
+use tb_calls::Word;
 use tb_task::TaskId;
 use tb_values::{Text, read_number};
 
@@ -31,37 +32,46 @@ pub fn request_of(alloc: Global, words: &[Text]) -> Result<Option<Request>, Allo
 #[tactic(auto, unfolding(crate::specs::Request::request_named))]
 fn request_named(
     alloc: Global,
-    word: &str,
+    name: &str,
     arguments: &[Text],
 ) -> Result<Option<Request>, AllocError>
-    ensures { IfOk result (λ found. found ≡ request_named word.now arguments.now) }
+    ensures { IfOk result (λ found. found ≡ request_named name.now arguments.now) }
+{
+    match Word::read(name) {
+        Some(word) => request_for(alloc, word, arguments),
+        None => Ok(None),
+    }
+}
+
+#[tactic(auto, unfolding(crate::specs::Request::request_for))]
+fn request_for(alloc: Global, word: Word, arguments: &[Text]) -> Result<Option<Request>, AllocError>
+    ensures { IfOk result (λ found. found ≡ request_for word arguments.now) }
 {
     match word {
-        "list" => board_view(alloc, "/list", arguments),
-        "export" => board_view(alloc, "/export", arguments),
-        "todo" => board_view(alloc, "/todo", arguments),
-        "people" => board_view(alloc, "/people", arguments),
-        "me" => me_view(alloc, arguments),
-        "task" => task_view(alloc, arguments),
-        "add" => add_call(alloc, arguments),
-        "import" => board_call(alloc, "/import", arguments),
-        "import-todo" => lines_call(alloc, arguments),
-        "done" => task_call(alloc, "/done", arguments),
-        "delete" => task_call(alloc, "/delete", arguments),
-        "reopen" => task_call(alloc, "/reopen", arguments),
-        "start" => task_call(alloc, "/start", arguments),
-        "stop" => task_call(alloc, "/stop", arguments),
-        "annotate" => note_call(alloc, "/annotate", arguments),
-        "denotate" => note_call(alloc, "/denotate", arguments),
-        "modify" => modify_call(alloc, arguments),
-        "depend" => link_call(alloc, "/depend", arguments),
-        "undepend" => link_call(alloc, "/undepend", arguments),
-        "sweep" => sweep_call(alloc, arguments),
-        "person" => person_call(alloc, arguments),
-        "board" => title_call(alloc, arguments),
-        "role" => role_call(alloc, arguments),
-        "ahead" => ahead_call(alloc, arguments),
-        _ => Ok(None),
+        Word::List => board_view(alloc, "/list", arguments),
+        Word::Export => board_view(alloc, "/export", arguments),
+        Word::Todo => board_view(alloc, "/todo", arguments),
+        Word::People => board_view(alloc, "/people", arguments),
+        Word::Me => me_view(alloc, arguments),
+        Word::Task => task_view(alloc, arguments),
+        Word::Add => add_call(alloc, arguments),
+        Word::Import => board_call(alloc, "/import", arguments),
+        Word::ImportTodo => lines_call(alloc, arguments),
+        Word::Done => task_call(alloc, "/done", arguments),
+        Word::Delete => task_call(alloc, "/delete", arguments),
+        Word::Reopen => task_call(alloc, "/reopen", arguments),
+        Word::Start => task_call(alloc, "/start", arguments),
+        Word::Stop => task_call(alloc, "/stop", arguments),
+        Word::Annotate => note_call(alloc, "/annotate", arguments),
+        Word::Denotate => note_call(alloc, "/denotate", arguments),
+        Word::Modify => modify_call(alloc, arguments),
+        Word::Depend => link_call(alloc, "/depend", arguments),
+        Word::Undepend => link_call(alloc, "/undepend", arguments),
+        Word::Sweep => sweep_call(alloc, arguments),
+        Word::Person => person_call(alloc, arguments),
+        Word::Board => title_call(alloc, arguments),
+        Word::Role => role_call(alloc, arguments),
+        Word::Ahead => ahead_call(alloc, arguments),
     }
 }
 

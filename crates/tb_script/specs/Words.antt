@@ -1,6 +1,5 @@
 -- What the words of a line ask of their arguments.
-use Rattle.std.specs.Prelude.{ℕ, List, [], ◌∷◌, Result, Ok, Err, if◌then◌else◌, codes}
-use Rattle.std.specs.Str.{bytes_eq}
+use Rattle.std.specs.Prelude.{ℕ, List, [], ◌∷◌, Result, Ok, Err}
 use Rattle.tb_values.specs.Outcome.{◌>>=◌}
 use Rattle.tb_task.specs.TaskId.{read_id}
 use Rattle.tb_board.specs.Names.{read_name, read_key, read_title}
@@ -11,7 +10,10 @@ use Rattle.tb_core.specs.declared.command.Command.TheVariants.{NewBoard, NewPers
 use Rattle.tb_core.specs.declared.command.Import.TheVariants.{Json, Todo as Lines}
 use Rattle.tb_script.specs.declared.asked.Request.{Request}
 use Rattle.tb_script.specs.declared.asked.Request.TheVariants.{Call, View as ViewOf}
+use Rattle.tb_calls.specs.Word.{word_named}
 use Rattle.tb_calls.specs.declared.view.View.TheVariants.{Listing, Export, Todo, One, People, Me}
+use Rattle.tb_calls.specs.declared.word.Word.{Word}
+use Rattle.tb_calls.specs.declared.word.Word.TheVariants as word
 use Rattle.tb_script.specs.declared.line_fault.Unreadable.{Unreadable}
 use Rattle.tb_script.specs.declared.line_fault.Unreadable.TheVariants.{BadLine}
 use Rattle.tb_script.specs.Arguments.{ahead_number, board_number, role_named}
@@ -164,30 +166,34 @@ set_role board name word = do
 
 -- ---- the words
 
+unfoldable pub request_for : Word → List (List ℕ) → ℕ → Result Request Unreadable
+request_for word.List arguments at = one listing arguments
+request_for word.Export arguments at = one export arguments
+request_for word.Todo arguments at = one todo arguments
+request_for word.Task arguments at = showing arguments
+request_for word.Add arguments at = two (adding at) arguments
+request_for word.Import arguments at = two (importing at) arguments
+request_for word.ImportTodo arguments at = importing_todo at arguments
+request_for word.Done arguments at = acting Done arguments
+request_for word.Delete arguments at = acting Delete arguments
+request_for word.Reopen arguments at = acting Reopen arguments
+request_for word.Start arguments at = acting Start arguments
+request_for word.Stop arguments at = acting Stop arguments
+request_for word.Annotate arguments at = three (acting_with Annotate) arguments
+request_for word.Denotate arguments at = three (acting_with Denotate) arguments
+request_for word.Modify arguments at = three modifying arguments
+request_for word.Depend arguments at = linking arguments
+request_for word.Undepend arguments at = unlinking arguments
+request_for word.Sweep arguments at = one sweeping arguments
+request_for word.Ahead arguments at = two set_ahead arguments
+request_for word.Person arguments at = two new_person arguments
+request_for word.Board arguments at = one new_board arguments
+request_for word.Role arguments at = three set_role arguments
+request_for word.People arguments at = one people arguments
+request_for word.Me arguments at = none (ViewOf Me) arguments
+
+-- a word that is none makes a line that can't be read
 unfoldable pub request_in : List ℕ → List (List ℕ) → ℕ → Result Request Unreadable
-request_in word arguments at =
-    if bytes_eq word (codes "list") then one listing arguments
-    else if bytes_eq word (codes "export") then one export arguments
-    else if bytes_eq word (codes "todo") then one todo arguments
-    else if bytes_eq word (codes "task") then showing arguments
-    else if bytes_eq word (codes "add") then two (adding at) arguments
-    else if bytes_eq word (codes "import") then two (importing at) arguments
-    else if bytes_eq word (codes "import-todo") then importing_todo at arguments
-    else if bytes_eq word (codes "done") then acting Done arguments
-    else if bytes_eq word (codes "delete") then acting Delete arguments
-    else if bytes_eq word (codes "reopen") then acting Reopen arguments
-    else if bytes_eq word (codes "start") then acting Start arguments
-    else if bytes_eq word (codes "stop") then acting Stop arguments
-    else if bytes_eq word (codes "annotate") then three (acting_with Annotate) arguments
-    else if bytes_eq word (codes "denotate") then three (acting_with Denotate) arguments
-    else if bytes_eq word (codes "modify") then three modifying arguments
-    else if bytes_eq word (codes "depend") then linking arguments
-    else if bytes_eq word (codes "undepend") then unlinking arguments
-    else if bytes_eq word (codes "sweep") then one sweeping arguments
-    else if bytes_eq word (codes "ahead") then two set_ahead arguments
-    else if bytes_eq word (codes "person") then two new_person arguments
-    else if bytes_eq word (codes "board") then one new_board arguments
-    else if bytes_eq word (codes "role") then three set_role arguments
-    else if bytes_eq word (codes "people") then one people arguments
-    else if bytes_eq word (codes "me") then none (ViewOf Me) arguments
-    else Err BadLine
+request_in name arguments at = do
+  word ← or_bad_line (word_named name)
+  request_for word arguments at

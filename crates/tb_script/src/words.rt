@@ -5,7 +5,7 @@ ghost use Rattle.tb_core.specs.declared.command.Command.TheVariants.{OnBoard};
 ghost use Rattle.tb_script.specs.Outcome.{Reads};
 ghost use Rattle.tb_script.specs.declared.asked.Request.TheVariants.{Call, View as ViewOf};
 ghost use Rattle.tb_calls.specs.declared.view.View.TheVariants.{Me};
-ghost use Rattle.tb_script.specs.Words.{acting, acting_with, adding, new_board, export, set_role, importing, importing_todo, new_person, link, linking, listing, modifying, none, one, people, request_in, set_ahead, showing, sweeping, task, three, todo, two, unlinking};
+ghost use Rattle.tb_script.specs.Words.{acting, acting_with, adding, new_board, export, set_role, importing, importing_todo, new_person, link, linking, listing, modifying, none, one, people, request_for, request_in, set_ahead, showing, sweeping, task, three, todo, two, unlinking};
 
 use crate::arguments::{
     read_ahead, read_board, read_heading, read_person, read_role, read_secret, read_uuid,
@@ -14,7 +14,7 @@ use crate::asked::Request;
 use crate::body::{read_edits, read_imported, read_incoming, read_tasks};
 use crate::line_fault::LineFault;
 use std::alloc::Global;
-use tb_calls::View;
+use tb_calls::{View, Word};
 use tb_core::{Action, BoardCommand, Command, Import};
 use tb_task::{Moment, TaskId};
 use tb_values::Text;
@@ -22,39 +22,54 @@ use tb_values::Text;
 #[tactic(auto, unfolding(crate::specs::Words::request_in))]
 pub(crate) fn read_request(
     alloc: Global,
-    word: &str,
+    name: &str,
     arguments: &[&str],
     at: Moment,
 ) -> Result<Request, LineFault>
     ensures { Reads result
-        (request_in word.now (map (λ argument. argument.now) arguments.entry.now) at) }
+        (request_in name.now (map (λ argument. argument.now) arguments.entry.now) at) }
+{
+    match Word::read(name) {
+        Some(word) => request_for(alloc, word, arguments, at),
+        None => Err(LineFault::bad_line()),
+    }
+}
+
+#[tactic(auto, unfolding(crate::specs::Words::request_for))]
+fn request_for(
+    alloc: Global,
+    word: Word,
+    arguments: &[&str],
+    at: Moment,
+) -> Result<Request, LineFault>
+    ensures { Reads result
+        (request_for word (map (λ argument. argument.now) arguments.entry.now) at) }
 {
     match word {
-        "list" => read_listing(arguments),
-        "export" => read_export(arguments),
-        "todo" => read_todo(arguments),
-        "task" => read_shown(arguments),
-        "add" => read_add(alloc, arguments, at),
-        "import" => read_import(alloc, arguments, at),
-        "import-todo" => read_import_todo(alloc, arguments, at),
-        "done" => read_action(arguments, Action::Done),
-        "delete" => read_action(arguments, Action::Delete),
-        "reopen" => read_action(arguments, Action::Reopen),
-        "start" => read_action(arguments, Action::Start),
-        "stop" => read_action(arguments, Action::Stop),
-        "annotate" => read_annotate(alloc, arguments),
-        "denotate" => read_denotate(alloc, arguments),
-        "modify" => read_modify(alloc, arguments),
-        "depend" => read_depend(arguments),
-        "undepend" => read_undepend(arguments),
-        "sweep" => read_sweep(arguments),
-        "ahead" => read_set_ahead(arguments),
-        "person" => read_new_person(alloc, arguments),
-        "board" => read_new_board(alloc, arguments),
-        "role" => read_set_role(alloc, arguments),
-        "people" => read_people(arguments),
-        "me" => read_me(arguments),
-        _ => Err(LineFault::bad_line()),
+        Word::List => read_listing(arguments),
+        Word::Export => read_export(arguments),
+        Word::Todo => read_todo(arguments),
+        Word::Task => read_shown(arguments),
+        Word::Add => read_add(alloc, arguments, at),
+        Word::Import => read_import(alloc, arguments, at),
+        Word::ImportTodo => read_import_todo(alloc, arguments, at),
+        Word::Done => read_action(arguments, Action::Done),
+        Word::Delete => read_action(arguments, Action::Delete),
+        Word::Reopen => read_action(arguments, Action::Reopen),
+        Word::Start => read_action(arguments, Action::Start),
+        Word::Stop => read_action(arguments, Action::Stop),
+        Word::Annotate => read_annotate(alloc, arguments),
+        Word::Denotate => read_denotate(alloc, arguments),
+        Word::Modify => read_modify(alloc, arguments),
+        Word::Depend => read_depend(arguments),
+        Word::Undepend => read_undepend(arguments),
+        Word::Sweep => read_sweep(arguments),
+        Word::Ahead => read_set_ahead(arguments),
+        Word::Person => read_new_person(alloc, arguments),
+        Word::Board => read_new_board(alloc, arguments),
+        Word::Role => read_set_role(alloc, arguments),
+        Word::People => read_people(arguments),
+        Word::Me => read_me(arguments),
     }
 }
 

@@ -7,6 +7,7 @@ ghost use Rattle.tb_sending.specs.Replies.{asks_for_lines, ending_at, is_lines, 
 ghost use Rattle.tb_values.specs.Appends.{AppendsFront};
 
 use std::io::Write;
+use tb_calls::Word;
 use tb_client::Reply;
 use tb_orders::Ending;
 use tb_program::Fault;
@@ -62,16 +63,44 @@ fn ending_at(status: u16) -> Ending
 fn asks_for_lines(words: &[Text]) -> bool
     ensures { result ≡ asks_for_lines words.now }
 {
-    match words {
-        [word, ..] => is_lines(word.as_str()),
-        [] => false,
+    let [name, ..] = words else {
+        return false;
+    };
+    match Word::read(name.as_str()) {
+        Some(word) => is_lines(word),
+        None => false,
     }
 }
 
-fn is_lines(word: &str) -> bool
-    ensures { result ≡ is_lines word.now }
+/// Whether the text that a word asks for ends its lines itself.
+fn is_lines(word: Word) -> bool
+    ensures { result ≡ is_lines word }
 {
-    matches!(word, "list" | "todo")
+    match word {
+        Word::List | Word::Todo => true,
+        Word::Export
+        | Word::Task
+        | Word::Add
+        | Word::Import
+        | Word::ImportTodo
+        | Word::Done
+        | Word::Delete
+        | Word::Reopen
+        | Word::Start
+        | Word::Stop
+        | Word::Annotate
+        | Word::Denotate
+        | Word::Modify
+        | Word::Depend
+        | Word::Undepend
+        | Word::Sweep
+        | Word::Ahead
+        | Word::Person
+        | Word::Board
+        | Word::Role
+        | Word::People
+        | Word::Me => false,
+    }
 }
 
 /// Prints a refusal on a line, by which the order ends.
