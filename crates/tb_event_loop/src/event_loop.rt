@@ -6,7 +6,7 @@ ghost use Rattle.tb_event_loop.specs.Ending.{has_stopped};
 ghost use Rattle.tb_event_loop.specs.EventLoop.{IsBusy};
 ghost use Rattle.tb_event_loop.specs.History.{EndsAll, Goes, Leaves, still_to_end};
 ghost use Rattle.tb_event_loop.specs.Places.{IsAnswered, connection_in, is_leaving, is_over_at};
-ghost use Rattle.tb_event_loop.specs.declared.fault.LoopFault.TheVariants.{Memory, Sockets, Store};
+ghost use Rattle.tb_event_loop.specs.declared.fault.LoopFault.TheVariants.{Memory, Moved, Sockets, Store};
 ghost use Rattle.tb_timeouts.specs.Deciding.{IsLongestWait};
 
 use crate::arrivals::{Arrivals, LISTENER, RETRY};
@@ -14,6 +14,7 @@ use crate::fault::LoopFault;
 use crate::journal::Journal;
 use crate::places::{Places, held_bytes};
 use crate::service::{Service, SocketEvent, StoreFailed};
+use crate::watch::Watch;
 use mio::net::TcpListener;
 use mio::{Events, Interest, Poll};
 use std::alloc::Global;
@@ -26,7 +27,7 @@ use tb_timeouts::Limits;
 const EVENTS: usize = 256;
 
 /// How long the loop waits at most, in milliseconds.
-const LONGEST_WAIT: u64 = 60_000;
+const LONGEST_WAIT: u64 = 1_000;
 
 /// A listener, the connections that came, and what the system tells of them.
 #[derive(Drop)]
@@ -75,16 +76,19 @@ impl EventLoop {
     }
 
     /// Serves until all connections that are to come have ended. Each has a turn in each round: one read, one message, one write.
-    /// Ok is told only where there was a limit, and exactly so many connections ended.
-    pub fn serve<V: Service, C: Clock, W: Write>(
+    /// Ok is returned only where there was a limit, and exactly so many connections ended. Before the turns of each new millisecond
+    /// it looks whether what is served is still there, and ends where it isn't.
+    pub fn serve<V: Service, C: Clock, W: Write, P: Watch>(
         &mut self,
         service: &mut V,
         journal: &mut Journal<C, W>,
+        watch: &P,
     ) -> Result<(), LoopFault>
         ensures after { (history : List (ℕ × Done))
             × V.follows (has_stopped result) history service.old service.new
             × EndsAll result (still_to_end self.old) (ends_in history) }
-        ensures fault { IfErr result (λ fault. (fault ≡ Store) ⊎ (fault ≡ Sockets)) }
+        ensures fault { IfErr result
+            (λ fault. (fault ≡ Store) ⊎ (fault ≡ Sockets) ⊎ (fault ≡ Moved)) }
         ensures failed { result ≡ Err Store → V.has_failed service.new ≡ true }
     {
         'rounds: for _ in 0..u64::MAX {
@@ -94,7 +98,11 @@ impl EventLoop {
             if !self.wait() {
                 return Err(LoopFault::Sockets);
             }
+            let before = self.now;
             self.prepare(journal);
+            if self.now != before && !watch.is_there() {
+                return Err(LoopFault::Moved);
+            }
             if self.round(service, journal).is_err() {
                 self.say_farewell(service);
                 return Err(LoopFault::Store);

@@ -10,6 +10,8 @@ use std::alloc::AllocError;
 pub enum LoopFault {
     /// There was no memory to begin with.
     Memory,
+    /// What is served isn't where it was any more.
+    Moved,
     /// The port can't be listened on, or the system doesn't say what is ready.
     Sockets,
     /// The store failed.

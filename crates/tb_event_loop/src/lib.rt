@@ -15,9 +15,11 @@ mod places;
 mod request_line;
 mod service;
 mod turn;
+mod watch;
 
 pub use event_loop::EventLoop;
 pub use fault::LoopFault;
 pub use journal::Journal;
 pub use logging::{FailedMessage, LogEntry, failure_line, log_line};
 pub use service::{Service, SocketEvent, StoreFailed};
+pub use watch::Watch;

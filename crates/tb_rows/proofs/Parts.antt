@@ -320,9 +320,3 @@ module _ (w : World) (people : ℕ) (part : Option BoardPart) (cs : List Change)
       let rows : world_changes w (changed w cs) cs ≡ rows_of_part people part cs =
       is_right.rows ∙ ap (λ n. rows_of_part n (part_of w cs) cs) (sym is.people_are) ∙ ap (λ p. rows_of_part people p cs) (sym is.touched) in
       subst (λ xs. Leads xs w (changed w cs)) rows (leads w (changed w cs) cs is.good is.later is.extends refl)
-
-  pub few_people : people ≤ 10000
-  few_people = subst (λ n. n ≤ 10000) (sym is.people_are) is.good.people
-
-  pub small_part : is_small_part part ≡ true
-  small_part = ap is_small_part is.touched ∙ is_right.small
