@@ -28,6 +28,7 @@ is_of_serving fault = is_of_opening fault
 -- of the loop, as the program tells it
 abbrev pub fault_of_loop : LoopFault → Fault
 fault_of_loop ending.Memory = Memory
+fault_of_loop ending.Moved = Store
 fault_of_loop ending.Sockets = NoListen
 fault_of_loop ending.Store = Store
 

@@ -12,6 +12,7 @@ ghost use Rattle.tb_values.specs.Appends.{AppendsFront};
 
 mod clock;
 mod serve;
+mod served_file;
 
 use crate::serve::serve_file;
 use std::alloc::Global;

@@ -6,6 +6,7 @@ ghost use Rattle.tb_event_loop.specs.History.{still_to_end};
 ghost use Rattle.tb_program.specs.declared.fault.Fault.TheVariants.{NoPage};
 
 use crate::clock::MachineClock;
+use crate::served_file::ServedFile;
 use std::fs;
 use std::io::Write;
 use std::os::unix::fs::PermissionsExt;
@@ -31,16 +32,20 @@ pub(crate) fn serve_file(rt: &HostRuntime, order: &ServeOrder) -> Result<Ending,
 {
     let page = page_of(rt, order)?;
     let desk = open_desk(rt, order.file.as_str())?;
+    let watch = ServedFile::of(rt, order.file.as_str());
     let mut event_loop = listen(rt, order)?;
     let mut server = Server::new(rt.alloc(), desk, MachineClock { rt }, page)?;
     tell_start(rt, order);
     let mut journal = Journal::new(rt.alloc(), rt, rt.stderr(), order.log);
-    match event_loop.serve(&mut server, &mut journal) {
+    match event_loop.serve(&mut server, &mut journal, &watch) {
         Ok(()) => {
             close_desk(server.into_desk())?;
             Ok(Ending::Accepted)
         }
-        Err(fault) => Err(fault_of_loop(fault)),
+        Err(fault) => {
+            tell_moved(rt, order, fault);
+            Err(fault_of_loop(fault))
+        }
     }
 }
 
@@ -75,6 +80,7 @@ fn fault_of_loop(fault: LoopFault) -> Fault
 {
     match fault {
         LoopFault::Memory => Fault::Memory,
+        LoopFault::Moved => Fault::Store,
         LoopFault::Sockets => Fault::NoListen,
         LoopFault::Store => Fault::Store,
     }
@@ -108,6 +114,17 @@ fn tell_start(rt: &HostRuntime, order: &ServeOrder) {
         let _ = writeln!(
             rt.stderr(),
             "taskboard: others may read or write {}, with the keys in it: chmod 600",
+            order.file.as_str()
+        );
+    }
+}
+
+// Tells that the file isn't there any more, where the server ends for that.
+fn tell_moved(rt: &HostRuntime, order: &ServeOrder, fault: LoopFault) {
+    if fault == LoopFault::Moved {
+        let _ = writeln!(
+            rt.stderr(),
+            "taskboard: {} was moved, removed or replaced while it was served: what was answered is in the file that was moved",
             order.file.as_str()
         );
     }

@@ -7,8 +7,16 @@ use Rattle.sqlite.specs.declared.error.Error.TheVariants.{SqliteFailure}
 use Rattle.sqlite.specs.declared.error.ErrorCode.TheVariants.{DatabaseBusy, DatabaseCorrupt, NotADatabase}
 use Rattle.tb_causes.specs.Told.{Text}
 use Rattle.tb_causes.specs.declared.file_cause.FileCause.{FileCause}
-use Rattle.tb_causes.specs.declared.file_cause.FileCause.TheVariants.{Closed, Folder, Unseen, Unusable, Usable}
-use Rattle.tb_causes.specs.declared.file_cause.TheConstants.{BUSY, DAMAGED, FAILED_LATER, FOLDER, LOOK_FAILED, NO_ACCESS, NO_DATABASE, NO_FILE, NO_LOG, NO_LOOK, OPEN_FAILED}
+use Rattle.tb_causes.specs.declared.file_cause.FileCause.TheVariants.{Closed, Folder, Log, Unseen, Unusable, Usable}
+use Rattle.tb_wal.specs.declared.beside.LogFault.{LogFault}
+use Rattle.tb_wal.specs.declared.beside.LogFault.TheVariants.{Damaged, Foreign, Left}
+use Rattle.tb_causes.specs.declared.file_cause.TheConstants.{BUSY, DAMAGED, FAILED_LATER, FOLDER, LOG_DAMAGED, LOG_FOREIGN, LOG_LEFT, LOOK_FAILED, NO_ACCESS, NO_DATABASE, NO_FILE, NO_LOG, NO_LOOK, OPEN_FAILED}
+
+-- of one that isn't opened with its log
+abbrev pub log_text : LogFault → Text
+log_text Left = LOG_LEFT.now
+log_text Damaged = LOG_DAMAGED.now
+log_text Foreign = LOG_FOREIGN.now
 
 -- of one that can't be looked at
 abbrev pub look_text : ErrorKind → Text
@@ -29,6 +37,7 @@ opening_text (SqliteFailure DatabaseCorrupt) = DAMAGED.now
 opening_text _ = NO_LOG.now
 
 abbrev pub file_text : FileCause → Text
+file_text (Log fault) = log_text fault
 file_text (Unseen kind) = look_text kind
 file_text Folder = FOLDER.now
 file_text (Closed kind) = access_text kind

@@ -1,10 +1,11 @@
 //! Why a file can't be used, as far as looking at it again says.
 ghost use Rattle.std.specs.Prelude.{◌≡◌};
-ghost use Rattle.tb_causes.specs.FileCause.{IsFileText, access_text, file_text, look_text, opening_text};
+ghost use Rattle.tb_causes.specs.FileCause.{IsFileText, access_text, file_text, log_text, look_text, opening_text};
 
 use sqlite::{Connection, Error, ErrorCode};
 use std::fs;
 use std::io::ErrorKind;
+use tb_wal::{LogFault, find_log_fault};
 
 const FOLDER: &str = "The file's name is that of a folder.";
 
@@ -28,12 +29,23 @@ const DAMAGED: &str = "The file is damaged: keep it as it is, and go back to the
 
 const NO_LOG: &str = "The file can't be opened as a database, or its log beside it can't.";
 
+const LOG_LEFT: &str =
+    "The file isn't there or is empty, and its log, of the same name with -wal, has what was committed to it: bring the file back, or put the log aside.";
+
+const LOG_DAMAGED: &str =
+    "Its log, of the same name with -wal, is damaged before commits that were made later. Nothing was changed. Go back to the newest good copy, or put the log aside to go on without what is in it.";
+
+const LOG_FOREIGN: &str =
+    "The file is younger than its log, of the same name with -wal, which has commits of another file, or of this one before it was restored. Put the log aside. If the two do belong together, copy the log, and put the copy in its place.";
+
 const FAILED_LATER: &str =
     "The file failed while it was used: its disk is full or fails, or another program changed its rows. Look at `taskboard check FILE`.";
 
 /// What a file is when it is looked at again.
 #[derive(Drop)]
 enum FileCause {
+    /// Its log keeps it from being opened.
+    Log(LogFault),
     /// It can't be looked at.
     Unseen(ErrorKind),
     Folder,
@@ -53,6 +65,9 @@ pub(crate) fn cause_of_file(rt: &HostRuntime, path: &str) -> &'static str
 }
 
 fn look_at(rt: &HostRuntime, path: &str) -> FileCause {
+    if let Ok(Some(fault)) = find_log_fault(rt, path) {
+        return FileCause::Log(fault);
+    }
     match fs::metadata(rt, path) {
         Err(error) => FileCause::Unseen(error.kind()),
         Ok(found) if found.is_dir() => FileCause::Folder,
@@ -74,11 +89,22 @@ fn file_text(cause: &FileCause) -> &'static str
     ensures { result.now ≡ file_text cause.now }
 {
     match cause {
+        FileCause::Log(fault) => log_text(*fault),
         FileCause::Unseen(kind) => look_text(*kind),
         FileCause::Folder => FOLDER,
         FileCause::Closed(kind) => access_text(*kind),
         FileCause::Unusable(error) => opening_text(error),
         FileCause::Usable => FAILED_LATER,
+    }
+}
+
+fn log_text(fault: LogFault) -> &'static str
+    ensures { result.now ≡ log_text fault }
+{
+    match fault {
+        LogFault::Left => LOG_LEFT,
+        LogFault::Damaged => LOG_DAMAGED,
+        LogFault::Foreign => LOG_FOREIGN,
     }
 }
 

@@ -2,7 +2,7 @@
 ghost use Rattle.sqlite.specs.Files.{file_state};
 ghost use Rattle.sqlite.specs.State.{HasCleanDisk, Opens};
 ghost use Rattle.std.specs.Io.KnownBytes.{Appends};
-ghost use Rattle.std.specs.Prelude.{◌≡◌, false, IfErr, IfOk, OnErr, OnOk, true};
+ghost use Rattle.std.specs.Prelude.{◌≡◌, false, IfErr, IfOk, Ok, OnErr, OnOk, true};
 ghost use Rattle.tb_files.specs.File.{IsBegun, IsSaved, IsUnopened};
 ghost use Rattle.tb_files.specs.Notice.{migrated_line, version_line};
 ghost use Rattle.tb_orders.specs.Faults.{is_of_files, is_of_opening};
@@ -19,6 +19,7 @@ use tb_headline::session::resume;
 use tb_keeper::SqlKeep;
 use tb_orders::fault_of_opening;
 use tb_program::{Fault, print_line, print_text};
+use tb_wal::find_log_fault;
 
 /// The mode of a file that its owner alone may read and write.
 const PRIVATE: u32 = 0o600;
@@ -26,13 +27,45 @@ const PRIVATE: u32 = 0o600;
 /// The store of a real file.
 pub type RealFile = FileStore<File>;
 
-/// Opens the file at a path, or makes an empty one where none is.
+/// Opens the file at a path, or makes an empty one where none is. It isn't opened with a log that belongs to another file or is damaged:
+/// the engine would take the log as it is, and drop what it can't read.
 pub(crate) fn open_file(rt: &HostRuntime, path: &str) -> Result<Connection<RealFile>, Fault>
     ensures fault { IfErr result (λ fault. is_of_files fault ≡ true) }
     ensures idle { IfOk result (λ conn. conn.in_transaction ≡ false) }
     ensures opens { IfOk result (λ conn. HasCleanDisk (file_state conn) → Opens (file_state conn)) }
 {
-    match Connection::open(rt, path) {
+    look_at_log(rt, path)?;
+    take_opened(Connection::open(rt, path))
+}
+
+/// Opens the file at a path, or makes an empty one with sums of its pages, which its owner alone may read and write.
+pub(crate) fn open_new_file(rt: &HostRuntime, path: &str) -> Result<Connection<RealFile>, Fault>
+    ensures fault { IfErr result (λ fault. is_of_files fault ≡ true) }
+    ensures idle { IfOk result (λ conn. conn.in_transaction ≡ false) }
+    ensures opens { IfOk result (λ conn. HasCleanDisk (file_state conn) → Opens (file_state conn)) }
+{
+    look_at_log(rt, path)?;
+    make_private(rt, path);
+    take_opened(Connection::open_with_sums(rt, path))
+}
+
+fn look_at_log(rt: &HostRuntime, path: &str) -> Result<(), Fault>
+    ensures { IfErr result (λ fault. is_of_files fault ≡ true) }
+{
+    match find_log_fault(rt, path) {
+        Ok(None) => Ok(()),
+        Ok(Some(_)) => Err(Fault::Store),
+        Err(_) => Err(Fault::Memory),
+    }
+}
+
+/// A connection, or why there is none.
+fn take_opened(opened: Result<Connection<RealFile>, Error>) -> Result<Connection<RealFile>, Fault>
+    ensures fault { IfErr result (λ fault. is_of_files fault ≡ true) }
+    ensures idle { IfOk result (λ conn. conn.in_transaction ≡ false) }
+    ensures same { IfOk result (λ conn. opened ≡ Ok conn) }
+{
+    match opened {
         Ok(conn) if conn.is_autocommit() => Ok(conn),
         Ok(_) => Err(Fault::Store), // Never: no transaction is open in a new connection.
         Err(Error::SqliteFailure(ErrorCode::OutOfMemory)) => Err(Fault::Memory),
@@ -126,7 +159,7 @@ pub(crate) fn close_keep(keep: SqlKeep<RealFile>) -> Result<(), Fault>
 }
 
 /// Makes an empty file that its owner alone may read, where none is at a path. Its log is made with the same mode.
-pub(crate) fn make_private(rt: &HostRuntime, path: &str) {
+fn make_private(rt: &HostRuntime, path: &str) {
     let _ = fs::OpenOptions::new()
         .write(true)
         .create_new(true)

@@ -4,7 +4,7 @@ ghost use Rattle.tb_calls.specs.Call.{opening};
 ghost use Rattle.tb_files.specs.Init.{IsMade, IsNotMade};
 ghost use Rattle.tb_orders.specs.Faults.{is_of_making};
 
-use crate::file::{RealFile, close_desk, make_private, open_file};
+use crate::file::{RealFile, close_desk, open_new_file};
 use tb_calls::Keep;
 use tb_command_line::InitOrder;
 use tb_headline::session::make;
@@ -21,8 +21,7 @@ pub fn make_file(rt: &HostRuntime, order: &InitOrder) -> Result<Ending, Fault>
         (IsNotMade ⟦<SqlKeep<RealFile> as Keep>⟧ (opening order.now.name order.now.key)) }
     ensures fault { IfErr result (λ fault. is_of_making fault ≡ true) }
 {
-    make_private(rt, order.file.as_str());
-    let conn = open_file(rt, order.file.as_str())?;
+    let conn = open_new_file(rt, order.file.as_str())?;
     match make(rt.alloc(), conn, &order.name, &order.key) {
         Ok(desk) => {
             close_desk(desk)?;
