@@ -31,6 +31,11 @@ def depends_on(place, identifier):
 
 
 def stored():
+    # (a file that sqlite3 made has no sums of its pages, which another hand's change would spoil)
+    other = sqlite3.connect("good.db")
+    other.execute("CREATE TABLE none (id)")
+    other.execute("DROP TABLE none")
+    other.close()
     ran(["init", "good.db", "ann", "ann-key-1"])
     entered = {"entry": "20260101T000000Z"}
     tasks = [{"description": "Sand", "uuid": one, "status": "pending", **entered} for one in ids]

@@ -42,3 +42,8 @@ HasFault there younger log (Some Foreign) =
     (there ≡ true) × (younger ≡ true) × (IsDamaged log → ⊥) × HasCommit log
 HasFault there younger log None =
     (IsDamaged log → ⊥) × (HasCommit log → (there ≡ true) × (younger ≡ false))
+
+-- of what the machine says of a file and its log
+abbrev pub IsFound : Option LogFault → Type 0
+IsFound found =
+    (there : Bool) × (younger : Bool) × (log : List ℕ) × HasFault there younger log found

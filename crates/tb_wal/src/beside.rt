@@ -1,5 +1,6 @@
 //! A file of boards and the log beside it, before they are opened.
-ghost use Rattle.tb_wal.specs.Looking.{HasFault};
+ghost use Rattle.std.specs.Prelude.{IfOk};
+ghost use Rattle.tb_wal.specs.Looking.{HasFault, IsFound};
 
 use crate::log::{has_commit, is_damaged};
 use std::alloc::AllocError;
@@ -17,19 +18,29 @@ pub enum LogFault {
     Foreign,
 }
 
-/// Looks at a file and its log. A log that can't be read has no fault here: the engine says why it can't open it.
-pub fn find_log_fault(rt: &HostRuntime, path: &str) -> Result<Option<LogFault>, AllocError> {
-    let log_path = format!(in rt.alloc(); "{path}-wal")?;
+/// Looks at a file and its log. A log that can't be read counts as empty: the engine says why it can't open it.
+pub fn find_log_fault(rt: &HostRuntime, path: &str) -> Result<Option<LogFault>, AllocError>
+    ensures { IfOk result IsFound }
+{
+    let log_path = log_path_of(rt, path)?;
     let log = match fs::read(rt, log_path.as_str()) {
         Ok(log) => log,
         Err(error) if error.kind() == ErrorKind::OutOfMemory => return Err(AllocError),
-        Err(_) => return Ok(None),
+        Err(_) => Vec::new(rt.alloc()),
     };
     let (is_there, is_younger) = match fs::metadata(rt, path) {
         Ok(file) => (file.len() > 0, is_younger(rt, &file, log_path.as_str())),
         Err(_) => (false, false),
     };
     Ok(fault_of(is_there, is_younger, log.as_slice()))
+}
+
+// The log stands where a link to the file leads, as the engine has it.
+fn log_path_of(rt: &HostRuntime, path: &str) -> Result<String, AllocError> {
+    match fs::canonicalize(rt, path) {
+        Ok(real) => format!(in rt.alloc(); "{}-wal", real.as_str()),
+        Err(_) => format!(in rt.alloc(); "{path}-wal"),
+    }
 }
 
 fn is_younger(rt: &HostRuntime, file: &Metadata, log_path: &str) -> bool {
