@@ -4,6 +4,7 @@ use std::os::unix::fs::MetadataExt;
 use tb_event_loop::Watch;
 
 /// A path, and which file it led to. A file keeps its device and its number when it is written, and another one has others.
+#[derive(Clone, Copy)]
 pub(crate) struct ServedFile<'p> {
     rt: &'p HostRuntime,
     path: &'p str,
