@@ -13,7 +13,7 @@ use Rattle.tb_core.specs.declared.command.BoardCommand.{BoardCommand}
 use Rattle.tb_core.specs.declared.command.BoardCommand.TheVariants as board_command
 use Rattle.tb_core.specs.declared.command.Command.{Command}
 use Rattle.tb_core.specs.declared.command.Command.TheVariants as command
-use Rattle.tb_core.specs.declared.command.Import.TheVariants as tasks
+use Rattle.tb_core.specs.declared.command.Import.TheVariants as imported
 use Rattle.tb_http.specs.Body.{has_members, person_in, title_in, role_in, ahead_in, description_in, link_in}
 use Rattle.tb_http.specs.declared.kind.BoardCall.{BoardCall}
 use Rattle.tb_http.specs.declared.kind.BoardCall.TheVariants as to_board
@@ -95,12 +95,12 @@ set_ahead text = do
 abbrev pub import : List ℕ → ℕ → Result BoardCommand BadBody
 import text at = do
   tasks ← import_in text at
-  Ok (board_command.Import (tasks.Json tasks))
+  Ok (board_command.Import (imported.Json tasks))
 
 abbrev pub import_todo : ℕ → List ℕ → ℕ → Result BoardCommand BadBody
 import_todo board text at = do
   tasks ← todo_in text at board
-  Ok (board_command.Import (tasks.Todo tasks))
+  Ok (board_command.Import (imported.Todo tasks))
 
 abbrev pub on_board : ℕ → BoardCall → List ℕ → ℕ → Result BoardCommand BadBody
 on_board board to_board.Add text at = add text at
