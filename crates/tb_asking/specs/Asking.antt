@@ -1,5 +1,5 @@
 -- What a message asks for.
-use Rattle.std.specs.Prelude.{ℕ, List, Option, Some, None, Result, Ok, Err, option_and_then}
+use Rattle.std.specs.Prelude.{ℕ, List, Option, Some, None, Result, Ok, Err}
 use Rattle.tb_values.specs.Outcome.{◌>>=◌}
 use Rattle.tb_board.specs.Names.{read_key, read_name}
 use Rattle.tb_core.specs.declared.command.Command.{Command}

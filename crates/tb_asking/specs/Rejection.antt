@@ -5,7 +5,6 @@ use Rattle.tb_asking.specs.declared.body_fault.BadBody.{BadBody}
 use Rattle.tb_asking.specs.BodyFault.{text_of}
 use Rattle.tb_http.specs.declared.fault.WireFault.{WireFault}
 use Rattle.tb_http.specs.declared.fault.WireFault.TheVariants as wire
-use Rattle.tb_http.specs.declared.resource.RouteFault.{RouteFault}
 use Rattle.tb_http.specs.declared.route.Verb.{Verb}
 use Rattle.tb_http.specs.Fault.{body_of as fault_body}
 use Rattle.tb_http.specs.Resource.{fault_of as route_fault, allowed_by as allowed_on}
