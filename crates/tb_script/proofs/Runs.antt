@@ -7,7 +7,6 @@ use Rattle.tb_values.proofs.Appends.{Appends-nil, Appends-then, AppendsFront-mor
 use Rattle.tb_calls.specs.Call.{State}
 use Rattle.tb_script.specs.Answering.{answer}
 use Rattle.tb_script.specs.Lines.{answers, answers_from, lines_of}
-use Rattle.tb_script.proofs.OneLine.{left_by}
 use Rattle.tb_script.specs.Runs.{LeavesSome, Progress, after_lines, fed, from}
 use Rattle.tb_script.proofs.Feeding.{behind, ends, fed-append, fed-behind, fronts, left_calls}
 

@@ -1,4 +1,4 @@
-use Rattle.std.proofs.Common.{◌≡◌, ◌∙◌, take, arith}
+use Rattle.std.proofs.Common.{◌∙◌, take, arith}
 use Rattle.std.proofs.lemmas.Result.{on_err_weaker, on_ok_weaker}
 use Rattle.tb_script.proofs.Runs.{feeds_of, finishes_of, held_in, known_left_all, known_read_on, known_stopped, known_stopped_after, known_stopped_at_end, known_stopped_in, known_stopped_last, known_written_all, none_eaten, on_err_since}
 use Rattle.tb_script.proofs.run_lines_on.Goals as goal

@@ -1,4 +1,4 @@
-use Rattle.std.proofs.Common.{◌≡◌, refl, sym, ap, rules}
+use Rattle.std.proofs.Common.{rules}
 use Rattle.tb_script.proofs.Failures.{as_before, other_fault, told_on}
 use Rattle.tb_script.proofs.answering.answer_call.Goals as goal
 

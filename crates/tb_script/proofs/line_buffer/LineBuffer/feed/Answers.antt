@@ -1,4 +1,4 @@
-use Rattle.std.proofs.Common.{true, ◌≡◌, ◌∙◌, ◌<◌, ◌+◌, ◌⊎◌, length, take, inl, inr, ap, subst, arith}
+use Rattle.std.proofs.Common.{true, ◌≡◌, ◌∙◌, ◌<◌, ◌+◌, length, take, inl, inr, ap, subst, arith}
 use Rattle.std.proofs.lemmas.List.{take_all}
 use Rattle.tb_calls.specs.Call.{State}
 use Rattle.tb_script.specs.Runs.{Progress, fed, from}

@@ -1,6 +1,6 @@
 use Rattle.std.proofs.Common.{true, ◌≡◌, take}
 use Rattle.tb_calls.specs.Call.{State}
-use Rattle.tb_script.specs.Runs.{Progress, fed, from}
+use Rattle.tb_script.specs.Runs.{fed, from}
 use Rattle.tb_script.proofs.line_buffer.LineBuffer.feed.Given as goal
 
 abbrev pub invariant-loop-byte : goal.invariant-loop-byte
