@@ -38,6 +38,9 @@ attempt kill.sh python3
 attempt store_fails.sh python3
 attempt strange_rows.sh python3
 attempt old_file.py python3
+attempt logs.py python3
+attempt moved.py python3
+attempt sums.py python3
 attempt curl.sh python3 curl
 attempt silent.sh python3
 attempt crowd.sh python3
