@@ -6,9 +6,9 @@ import sys
 
 TOP = pathlib.Path(__file__).resolve().parent.parent
 DOCUMENTS = [TOP / "README.md", *sorted((TOP / "docs").glob("*.md"))]
-ENDINGS = r"\.(?:md|sh|py|rt|antt|txt|json|gz|case|wire|script|answers|html)"
+ENDINGS = r"\.(?:md|sh|py|rt|antt|txt|json|gz|case|steps|wire|script|answers|html)"
 # An example goes by its name alone, whatever crate it is told of.
-EXAMPLES = (".script", ".answers", ".wire", ".case")
+EXAMPLES = (".script", ".answers", ".wire", ".case", ".steps")
 # What the program and the provers make, so that a clone needn't have it.
 MADE = re.compile(r"((crates/\w+/)?out/.*|.*\.db(-wal)?)")
 PLACEHOLDER = re.compile(r"NAME|FILE|MINUTES")
@@ -26,7 +26,9 @@ def tell(path, number, what):
 
 
 def crates_named(line):
-    return [name for quoted in re.findall(r"`([^`]+)`", line) for name in re.findall(r"\w+", quoted) if name in CRATES]
+    """The crates that a line names. (The folder `tests/` isn't the crate of that name, which is told of as `crates/tests`.)"""
+    quotes = [re.sub(r"(?<![\w/])tests/", "", quoted) for quoted in re.findall(r"`([^`]+)`", line)]
+    return [name for quoted in quotes for name in re.findall(r"\w+", quoted) if name in CRATES]
 
 
 def every_file():
@@ -46,7 +48,7 @@ def is_there(word, crates):
     if any(next((TOP / folder).glob(pattern), None) for folder in FOLDERS):
         return True
     if "/" not in word and word.endswith(EXAMPLES):
-        crates = ("scenario_tests", "value_tests")
+        crates = ("tests",)
     inside = [f"crates/{crate}/" for crate in crates] or ["crates/"]
     if "*" in pattern:
         return True
@@ -125,7 +127,7 @@ def check_crates():
             if other not in below:
                 tell(path, number, f"{names} don't stand on {other}")
     for crate in sorted(CRATES):
-        if crate not in seen or crate not in BELOW or f" {crate} " not in whole and not crate.endswith("_tests"):
+        if crate not in seen or crate not in BELOW or f" {crate} " not in whole and not crate.startswith("test"):
             tell(path, 0, f"{crate} lacks in the table of crates, in the layers or in crates.txt")
 
 
@@ -136,7 +138,7 @@ def all_below(name):
 def check_examples():
     """Each example that has a heading, or a row of messages, is a file of a crate's data."""
     path = TOP / "docs/EXAMPLES.md"
-    stems = {pathlib.Path(name).stem for paths in FILES.values() for name in paths if "_tests/data/" in name}
+    stems = {pathlib.Path(name).stem for paths in FILES.values() for name in paths if "crates/tests/data/" in name}
     for number, line in lines_of(path):
         names = re.findall(r"^#+ ([a-z_]+)$|^\| `([a-z_]+)` \|", line)
         for name in [heading or row for heading, row in names]:

@@ -134,7 +134,7 @@ def worked_examples():
     count = 0
     text = (TOP / "docs/EXAMPLES.md").read_text()
     for name, part in re.findall(r"(?ms)^## ([a-z_]+)\n(.*?)(?=^## |\Z)", text):
-        path = TOP / f"crates/scenario_tests/data/{name}.answers"
+        path = TOP / f"crates/tests/data/{name}.answers"
         answers = path.read_text() if path.exists() else ""
         spans = re.findall(r"`([^`]+)`", re.sub(r"(?m)^    .*$", "", part)) if answers else []
         shown = [re.sub(r"T\((\d+)\)", lambda task: f"00000001-0000-8000-8000-{int(task[1]):012x}", span) for span in spans]

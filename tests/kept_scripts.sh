@@ -4,13 +4,13 @@
 set -eu
 
 top=$(cd "$(dirname "$0")/.." && pwd)
-data=$top/crates/scenario_tests/data
+data=$top/crates/tests/data
 folder=$(mktemp -d)
 trap 'rm -rf "$folder"' EXIT
 
 # Builds the program where it is proved.
-(cd "$top/crates/scenario_tests" && rt run -- --memory </dev/null)
-program=$top/crates/scenario_tests/out/scenario_tests
+(cd "$top/crates/tests" && rt run -- --memory </dev/null)
+program=$top/crates/tests/out/tests
 cd "$folder"
 
 run_line_by_line() {

@@ -24,7 +24,7 @@ from talking import Caller, body_of, message, status_of
 
 PROGRAM, PORT, LIBRARY, STEP, EXAMPLES = os.path.abspath(sys.argv[1]), int(sys.argv[2]), os.path.abspath(sys.argv[3]), int(sys.argv[4]), sys.argv[5:]
 TESTS = pathlib.Path(__file__).resolve().parent
-DATA = TESTS.parent / "crates/scenario_tests/data"
+DATA = TESTS.parent / "crates/tests/data"
 ROOT = b"x-member: root\r\nx-key: root-key-1\r\n"
 REFUSED = '{"name":"Memory"}'
 FAILED = '{"name":"Store"}'
@@ -153,7 +153,7 @@ def script_of(name):
         script = folder / f"{name}.script"
         if script.exists():
             return script.read_bytes(), script.with_suffix(".answers").read_bytes()
-    lines = (DATA / f"{name}.case").read_text().split("\n")
+    lines = (DATA / f"{name}.steps").read_text().split("\n")
     sent = [at for at, line in enumerate(lines) if "\t" in line]
     return "".join(lines[at] + "\n" for at in sent).encode(), "".join(lines[at + 1][2:] + "\n" for at in sent).encode()
 

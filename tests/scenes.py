@@ -1,10 +1,10 @@
-"""The connections of the wire examples, as bytes; `crates/scenario_tests/data/README.md` says what the lines mean."""
+"""The connections of the wire examples, as bytes; `crates/tests/data/README.md` says what the lines mean."""
 import pathlib
 import re
 
 
 def files_of_scenes():
-    folder = pathlib.Path(__file__).resolve().parent.parent / "crates/scenario_tests/data"
+    folder = pathlib.Path(__file__).resolve().parent.parent / "crates/tests/data"
     return sorted(folder.glob("*.wire"))
 
 

@@ -4,7 +4,7 @@ import subprocess
 import sys
 
 program = sys.argv[1]
-folder = pathlib.Path(__file__).resolve().parent.parent / "crates/scenario_tests/data"
+folder = pathlib.Path(__file__).resolve().parent.parent / "crates/tests/data"
 
 
 def is_answered(script):

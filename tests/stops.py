@@ -1,4 +1,4 @@
-"""Stops sessions of worked scripts at each call of their files: python3 stops.py PROGRAM [NAME..], where the program is that of the crate scenario_tests.
+"""Stops sessions of worked scripts at each call of their files: python3 stops.py PROGRAM [NAME..], where the program is that of the crate tests.
 
 Each script is sent over a log and a database file in memory. Of these one stops at a call, or fails a call and goes on, for each call in turn; then the session
 behind a stop is stopped too. A line for each script says how often that was done. SECONDS is how long one way may take, and ONCE=1 leaves second stops out."""
@@ -10,7 +10,7 @@ import sys
 import time
 
 PROGRAM, NAMES = os.path.abspath(sys.argv[1]), sys.argv[2:]
-DATA = pathlib.Path(__file__).resolve().parent.parent / "crates/scenario_tests/data"
+DATA = pathlib.Path(__file__).resolve().parent.parent / "crates/tests/data"
 SECONDS, IS_ONCE = float(os.environ.get("SECONDS", "3600")), os.environ.get("ONCE") == "1"
 ONCE = ("log", "file", "log_once", "file_once")
 TWICE = ("log log", "log file", "file log", "file file")

@@ -2,14 +2,14 @@
 # Sends each worked script over two files in memory of which one stops, or fails once, at each of its calls in turn, and stops the session
 # behind that too; what was answered stands each time, and all sent again is answered as written (docs/TESTING.md). It needs python3 and
 # the Rattle kit; `sh tests/stops.sh NAME..` sends these scripts alone, and with ONCE=1 no session is
-# stopped behind a stop. SCENARIO_TESTS is the program of the crate scenario_tests, where it is built already.
+# stopped behind a stop. PROGRAM is the program of the crate tests, where it is built already.
 set -eu
 
 top=$(cd "$(dirname "$0")/.." && pwd)
 
 # Builds the program where it is proved.
-program=${SCENARIO_TESTS:-$top/crates/scenario_tests/out/scenario_tests}
-if [ -z "${SCENARIO_TESTS:-}" ]; then
-    (cd "$top/crates/scenario_tests" && rt run -- --memory </dev/null)
+program=${PROGRAM:-$top/crates/tests/out/tests}
+if [ -z "${PROGRAM:-}" ]; then
+    (cd "$top/crates/tests" && rt run -- --memory </dev/null)
 fi
 python3 "$top/tests/stops.py" "$program" "$@"

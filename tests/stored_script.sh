@@ -8,8 +8,8 @@ folder=$(mktemp -d)
 trap 'rm -rf "$folder"' EXIT
 
 # Builds the program where it is proved.
-(cd "$top/crates/scenario_tests" && rt run -- --memory </dev/null)
-program=$top/crates/scenario_tests/out/scenario_tests
+(cd "$top/crates/tests" && rt run -- --memory </dev/null)
+program=$top/crates/tests/out/tests
 taskboard=$("$top/taskboard" --where)
 cd "$folder"
 

@@ -3,7 +3,7 @@
 What a real socket and clock can't be told to do is left out: scenes with moments of their own, readers that fail, writers that fail at
 each byte or stall, and connections at once in every order. A writer that fails behind some bytes is a client that goes away behind them.
 Moments in answers are those of the machine's clock, so they are only compared as moments.
-`crates/scenario_tests/data/README.md` says what the lines mean."""
+`crates/tests/data/README.md` says what the lines mean."""
 import os
 import pathlib
 import socket
