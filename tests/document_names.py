@@ -1,4 +1,4 @@
-"""Looks up what the documents name: files, links, crates, contracts, examples, numbers and the kit. Prints each that isn't there: python3 document_names.py"""
+"""Looks up what the documents name: files, links, crates, contracts, examples, numbers and the logic. Prints each that isn't there: python3 document_names.py"""
 import collections
 import pathlib
 import re
@@ -172,13 +172,12 @@ def check_numbers():
                     tell(path, number, f"{told} {what}: there are {numbers[what]}")
 
 
-def check_kit():
-    """The README, `--version` and the manifest of dist/ name one kit."""
-    shown = re.search(r"(?m)^    (rattle-kit-.*)$", (TOP / "README.md").read_text())
-    version = re.search(r"(?m)^proved with (.*)$", (TOP / "crates/taskboard/src/main.rt").read_text())
-    manifest = re.search(r"(?m)^kit (.*)$", (TOP / "dist/manifest").read_text())
-    if len({it and it[1] for it in (shown, version, manifest)}) != 1:
-        faults.append("README.md, --version and dist/manifest name different kits")
+def check_logic():
+    """The README, `--version` and the manifest of dist/ name one logic."""
+    places = ("README.md", "crates/taskboard/src/main.rt", "dist/manifest")
+    named = [re.findall(r"\blogic ([0-9a-f]{16})\b", (TOP / place).read_text()) for place in places]
+    if len({tuple(it) for it in named}) != 1 or len(named[0]) != 1:
+        faults.append("README.md, --version and dist/manifest name different logics")
 
 
 def check_words():
@@ -208,7 +207,7 @@ check_crates()
 check_examples()
 check_tests()
 check_numbers()
-check_kit()
+check_logic()
 check_words()
 print("\n".join(faults) or f"what {len(DOCUMENTS)} documents name is there")
 sys.exit(bool(faults))

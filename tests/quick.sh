@@ -52,6 +52,7 @@ attempt faults.sh python3
 attempt power.sh python3 strace
 attempt memory.sh python3 cc
 attempt client.sh python3
+attempt kits.py python3
 attempt documents.sh python3
 
 if [ -n "$failed" ]; then

@@ -9,7 +9,8 @@ gzip -9nc "$program" >dist/taskboard.gz
 {
     echo "program $(sha256sum "$program" | cut -d ' ' -f 1)"
     echo "sources $(./taskboard --sources)"
-    echo "kit $(rt version)"
+    echo "logic $(rt version | sed -n 's/.* logic //p')"
+    echo "kit $(rt version | cut -d ' ' -f 1)"
     echo "glibc $(grep -ao 'GLIBC_[0-9.]*' "$program" | cut -d _ -f 2 | sort -Vu | tail -n 1)"
 } >dist/manifest
 cat dist/manifest

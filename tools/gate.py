@@ -1,8 +1,8 @@
 #!/usr/bin/env python3
 """Proves and tests all crates by `rt ci`, from nothing, compares the program that it built with the one in `dist/`, and tries every must-fail edit.
 
-It does so in a copy in a temporary folder (where TMPDIR says), without the edits: `wrong_bodies.py` tries those of each crate once it is proved, beside the proofs
-of the others. Where the kit at hand has other functions than that calls, the copy has the edits, and `rt ci` tries them. `out/times.txt` has the processor minutes of
+It says first which kit it met. It proves in a copy in a temporary folder (where TMPDIR says), without the edits: `wrong_bodies.py` tries those of each crate once it
+is proved, beside the proofs of the others. Where the kit at hand has other functions than that calls, the copy has the edits, and `rt ci` tries them. `out/times.txt` has the processor minutes of
 each crate, the longest first; `out/gate.log` all that `rt ci` said, and `out/edits.log` what each edit came to."""
 import gzip
 import os
@@ -33,18 +33,21 @@ def kit():
 
 
 def is_as_shipped(wanted, program):
-    """Whether the program of `dist/` is the one that was built here, byte for byte, or is of other sources or by another kit."""
+    """Whether the program of `dist/` is the one that was built here, byte for byte, or is of other sources. One by another kit is compared too, and may differ."""
     said = manifest()
     if said.get("sources") != wanted:
         print("dist/ is of other sources, so its program isn't compared")
         return True
-    if said.get("kit") != kit():
-        print(f"dist/ is by {said.get('kit')}, so its program isn't compared")
-        return True
     with gzip.open(f"{TOP}/dist/taskboard.gz") as shipped, open(program, "rb") as built:
-        is_same = shipped.read() == built.read()
-    print("the program of dist/ is the one that was built here" if is_same else "THE PROGRAM OF dist/ IS NOT THE ONE THAT WAS BUILT HERE")
-    return is_same
+        if shipped.read() == built.read():
+            print("the program of dist/ is the one that was built here")
+            return True
+    made_by, here = said.get("kit", "no kit").split()[0], kit().split()[0]
+    if made_by != here:
+        print(f"the program of dist/ isn't the one that was built here: {made_by} built it, and this kit is {here}")
+        return True
+    print("THE PROGRAM OF dist/ IS NOT THE ONE THAT WAS BUILT HERE")
+    return False
 
 
 def prove(room, wanted, heard):
@@ -105,6 +108,7 @@ def prove_and_try(room, wanted):
 def main():
     os.makedirs(f"{TOP}/out", exist_ok=True)
     wanted, began, names = build.sources(), time.time(), proving.crates_of(TOP)
+    print(f"the kit is {kit()}", flush=True)
     with tempfile.TemporaryDirectory(prefix="taskboard-gate-") as room:
         os.chmod(room, 0o755)
         if wrong_bodies.fits():

@@ -55,7 +55,7 @@ def fits():
         inspect.signature(kit.rtlib.crates_below).bind(None)
         inspect.signature(kit.rtlib.guarded).bind()
         return True
-    except Exception:
+    except (Exception, SystemExit):
         return False
 
 

@@ -35,7 +35,7 @@ use tb_sending::{ServerLine, name_call, send_order};
 const VERSION: &str = "\
 taskboard 1
 tables of version 2
-proved with rattle-kit-13b logic dac8208d650f15bf
+proved with logic dac8208d650f15bf
 ";
 
 fn main(rt: HostRuntime) -> ExitCode {
