@@ -10,7 +10,7 @@ import subprocess
 import sys
 import time
 
-from talking import KNOWN, Server, adding, answer_to, body_of, description, expect_each_once, identified, make_file, message, status_of
+from talking import KNOWN, Server, adding, answer_to, body_of, expect_each_once, identified, make_file, message, status_of
 
 PROGRAM, PORT = sys.argv[1], int(sys.argv[2])
 # How many tasks the copy has, and how many the file has when it's put aside.
