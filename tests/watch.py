@@ -28,6 +28,8 @@ the_watch = importlib.util.module_from_spec(importlib.util.spec_from_loader("wat
 loader.exec_module(the_watch)
 OK, WARNING, CRITICAL, UNKNOWN = range(4)
 DAY, MIB = 86400, 2**20
+# For how long another level than the expected one is tried for again.
+PATIENCE = float(os.environ.get("PATIENCE", 60))
 LINE = re.compile(r"TASKBOARD (OK|WARNING|CRITICAL) - [^|\n]+ \| ('\w+'=-?[\d.]+(s|B|c)?;[\d.:]*;[\d.:]*( |$))+\n?")
 METRIC = re.compile(r'# (HELP|TYPE) taskboard_\w+ .+|(taskboard_\w+(?:\{\w+="[^"]*"(?:,\w+="[^"]*")*\})?) (-?[\d.]+)')
 COPIES, STATE, LOG = pathlib.Path("copies"), pathlib.Path("state.json"), pathlib.Path("log")
@@ -70,14 +72,15 @@ def watch_by_itself(*words, **more):
 def finds(level, text, *words, looks=watch, **more):
     """That a look ends with this level, and tells this. A busy machine may be slow to answer, so another level is tried for again."""
     global said
-    for _ in range(20):
+    last = time.monotonic() + PATIENCE
+    while True:
         status, line = looks(*words, **more)
         expect(f"one line: {line!r}", level == UNKNOWN and line.count("\n") == 1 or LINE.fullmatch(line))
         if status == level and text in line:
             said += 1
             return line
+        expect(f"{level} with '{text}' was expected of {words}, and it ended with {status}: {line}", time.monotonic() < last)
         time.sleep(0.1)
-    sys.exit(f"watch: {level} with '{text}' was expected of {words}, and it ended with {status}: {line}")
 
 
 def post(client, target, body):
