@@ -113,24 +113,28 @@ def looks_at_the_server(server):
     finds(OK, "a view took")
 
 
-class Slow(http.server.BaseHTTPRequestHandler):
-    """Answers after more than a second."""
+class Other(http.server.BaseHTTPRequestHandler):
+    """A server that answers something else, or the right thing after more than a second."""
+
+    answer, seconds = b"Hello", 0
 
     def do_GET(self):
-        time.sleep(1.1)
+        time.sleep(self.seconds)
         self.send_response(200)
         self.end_headers()
-        self.wfile.write(b'{"boards":[],"name":"watch"}')
+        self.wfile.write(self.answer)
 
     def log_message(self, *_):
         pass
 
 
-def looks_at_a_slow_server():
-    slow = http.server.HTTPServer(("127.0.0.1", 0), Slow)
-    threading.Thread(target=slow.serve_forever, daemon=True).start()
-    finds(WARNING, "a view took 1.", server=slow.server_port)
-    slow.shutdown()
+def looks_at_other_servers():
+    other = http.server.HTTPServer(("127.0.0.1", 0), Other)
+    threading.Thread(target=other.serve_forever, daemon=True).start()
+    finds(CRITICAL, "is no server of boards", server=other.server_port)
+    Other.answer, Other.seconds = b'{"boards":[],"name":"watch"}', 1.1
+    finds(WARNING, "a view took", server=other.server_port)
+    other.shutdown()
 
 
 def looks_at_copies():
@@ -221,7 +225,7 @@ def looks_at_units(wanted):
     write_program("systemctl", SYSTEMCTL.format(memory=wanted + MIB, failed=""))
     finds(WARNING, "that it may have", *words)
     write_program("systemctl", "#!/bin/sh\necho no bus >&2\nexit 1\n")
-    finds(UNKNOWN, "no bus", *words)
+    finds(WARNING, "no bus", *words)
 
 
 def metrics_of(text):
@@ -300,7 +304,7 @@ def main():
         with server.connect() as client:
             post(client, b"/people", {"name": "watch", "key": "watch-key-1"})
         looks_at_the_server(server)
-        looks_at_a_slow_server()
+        looks_at_other_servers()
         looks_at_copies()
         looks_at_large_boards()
         looks_at_growth()
