@@ -254,8 +254,9 @@ esac
 root=${DESTDIR-}$prefix
 home=$root/lib/taskboard
 versions=$home/versions
+new=
 list=$(mktemp)
-trap 'rm -f "$list"' EXIT
+trap 'rm -rf "$list" ${new:+"$new"}' EXIT
 
 case $action in
 install) install_all ;;
