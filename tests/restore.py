@@ -17,11 +17,11 @@ PROGRAM, PORT = sys.argv[1], int(sys.argv[2])
 COPIED, ADDED = 20, 30
 # A user who isn't root.
 NOBODY = 65534
-# A program that renames, and kills the script that runs it in front of or after its call of a number.
+# A program that renames, and kills the script that runs it after its call of a number.
 DEADLY = """#!/bin/sh
 echo >>{count}
 if [ "$(wc -l <{count})" -eq {number} ]; then
-    [ {after} -eq 0 ] || {mv} "$@"
+    {mv} "$@"
     kill -9 $PPID
     exit 1
 fi
@@ -176,25 +176,24 @@ def tells_of_other_copies(copy):
 
 
 def kills(copy, pair):
-    """Killed in front of the first renaming and after each, and run again: the copy is in place, and a file with its log aside has all."""
+    """Killed after each renaming, and run again: the copy is in place, and a file with its log aside has all."""
     deadly = pathlib.Path("deadly/mv")
     deadly.parent.mkdir()
-    moments = ((1, 0), (1, 1), (2, 1), (3, 1))
-    for number, after in moments:
+    for number in (1, 2, 3):
         for path in pathlib.Path(".").glob("b.db*"):
             path.unlink()
         for name in pair:
             shutil.copy(f"pair/{name}", name)
         pathlib.Path("count").unlink(missing_ok=True)
-        deadly.write_text(DEADLY.format(count=HERE / "count", number=number, after=after, mv=shutil.which("mv")))
+        deadly.write_text(DEADLY.format(count=HERE / "count", number=number, mv=shutil.which("mv")))
         deadly.chmod(0o755)
         killed = restored(copy, env={"PATH": f"{deadly.parent.resolve()}:{os.environ['PATH']}"})
-        expect(f"it is killed at {number}, {after}: {killed}", killed.returncode == -9)
+        expect(f"it is killed at {number}: {killed}", killed.returncode == -9)
         done = restored(copy)
-        expect(f"killed at {number}, {after}, and run again: {done.stderr}", done.returncode == 0)
-        expect(f"killed at {number}, {after}: the copy is in place", tasks_in("b.db") == COPIED)
-        expect(f"killed at {number}, {after}: the old file has all", ADDED in [tasks_in(path) for path in aside()])
-    return len(moments)
+        expect(f"killed at {number}, and run again: {done.stderr}", done.returncode == 0)
+        expect(f"killed at {number}: the copy is in place", tasks_in("b.db") == COPIED)
+        expect(f"killed at {number}: the old file has all", ADDED in [tasks_in(path) for path in aside()])
+    return number
 
 
 def adding_one(number, **task):
