@@ -105,8 +105,8 @@ adopts() {
     seen | cmp -s - earlier || fail "the earlier one isn't whole: $(seen | diff earlier -)"
 }
 
+# Both versions, of which the earlier one is in use.
 removes() {
-    install_from "$top" || fail "it wasn't installed: $(cat said)"
     echo "of another" >"$prefix/bin/another"
     install_from "$top" --uninstall || fail "it wasn't removed: $(cat said)"
     [ "$(find "$prefix" ! -type d)" = "$prefix/bin/another" ] || fail "this stayed: $(find "$prefix" ! -type d)"
