@@ -4,9 +4,10 @@
 #   backup.sh FILE FOLDER
 #
 # FILE is the file of boards. The copy is FOLDER/NAME-MOMENT.db, where NAME is the file's name without `.db` and MOMENT is the
-# second at which the copy began, in UTC. Once it was checked, of the copies of this NAME those stay that are the newest of their
-# day, week or month, for the last 7 days, 4 weeks and 12 months that have a copy; the others go. Weeks begin on Monday. It prints
-# the path of the copy, and what `taskboard check` says of it.
+# second at which the copy began, in UTC. After the check it thins the copies of this NAME: those stay that are the newest of their
+# day, week or month, for the last 7 days, 4 weeks and 12 months that have a copy. So does a copy that is younger than a day, one of
+# a later date than today's, and one that was restored from, which has an empty file COPY.restored beside it. Weeks begin on Monday.
+# It prints the path of the copy, and what `taskboard check` says of it.
 #
 # What was answered before the copy began is in it. The server isn't stopped, and nothing is written beside FILE.
 # The program is the one of $TASKBOARD, or else `taskboard` of the PATH. The status is 0 where the copy is there and was checked,
@@ -84,10 +85,19 @@ copy_whole() {
     done
 }
 
+# The digits of the moment in a copy's name, which sort by time.
+digits_of() {
+    moment=${1#"$folder/$name-"}
+    day=${moment%%T*} second=${moment#*T}
+    echo "$day${second%Z.db}"
+}
+
 # Whether a copy is the newest of one of the days, weeks or months that count. The copies come from the newest to the oldest.
 is_kept() {
-    day=${1#"$folder/$name-"}
-    day=${day%%T*}
+    day=$(digits_of "$1")
+    # A later date is that of a clock that was wrong: such a copy doesn't count, and isn't thinned.
+    [ "$day" -le "$now" ] || return 0
+    day=${day%??????}
     month=${day%??}
     # What has no date isn't thinned.
     week=$(date -u -d "$day" +%G%V 2>/dev/null) || return 0
@@ -104,15 +114,21 @@ is_kept() {
     return "$kept"
 }
 
+is_young() {
+    [ "$(digits_of "$1")" -gt "$a_day_ago" ]
+}
+
 # Removes the copies of this name that are no longer kept, and never the new one.
 thin() {
     set --
     for each in "$folder/$name"-[0-9][0-9][0-9][0-9][0-9][0-9][0-9][0-9]T[0-9][0-9][0-9][0-9][0-9][0-9]Z.db; do
         set -- "$each" "$@"
     done
+    now=$(date -u +%Y%m%d%H%M%S)
+    a_day_ago=$(date -u -d "24 hours ago" +%Y%m%d%H%M%S)
     days=0 weeks=0 months=0 last_day='' last_week='' last_month=''
     for each in "$@"; do
-        is_kept "$each" || [ "$each" = "$copy" ] || rm -f "$each"
+        is_kept "$each" || is_young "$each" || [ -e "$each.restored" ] || [ "$each" = "$copy" ] || rm -f "$each"
     done
 }
 

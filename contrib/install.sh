@@ -1,16 +1,23 @@
 #!/bin/sh
-# Installs the program, its page, the backup script, their man pages, the completion for bash, the units and the documents, and says what it did.
+# Installs the program, its page, the scripts, man pages, units and documents, and says what it did.
 #
-#   contrib/install.sh [--prefix FOLDER]              installs below FOLDER, /usr/local where it isn't given
-#   contrib/install.sh [--prefix FOLDER] --uninstall  removes what that put there
+#   contrib/install.sh [--prefix FOLDER]              installs below FOLDER, /usr/local if none is given
+#   contrib/install.sh [--prefix FOLDER] --back       goes back to the version before, whole; once more, and it goes forward again
+#   contrib/install.sh [--prefix FOLDER] --uninstall  removes all versions
 #
-# With DESTDIR set all of it is put below that folder, as for a package. The program is the one that `./taskboard` runs.
-# No file of boards is ever touched: where one stands in the place of a file to install, nothing is installed and the status is 1.
+# Each version has a folder lib/taskboard/versions/VERSION of its own, and the link lib/taskboard/current leads to the one in use. Programs,
+# page, man pages and documents are links that lead there; units are copies, since systemd enables no links.
+# With DESTDIR set all of it goes below that folder, as for a package. The program is the one that `./taskboard` runs.
+# No file of boards is ever touched: if one is in the place of a file to install, nothing is installed and the status is 1.
 set -eu
+umask 022
 contrib=$(dirname "$(readlink -f "$0")")
 top=$(dirname "$contrib")
 prefix=/usr/local
-removes=
+action=install
+units=lib/systemd/system
+# Folders that are links as a whole.
+folders="share/taskboard share/doc/taskboard"
 
 fail() {
     echo "install.sh: $1" >&2
@@ -18,81 +25,207 @@ fail() {
 }
 
 usage() {
-    echo "usage: install.sh [--prefix FOLDER] [--uninstall], with DESTDIR for a package" >&2
+    echo "usage: install.sh [--prefix FOLDER] [--back | --uninstall], with DESTDIR for a package" >&2
     exit 2
 }
 
-# What is installed: its mode, its place below the prefix, and where it comes from.
+# What a version has: the mode of each file, its place, and where it comes from.
 parts() {
     cat <<PARTS
 755 bin/taskboard PROGRAM
 755 bin/taskboard-backup contrib/backup.sh
-644 share/man/man1/taskboard.1 contrib/taskboard.1
-644 share/man/man1/taskboard-backup.1 contrib/taskboard-backup.1
 644 share/bash-completion/completions/taskboard contrib/taskboard.bash
-644 lib/systemd/system/taskboard.service contrib/taskboard.service
-644 lib/systemd/system/taskboard@.service contrib/taskboard@.service
-644 lib/systemd/system/taskboard-backup.service contrib/taskboard-backup.service
-644 lib/systemd/system/taskboard-backup.timer contrib/taskboard-backup.timer
 644 share/doc/taskboard/nginx.conf contrib/nginx.conf
 644 share/doc/taskboard/README.md README.md
 644 share/doc/taskboard/docs/HTTP.md docs/HTTP.md
 644 share/doc/taskboard/docs/OPERATING.md docs/OPERATING.md
 644 share/doc/taskboard/docs/TABLES.md docs/TABLES.md
 PARTS
-    for file in "$top"/page/*; do
-        echo "644 share/taskboard/page/${file##*/} page/${file##*/}"
+    for path in "$contrib"/* "$contrib"/taskboard_*/*.py "$top"/page/*; do
+        [ -f "$path" ] || continue
+        name=${path##*/}
+        case $path in
+        "$top"/page/*) echo "644 share/taskboard/page/$name page/$name" ;;
+        *.py) echo "644 lib/taskboard/${path#"$contrib"/} contrib/${path#"$contrib"/}" ;;
+        *.1) echo "644 share/man/man1/$name contrib/$name" ;;
+        *.service | *.timer) echo "644 $units/$name contrib/$name" ;;
+        */taskboard-*) echo "755 bin/$name contrib/$name" ;;
+        esac
     done
 }
 
 is_file_of_boards() {
-    [ -f "$1" ] && [ "$(head -c 15 "$1" | tr -d '\0')" = "SQLite format 3" ]
+    [ -f "$1" ] && [ ! -L "$1" ] && [ "$(head -c 15 "$1" | tr -d '\0')" = "SQLite format 3" ]
 }
 
-# Ends where a file of boards or a folder stands in a place, before anything is changed.
+# The places below the prefix in which a version is seen: its files, or the folders that are links as a whole.
+places() {
+    (cd "$1" && find . -type f | sed 's|^\./||') | while read -r place; do
+        case $place in
+        share/taskboard/*) echo share/taskboard ;;
+        share/doc/taskboard/*) echo share/doc/taskboard ;;
+        lib/taskboard/*) ;;
+        *) echo "$place" ;;
+        esac
+    done | LC_ALL=C sort -u
+}
+
+# Ends if a file of boards, or a folder that isn't ours, is in a place, before anything is changed.
 look_first() {
     parts | while read -r _ place _; do
-        target=$root/$place
-        if is_file_of_boards "$target" || [ -e "$target-wal" ]; then
-            fail "$target is a file of boards: nothing was changed"
-        elif [ -d "$target" ]; then
-            fail "$target is a folder: nothing was changed"
+        [ ! -d "$root/$place" ] || fail "$root/$place is a folder: nothing was changed"
+        [ ! -e "$root/$place-wal" ] || fail "$root/$place is a file of boards: nothing was changed"
+        if [ -f "$root/$place" ] && [ ! -L "$root/$place" ]; then
+            echo "$root/$place"
         fi
+    done >"$list"
+    for folder in $folders; do
+        if is_real_folder "$folder"; then
+            [ ! -L "$home/current" ] || [ -d "$versions/before/$folder" ] || fail "$root/$folder is a folder: nothing was changed"
+            find "$root/$folder" -type f >>"$list"
+        fi
+    done
+    # (a text that has the words in another line is none)
+    { xargs -r -d '\n' grep -la '^SQLite format 3' <"$list" || true; } | while read -r path; do
+        ! is_file_of_boards "$path" || fail "$path is a file of boards: nothing was changed"
     done
 }
 
-# Prints a part as it is installed: the units name the program where it stands.
-content_of() {
+is_real_folder() {
+    [ -d "$root/$1" ] && [ ! -L "$root/$1" ]
+}
+
+# Makes the folder of a version, whole or not at all; its name is made of what it holds. Units name the program where it is.
+make_version() {
+    program=$("$top/taskboard" --where)
+    mkdir -p "$versions"
+    new=$(mktemp -d "$versions/.new.XXXXXX")
+    chmod 755 "$new"
+    parts | while read -r mode place source; do
+        case $source in
+        PROGRAM) install -D -m "$mode" "$program" "$new/$place" ;;
+        *) install -D -m "$mode" "$top/$source" "$new/$place" ;;
+        esac
+    done
+    sed -i "s|/usr/local/|$prefix/|g" "$new/$units"/*.service
+    version=$(cd "$new" && find . -type f -exec sha256sum {} + | LC_ALL=C sort | sha256sum | cut -c 1-12)
+    if [ -d "$versions/$version" ]; then
+        rm -r "$new"
+    else
+        mv "$new" "$versions/$version"
+    fi
+}
+
+# Keeps what an install.sh without versions left as a version of its own, so that it can be gone back to.
+adopt() {
+    if [ -L "$home/current" ] || [ ! -f "$root/bin/taskboard" ]; then
+        return
+    fi
+    { parts | cut -d ' ' -f 2 | grep -v "^share/.*taskboard/" && echo "$folders" | tr ' ' '\n'; } | while read -r place; do
+        if [ -e "$root/$place" ]; then
+            mkdir -p "$(dirname "$versions/before/$place")"
+            cp -pRT "$root/$place" "$versions/before/$place"
+        fi
+    done
+    ln -sfn versions/before "$home/current"
+}
+
+# Puts a place of the version in use below the prefix; what is there is replaced whole, so that a program that runs goes on with the old one.
+put() {
+    target=$root/$1
+    [ -d "${target%/*}" ] || mkdir -p "${target%/*}"
     case $1 in
-    PROGRAM) cat "$program" ;;
-    *.service) sed "s|/usr/local/|$prefix/|g" "$top/$1" ;;
-    *) cat "$top/$1" ;;
+    "$units"/*) cp -p "$home/current/$1" "$target.new" ;;
+    *)
+        # (a folder of an install.sh without versions, which is kept as one)
+        if is_real_folder "$1"; then
+            rm -r "$target"
+        fi
+        ln -sfn "$(folders_up "$1")lib/taskboard/current/$1" "$target.new"
+        ;;
     esac
+    mv -T "$target.new" "$target"
+}
+
+# As many `../` as a place has folders.
+folders_up() {
+    rest=$1
+    while [ "${rest#*/}" != "$rest" ]; do
+        rest=${rest#*/}
+        printf '../'
+    done
+}
+
+# Removes a place that the version in use lacks.
+take_away() {
+    if [ ! -e "$home/current/$1" ]; then
+        rm -f "$root/$1"
+    fi
+}
+
+# Has the link lead to a version, and puts or takes away what differs.
+use_version() {
+    before=$(readlink "$home/current" || true)
+    ln -sfn "versions/$1" "$home/current.new"
+    mv -T "$home/current.new" "$home/current"
+    places "$versions/$1" | while read -r place; do
+        put "$place"
+        echo "installed $root/$place"
+    done
+    if [ -n "$before" ] && [ "$before" != "versions/$1" ]; then
+        places "$home/$before" | while read -r place; do
+            take_away "$place"
+        done
+        ln -sfn "$before" "$home/previous"
+    fi
+    echo "the version in use is $versions/$1"
+    tell_units
 }
 
 install_all() {
-    program=$("$top/taskboard" --where)
-    parts | while read -r mode place source; do
-        target=$root/$place
-        mkdir -p "$(dirname "$target")"
-        content_of "$source" >"$target.new"
-        chmod "$mode" "$target.new"
-        # A whole file is moved into place, so that a program that runs goes on with the old one.
-        mv "$target.new" "$target"
-        echo "installed $target"
-    done
+    look_first
+    make_version
+    adopt
+    use_version "$version"
+}
+
+go_back() {
+    [ -L "$home/previous" ] || fail "there is no version before in $versions: nothing was changed"
+    use_version "$(basename "$(readlink "$home/previous")")"
+}
+
+# systemd looks for units below /usr/local and /usr alone.
+tell_units() {
+    case $prefix in
+    /usr | /usr/local) echo "now: systemctl daemon-reload" ;;
+    *) echo "now, since systemd doesn't look there for units: systemctl link $prefix/$units/taskboard*" ;;
+    esac
+}
+
+remove() {
+    if [ -L "$1" ] || { [ -f "$1" ] && ! is_file_of_boards "$1"; }; then
+        rm "$1"
+        echo "removed $1"
+    fi
 }
 
 remove_all() {
-    parts | while read -r _ place _; do
-        target=$root/$place
-        if [ -f "$target" ]; then
-            rm "$target"
-            echo "removed $target"
-        fi
+    for version in "$versions"/*; do
+        [ -d "$version" ] || continue
+        places "$version" | while read -r place; do
+            remove "$root/$place"
+        done
     done
-    for folder in doc/taskboard/docs doc/taskboard taskboard/page taskboard; do
-        rmdir "$root/share/$folder" 2>/dev/null || true
+    # What an install.sh without versions left.
+    parts | while read -r _ place _; do
+        remove "$root/$place"
+    done
+    find "$versions" -type f 2>/dev/null | while read -r path; do
+        remove "$path"
+    done
+    rm -f "$home/current" "$home/previous"
+    for folder in "$home" "$root/share/taskboard" "$root/share/doc/taskboard"; do
+        find "$folder" -depth -type d -exec rmdir {} + 2>/dev/null || true
     done
 }
 
@@ -107,7 +240,8 @@ while [ $# -gt 0 ]; do
         prefix=${1#--prefix=}
         prefix=${prefix%/}
         ;;
-    --uninstall) removes=yes ;;
+    --back) action=back ;;
+    --uninstall) action=remove ;;
     *) usage ;;
     esac
     shift
@@ -118,10 +252,14 @@ case $prefix in
 *) fail "the prefix has to begin with /" ;;
 esac
 root=${DESTDIR-}$prefix
+home=$root/lib/taskboard
+versions=$home/versions
+new=
+list=$(mktemp)
+trap 'rm -rf "$list" ${new:+"$new"}' EXIT
 
-look_first
-if [ -n "$removes" ]; then
-    remove_all
-else
-    install_all
-fi
+case $action in
+install) install_all ;;
+back) go_back ;;
+remove) remove_all ;;
+esac

@@ -110,13 +110,15 @@ def newest_of(moments, part_of, count):
 
 
 def expect_thinned(names):
-    """Of the copies that were there, those stay that are the newest of their day, week or month, and what is no copy of b.db."""
+    """Of the copies that were there, those stay that are the newest of their day, week or month, those of the last 24 hours and of
+    later days than today, and what is no copy of b.db."""
     moments = {name: moment_in(name) for name in names}
-    there = [moment for moment in moments.values() if moment]
+    now = datetime.datetime.now(datetime.timezone.utc).replace(tzinfo=None)
+    there = [moment for moment in moments.values() if moment and moment <= now]
     kept = newest_of(there, lambda moment: moment.date(), DAYS)
     kept |= newest_of(there, lambda moment: moment.isocalendar()[:2], WEEKS)
     kept |= newest_of(there, lambda moment: (moment.year, moment.month), MONTHS)
-    wanted = {name for name in names if moments[name] is None or moments[name] in kept}
+    wanted = {name for name in names if moments[name] is None or moments[name] in kept or moments[name] > now - datetime.timedelta(days=1)}
     found = names_there()
     expect(f"these should have stayed: {sorted(wanted - found)}, and these gone: {sorted(found - wanted)}", found == wanted)
 
@@ -133,7 +135,8 @@ def make_dated(moments):
 def thins():
     """Copies of made-up dates, of which the right ones stay: of many nights, of a few days far apart, and of a night long ago."""
     now = datetime.datetime.now(datetime.timezone.utc).replace(tzinfo=None, microsecond=0)
-    nights = [now - datetime.timedelta(days=days, hours=hours) for days in [*range(1, 40), *range(40, 600, 6)] for hours in (0, 5)]
+    # (half an hour off, so that none becomes a day old meanwhile)
+    nights = [now - datetime.timedelta(days=days, hours=hours, minutes=30) for days in [*range(40), *range(40, 600, 6)] for hours in (0, 5)]
     apart = [now - datetime.timedelta(days=days) for days in range(40, 2000, 97)]
     for moments in (nights, apart, [datetime.datetime(2024, 2, 29, 3)]):
         for path in FOLDER.glob("b-*"):
@@ -147,12 +150,15 @@ def thins():
         expect_thinned(before | {os.path.basename(done.stdout.split(" ", 1)[0])})
 
 
-def keeps_the_new():
-    """Where a clock that was wrong has left copies of later days, the new copy stays all the same."""
-    later = datetime.datetime.now(datetime.timezone.utc).replace(microsecond=0) + datetime.timedelta(days=800)
-    make_dated(later + datetime.timedelta(days=days) for days in range(40))
+def later_ones_count_for_nothing():
+    """Copies of later days, by a clock that was wrong, stay and keep none of the others from staying."""
+    now = datetime.datetime.now(datetime.timezone.utc).replace(tzinfo=None, microsecond=0)
+    make_dated(now + datetime.timedelta(days=800 + days) for days in range(40))
+    make_dated(now - datetime.timedelta(days=days, minutes=30) for days in range(1, 20))
+    before = names_there()
     done = ran_backup("b.db")
-    expect("the new copy stays", done.returncode == 0 and os.path.exists(done.stdout.split(" ", 1)[0]))
+    expect(f"it ended with {done.returncode}: {done.stderr}", done.returncode == 0)
+    expect_thinned(before | {os.path.basename(done.stdout.split(" ", 1)[0])})
 
 
 def sqlite_reads(copy):
@@ -218,7 +224,7 @@ def main():
     sqlite_reads(copies[-1][0])
     follows_links(senders)
     thins()
-    keeps_the_new()
+    later_ones_count_for_nothing()
     refuses()
     restore(*copies[-2], senders)
     sizes = ", ".join(str(len(found)) for _, found in copies)

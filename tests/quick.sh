@@ -1,7 +1,8 @@
 #!/bin/sh
 # What the program shows by itself, in minutes and without a prover: the worked scripts, the bytes of connections, also broken ones, orders
 # over real files, a server that is killed or whose file fails, silent, slow and many clients, its page in a browser, files that another
-# hand changed, copies of a file that is served, a machine that fails or has no memory, and what the documents show (docs/TESTING.md).
+# hand changed, copies of a file that is served, restoring, watching, a proxy, installing, a machine that fails or has no memory, and what the
+# documents show (docs/TESTING.md).
 # What a machine lacks is skipped by name.
 set -u
 cd "$(dirname "$0")/.."
@@ -46,6 +47,10 @@ attempt silent.sh python3
 attempt crowd.sh python3
 attempt clients.sh python3
 attempt backup.sh python3
+attempt restore.sh python3
+attempt watch.sh python3
+attempt proxy.sh python3
+attempt install.sh sh
 attempt browser.sh python3
 attempt page.sh python3
 attempt faults.sh python3

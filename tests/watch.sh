@@ -1,0 +1,11 @@
+#!/bin/sh
+# Watches a server by contrib/taskboard-watch: what it finds well, slow, old, full, large, failed and missing, each with its status; and that
+# its metrics count each line of the log once. It needs python3 with its sqlite3, and takes some ten seconds once the program is there.
+set -eu
+
+. "$(dirname "$0")/prepare.sh"
+
+if command -v pyflakes3 >/dev/null 2>&1; then
+    pyflakes3 "$top/contrib/taskboard-watch"
+fi
+PYTHONPATH=$top/tests python3 "$top/tests/watch.py" "$program" "$port" "$top/contrib"
