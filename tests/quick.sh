@@ -43,6 +43,7 @@ attempt silent.sh python3
 attempt crowd.sh python3
 attempt clients.sh python3
 attempt backup.sh python3
+attempt ship.sh python3
 attempt browser.sh python3
 attempt page.sh python3
 attempt faults.sh python3

@@ -13,7 +13,8 @@ from .send import Sender
 USAGE = """taskboard-ship [--keep 7d] [--anew 1d] [--ssh COMMAND] [--status STATUS] FILE FOLDER|HOST:FOLDER
        taskboard-ship --restore FOLDER FILE [--at MOMENT]
        taskboard-ship --list FOLDER [--late 60s]
-       taskboard-ship --receive FOLDER"""
+       taskboard-ship --receive [--keep 7d] FOLDER"""
+KEPT = 7 * 86400
 SECONDS = {"s": 1, "m": 60, "h": 3600, "d": 86400}
 SSH = "ssh -o BatchMode=yes -o ServerAliveInterval=5 -o ServerAliveCountMax=3"
 
@@ -40,7 +41,7 @@ def parsed(words):
     parser.add_argument("--list", action="store_true", help="say until when nothing is missing in FOLDER; the status is 1 where that is too long ago")
     parser.add_argument("--at", metavar="MOMENT", type=moment, help="the state of that moment in UTC, as 20261125T060725Z")
     parser.add_argument("--late", type=duration, default=60, help="how long ago may be, 60s")
-    parser.add_argument("--keep", type=duration, default=7 * 86400, help="how far back states are kept, 7d")
+    parser.add_argument("--keep", type=duration, help="how far back states are kept, 7d; a receiver keeps what is younger, whatever the sender says")
     parser.add_argument("--anew", type=duration, default=86400, help="how often the whole file is copied anew, 1d")
     parser.add_argument("--ssh", default=SSH, help="the command that reaches the other machine, with its options")
     parser.add_argument("--status", metavar="STATUS", help="a file to which it writes each second how far behind it is")
@@ -62,6 +63,7 @@ def words_of(options):
 
 def send(parser, options):
     options.file, options.to = options.paths
+    options.keep = KEPT if options.keep is None else options.keep
     options.name = name_of(options.file)
     if not NAME.fullmatch(options.name):
         parser.error(f"the name {options.name} has other signs than letters, digits and . _ -")
@@ -75,7 +77,7 @@ def main(words):
     parser, options = parsed(words)
     try:
         if options.receive:
-            receive(options.paths[0])
+            receive(options.paths[0], options.keep or 0)
         elif options.restore:
             restore(*options.paths, options.at)
         elif options.list:

@@ -46,9 +46,6 @@ class Place:
     def __init__(self, header, frames=0, last=b""):
         self.header, self.frames, self.last = header, frames, last
 
-    def __eq__(self, other):
-        return isinstance(other, Place) and self.told() == other.told()
-
     def told(self):
         return {"header": self.header.raw.hex(), "frames": self.frames, "last": self.last.hex()}
 

@@ -22,9 +22,9 @@ class Ended(Exception):
 
 
 class Receiver:
-    def __init__(self, folder, input, output):
-        self.folder, self.input, self.output = pathlib.Path(folder), input, output
-        self.data, self.store, self.keep, self.lock = bytearray(), None, None, None
+    def __init__(self, folder, keep, input, output):
+        self.folder, self.keep, self.input, self.output = pathlib.Path(folder), keep, input, output
+        self.data, self.store, self.lock = bytearray(), None, None
         self.token = uuid.uuid4().hex
 
     def say(self, kind, what):
@@ -79,7 +79,7 @@ class Receiver:
         hello = json.loads(content) if kind == records.HELLO else {}
         if not NAME.fullmatch(hello.get("name", "")):
             raise Ended("these are no words of a sender")
-        self.store, self.keep = Store(self.folder, hello["name"]), float(hello["keep"])
+        self.store, self.keep = Store(self.folder, hello["name"]), max(self.keep, float(hello["keep"]))
         self.claim()
         self.say(records.STATE, self.store.open())
 
@@ -106,9 +106,9 @@ class Receiver:
             self.take(*self.next())
 
 
-def receive(folder, input=0, output=1):
-    """Receives until the line ends; what ended it, in words."""
-    receiver = Receiver(folder, input, output)
+def receive(folder, keep, input=0, output=1):
+    """Receives until the line ends, and keeps what is younger than these seconds even if the sender keeps less; what ended it, in words."""
+    receiver = Receiver(folder, keep, input, output)
     os.umask(0o077)
     try:
         receiver.run()
