@@ -103,7 +103,7 @@ class Run:
         self.answered += len(load.answered)
         self.present = there
         if os.environ.get("TELL"):
-            print(f"{way}: {len(load.answered)} in {killed - load.begun:.1f} s, {killed - first:.2f} s lost of {most:.1f}", file=sys.stderr, flush=True)
+            print(f"{way}: {len(load.answered)} in {killed - load.begun:.1f} s, {killed - first:.2f} s lost of {most:.1f}, {early * 1000:.1f} ms early", file=sys.stderr, flush=True)
 
 
 def seconds_of(moment):

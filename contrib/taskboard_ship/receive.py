@@ -53,15 +53,19 @@ class Receiver:
     def claim_path(self):
         return self.folder / f"{self.store.name}.claim"
 
+    def has_claim(self):
+        return self.claim_path().read_text() == self.token
+
     def look_at_claim(self):
-        if self.lock is not None and self.claim_path().read_text() != self.token:
+        if self.lock is not None and not self.has_claim():
             raise Ended("another receiver goes on")
 
     def claim(self):
         """Has a receiver that is there already end, since its line is cut where it doesn't know it, and goes on in its place."""
-        new = self.folder / f"{self.store.name}.claim.{self.token}"
-        new.write_text(self.token)
-        os.replace(new, self.claim_path())
+        claim = os.open(self.claim_path(), os.O_RDWR | os.O_CREAT, 0o600)
+        # (written over in its place, all at once: each token has the same length)
+        os.pwrite(claim, self.token.encode(), 0)
+        os.close(claim)
         lock = os.open(self.folder / f"{self.store.name}.lock", os.O_RDWR | os.O_CREAT, 0o600)
         last = time.monotonic() + SILENCE
         while True:
@@ -69,7 +73,7 @@ class Receiver:
                 fcntl.flock(lock, fcntl.LOCK_EX | fcntl.LOCK_NB)
                 break
             except BlockingIOError:
-                if time.monotonic() > last or self.claim_path().read_text() != self.token:
+                if time.monotonic() > last or not self.has_claim():
                     raise Ended("another receiver has the folder") from None
                 time.sleep(0.02)
         self.lock = lock

@@ -79,9 +79,9 @@ def restore(folder, file, at):
     checked = put_together(path, commit, file)
     print(f"{file} {checked}")
     print(f"the state that was shipped at {commit.moment}")
-    alive = series.sign_of_life(folder, name)
-    if at is None and alive.get("series") == path.name:
-        print(f"nothing that was answered by {max(alive['whole'], commit.what['looked'])} is missing")
+    if at is None:
+        whole = max(commit.what["looked"], series.sign_of_life(folder, name).get("whole", ""))
+        print(f"nothing that was answered by {whole} is missing")
 
 
 def show(folder, late):

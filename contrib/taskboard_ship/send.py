@@ -9,8 +9,9 @@ from . import log, records
 from .line import Cut, Line
 from .source import Copying, Missing, Source
 
-# Seconds: between two looks at the log at most, between two batches at least, between two signs of life, between two tries.
-LOOK, BATCH, ALIVE, RETRY = 0.04, 0.25, 1, 5
+# Seconds: between two looks at the log at most, between two batches at least, between two signs of life, from a batch that was taken to the
+# next one, between two tries.
+LOOK, BATCH, ALIVE, AFTER, RETRY = 0.04, 0.25, 1, 0.1, 5
 # How long a new series that couldn't be had in the place of one that goes on isn't tried again, in seconds.
 POSTPONED = 600
 # About how many frames a look shall find, so that none is written over before it's read.
@@ -37,7 +38,7 @@ class Sender:
         self.flying, self.expected = None, collections.deque()
         self.taken, self.whole, self.newest, self.since, self.bytes = None, None, "", None, 0
         self.next_try = self.next_batch = self.next_alive = self.next_look = self.next_status = self.next_anew = 0.0
-        self.wait, self.said, self.is_late, self.fault = 0.1, None, False, ""
+        self.wait, self.said, self.shown, self.is_late, self.fault = 0.1, None, None, False, ""
 
     def say(self, what):
         if what != self.said:
@@ -219,6 +220,7 @@ class Sender:
         if batch is None:
             return
         self.taken, self.flying = batch, None
+        self.next_alive = time.monotonic() + AFTER
         if where == records.COMING:
             self.has_series, self.copying = True, None
             self.since, self.bytes = batch.moment, -self.line.sent
@@ -231,10 +233,10 @@ class Sender:
         return None if self.whole is None else max(0.0, time.time() - records.seconds_of(self.whole))
 
     def tell(self):
-        """Writes the status, and says when it's late and when it isn't any more."""
-        if time.monotonic() < self.next_status:
+        """Writes the status, each second and when it has changed, and says when it's late and when it isn't any more."""
+        if time.monotonic() < self.next_status - (ALIVE - AFTER if self.whole != self.shown else 0):
             return
-        self.next_status = time.monotonic() + 1
+        self.next_status, self.shown = time.monotonic() + ALIVE, self.whole
         behind = self.behind()
         if behind is not None and self.is_late != (behind > LATE):
             self.is_late = behind > LATE

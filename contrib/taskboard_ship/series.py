@@ -10,6 +10,8 @@ import time
 
 from . import records
 
+# The sign of life is written over in its place, so it has one length.
+LINE = 511
 FORM = r"-(\d{8}T\d{6}\.\d{3}Z)\.series"
 
 
@@ -98,7 +100,7 @@ class Store:
 
     def __init__(self, folder, name):
         self.folder, self.name = pathlib.Path(folder), name
-        self.current = self.coming = self.path = None
+        self.current = self.coming = self.path = self.alive = None
         self.end = 0
 
     def open(self):
@@ -143,8 +145,10 @@ class Store:
         self.live(what["looked"])
 
     def begin_current(self, what):
-        os.fsync(self.coming)
         path = self.folder / f"{self.name}-{what['moment']}.series"
+        if not re.fullmatch(re.escape(self.name) + FORM, path.name):
+            raise records.Damaged("a commit's moment")
+        os.fsync(self.coming)
         os.rename(self.coming_path(), path)
         sync_folder(self.folder)
         if self.current is not None:
@@ -156,9 +160,10 @@ class Store:
         """Nothing that was committed by this moment is missing."""
         if self.path is None:
             return
-        new = self.folder / f"{self.name}.alive.new"
-        new.write_text(json.dumps({"whole": moment, "series": self.path.name, "size": self.end}) + "\n")
-        os.replace(new, self.folder / f"{self.name}.alive")
+        if self.alive is None:
+            self.alive = os.open(self.folder / f"{self.name}.alive", os.O_RDWR | os.O_CREAT, 0o600)
+        line = json.dumps({"whole": moment, "series": self.path.name, "size": self.end})
+        os.pwrite(self.alive, line.ljust(LINE).encode() + b"\n", 0)
 
     def step_back(self):
         """Takes away what no commit has, as far as the disk lets it."""

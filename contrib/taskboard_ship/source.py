@@ -106,8 +106,9 @@ class Copying:
     def __init__(self, source, is_followed):
         source.open()
         self.source, self.page_size, self.at, self.went = source, source.page_size(), 0, set()
-        self.count = os.fstat(source.file).st_size // self.page_size
         place = source.start_of_log()
+        # What the file gets from here on, the log has.
+        self.count = os.fstat(source.file).st_size // self.page_size
         self.first, self.size = {}, self.count
         if is_followed and place is not None:
             found = log.look(source.log, place)
