@@ -18,6 +18,8 @@ place = Place(sys.argv[1], free_port(), sys.argv[2])
 TRIES, JOBS = int(sys.argv[3]), int(sys.argv[4])
 # How many seconds may be lost, and how many more for each second for which the machine kept this test waiting.
 MOST_LOST, STALLED = max(2.0, float(os.environ.get("LONGEST", 2))), 20
+# Up to so many seconds the machine keeps nobody waiting.
+CALM = 0.05
 # How far the clock may be set within a try, in seconds.
 CLOCK = 0.05
 # A file has up to so many tasks before another is made.
@@ -97,9 +99,10 @@ class Run:
         whole = re.search(r"answered by (\S+) is missing", said)
         early = 0 if not whole else seconds_of(whole[1]) - first - clock
         expect(f"{way}: {said}, and of {len(missing)} that are missing one was answered {early * 1000:.1f} ms before", whole and early < CLOCK)
-        most = 0 if way == "own room" else MOST_LOST + STALLED * self.metronome.worst()
+        stall = self.metronome.worst()
+        most = 0 if way == "own room" else MOST_LOST + STALLED * stall
         expect(f"{way}: what was answered {killed - first:.1f} s before the end is missing, and may be {most:.1f} s at most", killed - first <= most)
-        self.lost.append(killed - first)
+        self.lost.append((killed - first, stall))
         self.answered += len(load.answered)
         self.present = there
         if os.environ.get("TELL"):
@@ -128,9 +131,13 @@ def all_jobs():
     if any(job.returncode for job in jobs):
         sys.exit(1)
     ends = [json.loads(lines.splitlines()[-1]) for lines in told]
-    lost = [one for end in ends for one in end[0]]
+    lost = [max(0, one[0]) for end in ends for one in end[0]]
+    calm = [max(0, one[0]) for end in ends for one in end[0] if one[1] < CALM]
     rate = sum(end[1] for end in ends) / sum(end[2] for end in ends)
-    print(f"{len(lost)} times all was killed and the file lost, at {rate:.0f} calls a second: restored was the state after a prefix of them, {statistics.median(lost):.2f} s short, {max(lost):.2f} s at most")
+    print(
+        f"{len(lost)} times all was killed and the file lost, at {rate:.0f} calls a second: restored was the state after a prefix of them,"
+        f" {statistics.median(lost):.2f} s short, at most {max(lost):.2f} s; {max(calm, default=0):.2f} s in the {len(calm)} tries in which the machine kept nobody waiting"
+    )
 
 
 if len(sys.argv) > 5:

@@ -10,7 +10,7 @@ import subprocess
 import sys
 import time
 
-from shipping import TO, Place, Shipper, clear, clear_other_place, expect, now, send_all, series, wait_until
+from shipping import PATIENCE, TO, Place, Shipper, clear, clear_other_place, expect, now, send_all, series, wait_until
 from talking import answer_to, is_whole, make_file, message, identified, status_of
 
 place = Place(*sys.argv[1:4])
@@ -27,7 +27,7 @@ def add(server, count):
 
 
 def add_large(server):
-    with server.connect(60) as client:
+    with server.connect(PATIENCE) as client:
         answer = answer_to(client, message(b"POST", b"/boards/1/tasks", json.dumps(LARGE).encode(), identified(next(numbers))))
         expect(f"a large call: {answer[:200]}", is_whole(answer) and status_of(answer) == 200)
 

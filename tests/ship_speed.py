@@ -1,62 +1,65 @@
-"""How much shipping slows a server: python3 ship_speed.py PROGRAM SHIP PAIRS, in a folder that it may write to.
+"""What shipping costs: python3 ship_speed.py PROGRAM SHIP PAIRS, in a folder that it may write to.
 
 Two servers have the same calls in turn, one of which is shipped: so other work of the machine slows both."""
-import os
 import statistics
 import subprocess
 import sys
 import time
 
 from connecting import free_port
-from shipping import Metronome, Place, Shipper, adding, clear_other_place, expect
+from shipping import PATIENCE, Metronome, Place, Shipper, adding, clear_other_place, expect
 from talking import Server, answer_to, make_file, status_of
 
 place = Place(sys.argv[1], free_port(), sys.argv[2])
-PAIRS, CALLS = int(sys.argv[3]), 200
-# The server may take a twentieth longer, where the machine kept nobody waiting for longer than this, in seconds.
+PAIRS, CALLS, RATE = int(sys.argv[3]), 200, 400
+# A call may take a twentieth longer, which is judged where the machine kept nobody waiting for longer than this, in seconds.
 SLOWED, CALM = 1.05, 0.05
 
 
-def took(client, first, pause):
-    """The seconds of the server's answers to these calls, so many a second at most."""
-    spent, due = 0.0, time.monotonic()
+def median_of(client, first):
+    """The median of the seconds to the answers of these calls, of which so many are sent a second."""
+    took, due = [], time.monotonic()
     for number in range(first, first + CALLS):
         begun = time.monotonic()
         answer = answer_to(client, adding(number))
-        spent += time.monotonic() - begun
+        took.append(time.monotonic() - begun)
         expect(f"task {number}: {answer[:100]}", status_of(answer) == 200)
-        due += pause
+        due = max(due + 1 / RATE, time.monotonic() - 0.1)
         time.sleep(max(0, due - time.monotonic()))
-    return spent
+    return statistics.median(took)
 
 
-def measure(pause):
-    """The times of both servers, in pairs, and the longest stall of the machine."""
+def seconds_used(process):
+    """The processor's time that a process and those that it started took."""
+    with open(f"/proc/{process}/stat") as line:
+        fields = line.read().rpartition(")")[2].split()
+    with open(f"/proc/{process}/task/{process}/children") as line:
+        return (int(fields[11]) + int(fields[12])) / 100 + sum(seconds_used(int(child)) for child in line.read().split())
+
+
+def measure():
+    """The times of a call with and without shipping, in pairs, what the shipper took of a processor for one, and the machine's longest stall."""
     clear_other_place()
     make_file(place.program)
     make_file(place.program, "alone.db")
     pairs, metronome = [], Metronome()
     with place.server() as shipped, Server(place.program, free_port(), "alone.db", errors=subprocess.DEVNULL) as alone, Shipper(place.ship) as shipper:
         shipper.wait_whole()
+        before, used = time.monotonic(), seconds_used(shipper.process.pid)
         for number in range(PAIRS):
-            with shipped.connect() as one, alone.connect() as other:
-                turns = [(one, 0), (other, 1)]
-                pair = [0.0, 0.0]
-                for client, at in turns[:: 1 if number % 2 else -1]:
-                    pair[at] = took(client, 1 + number * CALLS, pause)
-                    shipper.wait_whole()
-                pairs.append(pair)
+            pair = {}
+            for server in (shipped, alone) if number % 2 else (alone, shipped):
+                with server.connect(PATIENCE) as client:
+                    pair[server] = median_of(client, 1 + number * CALLS)
+            pairs.append((pair[shipped], pair[alone]))
+        shipper.wait_whole()
+        used = seconds_used(shipper.process.pid) - used
+        print(f"{2 * PAIRS * CALLS / (time.monotonic() - before):.0f} calls a second, half of them shipped, which takes {used / PAIRS / CALLS * 1000:.2f} ms of a processor a call")
     return pairs, metronome.worst()
 
 
-def judge(what, pause):
-    pairs, stall = measure(pause)
-    ratio = statistics.median(pair[0] for pair in pairs) / statistics.median(pair[1] for pair in pairs)
-    alone = statistics.median(pair[1] for pair in pairs) / CALLS * 1000
-    print(f"{what}: a call takes {alone:.2f} ms, and {ratio:.3f} times that where the file is shipped; the machine stalled for {stall * 1000:.0f} ms", flush=True)
-    expect("shipping slows the server by more than a twentieth", ratio < SLOWED or stall > CALM)
-
-
-os.environ.setdefault("LONGEST", "5")
-judge("400 calls a second", 1 / 400)
-judge("as many calls as it answers", 0)
+pairs, stall = measure()
+ratio = statistics.median(one / other for one, other in pairs)
+alone = statistics.median(other for _, other in pairs) * 1000
+print(f"a call takes {alone:.2f} ms, and where the file is shipped {ratio:.3f} times that, the median of {PAIRS} pairs; the machine stalled for {stall * 1000:.0f} ms")
+expect("shipping slows the server by more than a twentieth", ratio < SLOWED or stall > CALM)

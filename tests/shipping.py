@@ -51,7 +51,7 @@ class Client(threading.Thread):
 
     def run(self):
         due = time.monotonic()
-        with contextlib.suppress(OSError), socket.create_connection(("127.0.0.1", self.port), timeout=30) as connection:
+        with contextlib.suppress(OSError), socket.create_connection(("127.0.0.1", self.port), timeout=PATIENCE) as connection:
             while self.goes_on:
                 number, self.next = self.next, self.next + self.step
                 self.sent[number] = time.monotonic()
@@ -254,7 +254,7 @@ def series():
 
 def send_all(server, numbers):
     """Adds these tasks, each answered 200."""
-    with server.connect(30) as client:
+    with server.connect(PATIENCE) as client:
         for number in numbers:
             answer = answer_to(client, adding(number))
             expect(f"task {number}: {answer[:200]}", is_whole(answer) and status_of(answer) == 200)
