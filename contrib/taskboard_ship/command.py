@@ -16,7 +16,7 @@ USAGE = """taskboard-ship [--keep 7d] [--anew 1d] [--ssh COMMAND] [--status STAT
        taskboard-ship --receive [--keep 7d] FOLDER"""
 KEPT = 7 * 86400
 SECONDS = {"s": 1, "m": 60, "h": 3600, "d": 86400}
-SSH = "ssh -o BatchMode=yes -o ServerAliveInterval=5 -o ServerAliveCountMax=3"
+SSH = "ssh -o BatchMode=yes -o ServerAliveInterval=5 -o ServerAliveCountMax=3 -o UpdateHostKeys=no"
 
 
 def duration(word):
