@@ -60,7 +60,8 @@ class Run:
         if way == "own room" or len(self.present) > MOST_TASKS:
             self.new_file()
         if way == "own room":
-            limit = ["prlimit", f"--fsize={random.randint(400_000, 1_500_000)}"]
+            # (ulimit counts 512 bytes)
+            limit = ["sh", "-c", 'ulimit -f "$0"; exec "$@"', str(random.randint(800, 3000))]
         words = ("--anew", "0s") if way == "anew" else ()
         with place.server(before=limit) as server, Shipper(place.ship, *words, line={}) as shipper:
             shipper.wait_whole()
