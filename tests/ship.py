@@ -21,7 +21,7 @@ MOST_LOST, STALLED = max(2.0, float(os.environ.get("LONGEST", 2))), 20
 # Up to so many seconds the machine keeps nobody waiting.
 CALM = 0.05
 # How far the clock may be set within a try, in seconds.
-CLOCK = 0.05
+CLOCK = 0.01
 # A file has up to so many tasks before another is made.
 MOST_TASKS = 5000
 WAYS = ["plain", "receiver", "line", "room", "anew", "plain", "own room", "receiver", "line", "plain"]
@@ -98,7 +98,7 @@ class Run:
         expect(f"{way}: tasks {behind[:5]} are missing, which were answered before one that's there was sent", not behind)
         first = min(missing.values(), default=killed)
         whole = re.search(r"answered by (\S+) is missing", said)
-        early = 0 if not whole else seconds_of(whole[1]) - first - clock
+        early = seconds_of(whole[1]) - first - clock if whole and missing else 0
         expect(f"{way}: {said}, and of {len(missing)} that are missing one was answered {early * 1000:.1f} ms before", whole and early < CLOCK)
         stall = self.metronome.worst()
         most = 0 if way == "own room" else MOST_LOST + STALLED * stall
