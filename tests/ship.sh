@@ -11,14 +11,28 @@ jobs=${JOBS:-$([ "$tries" -gt 20 ] && echo 1 || echo 4)}
 . "$(dirname "$0")/prepare.sh"
 
 ship=$top/contrib/taskboard-ship
-mkdir scenes kills
-(cd scenes && PYTHONPATH=$top/tests exec python3 "$top/tests/ship_scenes.py" "$program" "$port" "$ship") &
-scenes=$!
+export PYTHONPATH="$top/tests"
 failed=
-(cd kills && PYTHONPATH=$top/tests exec python3 "$top/tests/ship.py" "$program" "$ship" "$tries" "$jobs") || failed=yes
-wait "$scenes" || failed=yes
+# Runs a test in a folder of its own, with the words that it needs.
+run_in() {
+    mkdir "$1"
+    cd "$1"
+    shift
+    exec python3 "$@"
+}
+
+running=
+for scenes in follows "goes_back thins" "stays_behind_faults full_disk real_ssh"; do
+    (run_in "${scenes%% *}" "$top/tests/ship_scenes.py" "$program" "$(python3 "$top/tests/connecting.py")" "$ship" $scenes) &
+    running="$running $!"
+done
+if [ "$jobs" -eq 1 ]; then
+    for each in $running; do wait "$each" || failed=yes; done
+    running=
+fi
+(run_in kills "$top/tests/ship.py" "$program" "$ship" "$tries" "$jobs") || failed=yes
+for each in $running; do wait "$each" || failed=yes; done
 if [ "$tries" -gt 20 ]; then
-    mkdir speed
-    (cd speed && PYTHONPATH=$top/tests exec python3 "$top/tests/ship_speed.py" "$program" "$ship" 20) || failed=yes
+    (run_in speed "$top/tests/ship_speed.py" "$program" "$ship" 20) || failed=yes
 fi
 [ -z "$failed" ]
