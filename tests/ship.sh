@@ -33,6 +33,6 @@ fi
 (run_in kills "$top/tests/ship.py" "$program" "$ship" "$tries" "$jobs") || failed=yes
 for each in $running; do wait "$each" || failed=yes; done
 if [ "$tries" -gt 20 ]; then
-    (run_in speed "$top/tests/ship_speed.py" "$program" "$ship" 20) || failed=yes
+    (run_in speed "$top/tests/ship_speed.py" "$program" "$ship" 45) || failed=yes
 fi
 [ -z "$failed" ]

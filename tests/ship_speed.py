@@ -7,13 +7,13 @@ import sys
 import time
 
 from connecting import free_port
-from shipping import PATIENCE, Metronome, Place, Shipper, adding, clear_other_place, expect
+from shipping import PATIENCE, Place, Shipper, adding, clear_other_place, expect
 from talking import Server, answer_to, make_file, status_of
 
 place = Place(sys.argv[1], free_port(), sys.argv[2])
 PAIRS, CALLS, RATE = int(sys.argv[3]), 200, 400
-# A call may take a twentieth longer, which is judged where the machine kept nobody waiting for longer than this, in seconds.
-SLOWED, CALM = 1.05, 0.05
+# How much longer a call may take.
+SLOWED = 1.05
 
 
 def median_of(client, first):
@@ -38,11 +38,11 @@ def seconds_used(process):
 
 
 def measure():
-    """The times of a call with and without shipping, in pairs, what the shipper took of a processor for one, and the machine's longest stall."""
+    """The times of a call with and without shipping, in pairs; prints what the shipper took of a processor."""
     clear_other_place()
     make_file(place.program)
     make_file(place.program, "alone.db")
-    pairs, metronome = [], Metronome()
+    pairs = []
     with place.server() as shipped, Server(place.program, free_port(), "alone.db", errors=subprocess.DEVNULL) as alone, Shipper(place.ship) as shipper:
         shipper.wait_whole()
         before, used = time.monotonic(), seconds_used(shipper.process.pid)
@@ -55,11 +55,13 @@ def measure():
         shipper.wait_whole()
         used = seconds_used(shipper.process.pid) - used
         print(f"{2 * PAIRS * CALLS / (time.monotonic() - before):.0f} calls a second, half of them shipped, which takes {used / PAIRS / CALLS * 1000:.2f} ms of a processor a call")
-    return pairs, metronome.worst()
+    return pairs
 
 
-pairs, stall = measure()
-ratio = statistics.median(one / other for one, other in pairs)
+pairs = measure()
+low, ratio, high = statistics.quantiles((one / other for one, other in pairs), n=4)
+# (twice the standard error of a median, by the quartiles)
+error = 2 * 0.93 * (high - low) / PAIRS**0.5
 alone = statistics.median(other for _, other in pairs) * 1000
-print(f"a call takes {alone:.2f} ms, and where the file is shipped {ratio:.3f} times that, the median of {PAIRS} pairs; the machine stalled for {stall * 1000:.0f} ms")
-expect("shipping slows the server by more than a twentieth", ratio < SLOWED or stall > CALM)
+print(f"a call takes {alone:.2f} ms, and where the file is shipped {ratio:.3f} times that, give or take {error:.3f}, the median of {PAIRS} pairs")
+expect("shipping slows the server by more than a twentieth", ratio - error < SLOWED)
