@@ -51,6 +51,7 @@ attempt restore.sh python3
 attempt watch.sh python3
 attempt proxy.sh python3
 attempt install.sh sh
+attempt ship.sh python3
 attempt browser.sh python3
 attempt page.sh python3
 attempt faults.sh python3
