@@ -1,0 +1,115 @@
+"""Files that are there whole or not at all, and what a bridge keeps between two runs."""
+import contextlib
+import fcntl
+import json
+import os
+import re
+import tempfile
+import uuid
+
+from bridges.asking import Fault
+
+VERSION = 1
+
+
+def replace_file(path, data, mode=None):
+    """Puts bytes in a file's place at once: whoever opens it finds the old ones or the new ones, after a crash too.
+
+    The file keeps its mode where it is there, and is its owner's alone where it isn't and no mode is given."""
+    folder = os.path.dirname(os.path.abspath(path))
+    if mode is None:
+        mode = os.stat(path).st_mode & 0o7777 if os.path.exists(path) else 0o600
+    handle, new = tempfile.mkstemp(prefix=f".{os.path.basename(path)}.", dir=folder)
+    try:
+        with open(handle, "wb") as file:
+            file.write(data)
+            file.flush()
+            os.fchmod(file.fileno(), mode)
+            os.fsync(file.fileno())
+        os.rename(new, path)
+    except BaseException:
+        with contextlib.suppress(OSError):
+            os.unlink(new)
+        raise
+    sync_folder(folder)
+
+
+def sync_folder(folder):
+    """Brings the names of a folder to the disk."""
+    handle = os.open(folder, os.O_RDONLY)
+    try:
+        os.fsync(handle)
+    finally:
+        os.close(handle)
+
+
+def state_folder():
+    """Where programs keep what they know between two runs, by the desktop's rules."""
+    return os.path.join(os.environ.get("XDG_STATE_HOME") or os.path.expanduser("~/.local/state"), "taskboard")
+
+
+def state_path(kind, address, board, more=""):
+    """The file that a bridge keeps for a board, where the user names none."""
+    return os.path.join(state_folder(), re.sub(r"[^\w.-]+", "-", f"{kind}-{address}-{board}{more}") + ".json")
+
+
+class Lock:
+    """Lets one run at a time have a state: it holds a lock on a file beside it.
+
+    Programs that a run starts get the lock too, so that a run that is killed keeps the next one waiting until they have ended."""
+
+    def __init__(self, path):
+        os.makedirs(os.path.dirname(os.path.abspath(path)), mode=0o700, exist_ok=True)
+        self.file = open(path + ".lock", "a")
+        os.set_inheritable(self.file.fileno(), True)
+        fcntl.flock(self.file, fcntl.LOCK_EX)
+
+    def number(self):
+        return self.file.fileno()
+
+
+class State:
+    """What both sides had after the last run; it stands in one JSON file, which `save` replaces at once.
+
+    `tasks` has for each uuid its `turn`, which rises with each change of what is kept of it, what the two sides had (`left`, `right`),
+    and the calls that were refused. `owed` are the notes of conflicts that were decided, `reopened` the tasks that were opened to be
+    changed: both are kept before any call is sent, and are empty after a run that wasn't stopped. `told` is what was said once."""
+
+    def __init__(self, path, address, board):
+        self.path = path
+        self.replica, self.tasks, self.owed, self.reopened, self.told = str(uuid.uuid4()), {}, [], {}, []
+        self.more = {}
+        self.about = {"address": address, "board": board}
+        self.is_new = not os.path.exists(path)
+        if not self.is_new:
+            self.load()
+
+    def load(self):
+        try:
+            with open(self.path, encoding="utf-8") as file:
+                kept = json.load(file)
+        except (OSError, ValueError) as fault:
+            raise Fault(f"{self.path} can't be read: {fault}") from None
+        if not isinstance(kept, dict) or kept.get("version") != VERSION:
+            raise Fault(f"{self.path} is of another version of this program, or no state at all: name another by --state")
+        if kept["about"] != self.about:
+            raise Fault(f"{self.path} belongs to board {kept['about']['board']} at {kept['about']['address']}: name another by --state")
+        for name in ("replica", "tasks", "owed", "reopened", "told", "more"):
+            setattr(self, name, kept[name])
+
+    def save(self):
+        names = ("about", "replica", "tasks", "owed", "reopened", "told", "more")
+        kept = {"version": VERSION, **{name: getattr(self, name) for name in names}}
+        replace_file(self.path, json.dumps(kept, ensure_ascii=False, sort_keys=True, indent=0).encode("utf-8", "surrogatepass"))
+        self.is_new = False
+
+    def entry(self, task):
+        """What is kept of a task; an empty entry is made where there is none."""
+        return self.tasks.setdefault(task, {"turn": 0, "left": None, "right": None, "refused": {}})
+
+    def tell_once(self, text):
+        """Whether this wasn't said before."""
+        if text in self.told:
+            return False
+        self.told.append(text)
+        return True
