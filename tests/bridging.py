@@ -80,7 +80,7 @@ class Line:
             if stop == "server before":
                 self.server.kill()
                 self.server.start()
-            with socket.create_connection(("127.0.0.1", self.server.port), timeout=30) as server:
+            with socket.create_connection(("127.0.0.1", self.server.port), timeout=300) as server:
                 server.sendall(message)
                 answer = whole(server)
             if stop == "run after":
@@ -117,7 +117,7 @@ class Editor:
         fields = {"x-member": "ann", "x-key": "ann-key-1"} | ({"x-request-id": str(uuid.uuid4())} if method == "POST" else {})
         for _ in range(3):
             try:
-                self.connection = self.connection or http.client.HTTPConnection("127.0.0.1", self.port, timeout=30)
+                self.connection = self.connection or http.client.HTTPConnection("127.0.0.1", self.port, timeout=300)
                 self.connection.request(method, path, None if body is None else json.dumps(body).encode(), fields)
                 answer = self.connection.getresponse()
                 text = answer.read()
@@ -152,10 +152,12 @@ class Runs:
     def start(self, *more, words=None):
         process = subprocess.Popen([*(words or self.words), *more], stdout=subprocess.PIPE, stderr=subprocess.STDOUT, env=self.environment, text=True)
         self.line.run = process
+        with open("run", "w") as file:
+            file.write(str(process.pid))
         return process
 
     def finish(self, process, statuses=(0,)):
-        said = process.communicate(timeout=300)[0]
+        said = process.communicate(timeout=600)[0]
         self.said += said.splitlines()
         if process.returncode not in statuses:
             sys.exit(f"a run ended with {process.returncode}: {said[-2000:]}")

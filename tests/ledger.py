@@ -92,7 +92,7 @@ class Ledger:
                 self.conflicts += is_noted and edit["value"] != final
                 if not (edit["seen"] or edit["value"] == final or is_noted):
                     expect(f"{uuid} {name} of {edits}", edit["value"], (final, notes))
-        for uuid, kind, value in [it for it in self.added - self.removed if it[0] in said]:
+        for uuid, kind, value in [it for it in self.added - self.removed if it[0] in said and (it[1] != "links" or it[2] in said)]:
             if said[uuid][kind].count(value) != 1:
                 expect(f"{uuid}: {kind} with {value}", 1, said[uuid][kind].count(value))
         for uuid, kind, value in [it for it in self.removed if it[0] in said]:

@@ -25,12 +25,12 @@ uda.review.type=date
 uda.estimate.type=duration
 uda.origin.type=string
 """
-# Kills the run that started it before or after an import, once, where a file of that name asks for it.
+# Kills the run before or after an import, once, where a file of that name asks for it.
 WRAPPER = """#!/bin/sh
 case " $* " in *" import "*)
-    if [ -e "{0}/stop before" ]; then rm "{0}/stop before"; kill -9 $PPID; exit 1; fi
+    if [ -e "{0}/stop before" ]; then rm "{0}/stop before"; kill -9 "$(cat "{0}/run")"; exit 1; fi
     "{1}" "$@"; status=$?
-    if [ -e "{0}/stop after" ]; then rm "{0}/stop after"; kill -9 $PPID; fi
+    if [ -e "{0}/stop after" ]; then rm "{0}/stop after"; kill -9 "$(cat "{0}/run")"; fi
     exit $status ;;
 esac
 exec "{1}" "$@"
@@ -46,7 +46,7 @@ class User:
     """Who edits Taskwarrior, by its own commands, and by imports where a text is hard to say on a command line."""
 
     def task(self, *words, text=None):
-        ran = subprocess.run([REAL, "rc.verbose=nothing", "rc.recurrence.confirmation=no", *words], input=text, capture_output=True, text=True, timeout=60)
+        ran = subprocess.run([REAL, "rc.verbose=nothing", "rc.recurrence.confirmation=no", *words], input=text, capture_output=True, text=True, timeout=300)
         if ran.returncode:
             sys.exit(f"task {words}: {ran.returncode} {ran.stdout}{ran.stderr}")
         return ran.stdout
@@ -137,8 +137,8 @@ class Week:
 
     # Edits of the user of Taskwarrior.
 
-    def edit_right(self, tasks):
-        uuid = RANDOM.choice([uuid for uuid, task in tasks.items() if task["status"] != "recurring"])
+    def edit_right(self, tasks, one=None):
+        uuid = one or RANDOM.choice([uuid for uuid, task in tasks.items() if task["status"] != "recurring"])
         task = tasks[uuid]
         kind = RANDOM.choice(("text", "text", "project", "due", "priority", "tag", "untag", "note", "unnote", "status", "start", "link", "cost"))
         if status_of(task) != "open" and kind in ("start", "link", "cost", "due", "untag"):
@@ -230,8 +230,8 @@ class Week:
 
     # Edits on the board.
 
-    def edit_left(self, tasks):
-        uuid = RANDOM.choice([uuid for uuid, task in tasks.items() if not is_template(task)])
+    def edit_left(self, tasks, one=None):
+        uuid = one or RANDOM.choice([uuid for uuid, task in tasks.items() if not is_template(task)])
         task = tasks[uuid]
         kind = RANDOM.choice(("text", "text", "project", "due", "priority", "tag", "untag", "note", "unnote", "status", "start", "link"))
         if status_of(task) != "open" and kind not in ("note", "unnote"):
@@ -296,13 +296,13 @@ class Week:
 
     def edit(self, count):
         left, right = self.editor.tasks(), self.user.tasks()
-        shared = [uuid for uuid in left if uuid in right]
+        shared = [uuid for uuid in left if uuid in right and not is_template(left[uuid])]
         for _ in range(count):
             if RANDOM.random() < 0.5:
                 # Some tasks are edited on both sides.
                 one = RANDOM.choice(shared)
-                self.edit_left({one: left[one]} if RANDOM.random() < 0.5 else left)
-                self.edit_right({one: right[one]} if RANDOM.random() < 0.5 else right)
+                self.edit_left(left, one)
+                self.edit_right(right, one)
             else:
                 RANDOM.choice((lambda: self.edit_left(left), lambda: self.edit_right(right)))()
 

@@ -4,12 +4,14 @@ import fcntl
 import json
 import os
 import re
+import subprocess
 import tempfile
 import uuid
 
 from bridges.asking import Fault
 
 VERSION = 1
+KEPT = ("replica", "tasks", "pending", "owed", "reopened", "told", "more")
 
 
 def replace_file(path, data, mode=None):
@@ -68,17 +70,43 @@ class Lock:
         return self.file.fileno()
 
 
+class Marks:
+    """Which tasks were written on the other side, also where the run was killed meanwhile: the shell that starts the writing command
+    notes them in a file beside the state once it succeeded, and isn't killed with the run."""
+
+    def __init__(self, path, lock):
+        self.writing, self.written, self.lock = path + ".writing", path + ".written", lock
+
+    def run(self, tasks, words, text=None):
+        """Runs a command that writes these tasks, and what came of it."""
+        replace_file(self.writing, "".join(f"{task}\n" for task in tasks).encode())
+        script = 'writing=$1 written=$2; shift 2; "$@" && cat "$writing" >>"$written"'
+        return subprocess.run(["sh", "-c", script, "sh", self.writing, self.written, *words], input=text, stdout=subprocess.PIPE, stderr=subprocess.PIPE,
+                              pass_fds=(self.lock.number(),), start_new_session=True)
+
+    def tasks(self):
+        with contextlib.suppress(FileNotFoundError), open(self.written, encoding="ascii") as file:
+            return set(file.read().split())
+        return set()
+
+    def clear(self):
+        for path in (self.writing, self.written):
+            with contextlib.suppress(FileNotFoundError):
+                os.unlink(path)
+
+
 class State:
     """What both sides had after the last run; it stands in one JSON file, which `save` replaces at once.
 
     `tasks` has for each uuid its `turn`, which rises with each change of what is kept of it, what the two sides had (`left`, `right`),
-    and the calls that were refused. `owed` are the notes of conflicts that were decided, `reopened` the tasks that were opened to be
-    changed: both are kept before any call is sent, and are empty after a run that wasn't stopped. `told` is what was said once."""
+    and the calls that were refused. `told` is what was said once. The rest is kept before anything is done, for the run after one that
+    was stopped, and is empty else: `pending` what the run does, `owed` the notes of conflicts that it decided, `reopened` the tasks that
+    it opens to change them."""
 
     def __init__(self, path, address, board):
         self.path = path
         self.replica, self.tasks, self.owed, self.reopened, self.told = str(uuid.uuid4()), {}, [], {}, []
-        self.more = {}
+        self.pending, self.more, self.saved = None, {}, None
         self.about = {"address": address, "board": board}
         self.is_new = not os.path.exists(path)
         if not self.is_new:
@@ -94,14 +122,20 @@ class State:
             raise Fault(f"{self.path} is of another version of this program, or no state at all: name another by --state")
         if kept["about"] != self.about:
             raise Fault(f"{self.path} belongs to board {kept['about']['board']} at {kept['about']['address']}: name another by --state")
-        for name in ("replica", "tasks", "owed", "reopened", "told", "more"):
+        for name in KEPT:
             setattr(self, name, kept[name])
+        self.saved = self.data()
+
+    def data(self):
+        kept = {"version": VERSION, "about": self.about, **{name: getattr(self, name) for name in KEPT}}
+        return json.dumps(kept, ensure_ascii=False, sort_keys=True, indent=0).encode("utf-8", "surrogatepass")
 
     def save(self):
-        names = ("about", "replica", "tasks", "owed", "reopened", "told", "more")
-        kept = {"version": VERSION, **{name: getattr(self, name) for name in names}}
-        replace_file(self.path, json.dumps(kept, ensure_ascii=False, sort_keys=True, indent=0).encode("utf-8", "surrogatepass"))
-        self.is_new = False
+        """Replaces the file where it would change."""
+        data = self.data()
+        if data != self.saved:
+            replace_file(self.path, data)
+        self.saved, self.is_new = data, False
 
     def entry(self, task):
         """What is kept of a task; an empty entry is made where there is none."""

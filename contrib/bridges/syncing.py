@@ -1,7 +1,7 @@
 """One run of a bridge: both sides are read and merged with what both had after the last run, and each gets what changed on the other.
 
-A run may be stopped anywhere. Calls are named by what they do, so the next run makes none of them twice; what both sides have is kept
-only after they have it, so a change that went over is found equal on both sides, and one that didn't is found changed again."""
+A run may be stopped anywhere. What it does is kept before it is done. Calls are named by what they do, so the next run learns of each
+whether it was made, and makes none twice; it takes what was done as what both sides have, and finds the rest changed again."""
 import hashlib
 import json
 import re
@@ -30,7 +30,7 @@ class Plan:
     def __init__(self):
         self.lefts, self.rights, self.views, self.linkable = {}, {}, {}, set()
         self.adds, self.merges, self.changes, self.bases = {}, {}, {}, {}
-        self.skipped = set()
+        self.skipped, self.calls = set(), {}
 
 
 class Sync:
@@ -87,13 +87,46 @@ class Sync:
     # What a stopped run left.
 
     def settle(self):
-        """Makes the calls again that a stopped run may have made or not: the notes of conflicts, and tasks that it opened to change them."""
+        """Makes the notes of conflicts, and opens the tasks, that a stopped run may have made and opened or not; then takes what it did
+        as what both sides have."""
         for owed in self.state.owed:
-            self.boards.call(owed["id"], f"/boards/{self.board}/tasks/{owed['task']}/annotate", json.dumps({"description": owed["note"]}).encode())
+            self.boards.call(owed["id"], f"/boards/{self.board}/tasks/{owed['task']}/annotate", Call("annotate", {"description": owed["note"]}, []).bytes())
         for task, opened in list(self.state.reopened.items()):
             if not self.boards.call(opened["id"], f"/boards/{self.board}/tasks/{task}/reopen", b"{}").is_accepted():
                 # Someone else had opened it before.
                 del self.state.reopened[task]
+        if self.state.pending:
+            pending, written = self.state.pending, self.right.marks.tasks()
+            known = {owed["id"] for owed in self.state.owed}
+            for task, done in pending.items():
+                self.take(task, done, {call["id"]: call["id"] in known or self.was_made(task, call) for call in done["calls"]}, task in written)
+            self.state.pending = None
+        self.state.save()
+        self.right.marks.clear()
+
+    def was_made(self, task, call):
+        """Whether a call was made and accepted. Its identifier is used for what is refused in any case: where it was used before, the
+        answer says so, and the call itself gets the answer that was kept; where not, it is used now, and the call can't come any more."""
+        answer = self.boards.call(call["id"], f"/boards/{self.board}/tasks/{task}/denotate", Call("denotate", {"description": str(call["id"])}, []).bytes())
+        return answer.name() == "IdReused" and self.boards.call(call["id"], call["target"], call["body"].encode("utf-8", "replace")).is_accepted()
+
+    def take(self, task, done, made, is_written):
+        """Takes what was done for a task as what both sides have; what wasn't is found again."""
+        entry = self.state.entry(task)
+        entry["turn"] += 1
+        if "new" in done:
+            if is_written or any(made.values()):
+                entry["left"], entry["right"] = done["new"]
+                entry.pop("gone", None)
+            return
+        failed = {key for call in done["calls"] if not made[call["id"]] for key in call["keys"]}
+        missing = set(done["left"]) - {key for call in done["calls"] for key in call["keys"]} | failed
+        if not is_written:
+            missing |= set(done["right"])
+        pairs = {key: pair for key, pair in done["pairs"].items() if key not in missing}
+        for side, at in (("left", 0), ("right", 1)):
+            kept = {key: value for key, value in (entry[side] or {}).items() if key not in pairs}
+            entry[side] = {**kept, **{key: pair[at] for key, pair in pairs.items() if pair[at] is not None}}
 
     # What is to be done.
 
@@ -180,8 +213,7 @@ class Sync:
                 plan.bases[task] = (view, view)
                 return
             self.say(f"gone from {self.right.name}: {self.label(plan, task)} stays on the board (--delete-missing deletes it there)", True)
-        if not self.options.dry_run:
-            entry.update(gone=True, left=view)
+        entry.update(gone=True, left=view)
 
     def plan_merge(self, plan, task, right):
         left_view, right_view = self.left_view(plan, task), self.view(plan, right.view)
@@ -225,18 +257,16 @@ class Sync:
         count, other = left_view.get(key, 0), right_view.get(key, 0)
         fits = self.right.to_right(key, other + 1, None) is not UNFIT
         merged.put(key, count or None, other or None, count + 1, other + 1 if fits else other or None)
-        turn = self.state.tasks.get(task, {}).get("turn", 0)
-        call = Call("annotate", {"description": note}, [key])
         conflict.owed = {"task": task, "key": conflict.key, "left": conflict.left, "right": conflict.right, "left_wins": conflict.left_wins,
-                         "note": note, "id": identifier(self.state.replica, self.board, task, turn, call)}
+                         "note": note, "id": self.identifier(task, Call("annotate", {"description": note}, [key]))}
 
     # How it is done.
 
     def act(self, plan):
-        self.keep_decisions(plan)
-        for task in in_order(plan.adds):
+        self.keep_plan(plan)
+        for task in plan.adds:
             self.add(plan, task)
-        done = {task: self.change(plan, task, merged) for task, merged in plan.merges.items() if task not in plan.skipped}
+        done = {task: self.change(plan, task, merged) for task, merged in plan.merges.items()}
         changes = {task: change for task, change in plan.changes.items() if task not in plan.skipped}
         written, refused = self.right.write(changes) if changes else (set(), {})
         for task, why in refused.items():
@@ -246,21 +276,38 @@ class Sync:
             self.say(f"{self.right.name}: {'add' if changes[task].is_new else 'change'} {self.label(plan, task)}{'' if changes[task].is_new else named(changes[task].keys)}")
         plan.skipped |= set(changes) - written - set(refused)
         self.keep_bases(plan, done, written)
-        self.right.acted(self, plan)
+        self.state.pending = None
         self.state.save()
+        self.right.marks.clear()
 
-    def keep_decisions(self, plan):
-        """Keeps what a stopped run has to know: the conflicts with their notes, and which tasks it opens to change them."""
-        before = len(self.state.owed) + len(self.state.reopened)
+    def keep_plan(self, plan):
+        """Keeps what the run is about to do, as the next one has to know of it where this one is stopped."""
         for merged in plan.bases.values():
             self.state.owed += [conflict.owed for conflict in getattr(merged, "conflicts", ()) if hasattr(conflict, "owed")]
         for task, merged in plan.merges.items():
-            calls = self.calls(plan, task, merged)
+            plan.calls[task] = calls = self.calls(plan, task, merged)
             if len(calls) > 1 and calls[0].word == "reopen" and calls[-1].word in ("done", "delete"):
-                turn = self.state.entry(task)["turn"]
-                self.state.reopened[task] = {"id": identifier(self.state.replica, self.board, task, turn, calls[0]), "status": plan.lefts[task]["status"]}
-        if len(self.state.owed) + len(self.state.reopened) > before:
+                self.state.reopened[task] = {"id": self.identifier(task, calls[0]), "status": plan.lefts[task]["status"]}
+        plan.adds = {task: plan.adds[task] for task in in_order(plan.adds)}
+        for task in plan.adds:
+            plan.calls[task] = [self.adding(plan, task, {*plan.lefts, *plan.calls})]
+        tasks = {*plan.calls, *plan.changes}
+        if tasks:
+            self.state.pending = {task: self.pending(plan, task) for task in sorted(tasks)}
             self.state.save()
+
+    def pending(self, plan, task):
+        """What is kept of a task before it is changed."""
+        merged, calls = plan.bases[task], plan.calls.get(task, ())
+        kept = [{"id": self.identifier(task, call), "target": call.target(self.board, task), "body": call.bytes().decode(), "keys": call.keys}
+                for call in calls if call.keys]
+        if isinstance(merged, tuple):
+            return {"calls": kept, "new": merged} if task not in plan.merges else {"calls": [], "left": [], "right": [], "pairs": {}}
+        pairs = {key: merged.base[key] for key in {*merged.left, *merged.right} if key in merged.base}
+        return {"calls": kept, "left": list(merged.left), "right": list(merged.right), "pairs": pairs}
+
+    def identifier(self, task, call):
+        return identifier(self.state.replica, self.board, task, self.state.entry(task)["turn"], call)
 
     def calls(self, plan, task, merged):
         entry = self.state.tasks.get(task)
@@ -282,8 +329,7 @@ class Sync:
         if digest in entry["refused"] and not self.options.again:
             self.refuse(plan, task, f"{call.word}{named(call.keys)}", f"{entry['refused'][digest]}, as before (--again tries it anew)")
             return False
-        turn = entry["turn"]
-        answer = self.boards.call(identifier(self.state.replica, self.board, task, turn, call), call.target(self.board, task), call.bytes())
+        answer = self.boards.call(self.identifier(task, call), call.target(self.board, task), call.bytes())
         if answer.is_accepted():
             entry["refused"].pop(digest, None)
             self.say(f"board: {call.word} {self.label(plan, task)}{named(call.keys) if call.word != 'add' else ''}")
@@ -300,39 +346,51 @@ class Sync:
             self.counts["refused"] += 1
             self.say(f"refused: {self.label(plan, task)}: {what}: {why}", True)
 
-    def add(self, plan, task):
-        """Adds a task to the board, with those of its links whose tasks are there."""
+    def adding(self, plan, task, there):
+        """The call that adds a task to the board, with those of its links whose tasks are there."""
         right, view = plan.rights[task], {}
         for key, value in plan.adds[task].items():
             fit = self.right.to_left(key, value, None)
             if fit is UNFIT:
                 self.tell_unfit(plan, task, key)
-            elif fit is not None and (key[0] != LINK or key[1:] in plan.lefts):
+            elif fit is not None and (key[0] != LINK or key[1:] in there):
                 view[key] = fit
-        call = board_tasks.added(task, view, right.moments())
+        kept = {key: value for key, value in plan.adds[task].items() if key[0] != LINK or key in view}
+        plan.bases[task] = (view, kept)
+        return board_tasks.added(task, view, right.moments())
+
+    def add(self, plan, task):
+        """Adds a task to the board. Where a task that it waits for couldn't be added it comes without that link."""
+        call = plan.calls[task][0]
+        if any(key[0] == LINK and key[1:] not in plan.lefts for key in plan.bases[task][0]):
+            call = self.adding(plan, task, plan.lefts)
+            plan.calls[task] = [call]
+            self.state.pending[task] = self.pending(plan, task)
+            self.state.save()
         if self.send(plan, task, call):
             self.counts["added"] += 1
             plan.lefts[task] = {"uuid": task}
-            kept = {key: value for key, value in plan.adds[task].items() if key[0] != LINK or key in view}
-            plan.bases[task] = (view, kept)
-            if len(kept) < len(plan.adds[task]):
+            if len(plan.bases[task][1]) < len(plan.adds[task]):
                 # Links that close a circle are refused by themselves.
                 plan.skipped.add(task)
+        else:
+            del plan.bases[task]
 
     def change(self, plan, task, merged):
         """Brings a task of the board to what it has to be; the keys for which that was done."""
-        left = plan.lefts[task]
-        now = self.boards.task(self.board, task)
-        if now != left:
+        if self.boards.task(self.board, task) != plan.lefts[task]:
             plan.skipped.add(task)
             return set()
-        done, failed, calls = set(), set(), self.calls(plan, task, merged)
+        done, failed, calls = set(), set(), list(plan.calls[task])
         self.tell_refused_before(plan, task, merged, calls)
         while calls:
             call = calls.pop(0)
             accepted = self.send(plan, task, call)
             if accepted is None:
                 calls = [*split(call), *calls]
+                plan.calls[task] = calls
+                self.state.pending[task] = self.pending(plan, task)
+                self.state.save()
             elif accepted:
                 done |= set(call.keys)
             else:
@@ -369,6 +427,7 @@ class Sync:
             self.settled(plan, task, entry, before)
         for task in plan.adds:
             if task not in plan.bases:
+                # The next try is another call.
                 self.state.entry(task)["turn"] += 1
 
     def settled(self, plan, task, entry, before):

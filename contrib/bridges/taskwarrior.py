@@ -41,19 +41,18 @@ class Taskwarrior:
 
     name, where = "Taskwarrior", "in Taskwarrior"
 
-    def __init__(self, words, program="task", lock=None):
-        self.words, self.program, self.lock = words, program, lock
+    def __init__(self, words, marks, program="task"):
+        self.words, self.marks, self.program = words, marks, program
         self.types = {}
 
     @staticmethod
     def place():
         return "Taskwarrior"
 
-    def ask(self, *words, text=None):
-        """What a command prints. A command that was started holds the run's lock too, so that the next run waits for its end."""
+    def ask(self, *words):
+        """What a command prints."""
         try:
-            return subprocess.run([self.program, *SETTINGS, *words], input=text, stdout=subprocess.PIPE, stderr=subprocess.PIPE,
-                                  pass_fds=(self.lock.number(),) if self.lock else ())
+            return subprocess.run([self.program, *SETTINGS, *words], stdin=subprocess.DEVNULL, stdout=subprocess.PIPE, stderr=subprocess.PIPE)
         except OSError as fault:
             raise Fault(f"{self.program} can't be run: {fault}") from None
 
@@ -137,7 +136,7 @@ class Taskwarrior:
         """Imports tasks at once; where Taskwarrior takes none of them, by halves, until those are found that it refuses."""
         if not texts:
             return set(), {}
-        ran = self.ask("import", "-", text=("[\n" + ",\n".join(texts.values()) + "\n]\n").encode("utf-8", "replace"))
+        ran = self.marks.run(texts, [self.program, *SETTINGS, "import", "-"], ("[\n" + ",\n".join(texts.values()) + "\n]\n").encode("utf-8", "replace"))
         if ran.returncode == 0:
             return set(texts), {}
         if len(texts) == 1:
@@ -147,9 +146,6 @@ class Taskwarrior:
         done, refused = self.bring(dict(items[:middle]))
         more, others = self.bring(dict(items[middle:]))
         return done | more, {**refused, **others}
-
-    def acted(self, run, plan):
-        """Nothing is left to do."""
 
 
 def is_nameable(key):

@@ -4,7 +4,7 @@ import os
 import sys
 
 from bridges.asking import Boards, Fault, read_key
-from bridges.keeping import Lock, State, state_path
+from bridges.keeping import Lock, Marks, State, state_path
 from bridges.syncing import Sync
 
 
@@ -42,13 +42,13 @@ def state_file(options, kind, more=""):
 
 
 def bridge(options, path, make_right):
-    """Runs a bridge with the state of a path. `make_right` gets the lock and the state. The status is 0 where both sides have the same
+    """Runs a bridge with the state of a path. `make_right` gets the marks of what it writes, and the state. The status is 0 where both sides have the same
     now, and 1 where something was refused or failed."""
     try:
         boards = Boards(options.address, options.member, key_of(options), options.patience, options.cacert)
         lock = Lock(path)
         state = State(path, boards.address, options.board)
-        return 0 if Sync(boards, options.board, make_right(lock, state), state, options, lambda text: print(text, flush=True)).run() else 1
+        return 0 if Sync(boards, options.board, make_right(Marks(path, lock), state), state, options, lambda text: print(text, flush=True)).run() else 1
     except Fault as fault:
         print(f"{sys.argv[0].rpartition('/')[2]}: {fault}", file=sys.stderr)
         return 1
