@@ -24,11 +24,12 @@ class Merged:
         if new_right != right:
             self.right[key] = new_right
 
-    def drop(self, key):
-        """Leaves a key as it is on both sides, to be looked at again by the next run."""
-        self.base.pop(key, None)
-        self.left.pop(key, None)
-        self.right.pop(key, None)
+    def read_back(self, view, right):
+        """Takes it that the right side will have this view once it is written, whatever was meant."""
+        for key in {*self.base, *view}:
+            self.base[key] = (self.base.get(key, (None, None))[0], view.get(key))
+            if view.get(key) != right.get(key):
+                self.right[key] = view.get(key)
 
 
 class Conflict:

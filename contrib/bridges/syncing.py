@@ -201,7 +201,7 @@ class Sync:
             elif fit is not None:
                 target[key] = fit
         plan.changes[task] = Change(task, target, list(target), plan.lefts[task], None)
-        plan.bases[task] = (view, target)
+        plan.bases[task] = (view, self.right.read_back(task, target))
 
     def gone(self, plan, task, entry, view):
         """A task that was on the other side, and isn't any more. It is told of once, and deleted where that was asked for."""
@@ -217,6 +217,9 @@ class Sync:
 
     def plan_merge(self, plan, task, right):
         left_view, right_view = self.left_view(plan, task), self.view(plan, right.view)
+        if task not in self.state.reopened and left_view[STATUS] != "deleted" and self.right.read_back(task, left_view) == right_view:
+            plan.bases[task] = (left_view, right_view)
+            return
         wins = self.winner(task, plan.lefts[task].get("modified", ""), right.modified)
         merged = merge(self.base(task), left_view, right_view, self.right, wins)
         for key in merged.unfit:
@@ -225,11 +228,11 @@ class Sync:
             self.note_conflict(plan, task, merged, conflict, left_view, right_view)
         if merged.left or task in self.state.reopened:
             plan.merges[task] = merged
-        if merged.right:
-            target = {**right_view, **merged.right}
-            target = {key: value for key, value in target.items() if value is not None}
-            plan.changes[task] = Change(task, target, list(merged.right), plan.lefts[task], right)
         plan.bases[task] = merged
+        if merged.right:
+            target = self.right.target(merged, right_view)
+            merged.read_back(self.right.read_back(task, target), right_view)
+            plan.changes[task] = Change(task, target, list(merged.right), plan.lefts[task], right)
 
     def owed(self, task, key, left, right):
         return next((it for it in self.state.owed if (it["task"], it["key"], it["left"], it["right"]) == (task, key, left, right)), None)
@@ -415,7 +418,7 @@ class Sync:
             entry = self.state.entry(task)
             before = json.dumps([entry["left"], entry["right"]], sort_keys=True)
             if isinstance(merged, tuple):
-                if task in written or task in plan.adds:
+                if task in written or task not in plan.changes and task not in plan.merges:
                     entry["left"], entry["right"] = merged
                     entry.pop("gone", None)
                 elif task in done and STATUS in done[task]:

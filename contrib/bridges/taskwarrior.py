@@ -122,6 +122,16 @@ class Taskwarrior:
         text = plain(value)
         return text if len(text.encode("utf-8", "replace")) <= MOST_BYTES else UNFIT
 
+    @staticmethod
+    def target(merged, view):
+        """What a task is written from: what it has, and what changes."""
+        return {key: value for key, value in {**view, **merged.right}.items() if value is not None}
+
+    @staticmethod
+    def read_back(_task, view):
+        """What is written is read so."""
+        return view
+
     def write(self, changes):
         """Brings tasks to what they have to be, but for those that changed since they were read; which were written, and which Taskwarrior refused."""
         present = {raw["uuid"]: raw for raw in self.exported()}
