@@ -15,8 +15,9 @@ from connecting import connected
 from talking import make_file
 
 CONTRIB = os.path.join(os.path.dirname(os.path.abspath(__file__)), "..", "contrib")
-# What happens at a message: the run or the server is killed, before the message goes on or once it was answered.
-STOPS = ("run before", "run after", "server before", "server after")
+# What happens at a message: the run or the server is killed, before the message goes on or once it was answered; or somebody edits both
+# sides before a view. (An edit between a look at a task and the call on it isn't seen by any client, so none is made there.)
+STOPS = ("run before", "run after", "server before", "server after", "edit")
 LENGTH = re.compile(rb"(?i)content-length: *(\d+)")
 
 
@@ -47,6 +48,7 @@ class Line:
 
     def __init__(self, server):
         self.server, self.run, self.at, self.stop, self.count, self.posts = server, None, None, None, 0, 0
+        self.edit, self.edits = None, 0
         self.listener = socket.create_server(("127.0.0.1", 0))
         self.port = self.listener.getsockname()[1]
         self.lock = threading.Lock()
@@ -77,6 +79,9 @@ class Line:
             if stop == "run before":
                 self.run.kill()
                 return None
+            if stop == "edit" and message.startswith(b"GET"):
+                self.edit()
+                self.edits += 1
             if stop == "server before":
                 self.server.kill()
                 self.server.start()
@@ -172,9 +177,9 @@ class Runs:
     def stop(self, at, stop):
         """One run that is stopped, or whose server is, at the message of a number; whether it came so far."""
         self.line.stop_at(at, stop)
-        self.finish(self.start(), (0, 1, -9))
+        self.finish(self.start(), (0, 1, -9) if stop.startswith("run") else (0, 1))
         came = self.line.count >= at
-        self.stopped += came
+        self.stopped += came and stop.startswith("run")
         self.line.stop_at(None, None)
         return came
 

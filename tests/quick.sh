@@ -1,7 +1,8 @@
 #!/bin/sh
 # What the program shows by itself, in minutes and without a prover: the worked scripts, the bytes of connections, also broken ones, orders
 # over real files, a server that is killed or whose file fails, silent, slow and many clients, its page in a browser, files that another
-# hand changed, copies of a file that is served, a machine that fails or has no memory, and what the documents show (docs/TESTING.md).
+# hand changed, copies of a file that is served, a machine that fails or has no memory, bridges to other tools, reminders, and what the
+# documents show (docs/TESTING.md).
 # What a machine lacks is skipped by name.
 set -u
 cd "$(dirname "$0")/.."
@@ -11,6 +12,8 @@ failed=
 export LONGEST=${LONGEST:-5}
 # Each way in which a machine fails the program is tried once; by itself that test tries more.
 export TRIES=${TRIES:-1}
+# Two sides are edited for a day, with fewer tasks; by itself that test takes a week.
+export SYNC_TASKS=${SYNC_TASKS:-60} SYNC_DAYS=${SYNC_DAYS:-1}
 
 # Runs a test where the programs that it needs are there: attempt NAME NEEDED..
 attempt() {
@@ -49,6 +52,8 @@ attempt faults.sh python3
 attempt power.sh python3 strace
 attempt memory.sh python3 cc
 attempt client.sh python3
+attempt sync.sh python3
+attempt remind.sh python3
 attempt documents.sh python3
 
 if [ -n "$failed" ]; then

@@ -130,6 +130,7 @@ class Week:
         os.environ["TASKRC"] = f"{here}/rc"
         self.server = Server(PROGRAM, PORT)
         self.line, self.user, self.editor = Line(self.server), User(), Editor(PORT)
+        self.line.edit = lambda: self.edit(3)
         self.words = [f"{CONTRIB}/taskwarrior-sync", "--key", "key", "--for", "20", "--state", "state.json", f"127.0.0.1:{self.line.port}", "ann", "1"]
         self.runs = Runs(self.words, self.line, {**os.environ, "PATH": f"{here}/bin:{os.environ['PATH']}"})
         self.ledger, self.gone = Ledger(("in Taskwarrior", "on the board")), set()
@@ -368,7 +369,7 @@ class Week:
         said = self.expect_alike("two runs at once")
         checked = self.check()
         print(f"seed {SEED}: {len(said)} tasks, {self.ledger.count} edits on both sides in {DAYS} days, {self.closed_edits} of them of closed tasks, "
-              f"{self.ledger.conflicts} values kept as notes; {self.runs.stopped} runs stopped, the server killed {self.server.kills} times, "
+              f"{self.line.edits * 3} while a run went on, {self.ledger.conflicts} values kept as notes; {self.runs.stopped} runs stopped, the server killed {self.server.kills} times, "
               f"{self.runs.whole} whole runs; {checked}; {time.monotonic() - begun:.0f} s")
 
     def check(self):

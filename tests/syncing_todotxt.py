@@ -87,6 +87,7 @@ class Week:
             file.write("ann-key-1\n")
         self.server, self.file = Server(PROGRAM, PORT), File()
         self.line, self.editor, self.boards = Line(self.server), Editor(PORT), 1
+        self.line.edit = lambda: self.edit(3)
         command = [f"{CONTRIB}/todotxt-sync", "--key", "key", "--for", "60", "--state", "state.json", f"127.0.0.1:{self.line.port}", "ann", "1", "todo.txt"]
         self.runs = Runs(command, self.line, dict(os.environ))
         self.ledger, self.gone = Ledger(("in todo.txt", "on the board")), set()
@@ -263,7 +264,7 @@ class Week:
         left = self.expect_alike("the end")
         self.delete_missing()
         checked = self.check()
-        print(f"seed {SEED}: {len(left)} tasks, {self.ledger.count} edits on both sides in {DAYS} days, {self.ledger.conflicts} values kept as notes; "
+        print(f"seed {SEED}: {len(left)} tasks, {self.ledger.count} edits on both sides in {DAYS} days, {self.line.edits * 3} while a run went on, {self.ledger.conflicts} values kept as notes; "
               f"{self.runs.stopped} runs stopped, the server killed {self.server.kills} times, {self.runs.whole} whole runs; {checked}; {time.monotonic() - begun:.0f} s")
 
     def stop(self):

@@ -190,7 +190,7 @@ class Sync:
         """A task that the other side lacks: it is new there, or gone from there."""
         entry, view = self.state.tasks.get(task), self.left_view(plan, task)
         if self.base(task) and not (entry.get("gone") and view != entry["left"] and view[STATUS] == "open"):
-            if not entry.get("gone"):
+            if not entry.get("gone") or self.options.delete_missing:
                 self.gone(plan, task, entry, view)
             return
         target = {}
