@@ -63,14 +63,14 @@ class Ledger:
         self.values, self.added, self.removed, self.count = collections.defaultdict(list), set(), set(), 0
         self.conflicts = 0
 
-    def set(self, uuid, name, before, value):
-        """An edit by somebody who saw the value that was there before."""
+    def set(self, uuid, name, before, value, noted=None):
+        """An edit by somebody who saw the value that was there before; `noted` is what a note says of it, where that is another text."""
         if before == value:
             return
         self.count += 1
         for edit in self.values[uuid, name]:
             edit["seen"] = edit["seen"] or edit["value"] == before
-        self.values[uuid, name].append({"value": value, "seen": False})
+        self.values[uuid, name].append({"value": value, "seen": False, "noted": noted or value})
 
     def add(self, uuid, kind, value):
         self.count += 1
@@ -86,7 +86,7 @@ class Ledger:
         for (uuid, name), edits in [item for item in self.values.items() if item[0][0] in said]:
             final, notes = said[uuid].get(name), said[uuid]["notes"]
             for edit in edits:
-                was = "was removed" if edit["value"] is None else "was " + json.dumps(edit["value"], ensure_ascii=False)
+                was = "was removed" if edit["noted"] is None else "was " + json.dumps(edit["noted"], ensure_ascii=False)
                 kept = [f"sync: {name} {was} {where}" for where in self.where]
                 is_noted = any(note in notes for note in kept)
                 self.conflicts += is_noted and edit["value"] != final

@@ -56,7 +56,7 @@ class File:
 
 def line_of(task):
     """A line with marks in any order."""
-    parts = [task["description"], *(f"@{tag}" for tag in task["tags"])]
+    parts = [task["description"], *(f"@{tag}" for tag in task.get("tags", []))]
     parts += [f"+{task['project']}"] if task.get("project") else []
     parts += [f"due:{task['due'][:4]}-{task['due'][4:6]}-{task['due'][6:8]}"] if task.get("due") else []
     parts += [f"uuid:{task['uuid']}"] if task.get("uuid") else []
@@ -187,7 +187,7 @@ class Week:
             self.ledger.set(uuid, kind, task.get(kind), value)
             task[kind] = value
         lines = self.file.lines()
-        lines[at] = line_of({"tags": [], **{name: value for name, value in task.items() if value is not None}})
+        lines[at] = line_of({name: value for name, value in task.items() if value is not None})
         self.file.write(lines)
 
     def edit_board(self, left, one=None):
@@ -213,7 +213,7 @@ class Week:
                      "priority": lambda: RANDOM.choice(("H", "M", "L", None))}[kind]()
             in_line = value and kind == "due" and value[:8] + "T000000Z"
             before = task.get(kind) and kind == "due" and task[kind][:8] + "T000000Z"
-            self.ledger.set(uuid, kind, before or task.get(kind), in_line or value)
+            self.ledger.set(uuid, kind, before or task.get(kind), in_line or value, value)
             self.editor.change(uuid, "modify", {kind: value})
 
     def edit(self, count):
