@@ -1,5 +1,5 @@
 #!/bin/sh
-# Installs the program, its page, the backup script, their man pages, the completion for bash, the units and the documents, and says what it did.
+# Installs the program, its page, the backup script, bridges and reminders, their man pages, the completion for bash, the units and the documents, and says what it did.
 #
 #   contrib/install.sh [--prefix FOLDER]              installs below FOLDER, /usr/local where it isn't given
 #   contrib/install.sh [--prefix FOLDER] --uninstall  removes what that put there
@@ -36,12 +36,26 @@ parts() {
 644 lib/systemd/system/taskboard-backup.timer contrib/taskboard-backup.timer
 644 share/doc/taskboard/nginx.conf contrib/nginx.conf
 644 share/doc/taskboard/README.md README.md
+755 bin/taskwarrior-sync contrib/taskwarrior-sync
+755 bin/todotxt-sync contrib/todotxt-sync
+755 bin/taskboard-remind contrib/taskboard-remind
+644 share/man/man1/taskwarrior-sync.1 contrib/taskwarrior-sync.1
+644 share/man/man1/todotxt-sync.1 contrib/todotxt-sync.1
+644 share/man/man1/taskboard-remind.1 contrib/taskboard-remind.1
+644 lib/systemd/system/taskboard-remind.service contrib/taskboard-remind.service
+644 lib/systemd/system/taskboard-remind.timer contrib/taskboard-remind.timer
+644 lib/systemd/system/taskboard-calendar.service contrib/taskboard-calendar.service
+644 lib/systemd/system/taskboard-calendar.timer contrib/taskboard-calendar.timer
+644 share/doc/taskboard/docs/BRIDGES.md docs/BRIDGES.md
 644 share/doc/taskboard/docs/HTTP.md docs/HTTP.md
 644 share/doc/taskboard/docs/OPERATING.md docs/OPERATING.md
 644 share/doc/taskboard/docs/TABLES.md docs/TABLES.md
 PARTS
     for file in "$top"/page/*; do
         echo "644 share/taskboard/page/${file##*/} page/${file##*/}"
+    done
+    for file in "$contrib"/taskboard_bridges/*.py; do
+        echo "644 lib/taskboard/taskboard_bridges/${file##*/} contrib/taskboard_bridges/${file##*/}"
     done
 }
 
@@ -91,8 +105,8 @@ remove_all() {
             echo "removed $target"
         fi
     done
-    for folder in doc/taskboard/docs doc/taskboard taskboard/page taskboard; do
-        rmdir "$root/share/$folder" 2>/dev/null || true
+    for folder in share/doc/taskboard/docs share/doc/taskboard share/taskboard/page share/taskboard lib/taskboard/taskboard_bridges lib/taskboard; do
+        rmdir "$root/$folder" 2>/dev/null || true
     done
 }
 

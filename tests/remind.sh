@@ -7,3 +7,14 @@ set -eu
 . "$(dirname "$0")/prepare.sh"
 
 PYTHONPATH=$top/tests python3 "$top/tests/reminding.py" "$program" "$port"
+
+if command -v systemd-analyze >/dev/null 2>&1 && command -v man >/dev/null 2>&1; then
+    mkdir units
+    sh "$top/contrib/install.sh" --prefix "$folder/opt" >said
+    cp "$folder"/opt/lib/systemd/system/taskboard-remind.* "$folder"/opt/lib/systemd/system/taskboard-calendar.* units
+    MANPATH="$folder/opt/share/man:" systemd-analyze verify units/*
+    "$folder/opt/bin/taskboard-remind" --help >said
+    "$folder/opt/bin/taskwarrior-sync" --help >said
+else
+    echo "the units: skipped, since systemd-analyze or man isn't there"
+fi

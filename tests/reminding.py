@@ -211,6 +211,7 @@ class Reminding:
             is_open = step in ("DATA", "body", "end")
             told = self.run(*words, "mail", status=1 if is_open else 0)
             expect(f"killed at {step}: what is told", is_open, "may have gone or not" in told)
+            expect(f"killed at {step}: what is told again", "", self.run(*words, "mail"))
             wanted = 1 if step in ("end", "QUIT") or not is_open else 0
             expect(f"killed at {step}: mails", wanted, len(self.mails.accepted) - before)
 

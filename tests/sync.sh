@@ -26,13 +26,13 @@ part() {
     (cd "$1" && python3 "$top/tests/$1" "$program" "$port" "$tasks" "$days")
 }
 
-PYTHONPYCACHEPREFIX=$folder/compiled python3 -m compileall -q "$contrib" || fail "contrib/bridges can't be compiled"
+PYTHONPYCACHEPREFIX=$folder/compiled python3 -m compileall -q "$contrib" || fail "contrib/taskboard_bridges can't be compiled"
 for script in taskwarrior-sync todotxt-sync taskboard-remind; do
     python3 "$contrib/$script" --help >help || fail "$script --help"
     grep -q "^usage: $script " help || fail "$script says nothing of its words"
 done
 if is_there pyflakes3; then
-    pyflakes3 "$contrib"/bridges/*.py "$contrib/taskwarrior-sync" "$contrib/todotxt-sync" "$contrib/taskboard-remind"
+    pyflakes3 "$contrib"/taskboard_bridges/*.py "$contrib/taskwarrior-sync" "$contrib/todotxt-sync" "$contrib/taskboard-remind"
 else
     echo "what pyflakes3 says: skipped, since it isn't there"
 fi

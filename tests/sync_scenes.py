@@ -8,8 +8,8 @@ import uuid as uuids
 
 sys.path.insert(0, os.path.join(os.path.dirname(os.path.abspath(__file__)), "..", "contrib"))
 sys.dont_write_bytecode = True
-from bridges.lines import Line as TodoLine
-from bridges.lines import spell
+from taskboard_bridges.lines import Line as TodoLine
+from taskboard_bridges.lines import spell
 from bridging import Editor, expect
 from ledger import expect_alike
 from syncing import PORT, Week

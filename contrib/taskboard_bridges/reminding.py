@@ -14,10 +14,10 @@ import subprocess
 import sys
 import uuid
 
-from bridges.agenda import NEW, OVERDUE, TODAY, WEEK, assignee, boards_of, day_of, is_shown, moment_of, parts_of
-from bridges.asking import Fault, read_key
-from bridges.icalendar_text import calendar
-from bridges.keeping import replace_file
+from taskboard_bridges.agenda import NEW, OVERDUE, TODAY, WEEK, assignee, boards_of, day_of, is_shown, moment_of, parts_of
+from taskboard_bridges.asking import Fault, read_key
+from taskboard_bridges.icalendar_text import calendar
+from taskboard_bridges.keeping import replace_file
 
 VERSION = 1
 SPACE = uuid.UUID("8d7c0a2e-0d0e-5c8a-9a55-6f1b8f5e1c11")
@@ -26,8 +26,8 @@ SPACE = uuid.UUID("8d7c0a2e-0d0e-5c8a-9a55-6f1b8f5e1c11")
 class Kept:
     """What is kept between two runs, in one JSON file that is replaced at once.
 
-    `people` has for each person the `day` of the last mail, whether it was `sent` or is on its way (`sending`), and the tasks that were
-    hers then (`hers`); `paths` has the name of each calendar's file."""
+    `people` has for each person the `day` of the last mail, its `state` (`sent`, `nothing` to say, `sending`, or `unknown` where a run was
+    stopped while it sent), and the tasks that were hers then (`hers`); `paths` has the name of each calendar's file."""
 
     def __init__(self, path):
         self.path, self.people, self.paths = path, {}, {}
@@ -204,6 +204,7 @@ class Reminder:
         before = self.kept.people.get(person, {})
         if before.get("day") == self.today and not self.is_dry:
             if before["state"] == "sending":
+                self.keep(person, "unknown", before["hers"])
                 self.trouble(f"the mail of {self.today} to {person} may have gone or not, since a run was stopped meanwhile: it isn't sent again")
             return
         known = before.get("hers")

@@ -3,7 +3,7 @@ import datetime
 import re
 import uuid
 
-from bridges.merging import STATUS, TAG, VALUE
+from taskboard_bridges.merging import STATUS, TAG, VALUE
 
 PRIORITIES = {"A": "H", "B": "M", "C": "L"}
 LETTERS = {priority: letter for letter, priority in PRIORITIES.items()}

@@ -3,9 +3,9 @@ import argparse
 import os
 import sys
 
-from bridges.asking import Boards, Fault, read_key
-from bridges.keeping import Lock, Marks, State, state_path
-from bridges.syncing import Sync
+from taskboard_bridges.asking import Boards, Fault, read_key
+from taskboard_bridges.keeping import Lock, Marks, State, state_path
+from taskboard_bridges.syncing import Sync
 
 
 def parser_of(program, about):

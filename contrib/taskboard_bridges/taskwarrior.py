@@ -3,9 +3,9 @@ import json
 import re
 import subprocess
 
-from bridges.asking import Fault
-from bridges.board_tasks import MOST_BYTES, SETTABLE, now, view_of
-from bridges.merging import LINK, NOTE, STARTED, STATUS, TAG, UNFIT, VALUE, number_of, plain
+from taskboard_bridges.asking import Fault
+from taskboard_bridges.board_tasks import MOST_BYTES, SETTABLE, now, view_of
+from taskboard_bridges.merging import LINK, NOTE, STARTED, STATUS, TAG, UNFIT, VALUE, number_of, plain
 
 # No hook runs, nothing is asked, no recurring task makes instances, and no number of a task changes under its user's hands.
 SETTINGS = ("rc.hooks=off", "rc.confirmation=off", "rc.verbose=nothing", "rc.json.array=on", "rc.json.depends.array=on", "rc.gc=off", "rc.recurrence=off",

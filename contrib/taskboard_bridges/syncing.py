@@ -6,10 +6,10 @@ import hashlib
 import json
 import re
 
-from bridges import board_tasks
-from bridges.asking import Fault
-from bridges.board_tasks import Call, calls_of, identifier, is_template, view_of
-from bridges.merging import LINK, NOTE, STARTED, STATUS, UNFIT, VALUE, after, merge, plain
+from taskboard_bridges import board_tasks
+from taskboard_bridges.asking import Fault
+from taskboard_bridges.board_tasks import Call, calls_of, identifier, is_template, view_of
+from taskboard_bridges.merging import LINK, NOTE, STARTED, STATUS, UNFIT, VALUE, after, merge, plain
 
 MOST_PASSES = 5
 # A note has to be shorter than a text of the board.

@@ -3,7 +3,7 @@ import configparser
 import os
 import zoneinfo
 
-from bridges.asking import Boards, Fault, read_key
+from taskboard_bridges.asking import Boards, Fault, read_key
 
 KNOWN = {
     "boards": ("address", "member", "key", "page", "boards", "zone", "state", "cacert"),

@@ -1,7 +1,7 @@
 """What the boards hold for people: due tasks, by day, by person and by board. Nothing is kept here."""
 import datetime
 
-from bridges.board_tasks import is_template
+from taskboard_bridges.board_tasks import is_template
 
 OVERDUE, TODAY, WEEK, NEW = "Overdue", "Due today", "Due within a week", "New for you"
 UTC = datetime.timezone.utc

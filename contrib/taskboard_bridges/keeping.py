@@ -8,7 +8,7 @@ import subprocess
 import tempfile
 import uuid
 
-from bridges.asking import Fault
+from taskboard_bridges.asking import Fault
 
 VERSION = 1
 KEPT = ("replica", "tasks", "pending", "owed", "reopened", "told", "more")

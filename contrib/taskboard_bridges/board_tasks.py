@@ -3,7 +3,7 @@ import datetime
 import json
 import uuid
 
-from bridges.merging import LINK, NOTE, STARTED, STATUS, TAG, VALUE
+from taskboard_bridges.merging import LINK, NOTE, STARTED, STATUS, TAG, VALUE
 
 # The attributes that a call sets, and those that no call can set or that another key stands for. All others are the user's own.
 SETTABLE = ("description", "project", "priority", "due", "wait", "scheduled", "until")

@@ -8,11 +8,11 @@ import re
 import tempfile
 import uuid
 
-from bridges.asking import Fault
-from bridges.board_tasks import is_template
-from bridges.keeping import sync_folder
-from bridges.lines import Line, is_blank, made_by_import, midnight, replaced, spell
-from bridges.merging import STATUS, TAG, UNFIT
+from taskboard_bridges.asking import Fault
+from taskboard_bridges.board_tasks import is_template
+from taskboard_bridges.keeping import sync_folder
+from taskboard_bridges.lines import Line, is_blank, made_by_import, midnight, replaced, spell
+from taskboard_bridges.merging import STATUS, TAG, UNFIT
 
 SHOWN = (STATUS, "=description", "=project", "=priority", "=due")
 # How often a file that others change meanwhile is read anew.
