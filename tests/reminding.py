@@ -16,7 +16,9 @@ from mailing import STEPS, MailServer
 
 PROGRAM, PORT = sys.argv[1], int(sys.argv[2])
 SEED, RANDOM = seeded()
-ZONE = zoneinfo.ZoneInfo("Europe/Berlin")
+# One in which it is day now, so that no day ends meanwhile.
+NAME = next(name for name in ("Europe/Berlin", "Asia/Tokyo", "America/Los_Angeles") if 6 <= datetime.datetime.now(zoneinfo.ZoneInfo(name)).hour < 18)
+ZONE = zoneinfo.ZoneInfo(NAME)
 PAGE = "https://boards.example.org/"
 HEADINGS = ("Overdue", "Due today", "Due within a week", "New for you")
 COUNT = 1000
@@ -27,14 +29,16 @@ def now():
 
 
 def due_of(at):
-    """A due date of any kind, some of them today and this week, as days and as moments."""
-    day = now().astimezone(ZONE).date() + datetime.timedelta(days=RANDOM.choice((-400, -3, -1, 0, 0, 1, 2, 5, 6, 7, 8, 60)))
+    """A due date of any kind, some of them today and this week, as days and as moments; none of these in the next hours."""
+    here = now().astimezone(ZONE)
+    day = here.date() + datetime.timedelta(days=RANDOM.choice((-400, -3, -1, 0, 0, 1, 2, 5, 6, 7, 8, 60)))
     if at % 3 == 0:
         return f"{day:%Y%m%d}T000000Z"
-    if at % 3 == 1:
-        there = datetime.datetime(day.year, day.month, day.day, tzinfo=ZONE)
-        return f"{there.astimezone(datetime.timezone.utc):%Y%m%dT%H%M%SZ}"
-    return f"{day:%Y%m%d}T{RANDOM.randint(0, 23):02d}{RANDOM.randint(0, 59):02d}01Z"
+    hour = RANDOM.randrange(24)
+    if day == here.date() and abs(hour - here.hour) < 3:
+        hour = (here.hour + 12) % 24
+    there = datetime.datetime(day.year, day.month, day.day, *((0, 0, 0) if at % 3 == 1 else (hour, RANDOM.randrange(60), 1)), tzinfo=ZONE)
+    return f"{there.astimezone(datetime.timezone.utc):%Y%m%dT%H%M%SZ}"
 
 
 def make_task(at):
@@ -136,7 +140,7 @@ class Reminding:
         """A configuration with a state of its own."""
         mail = mail or f"smtp = 127.0.0.1:{self.mails.port}\n" + ("tls = starttls\ncacert = tls.pem\nuser = boards\npassword = password\n" if self.certificate else "tls = none\n")
         lines = "".join(f"{person} = {address}\n" for person, address in people.items())
-        self.write(f"{name}.conf", f"[boards]\naddress = 127.0.0.1:{PORT}\nmember = reminder\nkey = key\npage = {PAGE}\nzone = Europe/Berlin\nstate = {name}.json\n"
+        self.write(f"{name}.conf", f"[boards]\naddress = 127.0.0.1:{PORT}\nmember = reminder\nkey = key\npage = {PAGE}\nzone = {NAME}\nstate = {name}.json\n"
                    f"[mail]\nfrom = Boards <boards@example.org>\n{mail}[calendar]\nfolder = calendars\naddress = https://boards.example.org/calendars\n[people]\n{lines}")
         return ["--config", f"{name}.conf"]
 
@@ -237,7 +241,7 @@ class Reminding:
         """What is wrong in the configuration is told, and nothing is done."""
         self.write("open", "reminder-key-1\n", 0o644)
         os.chmod("open", 0o644)
-        wrong = {"key = open": ("key = key", "chmod 600"), "member = nobody": ("member = reminder", "doesn't know"), "zone = Mars": ("zone = Europe/Berlin", "no time zone"),
+        wrong = {"key = open": ("key = key", "chmod 600"), "member = nobody": ("member = reminder", "doesn't know"), "zone = Mars": (f"zone = {NAME}", "no time zone"),
                  "[people]\nbob = b\n[cats]": ("[people]", "[cats]"), "tlx = none": ("tls = starttls" if self.certificate else "tls = none", "tlx"),
                  "address = http://10.0.0.1": (f"address = 127.0.0.1:{PORT}", "in the open")}
         self.config("good", {"bob": "bob@example.org"})

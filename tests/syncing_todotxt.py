@@ -261,6 +261,7 @@ class Week:
             self.runs.complete()
             self.expect_alike(f"day {at + 1}")
             self.remove()
+        self.saved_meanwhile()
         left = self.expect_alike("the end")
         self.delete_missing()
         checked = self.check()
@@ -269,6 +270,24 @@ class Week:
 
     def stop(self):
         self.runs.stop(int(RANDOM.choice((3, 6, 15, 60)) * RANDOM.random() ** 2) + 2, RANDOM.choice(STOPS))
+
+    def saved_meanwhile(self):
+        """A file that is saved right before it is replaced keeps what was saved: the run reads it again."""
+        os.mkdir("bin")
+        with open("bin/cmp", "w") as file:
+            file.write(f"#!/bin/sh\nif [ -e saved ]; then rm saved; echo 'Saved meanwhile' >>todo.txt; fi\nexec {shutil.which('cmp')} \"$@\"\n")
+        os.chmod("bin/cmp", 0o755)
+        open("saved", "w").close()
+        uuid = next(it for it, task in self.editor.tasks().items() if task["status"] == "pending" and self.file.at(it) is not None)
+        self.editor.change(uuid, "modify", {"description": "Changed meanwhile"})
+        path, self.runs.environment["PATH"] = self.runs.environment["PATH"], f"{os.getcwd()}/bin:{self.runs.environment['PATH']}"
+        self.runs.complete()
+        self.runs.environment["PATH"] = path
+        expect("it was saved", False, os.path.exists("saved"))
+        lines = self.file.lines()
+        expect("both are there", (1, 1), (sum("Changed meanwhile" in line for line in lines), sum(line.startswith("Saved meanwhile") for line in lines)))
+        self.runs.complete()
+        expect("it came", 1, sum(task["description"] == "Saved meanwhile" for task in self.editor.tasks().values()))
 
     def delete_missing(self):
         uuid = next(it for it, task in self.editor.tasks().items() if task["status"] == "pending" and self.file.at(it) is not None)

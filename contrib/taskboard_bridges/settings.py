@@ -1,5 +1,6 @@
 """The configuration of taskboard-remind, which is read once. Nothing is kept here."""
 import configparser
+import datetime
 import os
 import zoneinfo
 
@@ -53,6 +54,8 @@ class Settings:
         return self.parser[section][name]
 
     def read_zone(self, name):
+        if name == "UTC":
+            return datetime.timezone.utc
         try:
             return zoneinfo.ZoneInfo(name)
         except (zoneinfo.ZoneInfoNotFoundError, ValueError):
