@@ -79,7 +79,8 @@ class Line:
             if stop == "run before":
                 self.run.kill()
                 return None
-            if stop == "edit" and message.startswith(b"GET"):
+            if self.stop == "edit" and self.count >= self.at and message.startswith(b"GET"):
+                self.stop = None
                 self.edit()
                 self.edits += 1
             if stop == "server before":

@@ -87,7 +87,7 @@ class Boards:
             connection = self.connect()
             connection.request(method, target, body, {**self.fields, **fields})
             answered = connection.getresponse()
-            answer = Answer(answered.status, answered.read().decode())
+            answer = Answer(answered.status, answered.read().decode("utf-8", "replace"))
             self.messages, self.used = self.messages + 1, time.monotonic()
             if answered.will_close:
                 self.disconnect()

@@ -28,7 +28,7 @@ class Plan:
     """What one pass does: the tasks that are new on the board, those that change, and the changes of the other side."""
 
     def __init__(self):
-        self.lefts, self.rights, self.views, self.linkable = {}, {}, {}, set()
+        self.lefts, self.rights, self.linkable = {}, {}, set()
         self.adds, self.merges, self.changes, self.bases = {}, {}, {}, {}
         self.skipped, self.calls = set(), {}
 
@@ -434,10 +434,13 @@ class Sync:
                 self.state.entry(task)["turn"] += 1
 
     def settled(self, plan, task, entry, before):
-        """What was kept for a stopped run goes, and the next calls on a task that changed get new identifiers."""
+        """What was kept for a stopped run goes, and so do refusals where nothing is to be changed any more; the next calls on a task that
+        changed get new identifiers."""
         if task not in plan.skipped:
             self.state.owed = [owed for owed in self.state.owed if owed["task"] != task]
             self.state.reopened.pop(task, None)
+        if task not in plan.merges and task not in plan.adds:
+            entry["refused"] = {}
         if task in plan.merges or json.dumps([entry["left"], entry["right"]], sort_keys=True) != before:
             entry["turn"] += 1
 
