@@ -1,6 +1,7 @@
 """What the tests of bridges share: a server that is killed, a line to it that stops a run at a message, and a client that edits a board."""
 import contextlib
 import http.client
+import itertools
 import json
 import os
 import random
@@ -183,6 +184,11 @@ class Runs:
         self.stopped += came and stop.startswith("run")
         self.line.stop_at(None, None)
         return came
+
+
+def in_turn(generator, kinds):
+    """The kinds in a random order, one after the other, again and again."""
+    return itertools.cycle(generator.sample(kinds, len(kinds)))
 
 
 def expect(name, wanted, found):

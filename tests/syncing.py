@@ -10,7 +10,7 @@ import sys
 import time
 import uuid as uuids
 
-from bridging import CONTRIB, STOPS, Editor, Line, Runs, Server, expect, moment, seeded, text
+from bridging import CONTRIB, STOPS, Editor, Line, Runs, Server, expect, in_turn, moment, seeded, text
 from ledger import Ledger, expect_alike, is_template
 
 PROGRAM, PORT, TASKS, DAYS = sys.argv[1], int(sys.argv[2]), int(sys.argv[3]), int(sys.argv[4])
@@ -35,6 +35,7 @@ case " $* " in *" import "*)
 esac
 exec "{1}" "$@"
 """
+IMPORTS = ("stop before", "stop after")
 numbers = iter(range(10**9))
 
 
@@ -134,7 +135,7 @@ class Week:
         self.words = [f"{CONTRIB}/taskwarrior-sync", "--key", "key", "--for", "20", "--state", "state.json", f"127.0.0.1:{self.line.port}", "ann", "1"]
         self.runs = Runs(self.words, self.line, {**os.environ, "PATH": f"{here}/bin:{os.environ['PATH']}"})
         self.ledger, self.gone = Ledger(("in Taskwarrior", "on the board")), set()
-        self.closed_edits = 0
+        self.closed_edits, self.kinds = 0, in_turn(RANDOM, (*STOPS, *IMPORTS))
 
     # Edits of the user of Taskwarrior.
 
@@ -317,8 +318,8 @@ class Week:
 
     def stop(self):
         """A run that is stopped at a random message, or before or after an import."""
-        if RANDOM.random() < 0.3:
-            name = RANDOM.choice(("stop before", "stop after"))
+        name = next(self.kinds)
+        if name in IMPORTS:
             open(name, "w").close()
             self.runs.finish(self.runs.start(), (0, -9))
             if os.path.exists(name):
@@ -326,7 +327,7 @@ class Week:
             else:
                 self.runs.stopped += 1
         else:
-            self.runs.stop(int(RANDOM.choice((3, 6, 15, 60)) * RANDOM.random() ** 2) + 2, RANDOM.choice(STOPS))
+            self.runs.stop(int(RANDOM.choice((2, 4, 8, 40)) * RANDOM.random() ** 2) + 2, name)
 
     def expect_alike(self, name):
         """Both sides say the same, each task is there once, and a further run has nothing to do."""
@@ -367,6 +368,7 @@ class Week:
         self.twice_at_once()
         self.runs.complete()
         said = self.expect_alike("two runs at once")
+        expect("what stopped runs left", [], [name for name in os.listdir() if "taskboard-" in name])
         checked = self.check()
         print(f"seed {SEED}: {len(said)} tasks, {self.ledger.count} edits on both sides in {DAYS} days, {self.closed_edits} of them of closed tasks, "
               f"{self.line.edits * 3} while a run went on, {self.ledger.conflicts} values kept as notes; {self.runs.stopped} runs stopped, the server killed {self.server.kills} times, "

@@ -10,7 +10,7 @@ import sys
 import time
 import uuid as uuids
 
-from bridging import CONTRIB, STOPS, Editor, Line, Runs, Server, expect, moment, seeded
+from bridging import CONTRIB, STOPS, Editor, Line, Runs, Server, expect, in_turn, moment, seeded
 from ledger import Ledger, is_template
 
 PROGRAM, PORT, TASKS, DAYS = sys.argv[1], int(sys.argv[2]), int(sys.argv[3]), int(sys.argv[4])
@@ -90,7 +90,7 @@ class Week:
         self.line.edit = lambda: self.edit(3)
         command = [f"{CONTRIB}/todotxt-sync", "--key", "key", "--for", "60", "--state", "state.json", f"127.0.0.1:{self.line.port}", "ann", "1", "todo.txt"]
         self.runs = Runs(command, self.line, dict(os.environ))
-        self.ledger, self.gone = Ledger(("in todo.txt", "on the board")), set()
+        self.ledger, self.gone, self.kinds = Ledger(("in todo.txt", "on the board")), set(), in_turn(RANDOM, STOPS)
 
     # What both sides say.
 
@@ -262,14 +262,16 @@ class Week:
             self.expect_alike(f"day {at + 1}")
             self.remove()
         self.saved_meanwhile()
+        self.same_identifier()
         left = self.expect_alike("the end")
         self.delete_missing()
+        expect("what stopped runs left", [], [name for name in os.listdir() if "taskboard-" in name])
         checked = self.check()
         print(f"seed {SEED}: {len(left)} tasks, {self.ledger.count} edits on both sides in {DAYS} days, {self.line.edits * 3} while a run went on, {self.ledger.conflicts} values kept as notes; "
               f"{self.runs.stopped} runs stopped, the server killed {self.server.kills} times, {self.runs.whole} whole runs; {checked}; {time.monotonic() - begun:.0f} s")
 
     def stop(self):
-        self.runs.stop(int(RANDOM.choice((3, 6, 15, 60)) * RANDOM.random() ** 2) + 2, RANDOM.choice(STOPS))
+        self.runs.stop(int(RANDOM.choice((2, 4, 8, 40)) * RANDOM.random() ** 2) + 2, next(self.kinds))
 
     def saved_meanwhile(self):
         """A file that is saved right before it is replaced keeps what was saved: the run reads it again."""
@@ -288,6 +290,19 @@ class Week:
         expect("both are there", (1, 1), (sum("Changed meanwhile" in line for line in lines), sum(line.startswith("Saved meanwhile") for line in lines)))
         self.runs.complete()
         expect("it came", 1, sum(task["description"] == "Saved meanwhile" for task in self.editor.tasks().values()))
+
+    def same_identifier(self):
+        """Of two lines with one identifier the first is the task, and the other is told and left as it is."""
+        uuid = next(it for it, task in self.editor.tasks().items() if task["status"] == "pending" and self.file.at(it) is not None)
+        lines = self.file.lines()
+        self.file.write([*lines[:-1], f"A copy uuid:{uuid}", lines[-1]])
+        self.editor.change(uuid, "modify", {"description": "The first of two"})
+        told = self.runs.complete()
+        expect(f"what is told: {told}", True, "has the identifier of a line before it" in told)
+        lines = self.file.lines()
+        expect("both lines", (1, 1), (sum("The first of two" in line for line in lines), lines.count(f"A copy uuid:{uuid}")))
+        lines.remove(f"A copy uuid:{uuid}")
+        self.file.write(lines)
 
     def delete_missing(self):
         uuid = next(it for it, task in self.editor.tasks().items() if task["status"] == "pending" and self.file.at(it) is not None)

@@ -18,22 +18,37 @@ def replace_file(path, data, mode=None):
     """Puts bytes in a file's place at once: whoever opens it finds the old ones or the new ones, after a crash too.
 
     The file keeps its mode where it is there, and is its owner's alone where it isn't and no mode is given."""
-    folder = os.path.dirname(os.path.abspath(path))
-    if mode is None:
-        mode = os.stat(path).st_mode & 0o7777 if os.path.exists(path) else 0o600
-    handle, new = tempfile.mkstemp(prefix=f".{os.path.basename(path)}.", dir=folder)
+    new = write_beside(path, data)
     try:
-        with open(handle, "wb") as file:
-            file.write(data)
-            file.flush()
-            os.fchmod(file.fileno(), mode)
-            os.fsync(file.fileno())
+        os.chmod(new, mode or (os.stat(path).st_mode & 0o7777 if os.path.exists(path) else 0o600))
         os.rename(new, path)
     except BaseException:
         with contextlib.suppress(OSError):
             os.unlink(new)
         raise
-    sync_folder(folder)
+    sync_folder(os.path.dirname(os.path.abspath(path)))
+
+
+def write_beside(path, data):
+    """A new file beside a path, with these bytes, which are on the disk."""
+    handle, new = tempfile.mkstemp(prefix=beside(path), dir=os.path.dirname(os.path.abspath(path)))
+    with open(handle, "wb") as file:
+        file.write(data)
+        file.flush()
+        os.fsync(file.fileno())
+    return new
+
+
+def beside(path):
+    return f".{os.path.basename(path)}.taskboard-"
+
+
+def clear_up(path):
+    """Removes what a run left beside a path that was killed while it wrote."""
+    folder = os.path.dirname(os.path.abspath(path))
+    for name in os.listdir(folder):
+        if name.startswith(beside(path)):
+            os.unlink(os.path.join(folder, name))
 
 
 def sync_folder(folder):
@@ -65,6 +80,7 @@ class Lock:
         self.file = open(path + ".lock", "a")
         os.set_inheritable(self.file.fileno(), True)
         fcntl.flock(self.file, fcntl.LOCK_EX)
+        clear_up(path)
 
     def number(self):
         return self.file.fileno()

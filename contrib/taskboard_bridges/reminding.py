@@ -282,7 +282,7 @@ class Reminder:
         """Removes the files of calendars that have another name now, and what a stopped run left."""
         names = set(self.kept.paths.values())
         for name in os.listdir(folder):
-            if re.fullmatch(r"(\.?)[0-9a-f]{48}\.ics(\..*)?", name) and name not in names:
+            if re.fullmatch(r"\.?[0-9a-f]{48}\.ics(\.taskboard-.*)?", name) and name not in names:
                 os.unlink(os.path.join(folder, name))
 
     def addresses(self):

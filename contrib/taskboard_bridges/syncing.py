@@ -54,9 +54,8 @@ class Sync:
         if self.options.dry_run:
             self.dry_run()
             return True
-        if self.state.is_new:
-            self.state.save()
         self.right.prepare(self)
+        self.state.save()
         for _ in range(MOST_PASSES):
             self.settle()
             plan = self.plan()

@@ -5,12 +5,11 @@ import datetime
 import json
 import os
 import re
-import tempfile
 import uuid
 
 from taskboard_bridges.asking import Fault
 from taskboard_bridges.board_tasks import is_template
-from taskboard_bridges.keeping import sync_folder
+from taskboard_bridges.keeping import clear_up, sync_folder, write_beside
 from taskboard_bridges.lines import Line, is_blank, made_by_import, midnight, replaced, spell
 from taskboard_bridges.merging import STATUS, TAG, UNFIT
 
@@ -75,6 +74,8 @@ class TodoTxt:
 
     def prepare(self, run):
         """Gives each line without an identifier one, before anything is done with it: what is edited later is the same task."""
+        clear_up(os.path.realpath(self.path))
+        clear_up(os.path.realpath(self.archive))
         known = {task["uuid"] for task in run.boards.tasks(run.board)} if self.is_first else set()
         for _ in range(MOST_TRIES):
             file = File(self.path, False)
@@ -159,7 +160,9 @@ class TodoTxt:
         for _ in range(MOST_TRIES):
             file = File(path, is_archive)
             lines, written = list(file.lines), set()
-            places = {Line(text).uuid: (at, text) for at, text in file.read()}
+            # Of lines with one identifier the first counts, and in the archive the last, as they are read.
+            found = list(file.read()) if is_archive else list(file.read())[::-1]
+            places = {Line(text).uuid: (at, text) for at, text in found}
             for task, change in changes.items():
                 at, text = places.get(task, (None, None))
                 if self.write_line(file, lines, at, text, task, change, is_archive):
@@ -197,7 +200,7 @@ class TodoTxt:
     def replace(self, file, lines, written):
         """Puts lines in the place of a file, unless it isn't as it was read; whether it was done."""
         folder = os.path.dirname(file.path)
-        new, before = self.kept(folder, "".join(lines).encode()), self.kept(folder, file.data)
+        new, before = write_beside(file.path, "".join(lines).encode()), write_beside(file.path, file.data)
         try:
             os.chmod(new, os.stat(file.path).st_mode & 0o7777)
             ran = self.marks.run(written, ["sh", "-c", 'cmp -s "$1" "$2" && mv "$3" "$2"', "sh", before, file.path, new])
@@ -207,16 +210,6 @@ class TodoTxt:
             for path in (new, before):
                 with contextlib.suppress(FileNotFoundError):
                     os.unlink(path)
-
-    @staticmethod
-    def kept(folder, data):
-        """A file of its own with these bytes, which are on the disk."""
-        handle, path = tempfile.mkstemp(prefix=".todotxt-sync.", dir=folder)
-        with open(handle, "wb") as file:
-            file.write(data)
-            file.flush()
-            os.fsync(file.fileno())
-        return path
 
 
 def is_moved(change, right):
