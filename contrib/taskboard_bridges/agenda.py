@@ -8,6 +8,7 @@ UTC = datetime.timezone.utc
 
 
 def moment_of(text):
+    """A moment's text as a time of UTC."""
     return datetime.datetime.strptime(text, "%Y%m%dT%H%M%SZ").replace(tzinfo=UTC)
 
 
@@ -26,6 +27,7 @@ def local_day(text, zone):
 
 
 def is_open(task):
+    """Whether a task is pending or waiting, and no template."""
     return task["status"] in ("pending", "waiting") and not is_template(task)
 
 
@@ -35,6 +37,7 @@ def is_shown(task, now):
 
 
 def assignee(task):
+    """The name of the person whose task it is; None where nobody has it."""
     name = task.get("assignee")
     return name if isinstance(name, str) and name else None
 

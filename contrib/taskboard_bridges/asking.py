@@ -24,9 +24,11 @@ class Answer:
         self.status, self.body = status, body
 
     def is_accepted(self):
+        """Whether the server did, or showed, what was asked for."""
         return self.status == 200
 
     def json(self):
+        """The body, read as JSON."""
         return json.loads(self.body)
 
     def name(self):
@@ -77,6 +79,7 @@ class Boards:
         return self.connection
 
     def disconnect(self):
+        """Ends the kept connection."""
         if self.connection:
             self.connection.close()
         self.connection = None

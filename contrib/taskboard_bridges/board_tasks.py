@@ -38,10 +38,12 @@ def view_of(task):
 
 
 def now():
+    """This moment, as boards write moments."""
     return datetime.datetime.now(datetime.timezone.utc).strftime("%Y%m%dT%H%M%SZ")
 
 
 def is_waiting(view, moment):
+    """Whether a task waits for a moment after this one."""
     return view.get(VALUE + "wait", "") > moment
 
 
@@ -52,9 +54,11 @@ class Call:
         self.word, self.body, self.keys, self.before = word, body, keys, before
 
     def bytes(self):
+        """The body as it is sent, the same each time."""
         return json.dumps(self.body, ensure_ascii=False, sort_keys=True).encode("utf-8", "replace")
 
     def target(self, board, task):
+        """The path of the call."""
         return f"/boards/{board}/tasks" + ("" if self.word == "add" else f"/{task}/{self.word}")
 
     def text(self):
@@ -79,6 +83,7 @@ def settings(task, changes):
 
 
 def links(changes):
+    """A call for each task that it waits for from now on, or no longer."""
     return [Call("depend" if value else "undepend", {"on": key[1:]}, [key]) for key, value in sorted(changes.items()) if key[0] == LINK]
 
 

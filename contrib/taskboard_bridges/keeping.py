@@ -40,6 +40,7 @@ def write_beside(path, data):
 
 
 def beside(path):
+    """How the names of files begin that are written beside a path, before they go into its place."""
     return f".{os.path.basename(path)}.taskboard-"
 
 
@@ -83,6 +84,7 @@ class Lock:
         clear_up(path)
 
     def number(self):
+        """The descriptor of the lock."""
         return self.file.fileno()
 
 
@@ -101,11 +103,13 @@ class Marks:
                               pass_fds=(self.lock.number(),), start_new_session=True)
 
     def tasks(self):
+        """The tasks that were written since the files were removed."""
         with contextlib.suppress(FileNotFoundError), open(self.written, encoding="ascii") as file:
             return set(file.read().split())
         return set()
 
     def clear(self):
+        """Removes both files, once the state has what they say."""
         for path in (self.writing, self.written):
             with contextlib.suppress(FileNotFoundError):
                 os.unlink(path)
@@ -129,6 +133,7 @@ class State:
             self.load()
 
     def load(self):
+        """Takes what the file keeps."""
         try:
             with open(self.path, encoding="utf-8") as file:
                 kept = json.load(file)
@@ -143,6 +148,7 @@ class State:
         self.saved = self.data()
 
     def data(self):
+        """The bytes of the file."""
         kept = {"version": VERSION, "about": self.about, **{name: getattr(self, name) for name in KEPT}}
         return json.dumps(kept, ensure_ascii=False, sort_keys=True, indent=0).encode("utf-8", "surrogatepass")
 

@@ -11,6 +11,7 @@ UUID = re.compile(r"[0-9a-fA-F]{8}(-[0-9a-fA-F]{4}){3}-[0-9a-fA-F]{12}")
 
 
 def is_blank(text):
+    """Whether a text has spaces and tabs alone."""
     return not text.strip(" \t")
 
 
@@ -26,10 +27,12 @@ def read_date(text):
 
 
 def date_of(moment):
+    """The day of a moment, as lines write days."""
     return f"{moment[:4]}-{moment[4:6]}-{moment[6:8]}"
 
 
 def midnight(moment):
+    """The first moment of a moment's day."""
     return f"{moment[:8]}T000000Z"
 
 
@@ -55,6 +58,7 @@ class Line:
         self.read_words()
 
     def read_words(self):
+        """Takes the marks among the body's words; the others are the description."""
         self.project = self.due = self.uuid = None
         self.tags, others = [], []
         for word in re.findall(r"[^ \t]+", self.body):
@@ -80,6 +84,7 @@ class Line:
 
 
 def replaced(text, by):
+    """A text with another sign for each control character."""
     return re.sub(r"[\x00-\x1f\x7f]", by, text)
 
 

@@ -18,6 +18,7 @@ class Merged:
         self.base = {}
 
     def put(self, key, left, right, new_left, new_right):
+        """Takes what both sides have to have of a key."""
         self.base[key] = (new_left, new_right)
         if new_left != left:
             self.left[key] = new_left
@@ -39,6 +40,7 @@ class Conflict:
         self.key, self.left, self.right, self.left_wins = key, left, right, left_wins
 
     def lost(self):
+        """The value of the side that lost."""
         return self.right if self.left_wins else self.left
 
 
@@ -52,6 +54,7 @@ def plain(value):
 
 
 def number_of(value):
+    """The number that a value says; None where it is none."""
     try:
         return round(float(plain(value)), 6)
     except (ValueError, OverflowError):

@@ -42,6 +42,7 @@ class Kept:
                 raise Fault(f"{path} can't be read: {fault}") from None
 
     def save(self):
+        """Replaces the file."""
         os.makedirs(os.path.dirname(os.path.abspath(self.path)), mode=0o700, exist_ok=True)
         replace_file(self.path, json.dumps({"version": VERSION, "people": self.people, "paths": self.paths}, sort_keys=True, indent=0).encode())
 
@@ -50,10 +51,12 @@ class Kept:
 
 
 def plain_line(text):
+    """A text on one line."""
     return re.sub(r"[\x00-\x1f\x7f\x85\u2028\u2029]", " ", str(text))
 
 
 def when(task, zone):
+    """When a task is due, as a mail says it."""
     if "due" not in task:
         return "no date"
     day = day_of(task["due"], zone)
@@ -120,6 +123,7 @@ class Ambiguous(Exception):
 
 
 def send_by_program(settings, message, about_to_send, sent):
+    """Hands a mail to a program. `about_to_send` is called before, and `sent` once the program took it."""
     about_to_send()
     ran = subprocess.run([settings.mail["sendmail"], "-i", "-t"], input=message.as_bytes(policy=email.policy.SMTP.clone(linesep="\n")), capture_output=True)
     if ran.returncode:
@@ -197,10 +201,12 @@ class Reminder:
         return self.is_whole
 
     def trouble(self, text):
+        """Tells what went wrong; the run's status is 1."""
         self.is_whole = False
         print(f"taskboard-remind: {text}", file=sys.stderr)
 
     def mail(self, boards, person):
+        """Sends a person her mail of this day, unless `kept` says that it went, or may have gone."""
         before = self.kept.people.get(person, {})
         if before.get("day") == self.today and not self.is_dry:
             if before["state"] == "sending":
@@ -217,6 +223,7 @@ class Reminder:
             self.keep(person, "nothing", sorted(hers(boards, person)))
 
     def keep(self, person, state, tasks):
+        """Keeps of a person that her mail of this day has a state, and which tasks are hers."""
         self.kept.people[person] = {"day": self.today, "state": state, "hers": tasks}
         self.kept.save()
 
@@ -235,6 +242,7 @@ class Reminder:
         self.tell(f"mail to {person}: {message['Subject']}")
 
     def restore(self, person, before):
+        """Keeps of a person what was kept before a mail that was refused."""
         if before is None:
             self.kept.people.pop(person, None)
         else:
@@ -302,9 +310,11 @@ class Reminder:
 
 
 def read_bytes(path):
+    """What a file holds."""
     with open(path, "rb") as file:
         return file.read()
 
 
 def now():
+    """This moment."""
     return datetime.datetime.now(datetime.timezone.utc).replace(microsecond=0)

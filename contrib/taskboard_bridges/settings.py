@@ -36,9 +36,11 @@ class Settings:
         self.calendar = dict(parser["calendar"]) if parser.has_section("calendar") else {}
 
     def fault(self, text):
+        """A fault of the file, with its name."""
         return Fault(f"{self.path}: {text}")
 
     def check_names(self):
+        """Refuses sections and names that aren't known."""
         for section in self.parser.sections():
             if section not in KNOWN:
                 raise self.fault(f"[{section}] isn't known: there are {', '.join(f'[{name}]' for name in KNOWN)}")
@@ -49,11 +51,13 @@ class Settings:
             raise self.fault("[boards] is missing")
 
     def need(self, section, name):
+        """A setting that has to be there."""
         if not self.parser.has_section(section) or not self.parser[section].get(name):
             raise self.fault(f"{name} is missing in [{section}]")
         return self.parser[section][name]
 
     def read_zone(self, name):
+        """The time zone of a name."""
         if name == "UTC":
             return datetime.timezone.utc
         try:
@@ -62,11 +66,13 @@ class Settings:
             raise self.fault(f"there is no time zone {name}") from None
 
     def numbers(self, text):
+        """The numbers of boards in a text."""
         words = text.replace(",", " ").split()
         if not all(word.isascii() and word.isdigit() for word in words):
             raise self.fault(f"boards has to be numbers of boards, and is {text}")
         return {int(word) for word in words}
 
     def server(self):
+        """The boards' server, as the member of the settings."""
         section = self.parser["boards"]
         return Boards(self.need("boards", "address"), self.member, read_key(self.need("boards", "key")), authority=section.get("cacert"))

@@ -43,6 +43,7 @@ class Sync:
         self.refusals = set()
 
     def say(self, text, is_important=False):
+        """Tells the user something; only what is important where it has to be quiet."""
         if is_important or not self.options.quiet:
             self.tell_user(text)
 
@@ -68,6 +69,7 @@ class Sync:
         return not self.refusals and not plan.skipped
 
     def summary(self):
+        """Tells how much was done."""
         if any(self.counts.values()):
             self.say("board: {added} new, {changed} changed; {name}: {made} new, {written} changed; conflicts {conflicts}, refused {refused}, gone {gone}".format(
                 name=self.right.name, **self.counts))
@@ -130,6 +132,7 @@ class Sync:
     # What is to be done.
 
     def plan(self):
+        """Reads both sides and merges them. Nothing is changed."""
         plan = Plan()
         plan.lefts = {task["uuid"]: task for task in self.boards.tasks(self.board)}
         plan.rights = self.right.read(self)
@@ -141,6 +144,7 @@ class Sync:
         return plan
 
     def base(self, task):
+        """What both sides had of a task after the last run; None at the first meeting."""
         entry = self.state.tasks.get(task)
         return (entry["left"], entry["right"]) if entry and entry["left"] is not None else None
 
@@ -171,12 +175,14 @@ class Sync:
         return {key: value for key, value in view.items() if key[0] != LINK or key[1:] in plan.linkable}
 
     def left_view(self, plan, task):
+        """A board's task as the other side can know it. One that a stopped run opened counts as closed."""
         view = self.view(plan, view_of(plan.lefts[task]))
         if task in self.state.reopened and view[STATUS] == "open":
             view[STATUS] = self.state.reopened[task]["status"]
         return self.right.seen(view)
 
     def plan_task(self, plan, task):
+        """Plans what becomes of a task."""
         left, right = plan.lefts.get(task), plan.rights.get(task)
         if not left:
             plan.adds[task] = self.view(plan, right.view)
@@ -215,6 +221,7 @@ class Sync:
         entry.update(gone=True, left=view)
 
     def plan_merge(self, plan, task, right):
+        """Plans what becomes of a task that both sides have."""
         left_view, right_view = self.left_view(plan, task), self.view(plan, right.view)
         if task not in self.state.reopened and left_view[STATUS] != "deleted" and self.right.read_back(task, left_view) == right_view:
             plan.bases[task] = (left_view, right_view)
@@ -234,6 +241,7 @@ class Sync:
             plan.changes[task] = Change(task, target, list(merged.right), plan.lefts[task], right)
 
     def owed(self, task, key, left, right):
+        """The note that a stopped run decided on for this conflict."""
         return next((it for it in self.state.owed if (it["task"], it["key"], it["left"], it["right"]) == (task, key, left, right)), None)
 
     def winner(self, task, left_modified, right_modified):
@@ -265,6 +273,7 @@ class Sync:
     # How it is done.
 
     def act(self, plan):
+        """Does what is planned. The plan is kept before, and what both sides have is kept after."""
         self.keep_plan(plan)
         for task in plan.adds:
             self.add(plan, task)
@@ -309,9 +318,11 @@ class Sync:
         return {"calls": kept, "left": list(merged.left), "right": list(merged.right), "pairs": pairs}
 
     def identifier(self, task, call):
+        """What names a call on a task from its present base."""
         return identifier(self.state.replica, self.board, task, self.state.entry(task)["turn"], call)
 
     def calls(self, plan, task, merged):
+        """The calls that bring a board's task to what it has to be, but for those that were refused."""
         entry = self.state.tasks.get(task)
         left, base = plan.lefts[task], merged.base
         target = {key: pair[0] for key, pair in base.items() if pair[0] is not None}
@@ -343,6 +354,7 @@ class Sync:
         return False
 
     def refuse(self, plan, task, what, why):
+        """Tells of a refusal, once a run."""
         if (task, what) not in self.refusals:
             self.refusals.add((task, what))
             self.counts["refused"] += 1
@@ -446,11 +458,13 @@ class Sync:
     # How it is told.
 
     def label(self, plan, task):
+        """A task as it is told to the user."""
         left, right = plan.lefts.get(task, {}), plan.rights.get(task)
         text = left.get("description") or (right.view.get(VALUE + "description") if right else "")
         return f"{task[:8]} {json.dumps(str(text)[:60], ensure_ascii=False)}"
 
     def tell_unfit(self, plan, task, key):
+        """Tells once, ever, that a value stays on one side; the state keeps that it was told."""
         if self.state.tell_once(f"{task} {key}"):
             self.say(f"one side can't hold it: {self.label(plan, task)}:{named([key])} stays on the other", True)
 
@@ -468,6 +482,7 @@ class Alike:
 
 
 def was(value):
+    """A value as notes and messages tell it."""
     return "was removed" if value is None else f"was {json.dumps(plain(value), ensure_ascii=False)}"
 
 

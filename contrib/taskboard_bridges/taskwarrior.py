@@ -47,6 +47,7 @@ class Taskwarrior:
 
     @staticmethod
     def place():
+        """Where the tasks are, for the user."""
         return "Taskwarrior"
 
     def ask(self, *words):
@@ -57,6 +58,7 @@ class Taskwarrior:
             raise Fault(f"{self.program} can't be run: {fault}") from None
 
     def exported(self, *words):
+        """The tasks that a filter has."""
         ran = self.ask(*words, "export")
         try:
             if ran.returncode:
@@ -72,6 +74,7 @@ class Taskwarrior:
         self.types = dict(re.findall(r"(?m)^uda\.([^=\n]+)\.type=(\w+)$", shown))
 
     def read(self, run):
+        """The tasks by their uuids; templates are told once, and left."""
         if not self.types:
             self.prepare(run)
         wanted = {task["uuid"] for task in self.exported(*self.words)} if self.words else None
@@ -175,6 +178,7 @@ def without_reckoned(raw):
 
 
 def moment_in_range(moment):
+    """The nearest moment that Taskwarrior reads."""
     return min(max(moment, FIRST), "99981231T235959Z")
 
 

@@ -68,6 +68,7 @@ class TodoTxt:
         self.path, self.archive, self.marks, self.is_first = path, archive, marks, state.is_new
 
     def place(self):
+        """Where the tasks are, for the user."""
         return self.path
 
     # Reading.
@@ -136,6 +137,7 @@ class TodoTxt:
 
     @staticmethod
     def to_left(key, value, _like):
+        """A value as a board holds it."""
         return value if key in SHOWN or key[0] == TAG or value is None else UNFIT
 
     @staticmethod
@@ -156,6 +158,7 @@ class TodoTxt:
         return done | self.write_file({task: change for task, change in changes.items() if task not in done or is_moved(change, self)}, True), {}
 
     def write_file(self, changes, is_archive):
+        """Writes the lines of one of the two files; which tasks were written. It is read anew where others changed it meanwhile."""
         path = self.archive if is_archive else self.path
         for _ in range(MOST_TRIES):
             file = File(path, is_archive)
@@ -194,6 +197,7 @@ class TodoTxt:
 
     @staticmethod
     def spelled(task, change):
+        """A task's line, which keeps a letter that no priority stands for."""
         letter = change.read.line.letter if change.read else None
         return spell(task, change.target, change.left["entry"], change.left.get("end"), letter if letter and letter > "C" else None)
 

@@ -26,18 +26,21 @@ def parser_of(program, about):
 
 
 def board_number(text):
+    """The number of a board, from 1."""
     if not text.isascii() or not text.isdigit() or int(text) < 1:
         raise argparse.ArgumentTypeError(f"{text} is no number of a board")
     return int(text)
 
 
 def key_of(options):
+    """The key, of the environment or of a file."""
     if not options.key and os.environ.get("TASKBOARD_KEY"):
         return os.environ["TASKBOARD_KEY"]
     return read_key(options.key or os.path.expanduser("~/.config/taskboard/key"))
 
 
 def state_file(options, kind, more=""):
+    """Where the state is."""
     return os.path.abspath(options.state) if options.state else state_path(kind, options.address, options.board, more)
 
 
