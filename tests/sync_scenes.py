@@ -4,6 +4,7 @@ import os
 import random
 import shutil
 import sys
+import time
 import uuid as uuids
 
 sys.path.insert(0, os.path.join(os.path.dirname(os.path.abspath(__file__)), "..", "contrib"))
@@ -75,6 +76,79 @@ class Scenes(Week):
         self.user.bring({**self.user.tasks()[D], "description": "First"})
         self.runs.complete()
         expect_alike("the end of refusals", *({it: task for it, task in side.items() if it != C} for side in (self.editor.tasks(), self.user.tasks())))
+
+    def stopped(self):
+        """What a stopped run had brought over counts as brought: who takes it back on the other side isn't overruled."""
+        self.editor.change(D, "modify", {"tags": ["brought"]})
+        open("stop after", "w").close()
+        self.runs.finish(self.runs.start(), (-9,))
+        expect("brought to Taskwarrior", ["brought"], self.user.tasks()[D].get("tags"))
+        self.user.task(D, "modify", "-brought")
+        self.runs.complete()
+        expect("taken back in Taskwarrior", ([], []), tuple(side[D].get("tags", []) for side in (self.editor.tasks(), self.user.tasks())))
+        self.user.task(D, "modify", "+brought")
+        # (the messages: who one is, the board, the task, the call)
+        expect("the fourth message", True, self.runs.stop(4, "run after"))
+        expect("brought to the board", ["brought"], self.editor.tasks()[D].get("tags"))
+        self.editor.change(D, "modify", {"tags": []})
+        self.runs.complete()
+        expect("taken back on the board", ([], []), tuple(side[D].get("tags", []) for side in (self.editor.tasks(), self.user.tasks())))
+
+    @staticmethod
+    def next_second():
+        """Waits until the clock shows another second."""
+        begun = int(time.time())
+        while int(time.time()) == begun:
+            time.sleep(0.02)
+
+    def conflicts(self):
+        """Of two new values one counts and the other is a note, once, wherever the run is stopped; so with a task that is closed."""
+        stops, at = 0, 3
+        for closed in (False, True):
+            came = True
+            while came:
+                one, other = f"board {at} {closed}", f"task {at} {closed}"
+                self.editor.change(D, "modify", {"project": one})
+                is_later = at % 4 < 2
+                if is_later:
+                    self.next_second()
+                self.user.task(D, "modify", f"project:{other}")
+                if not is_later:
+                    self.next_second()
+                    self.editor.change(D, "modify", {"project": one})
+                if closed:
+                    self.user.task(D, "done")
+                came = self.runs.stop(at, ("run before", "run after")[at % 2])
+                self.runs.complete()
+                left, right = self.editor.tasks()[D], self.user.tasks()[D]
+                counts, lost = (other, one) if is_later else (one, other)
+                notes = [note["description"] for note in left["annotations"]]
+                expect(f"at {at}, one counts", (counts, counts), (left["project"], right["project"]))
+                expect(f"at {at}, the other is noted once", 1, sum(f'"{lost}"' in note for note in notes))
+                expect(f"at {at}, and in Taskwarrior", sorted(notes), sorted(note["description"] for note in right["annotations"]))
+                expect(f"at {at}, the status", "completed" if closed else "pending", left["status"])
+                if closed:
+                    self.editor.change(D, "reopen")
+                    self.runs.complete()
+                stops, at = stops + came, at + 1 if came else 3
+        return stops
+
+    def closed(self):
+        """An edit of a completed task opens it on the board, changes it and closes it again, wherever the run is stopped."""
+        self.user.task(D, "done")
+        self.runs.complete()
+        at, came = 3, True
+        while came:
+            task = self.user.tasks()[D]
+            self.user.bring({**task, "project": f"closed {at}", "tags": [f"closed{at}"]})
+            came = self.runs.stop(at, ("run before", "run after")[at % 2])
+            self.runs.complete()
+            for side in (self.editor.tasks(), self.user.tasks()):
+                expect(f"closed, at {at}", ("completed", f"closed {at}", [f"closed{at}"]), (side[D]["status"], side[D]["project"], side[D]["tags"]))
+            at += 1
+        self.editor.change(D, "reopen")
+        self.runs.complete()
+        return at - 4
 
     def purged(self):
         """What is gone from Taskwarrior stays on the board, is told once, and is deleted where that is asked for."""
@@ -163,10 +237,12 @@ if __name__ == "__main__":
         scenes.first()
         scenes.unfit()
         scenes.refused()
+        scenes.stopped()
+        stops = scenes.conflicts() + scenes.closed()
         scenes.purged()
         scenes.strangers()
         scenes.hook()
-        print(f"filters, unfit values, refusals, purged tasks, strangers, a hook; {scenes.lines()} lines read and written as the server does")
+        print(f"filters, unfit values, refusals, purged tasks, strangers, a hook; conflicts and edits of a completed task stopped at {stops} messages in turn; {scenes.lines()} lines read and written as the server does")
     except BaseException:
         print("after:\n" + "\n".join(scenes.runs.said[-15:]), file=sys.stderr)
         raise

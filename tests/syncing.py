@@ -98,7 +98,7 @@ def first_tasks(user, editor):
     user.bring(*tasks[:half])
     for start in range(half - both, TASKS, 500):
         editor.call("import", [for_board(task) for task in tasks[start : start + 500]])
-    user.task("add", "recur:weekly", "due:2026-01-05", "until:2026-02-20", "Taskwarrior's own template")
+    user.task("add", "recur:weekly", "due:2098-01-05", "until:2099-12-31", "Taskwarrior's own template")
     for number in range(4):
         add_template(editor, number)
 
