@@ -13,7 +13,7 @@ import threading
 import uuid
 
 from connecting import connected
-from talking import make_file
+from talking import end_by_signal, make_file
 
 CONTRIB = os.path.join(os.path.dirname(os.path.abspath(__file__)), "..", "contrib")
 # What happens at a message: the run or the server is killed, before the message goes on or once it was answered; or somebody edits both
@@ -26,6 +26,7 @@ class Server:
     """The program as it serves b.db, killed and started again."""
 
     def __init__(self, program, port):
+        end_by_signal()
         self.words, self.port, self.kills = [program, "serve", "b.db", "--port", str(port), "--forever"], port, 0
         make_file(program)
         self.start()
