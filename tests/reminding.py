@@ -140,7 +140,7 @@ class Reminding:
         """A configuration with a state of its own."""
         mail = mail or f"smtp = 127.0.0.1:{self.mails.port}\n" + ("tls = starttls\ncacert = tls.pem\nuser = boards\npassword = password\n" if self.certificate else "tls = none\n")
         lines = "".join(f"{person} = {address}\n" for person, address in people.items())
-        self.write(f"{name}.conf", f"[boards]\naddress = 127.0.0.1:{PORT}\nmember = reminder\nkey = key\npage = {PAGE}\nzone = {NAME}\nstate = {name}.json\n"
+        self.write(f"{name}.conf", f"[boards]\naddress = 127.0.0.1:{PORT}\nmember = reminder\nkey = key\npage = {PAGE}\nzone = {NAME}  # where they are\nstate = {name}.json\n"
                    f"[mail]\nfrom = Boards <boards@example.org>\n{mail}[calendar]\nfolder = calendars\naddress = https://boards.example.org/calendars\n[people]\n{lines}")
         return ["--config", f"{name}.conf"]
 

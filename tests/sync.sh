@@ -37,11 +37,11 @@ else
     echo "what pyflakes3 says: skipped, since it isn't there"
 fi
 
-if is_there task; then
+if is_there task && task --version | grep -q '^2\.6'; then
     part sync_scenes.py
     part syncing.py
 else
-    echo "Taskwarrior: skipped, since task isn't there"
+    echo "Taskwarrior: skipped, since task 2.6 isn't there"
 fi
 if is_there todo-txt || is_there todo.sh; then
     part syncing_todotxt.py

@@ -100,12 +100,17 @@ class Week:
         expect("a board for lines", self.boards, self.editor.ask("POST", "/boards", {"title": "Lines"})[1]["board"])
         other = Editor(PORT, self.boards)
         for start in range(0, len(lines), 1000):
-            fields = {"x-member": "ann", "x-key": "ann-key-1", "x-request-id": str(uuids.uuid4())}
-            other.ask("GET", "/me")
-            other.connection.request("POST", f"/boards/{self.boards}/import-todo", "".join(f"{line}\n" for line in lines[start : start + 1000]).encode(), fields)
-            answer = other.connection.getresponse()
-            expect(f"import of lines: {answer.read()}", 200, answer.status)
+            self.bring(other, lines[start : start + 1000])
         return other.tasks()
+
+    @staticmethod
+    def bring(editor, lines):
+        """Imports lines, as the server does it by itself."""
+        fields = {"x-member": "ann", "x-key": "ann-key-1", "x-request-id": str(uuids.uuid4())}
+        editor.ask("GET", "/me")
+        editor.connection.request("POST", f"/boards/{editor.board}/import-todo", "".join(f"{line}\n" for line in lines).encode(), fields)
+        answer = editor.connection.getresponse()
+        expect(f"import of lines: {answer.read()}", 200, answer.status)
 
     @staticmethod
     def shown(task, by_day):
@@ -243,7 +248,10 @@ class Week:
 
     def run(self):
         begun = time.monotonic()
-        self.file.write([*(line_of(new_task(False)) for _ in range(TASKS // 2)), "", "x 2026-01-03 2026-01-02 Done long ago", "(A) Call Mom +Family @phone due:2026-02-03", ""])
+        lines = [line_of(new_task(False)) for _ in range(TASKS // 2)]
+        # Some of them came by an import before: they are found again.
+        self.bring(self.editor, lines[:5])
+        self.file.write([*lines, "", "x 2026-01-03 2026-01-02 Done long ago", "(A) Call Mom +Family @phone due:2026-02-03", ""])
         first = new_task(True)
         self.editor.call("tasks", first)
         for _ in range(TASKS // 2 - 1):

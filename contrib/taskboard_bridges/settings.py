@@ -18,7 +18,7 @@ class Settings:
     """What the file says; what it may leave out has its usual value here."""
 
     def __init__(self, path):
-        parser = configparser.ConfigParser(interpolation=None, delimiters=("=",), inline_comment_prefixes=(" #",))
+        parser = configparser.ConfigParser(interpolation=None, delimiters=("=",), inline_comment_prefixes=("#",))
         try:
             with open(path, encoding="utf-8") as file:
                 parser.read_file(file)
