@@ -1,8 +1,7 @@
 #!/bin/sh
 # What the program shows by itself, in minutes and without a prover: the worked scripts, the bytes of connections, also broken ones, orders
 # over real files, a server that is killed or whose file fails, silent, slow and many clients, its page in a browser, files that another
-# hand changed, copies of a file that is served, a machine that fails or has no memory, bridges to other tools, reminders, and what the
-# documents show (docs/TESTING.md).
+# hand changed, copies of a file that is served, a machine that fails or has no memory, and what the documents show (docs/TESTING.md).
 # What a machine lacks is skipped by name.
 set -u
 cd "$(dirname "$0")/.."
