@@ -82,7 +82,7 @@ def wanted_mail(tasks, owner):
 def said(body):
     """Which tasks a mail names for whom and under which heading, by the links behind them."""
     found, whose, heading = {}, None, None
-    for line in body.split("\n"):
+    for line in body.splitlines():
         if line in ("YOURS", "NOBODY'S"):
             whose = line
         elif line.strip() in HEADINGS and line.startswith("  ") and not line.startswith("    "):
@@ -180,7 +180,7 @@ class Reminding:
         first = self.mails.accepted[0]
         found = said(first[1].get_content())
         expect("ann's second board", 1, len(found["NOBODY'S", 2, "Overdue"]))
-        expect("hers first", "YOURS", first[1].get_content().split("\n")[0])
+        expect("hers first", "YOURS", first[1].get_content().splitlines()[0])
         if self.certificate:
             expect("by TLS, with a password", (2, 2), (self.mails.secure, self.mails.logins))
         self.run(*words, "mail")

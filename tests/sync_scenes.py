@@ -113,11 +113,11 @@ class Scenes(Week):
                 if is_later:
                     self.next_second()
                 self.user.task(D, "modify", f"project:{other}")
+                if closed:
+                    self.user.task(D, "done")
                 if not is_later:
                     self.next_second()
                     self.editor.change(D, "modify", {"project": one})
-                if closed:
-                    self.user.task(D, "done")
                 came = self.runs.stop(at, ("run before", "run after")[at % 2])
                 self.runs.complete()
                 left, right = self.editor.tasks()[D], self.user.tasks()[D]
@@ -149,6 +149,19 @@ class Scenes(Week):
         self.editor.change(D, "reopen")
         self.runs.complete()
         return at - 4
+
+    def templates(self):
+        """A template of Taskwarrior's is told once, and what to do where the board has it too; its instances are plain tasks for the bridge."""
+        self.user.task("add", "recur:monthly", "due:2098-01-05", "Rent")
+        self.user.task("rc.recurrence=on", "list")
+        self.editor.call("import", [task for task in self.user.tasks().values() if task["description"] == "Rent"])
+        told = self.runs.complete()
+        expect(f"told: {told}", True, '"Rent" is a template of Taskwarrior\'s: the board has it too' in told)
+        expect("told once", "", self.runs.complete())
+        instance = next(uuid for uuid, task in self.user.tasks().items() if task["description"] == "Rent" and "parent" in task)
+        self.user.task(instance, "done")
+        self.runs.complete()
+        expect("its instance", "completed", self.editor.tasks()[instance]["status"])
 
     def purged(self):
         """What is gone from Taskwarrior stays on the board, is told once, and is deleted where that is asked for."""
@@ -239,10 +252,11 @@ if __name__ == "__main__":
         scenes.refused()
         scenes.stopped()
         stops = scenes.conflicts() + scenes.closed()
+        scenes.templates()
         scenes.purged()
         scenes.strangers()
         scenes.hook()
-        print(f"filters, unfit values, refusals, purged tasks, strangers, a hook; conflicts and edits of a completed task stopped at {stops} messages in turn; {scenes.lines()} lines read and written as the server does")
+        print(f"filters, unfit values, refusals, templates, purged tasks, strangers, a hook; conflicts and edits of a completed task stopped at {stops} messages in turn; {scenes.lines()} lines read and written as the server does")
     except BaseException:
         print("after:\n" + "\n".join(scenes.runs.said[-15:]), file=sys.stderr)
         raise

@@ -111,7 +111,7 @@ def message_of(settings, person, day, text, counts):
     domain = email.utils.parseaddr(settings.mail["from"])[1].rpartition("@")[2] or "localhost"
     message["Message-ID"] = f"<{uuid.uuid5(SPACE, f'{person} {day}')}@{domain}>"
     message["Auto-Submitted"] = "auto-generated"
-    message.set_content(text)
+    message.set_content(text, cte="quoted-printable")
     return message
 
 

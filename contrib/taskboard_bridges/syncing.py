@@ -135,7 +135,7 @@ class Sync:
         """Reads both sides and merges them. Nothing is changed."""
         plan = Plan()
         plan.lefts = {task["uuid"]: task for task in self.boards.tasks(self.board)}
-        plan.rights = self.right.read(self)
+        plan.rights = self.right.read(self, plan.lefts)
         self.look_first(plan)
         plan.linkable = {task for task in {*plan.lefts, *plan.rights} if self.is_shared(plan, task)}
         for task in [*plan.lefts, *(it for it in plan.rights if it not in plan.lefts)]:

@@ -73,8 +73,8 @@ class Taskwarrior:
         shown = self.ask("_show").stdout.decode("utf-8", "replace")
         self.types = dict(re.findall(r"(?m)^uda\.([^=\n]+)\.type=(\w+)$", shown))
 
-    def read(self, run):
-        """The tasks by their uuids; templates are told once, and left."""
+    def read(self, run, lefts):
+        """The tasks by their uuids; templates are told once, and left. `lefts` are the board's tasks."""
         if not self.types:
             self.prepare(run)
         wanted = {task["uuid"] for task in self.exported(*self.words)} if self.words else None
@@ -83,7 +83,8 @@ class Taskwarrior:
             if raw["status"] != "recurring":
                 tasks[raw["uuid"]] = Task(raw, wanted is None or raw["uuid"] in wanted)
             elif (wanted is None or raw["uuid"] in wanted) and run.state.tell_once(f"{raw['uuid']} template"):
-                run.say(f"not taken: {raw['uuid'][:8]} {json.dumps(raw['description'], ensure_ascii=False)} is a template of Taskwarrior's: make recurring tasks on the board", True)
+                advice = "the board has it too, so each instance comes twice: delete it here" if raw["uuid"] in lefts else "make recurring tasks on the board"
+                run.say(f"not taken: {raw['uuid'][:8]} {json.dumps(raw['description'], ensure_ascii=False)} is a template of Taskwarrior's: {advice}", True)
         return tasks
 
     @staticmethod

@@ -93,7 +93,7 @@ class TodoTxt:
                 return
         raise Fault(f"{self.path} is changed again and again by others: run it again")
 
-    def read(self, run):
+    def read(self, run, _lefts):
         """The tasks of both files, by their identifiers. What stands in the file itself counts before what was archived."""
         tasks = {}
         archive = File(self.archive, True)
