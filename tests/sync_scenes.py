@@ -211,10 +211,15 @@ class Scenes(Week):
         """A hook of Taskwarrior's own brings each change to the board."""
         os.makedirs("data/hooks")
         with open("data/hooks/on-exit.taskboard", "w") as file:
-            file.write("#!/bin/sh\ncat >/dev/null\nexec " + " ".join(self.runs.words) + " --quiet\n")
+            file.write("#!/bin/sh\ncat >/dev/null\n" + " ".join(self.runs.words) + " --quiet --for 1 2>&1 || true\n")
         os.chmod("data/hooks/on-exit.taskboard", 0o755)
         self.user.task("add", "By the hook", "project:Office")
         expect("by the hook", 1, [task["description"] for task in self.editor.tasks().values()].count("By the hook"))
+        self.server.kill()
+        self.user.task("add", "While the server is away")
+        self.server.start()
+        self.user.task("add", "Once it is there")
+        expect("both", 2, sum(task["description"] in ("While the server is away", "Once it is there") for task in self.editor.tasks().values()))
 
     def lines(self):
         """2,000 lines of all kinds are read as the server reads them, and tasks are written as the server writes them."""

@@ -341,16 +341,17 @@ class Week:
         return said
 
     def twice_at_once(self):
-        """Two runs at once over one state, and two over copies of it, as of two machines."""
+        """Two runs at once over one state, and then one over an older copy of it, as of a machine that was restored: nothing is done twice."""
         both = [self.runs.start(), self.runs.start()]
         for run in both:
             self.runs.finish(run)
         self.edit(10)
         shutil.copy("state.json", "other.json")
         words = [word if word != "state.json" else "other.json" for word in self.words]
-        both = [self.runs.start(), self.runs.start(words=words)]
-        for run in both:
-            self.runs.finish(run, (0, 1))
+        self.runs.finish(self.runs.start())
+        before = self.line.posts
+        self.runs.finish(self.runs.start(words=words))
+        expect("calls of a run over an older state", before, self.line.posts)
 
     def run(self):
         begun = time.monotonic()

@@ -13,6 +13,8 @@ SETTINGS = ("rc.hooks=off", "rc.confirmation=off", "rc.verbose=nothing", "rc.jso
 # Taskwarrior 2.6 reads these days and no others, and crashes on the rest.
 FIRST, LAST = "19800101T000000Z", "99990101T000000Z"
 MOMENT = re.compile(r"\d{8}T\d{6}Z")
+# How many tasks are asked for by their names.
+FEW = 100
 DATES = ("due", "wait", "scheduled", "until")
 PRIORITIES = ("H", "M", "L")
 
@@ -138,7 +140,8 @@ class Taskwarrior:
 
     def write(self, changes):
         """Brings tasks to what they have to be, but for those that changed since they were read; which were written, and which Taskwarrior refused."""
-        present = {raw["uuid"]: raw for raw in self.exported()}
+        # The last look is short where it can be.
+        present = {raw["uuid"]: raw for raw in self.exported(*(changes if len(changes) <= FEW else ()))}
         texts = {}
         for task, change in changes.items():
             raw = present.get(task)
