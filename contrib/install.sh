@@ -37,6 +37,7 @@ parts() {
 644 share/bash-completion/completions/taskboard contrib/taskboard.bash
 644 share/doc/taskboard/nginx.conf contrib/nginx.conf
 644 share/doc/taskboard/README.md README.md
+644 share/doc/taskboard/docs/BRIDGES.md docs/BRIDGES.md
 644 share/doc/taskboard/docs/HTTP.md docs/HTTP.md
 644 share/doc/taskboard/docs/OPERATING.md docs/OPERATING.md
 644 share/doc/taskboard/docs/TABLES.md docs/TABLES.md
@@ -49,7 +50,7 @@ PARTS
         *.py) echo "644 lib/taskboard/${path#"$contrib"/} contrib/${path#"$contrib"/}" ;;
         *.1) echo "644 share/man/man1/$name contrib/$name" ;;
         *.service | *.timer) echo "644 $units/$name contrib/$name" ;;
-        */taskboard-*) echo "755 bin/$name contrib/$name" ;;
+        */taskboard-* | */*-sync) echo "755 bin/$name contrib/$name" ;;
         esac
     done
 }

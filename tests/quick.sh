@@ -12,6 +12,8 @@ failed=
 export LONGEST=${LONGEST:-5}
 # Each way in which a machine fails the program is tried once; by itself that test tries more.
 export TRIES=${TRIES:-1}
+# Two sides are edited for two days, with fewer tasks; by itself that test takes a week.
+export SYNC_TASKS=${SYNC_TASKS:-60} SYNC_DAYS=${SYNC_DAYS:-2}
 
 # Runs a test where the programs that it needs are there: attempt NAME NEEDED..
 attempt() {
@@ -59,6 +61,8 @@ attempt power.sh python3 strace
 attempt memory.sh python3 cc
 attempt client.sh python3
 attempt kits.py python3
+attempt sync.sh python3
+attempt remind.sh python3
 attempt documents.sh python3
 
 if [ -n "$failed" ]; then

@@ -1,0 +1,237 @@
+"""Taskwarrior's side of a bridge: its tasks by `task export`, and its changes by `task import`. Nothing is kept here."""
+import json
+import re
+import subprocess
+
+from taskboard_bridges.asking import Fault
+from taskboard_bridges.board_tasks import MOST_BYTES, SETTABLE, now, view_of
+from taskboard_bridges.merging import LINK, NOTE, STARTED, STATUS, TAG, UNFIT, VALUE, number_of, plain
+
+# No hook runs, nothing is asked, no recurring task makes instances, and no number of a task changes under its user's hands.
+SETTINGS = ("rc.hooks=off", "rc.confirmation=off", "rc.verbose=nothing", "rc.json.array=on", "rc.json.depends.array=on", "rc.gc=off", "rc.recurrence=off",
+            "rc.recurrence.confirmation=no", "rc.bulk=0", "rc.color=off", "rc.dependency.confirmation=off")
+# Taskwarrior 2.6 reads these days and no others, and crashes on the rest.
+FIRST, LAST = "19800101T000000Z", "99990101T000000Z"
+MOMENT = re.compile(r"\d{8}T\d{6}Z")
+# How many tasks are asked for by their names.
+FEW = 100
+DATES = ("due", "wait", "scheduled", "until")
+PRIORITIES = ("H", "M", "L")
+
+
+class Task:
+    """A task of Taskwarrior: what it exports, how that is seen, and whether the filter has it."""
+
+    def __init__(self, raw, is_wanted):
+        self.raw, self.is_wanted = raw, is_wanted
+        self.modified = raw.get("modified", "")
+        shown = {name: value for name, value in raw.items() if value != ""}
+        shown["status"] = raw["status"] if raw["status"] in ("completed", "deleted") else "pending"
+        if isinstance(shown.get("depends"), str):
+            shown["depends"] = shown["depends"].split(",")
+        self.view = view_of(shown)
+
+    def moments(self):
+        """What a new task of the board takes along as it is."""
+        kept = {name: self.raw[name] for name in ("entry", "end", "start") if name in self.raw}
+        notes = [{"description": note["description"], "entry": note["entry"]} for note in self.raw.get("annotations", ())]
+        return {**kept, "annotations": notes} if notes else kept
+
+
+class Taskwarrior:
+    """The Taskwarrior of this user, as its own settings have it, and the tasks that a filter has."""
+
+    name, where = "Taskwarrior", "in Taskwarrior"
+
+    def __init__(self, words, marks, program="task"):
+        self.words, self.marks, self.program = words, marks, program
+        self.types = {}
+
+    @staticmethod
+    def place():
+        """Where the tasks are, for the user."""
+        return "Taskwarrior"
+
+    def ask(self, *words):
+        """What a command prints."""
+        try:
+            return subprocess.run([self.program, *SETTINGS, *words], stdin=subprocess.DEVNULL, stdout=subprocess.PIPE, stderr=subprocess.PIPE)
+        except OSError as fault:
+            raise Fault(f"{self.program} can't be run: {fault}") from None
+
+    def exported(self, *words):
+        """The tasks that a filter has."""
+        ran = self.ask(*words, "export")
+        try:
+            if ran.returncode:
+                raise ValueError(ran.stderr.decode("utf-8", "replace").strip() or f"status {ran.returncode}")
+            # Taskwarrior writes control characters as they are.
+            return json.loads(ran.stdout.decode("utf-8", "replace"), strict=False)
+        except ValueError as fault:
+            raise Fault(f"task {' '.join(words)} export: {fault}") from None
+
+    def prepare(self, _run):
+        """The types of the user's attributes: one of another type than a value breaks Taskwarrior's own export."""
+        shown = self.ask("_show").stdout.decode("utf-8", "replace")
+        self.types = dict(re.findall(r"(?m)^uda\.([^=\n]+)\.type=(\w+)$", shown))
+
+    def read(self, run, lefts):
+        """The tasks by their uuids; templates are told once, and left. `lefts` are the board's tasks."""
+        if not self.types:
+            self.prepare(run)
+        wanted = {task["uuid"] for task in self.exported(*self.words)} if self.words else None
+        tasks = {}
+        for raw in self.exported():
+            if raw["status"] != "recurring":
+                tasks[raw["uuid"]] = Task(raw, wanted is None or raw["uuid"] in wanted)
+            elif (wanted is None or raw["uuid"] in wanted) and run.state.tell_once(f"{raw['uuid']} template"):
+                advice = "the board has it too, so each instance comes twice: delete it here" if raw["uuid"] in lefts else "make recurring tasks on the board"
+                run.say(f"not taken: {raw['uuid'][:8]} {json.dumps(raw['description'], ensure_ascii=False)} is a template of Taskwarrior's: {advice}", True)
+        return tasks
+
+    @staticmethod
+    def takes(left):
+        """A task of the board that was deleted before Taskwarrior had it stays where it is."""
+        return left["status"] != "deleted"
+
+    def seen(self, view):
+        """A view of a board's task without what Taskwarrior has no name for."""
+        return {key: value for key, value in view.items() if is_nameable(key) and value != ""}
+
+    def to_right(self, key, value, _like):
+        """A value as Taskwarrior holds it."""
+        if value is None or key in (STATUS, STARTED) or key[0] == LINK:
+            return value
+        if key[0] == TAG:
+            return UNFIT if "," in key or respelled(key) != key else value
+        if key[0] == NOTE:
+            return UNFIT if key == NOTE or respelled(key) != key else value
+        name, kind = key[1:], self.types.get(key[1:])
+        if name in DATES or kind == "date":
+            is_fit = isinstance(value, str) and MOMENT.fullmatch(value) and FIRST <= value < LAST and (name != "until" or value > now())
+            return value if is_fit else UNFIT
+        if kind == "numeric":
+            return UNFIT if number_of(value) is None else value
+        return respelled(plain(value)) if name not in SETTABLE else respelled(value)
+
+    def to_left(self, key, value, like):
+        """A value as a board holds it: numbers with a fraction are texts there."""
+        if value is None or key[0] != VALUE:
+            return UNFIT if key[0] == TAG and re.search(r"[ \t\r\n]", key) else value
+        if key == "=priority":
+            return value if value in PRIORITIES else UNFIT
+        if isinstance(like, bool) and value in ("true", "false"):
+            return value == "true"
+        number = number_of(value)
+        if number is not None and number == int(number) and abs(number) < 2**53 and (isinstance(like, int) or not isinstance(value, str)):
+            return int(number)
+        text = plain(value)
+        return text if len(text.encode("utf-8", "replace")) <= MOST_BYTES else UNFIT
+
+    @staticmethod
+    def target(merged, view):
+        """What a task is written from: what it has, and what changes."""
+        return {key: value for key, value in {**view, **merged.right}.items() if value is not None}
+
+    @staticmethod
+    def read_back(_task, view):
+        """What is written is read so."""
+        return view
+
+    def write(self, changes):
+        """Brings tasks to what they have to be, but for those that changed since they were read; which were written, and which Taskwarrior refused."""
+        # The last look is short where it can be.
+        present = {raw["uuid"]: raw for raw in self.exported(*(changes if len(changes) <= FEW else ()))}
+        texts = {}
+        for task, change in changes.items():
+            raw = present.get(task)
+            if without_reckoned(raw or {}) == without_reckoned(change.read.raw if change.read else {}):
+                texts[task] = json.dumps(written(raw, change), ensure_ascii=False)
+        return self.bring(texts)
+
+    def bring(self, texts):
+        """Imports tasks at once; where Taskwarrior takes none of them, by halves, until those are found that it refuses."""
+        if not texts:
+            return set(), {}
+        ran = self.marks.run(texts, [self.program, *SETTINGS, "import", "-"], ("[\n" + ",\n".join(texts.values()) + "\n]\n").encode("utf-8", "replace"))
+        if ran.returncode == 0:
+            return set(texts), {}
+        if len(texts) == 1:
+            why = ran.stderr.decode("utf-8", "replace").strip() or f"task import ended with {ran.returncode}"
+            return set(), dict.fromkeys(texts, why)
+        items, middle = list(texts.items()), len(texts) // 2
+        done, refused = self.bring(dict(items[:middle]))
+        more, others = self.bring(dict(items[middle:]))
+        return done | more, {**refused, **others}
+
+
+def is_nameable(key):
+    """Whether Taskwarrior has a place for a key: it keeps some names for itself."""
+    name = key[1:]
+    return key[0] != VALUE or bool(re.fullmatch(r"[\w.-]+", name)) and not re.match(r"(tags?|dep|annotation)_", name)
+
+
+def respelled(text):
+    """A text as Taskwarrior gives it back."""
+    return text.replace("&open;", "[").replace("&close;", "]")
+
+
+def without_reckoned(raw):
+    """A task without what Taskwarrior reckons for each export."""
+    return {name: value for name, value in raw.items() if name not in ("id", "urgency")}
+
+
+def moment_in_range(moment):
+    """The nearest moment that Taskwarrior reads."""
+    return min(max(moment, FIRST), "99981231T235959Z")
+
+
+def written(raw, change):
+    """The JSON of a task that has the view of its target; whatever else Taskwarrior has of it stays."""
+    left, target = change.left, change.target
+    task = without_reckoned(raw or {})
+    if not raw:
+        task = {"uuid": change.task, "entry": moment_in_range(left["entry"]), "modified": moment_in_range(left.get("modified", left["entry"]))}
+    for key in change.keys:
+        if key[0] == VALUE:
+            task.pop(key[1:], None)
+            if key in target:
+                task[key[1:]] = target[key] if not isinstance(target[key], bool) else plain(target[key])
+    put_status(task, left, target)
+    for name, kind in (("tags", TAG), ("depends", LINK)):
+        if any(key[0] == kind for key in change.keys):
+            changed = {key[1:] for key in change.keys if key[0] == kind}
+            kept = [it for it in task.get(name, ()) if it not in changed]
+            task[name] = sorted([*kept, *(it for it in changed if kind + it in target)])
+    if any(key[0] == NOTE for key in change.keys):
+        task["annotations"] = noted(task.get("annotations", []), left.get("annotations", ()), target)
+    return {name: value for name, value in task.items() if value != []}
+
+
+def put_status(task, left, target):
+    """Puts status, end and start, with the board's moments where Taskwarrior has none."""
+    status = target[STATUS]
+    if status == "open":
+        task["status"] = "pending"
+        task.pop("end", None)
+    elif task.get("status") != status:
+        task["status"] = status
+        task["end"] = moment_in_range(left.get("end", now()))
+    if status != "open" or STARTED not in target:
+        task.pop("start", None)
+    elif "start" not in task:
+        task["start"] = moment_in_range(left.get("start", now()))
+
+
+def noted(before, others, target):
+    """The notes of a task: those that stay, and then the new ones with the moments that they have on the board."""
+    wanted = {key[1:]: count for key, count in target.items() if key[0] == NOTE}
+    kept = []
+    for note in before:
+        if wanted.get(note["description"], 0) > 0:
+            wanted[note["description"]] -= 1
+            kept.append(note)
+    for text, count in wanted.items():
+        moments = [note["entry"] for note in others if note["description"] == text][-count:] if count else []
+        kept += [{"description": text, "entry": moment_in_range(moment)} for moment in [*moments, *[now()] * (count - len(moments))]]
+    return kept

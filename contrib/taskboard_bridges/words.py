@@ -1,0 +1,60 @@
+"""The words of the bridges' command lines, and how a run ends. Nothing is kept here."""
+import argparse
+import os
+import sys
+
+from taskboard_bridges.asking import Boards, Fault, read_key
+from taskboard_bridges.keeping import Lock, Marks, State, state_path
+from taskboard_bridges.syncing import Sync
+
+
+def parser_of(program, about):
+    """The words that both bridges take."""
+    parser = argparse.ArgumentParser(prog=program, description=about, allow_abbrev=False)
+    parser.add_argument("address", metavar="ADDRESS", help="HOST:PORT of the loopback, or https://HOST")
+    parser.add_argument("member", metavar="MEMBER", help="the person's name on the boards")
+    parser.add_argument("board", metavar="BOARD", type=board_number, help="the board's number")
+    parser.add_argument("--key", metavar="FILE", help="the file with the key, which its owner alone may read (~/.config/taskboard/key); the environment TASKBOARD_KEY goes first")
+    parser.add_argument("--cacert", metavar="FILE", help="the certificate to trust, for https")
+    parser.add_argument("--state", metavar="FILE", help="what both sides had after the last run (below ~/.local/state/taskboard)")
+    parser.add_argument("--for", metavar="SECONDS", dest="patience", type=float, default=60, help="how long each message is sent again while the server doesn't answer (60)")
+    parser.add_argument("--delete-missing", action="store_true", help="delete on the board what was on the other side and is gone from there")
+    parser.add_argument("--again", action="store_true", help="try anew what was refused before")
+    parser.add_argument("--dry-run", action="store_true", help="say what a run would do, and change nothing")
+    parser.add_argument("--quiet", action="store_true", help="say only what you should look at: conflicts, refusals, what is gone")
+    return parser
+
+
+def board_number(text):
+    """The number of a board, from 1."""
+    if not text.isascii() or not text.isdigit() or int(text) < 1:
+        raise argparse.ArgumentTypeError(f"{text} is no number of a board")
+    return int(text)
+
+
+def key_of(options):
+    """The key, of the environment or of a file."""
+    if not options.key and os.environ.get("TASKBOARD_KEY"):
+        return os.environ["TASKBOARD_KEY"]
+    return read_key(options.key or os.path.expanduser("~/.config/taskboard/key"))
+
+
+def state_file(options, kind, more=""):
+    """Where the state is."""
+    return os.path.abspath(options.state) if options.state else state_path(kind, options.address, options.board, more)
+
+
+def bridge(options, path, make_right):
+    """Runs a bridge with the state of a path. `make_right` gets the marks of what it writes, and the state. The status is 0 where both sides have the same
+    now, and 1 where something was refused or failed."""
+    try:
+        boards = Boards(options.address, options.member, key_of(options), options.patience, options.cacert)
+        lock = Lock(path)
+        state = State(path, boards.address, options.board)
+        return 0 if Sync(boards, options.board, make_right(Marks(path, lock), state), state, options, lambda text: print(text, flush=True)).run() else 1
+    except Fault as fault:
+        print(f"{sys.argv[0].rpartition('/')[2]}: {fault}", file=sys.stderr)
+        return 1
+    except OSError as fault:
+        print(f"{sys.argv[0].rpartition('/')[2]}: {fault.filename or ''}: {fault.strerror}: nothing is lost, run it again", file=sys.stderr)
+        return 1
