@@ -1,4 +1,5 @@
 // The page as a whole: who is signed in, which board and which view are shown.
+import { beginAdding } from "./adding.js";
 import { look, Refused } from "./asking.js";
 import { changes } from "./changes.js";
 import { fill, find, oneLine, whenSent } from "./dom.js";
@@ -88,7 +89,7 @@ async function showMade({ change, status, body }) {
 }
 
 function begin() {
-    for (const part of [beginNotices, beginTasks, beginPanel, beginRepeating, beginPeople, beginFiles, beginLooking]) part();
+    for (const part of [beginNotices, beginAdding, beginTasks, beginPanel, beginRepeating, beginPeople, beginFiles, beginLooking]) part();
     whenSent("sign-in-form", () => signIn({ name: find("name").value.trim(), key: find("key").value }, find("remember").checked));
     find("sign-out").addEventListener("click", () => showSignIn());
     find("board").addEventListener("change", (event) => go(event.target.value, state.view));

@@ -1,0 +1,55 @@
+// A task as a row of a list.
+import { PRIORITIES, urgencyText } from "./board.js";
+import { changes } from "./changes.js";
+import { button, make, oneLine, said, span } from "./dom.js";
+import { inWords, isOver, seconds } from "./moments.js";
+import { tellFault } from "./notices.js";
+import { keep } from "./sending.js";
+import { go, state } from "./state.js";
+
+// The uuids of tasks with a change that has no answer yet.
+let unanswered = new Set();
+
+export const setUnanswered = (uuids) => (unanswered = new Set(uuids));
+const change = (task, action) => keep(changes.act(state.number, task, action)).catch(tellFault);
+export const chip = (kind, ...children) => span(`chip ${kind}`, ...children);
+
+function chips(task) {
+    return [
+        unanswered.has(task.uuid) ? chip("unanswered", "not answered yet") : "",
+        task.priority ? chip(`priority-${task.priority}`, PRIORITIES[task.priority]) : "",
+        task.isListed && task.told.start ? chip("started", "started") : "",
+        task.status === "waiting" ? chip("waiting", `waits until ${inWords(seconds(task.told.wait))}`) : "",
+        task.isBlocked ? chip("blocked", "blocked") : "",
+        task.isBlocking ? chip("blocking", "blocks others") : "",
+        task.isOpen ? "" : chip("closed", task.status),
+        task.project ? chip("project", said(task.project, 40)) : "",
+        ...task.tags.slice(0, 4).map((tag) => chip("tag", said(`@${tag}`, 30))),
+        task.tags.length > 4 ? chip("tag", `${task.tags.length - 4} more`) : "",
+    ];
+}
+
+function dueOf(task) {
+    if (task.due === undefined) return span("due");
+    const isLate = task.isOpen && isOver(task.due);
+    return span(isLate ? "due late" : "due", span("hidden", isLate ? "was due " : "due "), inWords(task.due));
+}
+
+export function makeRow(task) {
+    const [act, word, kind] = task.isOpen ? ["done", "Complete", "tick"] : ["reopen", "Reopen", "tick ticked"];
+    const settings = { class: kind, "aria-label": `${word}: ${oneLine(task.description, 80)}`, title: word, tabindex: -1 };
+    const open = button(said(task.description), () => go(state.number, "tasks", task.uuid), { class: "open" });
+    open.addEventListener("keydown", (event) => {
+        if (event.key === "d" && !event.ctrlKey && !event.metaKey && !event.altKey) change(task, act);
+    });
+    const rank = task.isOpen ? span("urgency", span("hidden", "urgency "), urgencyText(task)) : "";
+    const isChosen = task.uuid === state.chosen;
+    const about = { class: isChosen ? "row chosen" : "row", role: "listitem", "aria-current": isChosen ? "true" : null };
+    return make("div", about, button("", () => change(task, act), settings), open, span("chips", ...chips(task)), dueOf(task), rank);
+}
+
+// What of a row comes from elsewhere than the task's own line.
+export function lookOf(task) {
+    const due = task.due === undefined ? "" : inWords(task.due) + isOver(task.due);
+    return [task.uuid === state.chosen, unanswered.has(task.uuid), task.isBlocked, task.isBlocking, urgencyText(task), due].join();
+}
