@@ -45,6 +45,7 @@ attempt clients.sh python3
 attempt backup.sh python3
 attempt browser.sh python3
 attempt page.sh python3
+attempt firefox.sh python3
 attempt faults.sh python3
 attempt power.sh python3 strace
 attempt memory.sh python3 cc

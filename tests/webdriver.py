@@ -20,7 +20,21 @@ class Gone(Exception):
     """An element that was found isn't in the page any more."""
 
 
-class Browser:
+class Steered:
+    """What steers a page by `run`, and waits for `patience` seconds for what shall come."""
+
+    def wait(self, script, *arguments):
+        """The first value of a piece of JavaScript that counts as true; without one in time the test ends."""
+        end = time.monotonic() + self.patience
+        while time.monotonic() < end:
+            value = self.run(script, *arguments)
+            if value:
+                return value
+            time.sleep(0.03)
+        sys.exit(f"the page didn't come to: {script} {arguments}; it shows: {self.run('return document.body.innerText')[:1500]}")
+
+
+class Browser(Steered):
     """One browser, whose tabs share what it keeps on the device. `patience` is how long it waits for what shall come, in seconds."""
 
     def __init__(self, program, patience):
@@ -56,16 +70,6 @@ class Browser:
     def run(self, script, *arguments):
         """What a piece of JavaScript returns."""
         return self.call("POST", "/execute/sync", {"script": script, "args": arguments})
-
-    def wait(self, script, *arguments):
-        """The first value of a piece of JavaScript that counts as true; without one in time the test ends."""
-        end = time.monotonic() + self.patience
-        while time.monotonic() < end:
-            value = self.run(script, *arguments)
-            if value:
-                return value
-            time.sleep(0.03)
-        sys.exit(f"the page didn't come to: {script} {arguments}; it shows: {self.run('return document.body.innerText')[:1500]}")
 
     def open(self, address):
         self.call("POST", "/url", {"url": address})
