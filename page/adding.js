@@ -1,10 +1,13 @@
 // The form that adds a task: a line in the words of todo.txt, and fields for the rest.
 import { PRIORITIES } from "./board.js";
 import { changes } from "./changes.js";
+import { check, isWhole } from "./checking.js";
 import { fill, find, said, span, whenSent } from "./dom.js";
+import { keepDraft, readDraft } from "./drafts.js";
 import { Fields } from "./fields.js";
 import { inFull, seconds } from "./moments.js";
 import { tellFault } from "./notices.js";
+import { faultInText } from "./rules.js";
 import { keep } from "./sending.js";
 import { listen, state } from "./state.js";
 import { readLine } from "./todotxt.js";
@@ -38,36 +41,65 @@ function drawUnderstood() {
     fill(find("understood"), parts.length ? parts.map(([name, text]) => chip(name, said(text, 60))) : hint);
 }
 
+const isShown = () => !find("add-fields").hidden;
+const typed = () => ({ line: find("add-line").value, typed: fields.typed(), isShown: isShown() });
+const isEmpty = ({ line, typed }) => ![line, ...Object.values(typed)].some(Boolean);
+
+function keepTyped() {
+    const draft = typed();
+    keepDraft("add", "", isEmpty(draft) ? null : draft);
+}
+
+// Whether something stands in the form that isn't sent.
+export const isBegun = () => !isEmpty(typed());
+
+// Fills the form as it was left.
+export function fillAdding(draft) {
+    find("add-line").value = draft?.line ?? "";
+    showFields(draft?.isShown ?? false, draft?.typed);
+    drawUnderstood();
+    keepTyped();
+}
+
 // What is added leaves the form at once, so that a second Enter adds nothing; where the device can't keep it, it is there again.
 async function add() {
     const task = newTask();
-    if (!task.description || !fields.isWhole(task.due)) return;
-    const [line, given] = [find("add-line").value, fields];
-    clear(!find("add-fields").hidden);
+    if (!task.description || !isWhole(find("add-form"))) return;
+    const form = typed();
+    fillAdding({ isShown: isShown() });
     find("add-line").focus();
-    await keep(changes.add(state.number, task)).catch((fault) => {
-        find("add-line").value = line;
-        fill(find("add-fields"), (fields = given).elements);
+    await keep({ ...changes.add(state.number, task), form }).catch((fault) => {
+        fillAdding(form);
         throw fault;
     });
 }
 
-function clear(withFields) {
-    find("add-line").value = "";
-    drawUnderstood();
-    showFields(withFields);
-}
-
-function showFields(isShown) {
+function showFields(isShown, typed) {
     fields = new Fields(state.board);
+    fields.dueElsewhere = () => readLine(find("add-line").value).due;
+    if (typed) fields.retype(typed);
     fill(find("add-fields"), fields.elements);
     find("add-fields").hidden = !isShown;
     find("add-more").ariaExpanded = isShown;
 }
 
+// Each board has its own draft.
+let number = 0;
+function drawBoard() {
+    if (!state.who || state.number === number) return;
+    number = state.number;
+    fillAdding(readDraft("add"));
+}
+
 export function beginAdding() {
     find("add-line").addEventListener("input", drawUnderstood);
-    find("add-more").addEventListener("click", () => showFields(find("add-fields").hidden));
+    find("add-more").addEventListener("click", () => {
+        showFields(!isShown(), fields.typed());
+        keepTyped();
+    });
+    find("add-form").addEventListener("input", keepTyped);
+    check(find("add-line"), (line) => (line.trim() ? faultInText(readLine(line).description) : ""));
     whenSent("add-form", () => add().catch(tellFault));
-    listen("signed", () => clear(false));
+    listen("signed", () => (number = 0));
+    listen("route", drawBoard);
 }

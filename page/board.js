@@ -14,7 +14,7 @@ const PRIORITY_PARTS = { H: 6 * UNIT, M: 430466400, L: 198676800 };
 const COUNT_PARTS = [0, 88300800, 99338400, UNIT];
 
 // A task as the server tells it, and what of it is asked for often. Whatever else it has is looked up where it is shown.
-class Task {
+export class Task {
     constructor(line) {
         const told = JSON.parse(line);
         const { uuid, description, status, project = "", priority = "", recur = "", parent = "", mask = "", annotations = [], depends = [], tags = [] } = told;

@@ -1,4 +1,5 @@
 // What each change is to the server (path and body) and to people (a verb and what it's about), and why one was refused, in plain words.
+import { newIdentifier } from "./asking.js";
 
 const VERBS = { done: "Complete", delete: "Delete", reopen: "Reopen", start: "Start", stop: "Stop" };
 
@@ -14,7 +15,11 @@ export const changes = {
     board: (title) => change(0, "/boards", { title }, "Make the board", title),
     person: (name, key) => change(0, "/people", { name, key }, "Add the person", name),
     role: (board, member, role) => change(board, `/boards/${board}/roles`, { member, role }, role ? `Give the role ${role} to` : "End the role of", member),
-    add: (board, task) => ({ ...change(board, `/boards/${board}/tasks`, task, "Add", task.description), adds: true }),
+    // A new task is named here, so that what is done with it can be held before it is answered.
+    add: (board, task) => {
+        const named = { uuid: newIdentifier(), ...task };
+        return { ...change(board, `/boards/${board}/tasks`, named, "Add", task.description), adds: true, task: named.uuid };
+    },
     act: (board, task, action) => ofTask(board, task, action, null, VERBS[action]),
     modify: (board, task, edits) => ofTask(board, task, "modify", edits, "Change"),
     annotate: (board, task, description) => ofTask(board, task, "annotate", { description }, "Note on"),

@@ -1,9 +1,11 @@
 // The fields of a task in a form, for a new task and for one that is changed.
 import { PRIORITIES } from "./board.js";
+import { check } from "./checking.js";
 import { make } from "./dom.js";
 import { fromFields, seconds, toFields } from "./moments.js";
+import { STEPS } from "./recurrence.js";
+import { faultInDescription, faultInPair, faultInStep, faultInTags, faultInText } from "./rules.js";
 
-const STEPS = ["daily", "weekdays", "weekly", "biweekly", "monthly", "quarterly", "semiannual", "yearly", "3d", "2w"];
 let made = 0;
 
 export const options = (choices, chosen) => choices.map(([value, label]) => make("option", { value, selected: value === chosen }, label));
@@ -29,6 +31,8 @@ class MomentField {
     }
 }
 
+const tagsIn = (text) => [...new Set(text.split(/[\s,]+/).filter(Boolean).map((tag) => tag.replace(/^@/, "")))].sort();
+
 export class Fields {
     // For a task, or a new one where none is given. What never changes on a task is shown and can't be changed.
     constructor(board, task) {
@@ -51,28 +55,40 @@ export class Fields {
             this.wait.element,
             !task || isTemplate ? labelled("Repeat", ...suggesting(this.recur, STEPS)) : "",
         ];
-        this.recur.addEventListener("input", () => this.recur.setCustomValidity(""));
-        this.before = this.read();
+        this.#check();
+    }
+
+    // Each field holds what the server takes. A repeat may have its due date from elsewhere, as the line of a new task.
+    #check() {
+        if (this.description) check(this.description, (text) => faultInDescription(text.trim()));
+        check(this.project, (text) => faultInText(text.trim()));
+        check(this.tags, faultInTags);
+        check(this.recur, (text) => faultInStep(text.trim()) || faultInPair(text.trim(), this.due.read() ?? this.dueElsewhere?.()));
+    }
+
+    // The elements that are typed into, by the names of what they hold.
+    #inputs() {
+        const { description, project, tags, priority, due, wait, recur } = this;
+        const inputs = { description, project, tags, priority, "due day": due.day, "due time": due.time, "wait day": wait.day, "wait time": wait.time, recur };
+        return Object.entries(inputs).filter(([, input]) => input);
+    }
+
+    // What the fields hold as it was typed, for a draft, and the way back.
+    typed() {
+        return Object.fromEntries(this.#inputs().map(([name, input]) => [name, input.value]));
+    }
+
+    retype(typed) {
+        for (const [name, input] of this.#inputs()) {
+            if (!input.disabled) input.value = typed[name] ?? "";
+        }
     }
 
     // The members that the fields say; null for those that are empty.
     read() {
-        const tags = [...new Set(this.tags.value.split(/[\s,]+/).filter(Boolean).map((tag) => tag.replace(/^@/, "")))].sort();
+        const tags = tagsIn(this.tags.value);
         const said = { project: this.project.value.trim() || null, tags: tags.length ? tags : null, priority: this.priority.value || null };
         if (this.description) said.description = this.description.value.trim();
         return { ...said, due: this.due.read(), wait: this.wait.read(), recur: this.recur.value.trim() || null };
-    }
-
-    // What was changed since the form was shown: so what another person changed meanwhile stays.
-    edits() {
-        const after = this.read();
-        return Object.fromEntries(Object.entries(after).filter(([name, value]) => JSON.stringify(value) !== JSON.stringify(this.before[name])));
-    }
-
-    // Whether a repeat has the due date that it needs; says so at the field where it hasn't.
-    isWhole(due) {
-        const lacks = this.recur.value.trim() && !this.recur.disabled && !due;
-        this.recur.setCustomValidity(lacks ? "A repeating task needs a due date." : "");
-        return this.recur.reportValidity();
     }
 }

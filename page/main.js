@@ -3,6 +3,7 @@ import { beginAdding } from "./adding.js";
 import { look, Refused } from "./asking.js";
 import { changes } from "./changes.js";
 import { fill, find, oneLine, whenSent } from "./dom.js";
+import { beginEditing } from "./editing.js";
 import { options } from "./fields.js";
 import { beginFiles } from "./files.js";
 import { beginLooking, lookAgain, lookAtBoards } from "./fresh.js";
@@ -89,7 +90,7 @@ async function showMade({ change, status, body }) {
 }
 
 function begin() {
-    for (const part of [beginNotices, beginAdding, beginTasks, beginPanel, beginRepeating, beginPeople, beginFiles, beginLooking]) part();
+    for (const part of [beginNotices, beginAdding, beginTasks, beginEditing, beginPanel, beginRepeating, beginPeople, beginFiles, beginLooking]) part();
     whenSent("sign-in-form", () => signIn({ name: find("name").value.trim(), key: find("key").value }, find("remember").checked));
     find("sign-out").addEventListener("click", () => showSignIn());
     find("board").addEventListener("change", (event) => go(event.target.value, state.view));

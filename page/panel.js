@@ -1,10 +1,13 @@
 // One task beside the list: what it says, what can be done with it, its notes, what it waits for and what waits for it.
 import { PRIORITIES, urgencyText } from "./board.js";
 import { changes } from "./changes.js";
+import { check, isWhole } from "./checking.js";
 import { button, fill, find, make, oneLine, said, span, whenSent } from "./dom.js";
-import { Fields } from "./fields.js";
+import { keepDraft, readDraft } from "./drafts.js";
+import { beginTask, closeEdit, isEditing, openEdit } from "./editing.js";
 import { inFull, seconds } from "./moments.js";
 import { tellFault } from "./notices.js";
+import { faultInText } from "./rules.js";
 import { keep, waiting } from "./sending.js";
 import { go, listen, state } from "./state.js";
 
@@ -12,8 +15,8 @@ const MOST_CHOICES = 6;
 const MOMENTS = { due: "Due", wait: "Waits until", scheduled: "Scheduled", until: "Until", start: "Started", entry: "Made", modified: "Changed", end: "Ended" };
 // What is shown elsewhere. Any other member is one of the user's own, and is shown under its name.
 const KNOWN = "uuid description status project priority tags recur annotations depends parent imask mask".split(" ");
-// The uuid of the task that is shown; the task as it was drawn, and what was drawn of others; and the fields while it is edited.
-let [shown, drawn, look, fields] = ["", null, "", null];
+// The uuid of the task that is shown; the task as it was drawn, and what was drawn of others.
+let [shown, drawn, look] = ["", null, ""];
 
 const hold = (change) => keep(change).catch(tellFault);
 const act = (action) => () => hold(changes.act(state.number, task(), action));
@@ -29,7 +32,7 @@ function actions(one) {
         one.isListed ? button("Done", act("done"), { class: "primary" }) : "",
         one.isOpen ? "" : button("Reopen", act("reopen"), { class: "primary" }),
         one.status === "pending" ? button(isStarted ? "Stop" : "Start", act(isStarted ? "stop" : "start")) : "",
-        one.isOpen ? button("Edit", () => showEdit(true), { id: "edit" }) : "",
+        one.isOpen ? button("Edit", () => openEdit(task()), { id: "edit" }) : "",
         one.isOpen ? button(one.isListed ? "Delete" : "Delete, and make no more", act("delete"), { class: "danger" }) : "",
     ];
 }
@@ -83,21 +86,6 @@ function drawChoices() {
     find("depend-told").textContent = text && found.length === 0 ? "No open task has these words." : told;
 }
 
-function showEdit(isShown) {
-    find("edit-form").hidden = !isShown;
-    for (const id of ["task-text", "task-actions", "task-facts"]) find(id).hidden = isShown;
-    fields = isShown ? new Fields(state.board, task()) : null;
-    fill(find("edit-fields"), fields?.elements ?? []);
-    fields?.description.focus();
-}
-
-async function endEdit() {
-    const edits = fields.edits();
-    if (Object.keys(edits).length > 0) await keep(changes.modify(state.number, task(), edits));
-    showEdit(false);
-    find("edit")?.focus();
-}
-
 // Fills what comes from the board, and leaves the forms alone in which someone may be typing.
 function drawTask(one) {
     const isUnanswered = waiting().some((change) => change.task === one.uuid);
@@ -135,25 +123,28 @@ function draw() {
     if (one) drawTask(one);
     if (shown === (one?.uuid ?? "")) return;
     shown = one?.uuid ?? "";
-    showEdit(false);
-    for (const id of ["note-text", "depend-text"]) find(id).value = "";
+    beginTask(one);
+    find("note-text").value = (one && readDraft("note", shown)) ?? "";
+    find("depend-text").value = "";
     drawChoices();
     find("panel").scrollTop = 0;
-    find("task-text").focus({ preventScroll: true });
+    if (!isEditing()) find("task-text").focus({ preventScroll: true });
 }
 
 export function beginPanel() {
     find("close-panel").addEventListener("click", close);
     find("panel").addEventListener("keydown", (event) => {
-        if (event.key === "Escape") fields ? showEdit(false) : close();
+        if (event.key === "Escape") isEditing() ? closeEdit() : close();
     });
     find("depend-text").addEventListener("input", drawChoices);
-    find("cancel-edit").addEventListener("click", () => showEdit(false));
-    whenSent("edit-form", () => endEdit().catch(tellFault));
     whenSent("depend-form", () => find("depend-choices").querySelector("button")?.click());
+    check(find("note-text"), (text) => faultInText(text.trim()));
+    find("note-text").addEventListener("input", () => keepDraft("note", shown, find("note-text").value));
     whenSent("note-form", (form) => {
         const text = find("note-text").value.trim();
+        if (!isWhole(form)) return;
         if (text) hold(changes.annotate(state.number, task(), text));
+        keepDraft("note", shown, null);
         form.reset();
     });
     for (const news of ["board", "route", "kept"]) listen(news, draw);

@@ -18,14 +18,18 @@ const tab = newIdentifier();
 // What the device holds of the person who is signed in: changes that wait, were refused, or have something to tell; and how often the
 // first that waits was sent in vain.
 let [held, tries, isSending] = [[], 0, false];
+// What is on its way to the device; it isn't sent before it stands there.
+let putting = [];
 let endPause = () => {};
 
-export const waiting = () => held.filter((change) => change.state === "waiting");
+const onDevice = () => held.filter((change) => change.state === "waiting");
+export const waiting = () => [...onDevice(), ...putting.filter(({ id }) => !held.some((one) => one.id === id))];
 export const settled = () => held.filter((change) => change.state !== "waiting");
 export const vainTries = () => tries;
 
-async function readDevice() {
+async function readDevice(then = () => {}) {
     held = state.who ? await device.all(state.who.name) : [];
+    then();
     announce("kept");
 }
 
@@ -49,13 +53,23 @@ export async function beginSending() {
 }
 
 // Holds changes on the device, and then sends them. Several are a group: where one is refused those behind it are taken back.
-export async function keep(...made) {
+export const keep = (...made) => hold(made, made.length > 1 ? newIdentifier() : "");
+
+// Several that don't hang together: each is answered by itself.
+export const keepEach = (made) => hold(made, "");
+
+async function hold(made, group) {
     // A second click on what waits already says nothing new.
     if (made[0].task && !made[0].body && waiting().findLast((one) => one.task === made[0].task)?.path === made[0].path) return;
-    const group = made.length > 1 ? newIdentifier() : "";
-    await device.put(made.map((change) => toKeep(change, group)));
+    const kept = made.map((change) => toKeep(change, group));
+    putting.push(...kept);
+    announce("kept");
+    try {
+        await device.put(kept);
+    } finally {
+        await readDevice(() => (putting = putting.filter((one) => !kept.includes(one))));
+    }
     tabs.postMessage({});
-    await readDevice();
     sendNow();
 }
 
@@ -78,7 +92,7 @@ function pause() {
 async function send() {
     if (isSending) return;
     isSending = true;
-    while (state.who && waiting().length > 0) {
+    while (state.who && onDevice().length > 0) {
         const isDone = await inTurn(`taskboard ${state.who.name}`, () => sendInOrder(state.who)).catch(() => false);
         if (!isDone) await pause();
     }
@@ -88,8 +102,8 @@ async function send() {
 // Sends the first change of the device that waits, and then the next; gives whether all were answered.
 async function sendInOrder(who) {
     try {
-        for (await readDevice(); state.who === who && waiting().length > 0; await readDevice()) {
-            const [change] = waiting();
+        for (await readDevice(); state.who === who && onDevice().length > 0; await readDevice()) {
+            const [change] = onDevice();
             await settle(change, await tell(who, change));
             tries = 0;
             announce("reach", true);
@@ -121,7 +135,8 @@ async function refuse(change, body) {
     const culprit = change.reports && body.at !== undefined ? descriptionAt(change.body, body.at) : "";
     const behind = (await device.all(change.member)).filter((other) => change.group && other.group === change.group && other.order > change.order);
     await device.remove(behind);
-    await device.replace({ ...change, state: "refused", body: "", answer: body, culprit, takenBack: behind.length });
+    // Its text stays until its sender throws it away; a file that was imported is there still.
+    await device.replace({ ...change, state: "refused", body: change.reports ? "" : change.body, answer: body, culprit, behind: change.reports ? [] : behind, takenBack: behind.length });
 }
 
 const inTurn = (name, work) => (navigator.locks ? navigator.locks.request(name, work) : underLease(name, work));
