@@ -102,4 +102,8 @@ export function beginAdding() {
     whenSent("add-form", () => add().catch(tellFault));
     listen("signed", () => (number = 0));
     listen("route", drawBoard);
+    listen("draft", () => {
+        number = 0;
+        drawBoard();
+    });
 }

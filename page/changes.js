@@ -13,7 +13,7 @@ function ofTask(board, task, action, content, verb) {
 
 export const changes = {
     board: (title) => change(0, "/boards", { title }, "Make the board", title),
-    person: (name, key) => change(0, "/people", { name, key }, "Add the person", name),
+    person: (name, key, form) => ({ ...change(0, "/people", { name, key }, "Add the person", name), form, isSecret: true }),
     role: (board, member, role) => change(board, `/boards/${board}/roles`, { member, role }, role ? `Give the role ${role} to` : "End the role of", member),
     // A new task is named here, so that what is done with it can be held before it is answered.
     add: (board, task) => {

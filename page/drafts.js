@@ -6,19 +6,21 @@ const FRONT = "taskboard.draft";
 const named = (name) => `${FRONT} ${name} `;
 
 // The place of a draft: its kind, the board, and the task where it is of one.
-const keyOf = (kind, task = "") => `${named(state.who.name)}${state.number} ${kind}${task ? ` ${task}` : ""}`;
+const keyOf = (kind, task, board) => `${named(state.who.name)}${board} ${kind}${task ? ` ${task}` : ""}`;
 
-export function readDraft(kind, task) {
-    return JSON.parse(localStorage.getItem(keyOf(kind, task)));
+export function readDraft(kind, task = "", board = state.number) {
+    return JSON.parse(localStorage.getItem(keyOf(kind, task, board)));
 }
 
-// Keeps a draft, or none where nothing is given. A device without room keeps it in the form alone.
-export function keepDraft(kind, task, content) {
+// Keeps a draft, or none where nothing is given. Gives whether it is kept: a device without room has it in the form alone.
+export function keepDraft(kind, task, content, board = state.number) {
     try {
-        if (content) localStorage.setItem(keyOf(kind, task), JSON.stringify(content));
-        else localStorage.removeItem(keyOf(kind, task));
+        if (content) localStorage.setItem(keyOf(kind, task, board), JSON.stringify(content));
+        else localStorage.removeItem(keyOf(kind, task, board));
+        return true;
     } catch (fault) {
         console.warn(fault);
+        return false;
     }
 }
 

@@ -1,7 +1,7 @@
 // The page as a whole: who is signed in, which board and which view are shown.
 import { beginAdding } from "./adding.js";
-import { look, Refused } from "./asking.js";
 import { changes } from "./changes.js";
+import { check, isWhole } from "./checking.js";
 import { fill, find, oneLine, whenSent } from "./dom.js";
 import { beginEditing } from "./editing.js";
 import { options } from "./fields.js";
@@ -11,37 +11,13 @@ import { beginNotices, tellFault } from "./notices.js";
 import { beginPanel } from "./panel.js";
 import { beginPeople } from "./people.js";
 import { beginRepeating } from "./repeating.js";
+import { faultInTitle } from "./rules.js";
 import { beginSending, keep } from "./sending.js";
+import { beginSigning, keepUnused } from "./signing.js";
 import { announce, go, here, listen, readRoute, state, VIEWS } from "./state.js";
 import { beginTasks } from "./tasks.js";
 
-// Name and key are kept for this tab, or on this device where that was asked for.
-const SESSION = "taskboard.session";
 let madeHere = "";
-
-const readSession = () => JSON.parse(sessionStorage.getItem(SESSION) ?? localStorage.getItem(SESSION));
-const forgetSession = () => [sessionStorage, localStorage].forEach((place) => place.removeItem(SESSION));
-
-function showSignIn(fault = "") {
-    forgetSession();
-    Object.assign(state, { who: null, board: null, boards: [] });
-    find("app").hidden = true;
-    find("sign-in").hidden = false;
-    find("sign-in-fault").textContent = fault;
-    document.title = "taskboard";
-    find("name").focus();
-}
-
-async function signIn(who, isKept) {
-    try {
-        await look(who, "/me");
-    } catch (fault) {
-        return showSignIn(fault instanceof Refused ? "The server doesn't know this name with this key. Look at both." : "The server doesn't answer. Try again when it is there.");
-    }
-    (isKept ? localStorage : sessionStorage).setItem(SESSION, JSON.stringify(who));
-    find("sign-in-form").reset();
-    enter(who);
-}
 
 // Shows the boards of someone whose name and key are known. Where the server is away the page waits for it.
 function enter(who) {
@@ -90,26 +66,23 @@ async function showMade({ change, status, body }) {
 }
 
 function begin() {
+    keepUnused();
     for (const part of [beginNotices, beginAdding, beginTasks, beginEditing, beginPanel, beginRepeating, beginPeople, beginFiles, beginLooking]) part();
-    whenSent("sign-in-form", () => signIn({ name: find("name").value.trim(), key: find("key").value }, find("remember").checked));
-    find("sign-out").addEventListener("click", () => showSignIn());
     find("board").addEventListener("change", (event) => go(event.target.value, state.view));
     find("new-board").addEventListener("click", () => find("board-dialog").showModal());
     find("cancel-board").addEventListener("click", () => find("board-dialog").close());
+    check(find("board-title"), (text) => faultInTitle(text.trim()));
     whenSent("board-form", (form) => {
+        if (!isWhole(form)) return;
         madeHere = find("board-title").value.trim();
         if (madeHere) keep(changes.board(madeHere)).catch(tellFault);
         find("board-dialog").close();
         form.reset();
     });
     addEventListener("hashchange", showRoute);
-    addEventListener("storage", ({ key, newValue }) => key === SESSION && !newValue && !sessionStorage.getItem(SESSION) && showSignIn());
     listen("boards", () => [drawBoards, lookAgain].forEach((part) => part()));
-    listen("unknown", () => showSignIn("The server doesn't know this name with this key any more. What isn't answered yet is sent when you sign in again."));
     listen("answered", (news) => showMade(news).catch(() => {}));
-    const who = readSession();
-    if (who) enter(who);
-    else showSignIn();
+    beginSigning(enter);
 }
 
 begin();

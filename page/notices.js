@@ -1,13 +1,15 @@
 // What the page tells: whether all is answered, what isn't yet, what was refused and why, what an import did, and a way back.
+import { hasForm, openAgain, textsOf } from "./again.js";
 import { NoAnswer } from "./asking.js";
 import { changes, reason } from "./changes.js";
 import { button, counted, fill, find, make, said, span } from "./dom.js";
 import { ago } from "./moments.js";
-import { forget, keep, sendNow, settled, vainTries, waiting } from "./sending.js";
+import { forget, keep, sendAgain, sendAllTheSame, sendNow, settled, vainTries, waiting } from "./sending.js";
 import { listen } from "./state.js";
 
 const [TOLD_FOR, LATE, MOST_SHOWN] = [10000, 400, 20];
 const WAYS_BACK = { done: "Completed", delete: "Deleted" };
+const DONE_BEFORE = { done: "completed", delete: "deleted", reopen: "reopened", start: "started", stop: "stopped" };
 let [isThere, timer, look] = [true, 0, ""];
 
 const endToast = () => fill(find("toast"));
@@ -51,15 +53,41 @@ function drawUnanswered() {
     fill(find("unanswered-list"), all.slice(0, MOST_SHOWN).map(row), all.length > MOST_SHOWN ? make("li", {}, `and ${all.length - MOST_SHOWN} more`) : "");
 }
 
+const buttons = (...children) => make("div", { class: "line" }, children);
+const attempt = (act) => () => Promise.resolve(act()).catch(tellFault);
+
+// A refused change keeps its text until its sender throws it away.
 function refusal(change) {
     const parts = "The parts behind it weren't sent. Mend the file, and import it again: tasks that are there already stay as they are.";
+    const texts = change.reports ? [] : textsOf(change);
     const told = [
         make("p", {}, make("strong", {}, "Refused: "), about(change)),
         make("p", {}, reason(change)),
         change.culprit ? make("p", {}, "It is the task ", quoted(change.culprit), ".") : "",
         change.takenBack ? make("p", {}, change.reports ? parts : "What belonged to it wasn't sent.") : "",
+        texts.length ? make("details", {}, make("summary", {}, "What was to be sent"), texts.map((text) => make("p", { class: "long" }, make("bdi", {}, text)))) : "",
     ];
-    return make("li", { class: "notice refused" }, make("div", {}, told), button("Dismiss", () => forget(change)));
+    const again = hasForm(change) ? button("Edit and send again", attempt(() => openAgain(change))) : change.reports ? "" : button("Send again", attempt(() => sendAgain(change)));
+    const away = button(texts.length ? "Throw away" : "Dismiss", () => forget(change), { class: "quiet" });
+    return make("li", { class: "notice refused" }, make("div", {}, told), buttons(again, away));
+}
+
+// Someone else did the same before: nothing is lost, and nothing left to do.
+function already(change) {
+    const words = make("p", {}, make("strong", {}, change.by ? said(change.by) : "Someone else"), ` had ${DONE_BEFORE[change.path.split("/").at(-1)]} `, quoted(change.subject), " already.");
+    return make("li", { class: "notice" }, words, button("Dismiss", () => forget(change), { class: "quiet" }));
+}
+
+const worded = (value) => (value === null || value === undefined ? "nothing" : [value].flat().join(" "));
+
+// A change that waited while its task became another is sent once its person says so.
+function question(change) {
+    const { name, was, is } = change.doubt;
+    const told = [
+        make("p", {}, make("strong", {}, "Not sent yet: "), about(change)),
+        make("p", {}, `While it waited, the task's ${name} changed on the server from `, quoted(worded(was)), " to ", quoted(worded(is)), "."),
+    ];
+    return make("li", { class: "notice asks" }, make("div", {}, told), buttons(button("Send it all the same", attempt(() => sendAllTheSame(change))), button("Throw away", () => forget(change), { class: "quiet" })));
 }
 
 // What the parts of an import did together, those that are answered.
@@ -78,11 +106,12 @@ function report(parts) {
 
 function drawNotices() {
     const all = settled();
-    const seen = all.map((one) => one.order).join();
+    const seen = all.map((one) => [one.order, one.state, one.state === "refused" && hasForm(one)]).join();
     if (seen === look) return;
     look = seen;
-    const imports = Object.groupBy(all.filter(({ state }) => state === "done"), (one) => one.group || one.id);
-    fill(find("notices"), all.filter(({ state }) => state === "refused").map(refusal), Object.values(imports).map(report));
+    const of = (state) => all.filter((one) => one.state === state);
+    const imports = Object.groupBy(of("done"), (one) => one.group || one.id);
+    fill(find("notices"), of("asks").map(question), of("refused").map(refusal), of("already").map(already), Object.values(imports).map(report));
 }
 
 const draw = () => [drawState, drawUnanswered, drawNotices].forEach((part) => part());
@@ -107,6 +136,7 @@ export function beginNotices() {
     });
     find("send-now").addEventListener("click", sendNow);
     listen("kept", draw);
+    listen("boards", drawNotices);
     listen("answered", offerBack);
     listen("reach", (reached) => {
         const isNews = reached !== isThere || !reached;

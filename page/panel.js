@@ -148,4 +148,8 @@ export function beginPanel() {
         form.reset();
     });
     for (const news of ["board", "route", "kept"]) listen(news, draw);
+    listen("draft", () => {
+        shown = "";
+        draw();
+    });
 }

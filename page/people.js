@@ -1,9 +1,11 @@
 // The view of the people on a board and their roles, and of adding a person.
 import { look } from "./asking.js";
 import { changes } from "./changes.js";
+import { check, isWhole } from "./checking.js";
 import { button, fill, find, make, said, span, whenSent } from "./dom.js";
 import { options } from "./fields.js";
 import { tellFault } from "./notices.js";
+import { faultInKey, faultInName } from "./rules.js";
 import { keep } from "./sending.js";
 import { here, listen, state } from "./state.js";
 
@@ -41,13 +43,15 @@ async function draw(isAnew) {
 function makeKey() {
     const bytes = crypto.getRandomValues(new Uint8Array(18));
     find("person-key").value = btoa(String.fromCharCode(...bytes)).replaceAll("+", "-").replaceAll("/", "_");
+    find("person-key").dispatchEvent(new Event("input"));
 }
 
 async function addPerson(form) {
     const [name, key, role] = ["person-name", "person-key", "person-role"].map((id) => find(id).value.trim());
     const joins = isOwner() && find("person-here").checked;
+    if (!isWhole(form)) return;
     form.reset();
-    await keep(changes.person(name, key), ...(joins ? [changes.role(state.number, name, role)] : []));
+    await keep(changes.person(name, key, { role, joins }), ...(joins ? [changes.role(state.number, name, role)] : []));
     const told = [said(name), " signs in with the key ", make("code", {}, key), ". Hand it over so that nobody else reads it; it isn't shown again."];
     fill(find("person-told"), "Once this is answered, ", ...told);
     find("person-told").hidden = false;
@@ -56,7 +60,10 @@ async function addPerson(form) {
 export function beginPeople() {
     find("make-key").addEventListener("click", makeKey);
     whenSent("person-form", (form) => addPerson(form).catch(tellFault));
+    for (const id of ["person-name", "invite-name"]) check(find(id), (text) => faultInName(text.trim()));
+    check(find("person-key"), (text) => faultInKey(text.trim()));
     whenSent("invite-form", (form) => {
+        if (!isWhole(form)) return;
         keep(changes.role(state.number, find("invite-name").value.trim(), find("invite-role").value)).catch(tellFault);
         form.reset();
     });

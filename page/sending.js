@@ -6,12 +6,15 @@
 // lose while it sends. That does no harm: both tabs send the first change that isn't answered, and it acts once under its identifier.
 import { NoAnswer, newIdentifier, tell } from "./asking.js";
 import { changes as making } from "./changes.js";
-import { descriptionAt } from "./cutting.js";
 import * as device from "./device.js";
+import { canSeal, seal, unseal } from "./sealing.js";
+import { afterAnswer, doubtAbout } from "./settling.js";
 import { announce, state } from "./state.js";
 
 const PAUSES = [1, 2, 4, 8, 15, 30];
 const LEASE = 6000;
+// A change that waited longer than this, in milliseconds, or over a message without an answer, is compared with its task before it is sent.
+const OLD = 60000;
 const tabs = new BroadcastChannel("taskboard");
 const tab = newIdentifier();
 
@@ -65,12 +68,35 @@ async function hold(made, group) {
     putting.push(...kept);
     announce("kept");
     try {
-        await device.put(kept);
+        await device.put(await Promise.all(kept.map(hideSecret)));
     } finally {
         await readDevice(() => (putting = putting.filter((one) => !kept.includes(one))));
     }
     tabs.postMessage({});
     sendNow();
+}
+
+// A new person's key doesn't stand on the device as it is.
+async function hideSecret(change) {
+    return change.isSecret && canSeal() ? { ...change, body: "", sealed: await seal(change.body, state.who.key) } : change;
+}
+
+// The body of a change, also where it was hidden.
+export const bodyOf = async (change) => (change.sealed ? unseal(change.sealed, state.who.key) : change.body);
+
+// Sends on what its person was asked about.
+export async function sendAllTheSame(change) {
+    await device.update([change], { state: "waiting", isSure: true });
+    await readDevice();
+    sendNow();
+}
+
+// Sends again what was refused, and what was to follow it, under new identifiers.
+export async function sendAgain(change) {
+    const made = ({ board, path, body, verb, subject, task, adds, base, form, isSecret }) => ({ board, path, body, verb, subject, task, adds, base, form, isSecret });
+    const all = await Promise.all([change, ...change.behind].map(async (one) => made({ ...one, body: await bodyOf(one) })));
+    await keep(...all);
+    await forget(change);
 }
 
 // Lets go of changes that were settled and read, or of one that the person gives up.
@@ -104,39 +130,44 @@ async function sendInOrder(who) {
     try {
         for (await readDevice(); state.who === who && onDevice().length > 0; await readDevice()) {
             const [change] = onDevice();
-            await settle(change, await tell(who, change));
+            const doubt = isDoubtful(change) ? await doubtAbout(who, change) : null;
+            if (doubt) await device.update([change], { state: "asks", doubt });
+            else await settle(who, change, await tell(who, { ...change, body: await bodyOf(change) }));
             tries = 0;
             announce("reach", true);
         }
         return true;
     } catch (fault) {
         tries += 1;
-        if (fault instanceof NoAnswer) announce("reach", false);
+        if (fault instanceof NoAnswer) await noteVainTry();
         else console.error(fault);
         return false;
     }
 }
 
-// Takes an answer down before the next change is sent. One that says the key is wrong settles nothing: the server keeps no such answer,
-// so the change waits until its person signs in again.
-async function settle(change, { status, body }) {
-    if (status === 401) return state.who?.name === change.member && announce("unknown");
-    if (body.more) await device.put([toKeep(making.sweep(change.board), "", change.member)]);
-    if (status !== 200) await refuse(change, body);
-    else if (change.reports) await device.replace({ ...change, state: "done", body: "", answer: body });
-    else await device.remove([change]);
-    await readDevice();
-    const news = { change: { ...change, body: "" }, status, body };
-    tabs.postMessage(news);
-    if (state.who?.name === change.member) announce("answered", news);
+const isDoubtful = (change) => !change.isSure && (change.isOld || change.made < Date.now() - OLD);
+
+// What waits now has waited over a message without an answer.
+async function noteVainTry() {
+    announce("reach", false);
+    await device.update(onDevice().filter((change) => !change.isOld), { isOld: true });
 }
 
-async function refuse(change, body) {
-    const culprit = change.reports && body.at !== undefined ? descriptionAt(change.body, body.at) : "";
-    const behind = (await device.all(change.member)).filter((other) => change.group && other.group === change.group && other.order > change.order);
-    await device.remove(behind);
-    // Its text stays until its sender throws it away; a file that was imported is there still.
-    await device.replace({ ...change, state: "refused", body: change.reports ? "" : change.body, answer: body, culprit, behind: change.reports ? [] : behind, takenBack: behind.length });
+// Takes an answer down before the next change is sent. One that says the key is wrong settles nothing: the server keeps no such answer,
+// so the change waits until its person signs in again.
+async function settle(who, change, answer) {
+    const { status, body } = answer;
+    if (status === 401) return state.who?.name === change.member && announce("unknown");
+    if (body.more) await device.put([toKeep(making.sweep(change.board), "", change.member)]);
+    const behind = status === 200 ? [] : held.filter((other) => change.group && other.group === change.group && other.order > change.order);
+    const left = await afterAnswer(who, change, answer, behind);
+    if (left?.state === "refused") await device.remove(behind);
+    if (left) await device.update([change], left);
+    else await device.remove([change]);
+    await readDevice();
+    const news = { change, status, body };
+    tabs.postMessage(news);
+    if (state.who?.name === change.member) announce("answered", news);
 }
 
 const inTurn = (name, work) => (navigator.locks ? navigator.locks.request(name, work) : underLease(name, work));

@@ -15,7 +15,8 @@ export const state = {
 export const here = () => state.boards.find((known) => known.board === state.number);
 
 // "signed" in, "boards" and "board" (they came), "route" (another view), "kept" (changes are held or were settled), "answered" (with the
-// change, the status and the body), "reach" (the server is there or not), "unknown" (it doesn't know who is signed in), "tick" (15 s are over).
+// change, the status and the body), "reach" (the server is there or not), "unknown" (it doesn't know who is signed in), "tick" (15 s are over),
+// "draft" (a form has a draft from elsewhere), "left" (with the name of who signs out).
 const news = new EventTarget();
 export const announce = (name, detail) => news.dispatchEvent(new CustomEvent(name, { detail }));
 export const listen = (name, act) => news.addEventListener(name, ({ detail }) => act(detail));

@@ -118,7 +118,7 @@ def people(office):
     browser.wait(IS_TOLD, "left without an owner")
     browser.wait("return document.querySelector('#people select').value === 'owner'")
     office.shot("people")
-    browser.click("#notices button")
+    browser.click("#notices .quiet")
     browser.wait("return document.querySelectorAll('#notices li').length === 0")
 
 
