@@ -8,6 +8,7 @@ import { options } from "./fields.js";
 import { beginFiles } from "./files.js";
 import { beginLooking, lookAgain, lookAtBoards } from "./fresh.js";
 import { beginNotices, tellFault } from "./notices.js";
+import { beginOffline } from "./offline.js";
 import { beginPanel } from "./panel.js";
 import { beginPeople } from "./people.js";
 import { beginRepeating } from "./repeating.js";
@@ -67,7 +68,7 @@ async function showMade({ change, status, body }) {
 
 function begin() {
     keepUnused();
-    for (const part of [beginNotices, beginAdding, beginTasks, beginEditing, beginPanel, beginRepeating, beginPeople, beginFiles, beginLooking]) part();
+    for (const part of [beginNotices, beginAdding, beginTasks, beginEditing, beginPanel, beginRepeating, beginPeople, beginFiles, beginLooking, beginOffline]) part();
     find("board").addEventListener("change", (event) => go(event.target.value, state.view));
     find("new-board").addEventListener("click", () => find("board-dialog").showModal());
     find("cancel-board").addEventListener("click", () => find("board-dialog").close());

@@ -31,7 +31,11 @@ class Steered:
             if value:
                 return value
             time.sleep(0.03)
-        sys.exit(f"the page didn't come to: {script} {arguments}; it shows: {self.run('return document.body.innerText')[:1500]}")
+        sys.exit(f"the page didn't come to: {script} {arguments}; it shows: {self.run('return document.body.innerText')[:1500]}\nits console: {self.messages()[-10:]}")
+
+    def messages(self):
+        """What the page's console told since this was asked last, where the browser tells it."""
+        return []
 
 
 class Browser(Steered):
