@@ -2,7 +2,8 @@
 import { PRIORITIES } from "./board.js";
 import { changes } from "./changes.js";
 import { check, isWhole } from "./checking.js";
-import { fill, find, said, span, whenSent } from "./dom.js";
+import { names } from "./crew.js";
+import { fill, find, make, said, span, whenSent } from "./dom.js";
 import { keepDraft, readDraft } from "./drafts.js";
 import { Fields } from "./fields.js";
 import { inFull, seconds } from "./moments.js";
@@ -12,13 +13,16 @@ import { keep } from "./sending.js";
 import { listen, state } from "./state.js";
 import { readLine } from "./todotxt.js";
 
-let fields;
+// The fields of the form, and the line that was asked about since something in it isn't understood.
+let [fields, asked] = [null, ""];
 
 const chip = (...children) => span("chip", ...children);
 
+const readNow = () => readLine(find("add-line").value, names(), state.who?.name);
+
 // What the line and the fields say together; the fields go first.
 function newTask() {
-    const line = readLine(find("add-line").value);
+    const line = readNow().task;
     const given = fields.read();
     const both = { ...line, ...Object.fromEntries(Object.entries(given).filter(([, value]) => value)) };
     both.tags = [...new Set([...line.tags, ...(given.tags ?? [])])];
@@ -27,18 +31,33 @@ function newTask() {
 
 // Shows what the line says beside its description.
 function drawUnderstood() {
-    const line = readLine(find("add-line").value);
+    const { task: line, misread } = readNow();
     const day = (moment) => moment && inFull(seconds(moment));
     const parts = [
         ["", line.status],
         ["priority ", PRIORITIES[line.priority]],
         ["project ", line.project],
         ...line.tags.map((tag) => ["tag ", tag]),
+        ["for ", line.assignee],
         ["due ", day(line.due)],
+        ["waits until ", day(line.wait)],
+        ["scheduled ", day(line.scheduled)],
+        ["until ", day(line.until)],
         ["made ", day(line.entry)],
     ].filter(([, text]) => text);
-    const hint = "Words like (A), +Family, @phone and due:2026-01-31 are understood.";
-    fill(find("understood"), parts.length ? parts.map(([name, text]) => chip(name, said(text, 60))) : hint);
+    const hint = "Words like (A), +Family, @phone, for:me, due:friday and due:2026-01-31 are understood.";
+    const odd = misread.map(([word, why]) => make("span", { class: "misread" }, make("q", {}, said(word, 60)), ` ${why}.`));
+    const ask = odd.length && asked === find("add-line").value ? " It stays in the description if you press Enter again." : "";
+    fill(find("understood"), parts.length || odd.length ? [parts.map(([name, text]) => chip(name, said(text, 60))), odd, ask] : hint);
+}
+
+// A line with words that look like attributes and aren't understood is added by a second Enter: until then it is told.
+function isDoubted() {
+    const line = find("add-line").value;
+    if (asked === line || readNow().misread.length === 0) return false;
+    asked = line;
+    drawUnderstood();
+    return true;
 }
 
 const isShown = () => !find("add-fields").hidden;
@@ -64,7 +83,7 @@ export function fillAdding(draft) {
 // What is added leaves the form at once, so that a second Enter adds nothing; where the device can't keep it, it is there again.
 async function add() {
     const task = newTask();
-    if (!task.description || !isWhole(find("add-form"))) return;
+    if (!task.description || !isWhole(find("add-form")) || isDoubted()) return;
     const form = typed();
     fillAdding({ isShown: isShown() });
     find("add-line").focus();
@@ -76,7 +95,7 @@ async function add() {
 
 function showFields(isShown, typed) {
     fields = new Fields(state.board);
-    fields.dueElsewhere = () => readLine(find("add-line").value).due;
+    fields.dueElsewhere = () => readNow().task.due;
     if (typed) fields.retype(typed);
     fill(find("add-fields"), fields.elements);
     find("add-fields").hidden = !isShown;
@@ -98,9 +117,10 @@ export function beginAdding() {
         keepTyped();
     });
     find("add-form").addEventListener("input", keepTyped);
-    check(find("add-line"), (line) => (line.trim() ? faultInText(readLine(line).description) : ""));
+    check(find("add-line"), (line) => (line.trim() ? faultInText(readNow().task.description) : ""));
     whenSent("add-form", () => add().catch(tellFault));
     listen("signed", () => (number = 0));
+    listen("people", drawUnderstood);
     listen("route", drawBoard);
     listen("draft", () => {
         number = 0;

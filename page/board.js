@@ -1,15 +1,19 @@
-// The tasks of a board, from its export: their order by urgency, which are blocked, and which pass a filter.
+// The tasks of a board, from its export: their orders, when they are due, and which are blocked.
 //
 // Urgency is reckoned here by its definition and not read from the listing. The listing names tasks by place alone, says nothing of tags
 // and notes, and would be a second view each time, of another moment than the export.
 import { breathe } from "./dom.js";
-import { now, seconds } from "./moments.js";
+import { dayOf, isOver, now, seconds, today } from "./moments.js";
 
 // How long the browser may be kept from drawing at once, in milliseconds.
 const SLICE = 8;
 // Urgency is counted in parts, of which so many make one; then each term is whole.
 const UNIT = 110376000;
 export const PRIORITIES = { H: "high", M: "medium", L: "low" };
+// When a task is due; this week is the seven days that begin today.
+export const DUES = { overdue: "Overdue", today: "Today", week: "This week", later: "Later", none: "No date" };
+const WEEK = 7;
+const MOST_PARTS = 8;
 const PRIORITY_PARTS = { H: 6 * UNIT, M: 430466400, L: 198676800 };
 const COUNT_PARTS = [0, 88300800, 99338400, UNIT];
 
@@ -19,7 +23,9 @@ export class Task {
         const told = JSON.parse(line);
         const { uuid, description, status, project = "", priority = "", recur = "", parent = "", mask = "", annotations = [], depends = [], tags = [] } = told;
         Object.assign(this, { told, uuid, description, status, project, priority, recur, parent, mask, depends, tags, notes: annotations });
+        this.assignee = typeof told.assignee === "string" ? told.assignee : "";
         this.due = seconds(told.due);
+        this.dueDay = this.due === undefined ? Infinity : dayOf(this.due);
         this.entry = seconds(told.entry);
         this.isListed = status === "pending" || status === "waiting";
         this.isOpen = this.isListed || status === "recurring";
@@ -44,17 +50,22 @@ function urgencyParts(task, moment) {
 
 export const urgencyText = (task) => (task.parts / UNIT).toFixed(1);
 
-export const STATUSES = {
-    open: ["Open", (task) => task.isListed],
-    ready: ["Ready to do", (task) => task.status === "pending" && !task.isBlocked],
-    started: ["Started", (task) => task.isListed && Boolean(task.told.start)],
-    waiting: ["Waiting", (task) => task.status === "waiting"],
-    blocked: ["Blocked", (task) => task.isListed && task.isBlocked],
-    completed: ["Completed", (task) => task.status === "completed"],
-    deleted: ["Deleted", (task) => task.status === "deleted"],
-    all: ["All", (task) => task.status !== "recurring"],
+function dueGroup(task, day) {
+    if (task.due === undefined) return "none";
+    if (isOver(task.due)) return "overdue";
+    return task.dueDay <= day ? "today" : task.dueDay < day + WEEK ? "week" : "later";
+}
+
+// What sorts by each word; what is equal stays by urgency.
+const KEYS = {
+    due: (task) => task.due ?? Infinity,
+    project: (task) => task.project.toLowerCase() || "\uFFFF",
+    title: (task) => (task.title ??= task.description.toLowerCase().normalize("NFD")),
+    changed: (task) => -seconds(task.told.modified ?? task.told.entry),
 };
 
+// A project, and those of which it is a part, Finance.tax of Finance; a text with very many dots is none.
+const withWholes = (project) => [project, ...project.split(".", MOST_PARTS).map((_, at, parts) => parts.slice(0, at + 1).join("."))];
 const sortedTexts = (texts) => [...new Set(texts)].filter(Boolean).sort((one, other) => (one < other ? -1 : 1));
 
 export class Board {
@@ -63,6 +74,7 @@ export class Board {
     byId = new Map();
     #byLine = new Map();
     #text = null;
+    #sorted = new Map();
 
     // Takes an export, a task a line, in slices; lines that are known aren't read again. Gives whether anything is new.
     async take(text) {
@@ -111,27 +123,33 @@ export class Board {
     #collect() {
         this.templates = this.tasks.filter((task) => task.status === "recurring");
         this.instances = new Map(this.tasks.filter((task) => task.parent).map((task) => [`${task.parent} ${Number(task.told.imask)}`, task]));
-        this.projects = sortedTexts(this.tasks.map((task) => task.project));
+        this.projects = sortedTexts([...new Set(this.tasks.map((task) => task.project))].flatMap(withWholes));
+        this.assignees = sortedTexts(this.tasks.map((task) => task.assignee));
         this.tags = sortedTexts(this.tasks.flatMap((task) => task.tags));
     }
 
-    // Orders the tasks as of now: open ones by falling urgency and then place, as the listing has them; then the others, the last that ended
-    // first. What is equal keeps its place.
+    // Says when the tasks are due and orders them, as of now: open ones by falling urgency and then place, as the listing has them; then the
+    // others, the last that ended first. What is equal keeps its place.
     rank() {
-        const moment = now();
+        const [moment, day] = [now(), today()];
         for (const task of this.tasks) {
+            task.dueGroup = dueGroup(task, day);
             task.parts = urgencyParts(task, moment);
             task.rank = task.isOpen ? task.parts : (seconds(task.told.end) ?? task.entry) - 1e12;
         }
         this.ordered = [...this.tasks].sort((one, other) => other.rank - one.rank);
+        this.#sorted.clear();
     }
 
-    // The tasks that pass a filter, in their order.
-    shown({ text, project, tag, status }) {
-        const words = text.toLowerCase().split(/\s+/).filter(Boolean);
-        const passes = STATUSES[status][1];
-        const isOf = (task) => (!project || task.project === project) && (!tag || task.tags.includes(tag));
-        return this.ordered.filter((task) => passes(task) && isOf(task) && words.every((word) => task.searched.includes(word)));
+    // The tasks in the order of a word; closed ones last where that is urgency.
+    sorted(word) {
+        if (!(word in KEYS)) return this.ordered;
+        if (!this.#sorted.has(word)) {
+            const keyed = this.ordered.map((task) => [KEYS[word](task), task]);
+            keyed.sort(([one], [other]) => (one < other ? -1 : one > other ? 1 : 0));
+            this.#sorted.set(word, keyed.map(([, task]) => task));
+        }
+        return this.#sorted.get(word);
     }
 
     // The tasks that wait for one.

@@ -14,7 +14,7 @@ import { here, listen, state } from "./state.js";
 
 // How long Save waits for the freshest copy of the task, in milliseconds; without one it takes the copy that is shown.
 const PATIENCE = 5000;
-const LABELS = { description: "The description", project: "The project", priority: "The priority", due: "The due date", wait: "The date until which it waits", recur: "The repeat" };
+const LABELS = { description: "The description", project: "The project", priority: "The priority", assignee: "The assignee", due: "The due date", wait: "The date until which it waits", recur: "The repeat" };
 // The task in the form, its fields, what they said when the form was opened, and whether the task is to be reopened first.
 let [edited, fields, before, reopens] = [null, null, null, false];
 

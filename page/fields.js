@@ -1,10 +1,12 @@
 // The fields of a task in a form, for a new task and for one that is changed.
 import { PRIORITIES } from "./board.js";
 import { check } from "./checking.js";
-import { make } from "./dom.js";
+import { choices } from "./crew.js";
+import { fill, make } from "./dom.js";
 import { fromFields, seconds, toFields } from "./moments.js";
 import { STEPS } from "./recurrence.js";
 import { faultInDescription, faultInPair, faultInStep, faultInTags, faultInText } from "./rules.js";
+import { listen } from "./state.js";
 
 let made = 0;
 
@@ -16,6 +18,10 @@ function suggesting(input, texts) {
     input.setAttribute("list", `suggestions-${made}`);
     return [input, make("datalist", { id: `suggestions-${made}` }, texts.map((value) => make("option", { value })))];
 }
+
+// The people who can have a task; where they come later they are filled in.
+const drawAssignees = (select, name) => fill(select, options([["", "nobody"], ...choices([name].filter(Boolean))], name));
+listen("people", () => document.querySelectorAll("select.assignee").forEach((select) => drawAssignees(select, select.value)));
 
 // A day and a time; the time may be left empty.
 class MomentField {
@@ -43,6 +49,8 @@ export class Fields {
         this.project = input(task?.project);
         this.tags = input(task?.tags.join(" "), { placeholder: "phone mail" });
         this.priority = make("select", {}, options([["", "none"], ...Object.entries(PRIORITIES)], task?.priority ?? ""));
+        this.assignee = make("select", { class: "assignee" });
+        drawAssignees(this.assignee, task?.assignee ?? "");
         this.due = new MomentField("Due", task?.due, isTemplate);
         this.wait = new MomentField("Wait until", seconds(task?.told.wait));
         this.recur = input(task?.recur, { disabled: Boolean(task), placeholder: "weekly" });
@@ -51,6 +59,7 @@ export class Fields {
             labelled("Project", ...suggesting(this.project, projects)),
             labelled("Tags", ...suggesting(this.tags, tags)),
             labelled("Priority", this.priority),
+            labelled("Assignee", this.assignee),
             this.due.element,
             this.wait.element,
             !task || isTemplate ? labelled("Repeat", ...suggesting(this.recur, STEPS)) : "",
@@ -68,8 +77,8 @@ export class Fields {
 
     // The elements that are typed into, by the names of what they hold.
     #inputs() {
-        const { description, project, tags, priority, due, wait, recur } = this;
-        const inputs = { description, project, tags, priority, "due day": due.day, "due time": due.time, "wait day": wait.day, "wait time": wait.time, recur };
+        const { description, project, tags, priority, assignee, due, wait, recur } = this;
+        const inputs = { description, project, tags, priority, assignee, "due day": due.day, "due time": due.time, "wait day": wait.day, "wait time": wait.time, recur };
         return Object.entries(inputs).filter(([, input]) => input);
     }
 
@@ -80,14 +89,15 @@ export class Fields {
 
     retype(typed) {
         for (const [name, input] of this.#inputs()) {
-            if (!input.disabled) input.value = typed[name] ?? "";
+            if (input === this.assignee) drawAssignees(input, typed.assignee ?? "");
+            else if (!input.disabled) input.value = typed[name] ?? "";
         }
     }
 
     // The members that the fields say; null for those that are empty.
     read() {
         const tags = tagsIn(this.tags.value);
-        const said = { project: this.project.value.trim() || null, tags: tags.length ? tags : null, priority: this.priority.value || null };
+        const said = { project: this.project.value.trim() || null, tags: tags.length ? tags : null, priority: this.priority.value || null, assignee: this.assignee.value || null };
         if (this.description) said.description = this.description.value.trim();
         return { ...said, due: this.due.read(), wait: this.wait.read(), recur: this.recur.value.trim() || null };
     }

@@ -2,10 +2,12 @@
 import { beginAdding } from "./adding.js";
 import { changes } from "./changes.js";
 import { check, isWhole } from "./checking.js";
+import { beginCrew } from "./crew.js";
 import { fill, find, oneLine, whenSent } from "./dom.js";
 import { beginEditing } from "./editing.js";
 import { options } from "./fields.js";
 import { beginFiles } from "./files.js";
+import { beginFilters } from "./filterbar.js";
 import { beginLooking, lookAgain, lookAtBoards } from "./fresh.js";
 import { beginNotices, tellFault } from "./notices.js";
 import { beginOffline } from "./offline.js";
@@ -66,9 +68,24 @@ async function showMade({ change, status, body }) {
     go(body.board);
 }
 
+const PARTS = [
+    beginNotices,
+    beginCrew,
+    beginAdding,
+    beginFilters,
+    beginTasks,
+    beginEditing,
+    beginPanel,
+    beginRepeating,
+    beginPeople,
+    beginFiles,
+    beginLooking,
+    beginOffline,
+];
+
 function begin() {
     keepUnused();
-    for (const part of [beginNotices, beginAdding, beginTasks, beginEditing, beginPanel, beginRepeating, beginPeople, beginFiles, beginLooking, beginOffline]) part();
+    for (const beginPart of PARTS) beginPart();
     find("board").addEventListener("change", (event) => go(event.target.value, state.view));
     find("new-board").addEventListener("click", () => find("board-dialog").showModal());
     find("cancel-board").addEventListener("click", () => find("board-dialog").close());

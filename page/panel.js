@@ -3,8 +3,10 @@ import { PRIORITIES, urgencyText } from "./board.js";
 import { changes } from "./changes.js";
 import { check, isWhole } from "./checking.js";
 import { button, fill, find, make, oneLine, said, span, whenSent } from "./dom.js";
+import { isGone } from "./crew.js";
 import { keepDraft, readDraft } from "./drafts.js";
 import { beginTask, closeEdit, isEditing, openEdit } from "./editing.js";
+import { shown as select } from "./filters.js";
 import { inFull, seconds } from "./moments.js";
 import { tellFault } from "./notices.js";
 import { faultInText } from "./rules.js";
@@ -14,7 +16,7 @@ import { go, listen, state } from "./state.js";
 const MOST_CHOICES = 6;
 const MOMENTS = { due: "Due", wait: "Waits until", scheduled: "Scheduled", until: "Until", start: "Started", entry: "Made", modified: "Changed", end: "Ended" };
 // What is shown elsewhere. Any other member is one of the user's own, and is shown under its name.
-const KNOWN = "uuid description status project priority tags recur annotations depends parent imask mask".split(" ");
+const KNOWN = "uuid description status project priority tags recur annotations depends parent imask mask assignee".split(" ");
 // The uuid of the task that is shown; the task as it was drawn, and what was drawn of others.
 let [shown, drawn, look] = ["", null, ""];
 
@@ -39,7 +41,7 @@ function actions(one) {
 
 function facts(one) {
     const { told } = one;
-    const texts = { Priority: PRIORITIES[one.priority], Project: one.project, Tags: one.tags.map((tag) => `@${tag}`).join(" "), Repeats: one.recur };
+    const texts = { Assignee: one.assignee && `${one.assignee}${isGone(one.assignee) ? " (no role any more)" : ""}`, Priority: PRIORITIES[one.priority], Project: one.project, Tags: one.tags.map((tag) => `@${tag}`).join(" "), Repeats: one.recur };
     const facts = [
         ...Object.entries(texts).filter(([, text]) => text),
         ...Object.entries(MOMENTS).filter(([name]) => told[name]).map(([name, label]) => [label, inFull(seconds(told[name]))]),
@@ -73,7 +75,7 @@ function aheadRow(one, id) {
 function drawChoices() {
     const one = task();
     const text = find("depend-text").value.trim();
-    const all = text && one ? state.board.shown({ text, project: "", tag: "", status: "open" }) : [];
+    const all = text && one ? select(state.board, { text, status: "open" }, state.who.name) : [];
     const found = all.filter((other) => other !== one && !one.depends.includes(other.uuid));
     const choose = (other) => {
         hold(changes.depend(state.number, one, other.uuid));

@@ -1,6 +1,7 @@
 // A task as a row of a list.
 import { PRIORITIES, urgencyText } from "./board.js";
 import { changes } from "./changes.js";
+import { isGone } from "./crew.js";
 import { button, make, oneLine, said, span } from "./dom.js";
 import { inWords, isOver, seconds } from "./moments.js";
 import { tellFault } from "./notices.js";
@@ -35,6 +36,15 @@ function dueOf(task) {
     return span(isLate ? "due late" : "due", span("hidden", isLate ? "was due " : "due "), inWords(task.due));
 }
 
+// Who has a task: the first letter in a circle, and the name.
+export function assigneeOf(name) {
+    if (!name) return span("assignee");
+    const kind = isGone(name) ? "gone" : name === state.who?.name ? "mine" : "";
+    const about = isGone(name) ? "no role any more" : "assignee";
+    const circle = make("i", { "aria-hidden": "true" }, oneLine(name, 1).slice(0, 1).toUpperCase());
+    return make("span", { class: `assignee ${kind}`, title: `${oneLine(name, 60)}: ${about}` }, circle, span("hidden", "assignee "), said(name, 40), isGone(name) ? span("hidden", " (no role any more)") : "");
+}
+
 export function makeRow(task) {
     const [act, word, kind] = task.isOpen ? ["done", "Complete", "tick"] : ["reopen", "Reopen", "tick ticked"];
     const settings = { class: kind, "aria-label": `${word}: ${oneLine(task.description, 80)}`, title: word, tabindex: -1 };
@@ -45,11 +55,11 @@ export function makeRow(task) {
     const rank = task.isOpen ? span("urgency", span("hidden", "urgency "), urgencyText(task)) : "";
     const isChosen = task.uuid === state.chosen;
     const about = { class: isChosen ? "row chosen" : "row", role: "listitem", "aria-current": isChosen ? "true" : null };
-    return make("div", about, button("", () => change(task, act), settings), open, span("chips", ...chips(task)), dueOf(task), rank);
+    return make("div", about, button("", () => change(task, act), settings), open, span("chips", ...chips(task)), assigneeOf(task.assignee), dueOf(task), rank);
 }
 
 // What of a row comes from elsewhere than the task's own line.
 export function lookOf(task) {
     const due = task.due === undefined ? "" : inWords(task.due) + isOver(task.due);
-    return [task.uuid === state.chosen, unanswered.has(task.uuid), task.isBlocked, task.isBlocking, urgencyText(task), due].join();
+    return [task.uuid === state.chosen, unanswered.has(task.uuid), task.isBlocked, task.isBlocking, urgencyText(task), due, isGone(task.assignee)].join();
 }
