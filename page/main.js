@@ -17,7 +17,7 @@ import { beginRepeating } from "./repeating.js";
 import { faultInTitle } from "./rules.js";
 import { beginSending, keep } from "./sending.js";
 import { beginSigning, keepUnused } from "./signing.js";
-import { announce, go, here, listen, readRoute, state, VIEWS } from "./state.js";
+import { announce, go, goInstead, here, listen, readRoute, state, VIEWS } from "./state.js";
 import { beginTasks } from "./tasks.js";
 
 let madeHere = "";
@@ -37,7 +37,10 @@ function enter(who) {
 function drawBoards() {
     fill(find("board"), options(state.boards.map(({ board, title }) => [String(board), oneLine(title, 60)]), String(state.number)));
     find("no-board").hidden = state.boards.length > 0;
-    if (!here() && state.boards.length > 0) return go(state.boards[0].board);
+    if (!state.number && state.boards.length > 0) return goInstead(state.boards[0].board);
+    find("unknown-board").hidden = Boolean(here()) || state.boards.length === 0;
+    find("unknown-board").textContent = `You have no role on board ${state.number}, or it isn't there. Choose another board above, or ask an owner to let you in.`;
+    if (!here()) find("board").selectedIndex = -1;
     document.body.classList.toggle("without-board", !here());
     document.body.classList.toggle("reader", here()?.role === "reader");
     find("heading").textContent = oneLine(here()?.title ?? "");

@@ -2,7 +2,7 @@
 // it draws.
 import { keepDraft, readDraft } from "./drafts.js";
 
-export const VIEWS = ["day", "tasks", "repeating", "people", "files"];
+export const VIEWS = ["tasks", "repeating", "people", "files"];
 // What a board's tasks are filtered, sorted and grouped by, and whether they stand in columns. Each stands in the address under its name.
 const WHOLE = { text: "", status: "open", assignee: "", due: "", project: "", tag: "", sort: "urgency", group: "", as: "list" };
 
@@ -47,7 +47,8 @@ function write() {
     clearTimeout(writing);
     writing = 0;
     history.replaceState(null, "", addressOf(state.number, state.view, state.chosen));
-    keepDraft("filters", "", queryOf(state.filter));
+    const query = queryOf(state.filter);
+    keepDraft("filters", "", query === queryOf(WHOLE) ? null : query);
 }
 
 const writeNow = () => writing && write();

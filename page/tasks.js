@@ -21,6 +21,7 @@ function draw(isAsked) {
     const hint = all > 0 ? "No task passes the filters." : "Nothing is here yet. Add the first task above, or import some.";
     fill(find("nothing"), isShown && tasks.length === 0 ? hint : "");
     find("list").classList.toggle("assigned", isShown && board.assignees.length > 0);
+    find("unknown-task").hidden = !isShown || !state.chosen || board.byId.has(state.chosen);
     if (isShown) list.show(grouped(tasks, state.filter.group), isAsked === true);
 }
 
