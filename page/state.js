@@ -88,3 +88,4 @@ export function readRoute() {
 }
 
 addEventListener("pagehide", writeNow);
+listen("left", () => ([writing, isTyping] = [clearTimeout(writing) ?? 0, false]));
