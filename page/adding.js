@@ -48,7 +48,8 @@ function drawUnderstood() {
     const hint = "Words like (A), +Family, @phone, for:me, due:friday and due:2026-01-31 are understood.";
     const odd = misread.map(([word, why]) => make("span", { class: "misread" }, make("q", {}, said(word, 60)), ` ${why}.`));
     const ask = odd.length && asked === find("add-line").value ? " It stays in the description if you press Enter again." : "";
-    fill(find("understood"), parts.length || odd.length ? [parts.map(([name, text]) => chip(name, said(text, 60))), odd, ask] : hint);
+    const chips = parts.map(([name, text]) => chip(name, said(text, 60)));
+    fill(find("understood"), chips, odd, ask, chips.length || odd.length ? "" : hint);
 }
 
 // A line with words that look like attributes and aren't understood is added by a second Enter: until then it is told.
