@@ -100,7 +100,8 @@ function compareOnce(isWhole) {
 }
 
 async function answer({ request, clientId, resultingClientId }, path) {
-    const cache = opened.get(clientId) ?? (await kept()).cache;
+    const before = request.mode === "navigate" ? null : opened.get(clientId);
+    const cache = before ?? (await kept()).cache;
     if (cache && resultingClientId) opened.set(resultingClientId, cache);
     return (await cache?.match(path)) ?? fetch(request);
 }

@@ -77,12 +77,12 @@ class Office:
     """A server that may be killed, a line to it that may break, and a browser."""
 
     def __init__(self, browser):
-        self.browser, self.relay, self.server, self.figures = browser, Relay(PORT), None, []
+        self.browser, self.relay, self.server, self.page, self.figures = browser, Relay(PORT), None, PAGE, []
         self.address = f"http://127.0.0.1:{self.relay.port}/"
         self.start()
 
     def start(self):
-        self.server = Server(PROGRAM, PORT, words=("--page", PAGE, "--forever"), errors=subprocess.DEVNULL)
+        self.server = Server(PROGRAM, PORT, words=("--page", self.page, "--forever"), errors=subprocess.DEVNULL)
 
     def restart(self):
         self.server.end()

@@ -12,6 +12,7 @@ import sys
 import time
 import uuid
 
+import page_everywhere
 from office import ALL_ANSWERED, BACKSPACE, BROWSER, DOWN, ENTER, IS_LISTED, IS_TOLD, KEYS, LISTED, LOOK, PROGRAM, SHOTS, SLACK, Office, add, ask, descriptions, expect, new_board, tasks
 from relay import LOSES_ANSWERS, LOSES_POSTS
 from talking import end_by_signal, make_file
@@ -345,7 +346,7 @@ def last_steps(office):
     expect("faults", [], told)
 
 
-SCENES = (first_steps, people, killed_server, two_tabs, plain_http, hostile_texts, imports, large_board, last_steps)
+SCENES = (first_steps, people, killed_server, two_tabs, plain_http, hostile_texts, imports, *page_everywhere.SCENES, large_board, last_steps)
 
 
 def play(office):
