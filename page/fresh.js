@@ -20,7 +20,10 @@ let [lastLook, lastAct, lastTyped, lastBoards, showing] = [0, 0, 0, "", Promise.
 
 function setBoards(text) {
     state.boards = JSON.parse(text).boards;
+    const isGone = state.board && !state.boards.some(({ board }) => board === state.board.number);
+    if (isGone) state.board = null;
     announce("boards");
+    if (isGone) announce("route");
 }
 
 // Asks for the boards of whoever is signed in, and announces them where they are others than before.

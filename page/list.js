@@ -1,5 +1,5 @@
 // A long list of rows, of which only those in sight, and a few around them, are there. All rows are of one height, which the style says.
-// Among the tasks may stand headings of groups, which take no focus.
+// On paper all of them stand. Among the tasks may stand headings of groups, which take no focus.
 import { counted, make, said, span } from "./dom.js";
 
 const AROUND = 5;
@@ -12,6 +12,7 @@ export class List {
     #rows = new Map();
     #height = 0;
     #current = "";
+    #isPrinted = false;
 
     // `place` is the element that holds the rows; `makeRow` makes a task's row, and `lookOf` a text that is another when the row has to be.
     constructor(place, makeRow, lookOf) {
@@ -22,6 +23,12 @@ export class List {
             this.#height = 0;
             redraw();
         });
+        for (const [name, isPrinted] of [["beforeprint", true], ["afterprint", false]]) {
+            addEventListener(name, () => {
+                this.#isPrinted = isPrinted;
+                this.draw();
+            });
+        }
         place.addEventListener("keydown", (event) => this.#move(event));
         place.addEventListener("focusin", (event) => (this.#current = event.target.closest(".row").dataset.uuid));
     }
@@ -55,8 +62,9 @@ export class List {
         if (!this.#height) this.#measure();
         const height = this.#height;
         this.place.style.height = `${this.#items.length * height}px`;
-        const first = Math.max(0, this.#firstInSight() - AROUND);
-        const last = Math.min(this.#items.length, this.#firstInSight() + Math.ceil(innerHeight / height) + AROUND);
+        const top = this.#firstInSight() - AROUND;
+        const first = this.#isPrinted ? 0 : Math.max(0, top);
+        const last = this.#isPrinted ? this.#items.length : Math.min(this.#items.length, top + Math.ceil(innerHeight / height) + 2 * AROUND);
         const rows = new Map();
         for (let at = first; at < last; at++) rows.set(this.#items[at].uuid, this.#rowAt(at));
         this.#put(rows);

@@ -8,7 +8,9 @@ import { beginEditing } from "./editing.js";
 import { options } from "./fields.js";
 import { beginFiles } from "./files.js";
 import { beginFilters } from "./filterbar.js";
+import { beginFocus } from "./focus.js";
 import { beginLooking, lookAgain, lookAtBoards } from "./fresh.js";
+import { beginKeys } from "./keys.js";
 import { beginNotices, tellFault } from "./notices.js";
 import { beginOffline } from "./offline.js";
 import { beginPanel } from "./panel.js";
@@ -84,6 +86,8 @@ const PARTS = [
     beginFiles,
     beginLooking,
     beginOffline,
+    beginFocus,
+    beginKeys,
 ];
 
 function begin() {

@@ -31,10 +31,10 @@ function task() {
 function actions(one) {
     const isStarted = Boolean(one.told.start);
     return [
-        one.isListed ? button("Done", act("done"), { class: "primary" }) : "",
-        one.isOpen ? "" : button("Reopen", act("reopen"), { class: "primary" }),
-        one.status === "pending" ? button(isStarted ? "Stop" : "Start", act(isStarted ? "stop" : "start")) : "",
-        one.isOpen ? button("Edit", () => openEdit(task()), { id: "edit" }) : "",
+        one.isListed ? button("Done", act("done"), { class: "primary", "aria-keyshortcuts": "d" }) : "",
+        one.isOpen ? "" : button("Reopen", act("reopen"), { class: "primary", "aria-keyshortcuts": "d" }),
+        one.status === "pending" ? button(isStarted ? "Stop" : "Start", act(isStarted ? "stop" : "start"), { "aria-keyshortcuts": "s" }) : "",
+        one.isOpen ? button("Edit", () => openEdit(task()), { id: "edit", "aria-keyshortcuts": "e" }) : "",
         one.isOpen ? button(one.isListed ? "Delete" : "Delete, and make no more", act("delete"), { class: "danger" }) : "",
     ];
 }

@@ -6,12 +6,13 @@ import { button, make, oneLine, said, span } from "./dom.js";
 import { inWords, isOver, seconds } from "./moments.js";
 import { tellFault } from "./notices.js";
 import { keep } from "./sending.js";
-import { go, state } from "./state.js";
+import { go, here, state } from "./state.js";
 
 // The uuids of tasks with a change that has no answer yet.
 let unanswered = new Set();
 
 export const setUnanswered = (uuids) => (unanswered = new Set(uuids));
+const isReader = () => here()?.role === "reader";
 const change = (task, action) => keep(changes.act(state.number, task, action)).catch(tellFault);
 export const chip = (kind, ...children) => span(`chip ${kind}`, ...children);
 
@@ -45,21 +46,37 @@ export function assigneeOf(name) {
     return make("span", { class: `assignee ${kind}`, title: `${oneLine(name, 60)}: ${about}` }, circle, span("hidden", "assignee "), said(name, 40), isGone(name) ? span("hidden", " (no role any more)") : "");
 }
 
+// A row's name, as it is heard: what the chips beside it show stands in it too.
+function nameOf(task) {
+    const { description, priority, due, isBlocked, isOpen, assignee, told } = task;
+    const about = [
+        priority && `priority ${PRIORITIES[priority]}`,
+        due !== undefined && `${isOpen && isOver(due) ? "was due" : "due"} ${inWords(due)}`,
+        isBlocked && "blocked",
+        isOpen && told.start && "started",
+        task.status === "waiting" && "waiting",
+        !isOpen && task.status,
+        assignee && `for ${oneLine(assignee, 40)}`,
+        unanswered.has(task.uuid) && "not answered yet",
+    ].filter(Boolean);
+    return [oneLine(description), ...about].join(", ");
+}
+
 export function makeRow(task) {
     const [act, word, kind] = task.isOpen ? ["done", "Complete", "tick"] : ["reopen", "Reopen", "tick ticked"];
     const settings = { class: kind, "aria-label": `${word}: ${oneLine(task.description, 80)}`, title: word, tabindex: -1 };
-    const open = button(said(task.description), () => go(state.number, "tasks", task.uuid), { class: "open" });
+    const open = button(said(task.description), () => go(state.number, "tasks", task.uuid), { class: "open", "aria-label": nameOf(task) });
     open.addEventListener("keydown", (event) => {
-        if (event.key === "d" && !event.ctrlKey && !event.metaKey && !event.altKey) change(task, act);
+        if (event.key === "d" && !isReader() && !event.ctrlKey && !event.metaKey && !event.altKey) change(task, act);
     });
     const rank = task.isOpen ? span("urgency", span("hidden", "urgency "), urgencyText(task)) : "";
     const isChosen = task.uuid === state.chosen;
     const about = { class: isChosen ? "row chosen" : "row", role: "listitem", "aria-current": isChosen ? "true" : null };
-    return make("div", about, button("", () => change(task, act), settings), open, span("chips", ...chips(task)), assigneeOf(task.assignee), dueOf(task), rank);
+    return make("div", about, isReader() ? span(kind) : button("", () => change(task, act), settings), open, span("chips", ...chips(task)), assigneeOf(task.assignee), dueOf(task), rank);
 }
 
 // What of a row comes from elsewhere than the task's own line.
 export function lookOf(task) {
     const due = task.due === undefined ? "" : inWords(task.due) + isOver(task.due);
-    return [task.uuid === state.chosen, unanswered.has(task.uuid), task.isBlocked, task.isBlocking, urgencyText(task), due, isGone(task.assignee)].join();
+    return [isReader(), task.uuid === state.chosen, unanswered.has(task.uuid), task.isBlocked, task.isBlocking, urgencyText(task), due, isGone(task.assignee)].join();
 }
