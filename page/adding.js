@@ -47,7 +47,7 @@ function drawUnderstood() {
     ].filter(([, text]) => text);
     const hint = "Words like (A), +Family, @phone, for:me, due:friday and due:2026-01-31 are understood.";
     const odd = misread.map(([word, why]) => make("span", { class: "misread" }, make("q", {}, said(word, 60)), ` ${why}.`));
-    const ask = odd.length && asked === find("add-line").value ? " It stays in the description if you press Enter again." : "";
+    const ask = odd.length && asked === find("add-line").value ? " What isn't understood stays in the description if you press Enter again." : "";
     const chips = parts.map(([name, text]) => chip(name, said(text, 60)));
     fill(find("understood"), chips, odd, ask, chips.length || odd.length ? "" : hint);
 }

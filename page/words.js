@@ -31,8 +31,8 @@ export function readDay(text) {
 }
 
 function readPriority(text) {
-    const letter = text.slice(0, 1).toUpperCase();
-    return [letter, PRIORITIES[letter]?.toUpperCase()].includes(text.toUpperCase()) ? letter : null;
+    const word = text.toLowerCase();
+    return Object.keys(PRIORITIES).find((letter) => word === letter.toLowerCase() || word === PRIORITIES[letter]) ?? null;
 }
 
 // The name and the value of such a word; names may be cut to three letters, as Taskwarrior has them.
