@@ -338,11 +338,12 @@ def large_board(office):
 
 
 def last_steps(office):
-    """Signing out forgets the key; no fault was told on the way but for messages that were lost or refused."""
+    """Signing out forgets the key, and keeps how boards were left; no fault was told on the way but for messages that were lost or refused."""
     browser = office.browser
     browser.click("#sign-out")
     browser.wait("return document.getElementById('sign-in-form').offsetParent")
-    expect("what is kept of the key", "", browser.run("return JSON.stringify([{ ...sessionStorage }, { ...localStorage }])").replace("[{},{}]", ""))
+    expect("what is kept but filters", [[], []], browser.run("return [sessionStorage, localStorage].map((place) => Object.keys(place).filter((key) => !key.endsWith(' filters')))"))
+    expect("the key is kept", False, KEYS["ann"] in browser.run("return JSON.stringify({ ...localStorage })"))
     told = [message for message in browser.messages() if "Failed to load resource" not in message]
     expect("faults", [], told)
 
