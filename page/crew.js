@@ -1,5 +1,5 @@
 // Who has a role on the shown board, and so may have its tasks: asked for with the board, and again once a minute while it is looked at.
-import { look } from "./asking.js";
+import { lookOrSeen } from "./seen.js";
 import { announce, here, listen, state } from "./state.js";
 
 const EVERY = 60000;
@@ -10,7 +10,7 @@ async function ask() {
     if (!here()) return;
     if (askedFor !== number) [state.people, told] = [null, ""];
     [askedFor, askedAt] = [number, performance.now()];
-    const text = await look(who, `/boards/${number}/people`).catch(() => told);
+    const text = await lookOrSeen(who, `/boards/${number}/people`).catch(() => told);
     if (state.who !== who || state.number !== number || text === told) return;
     told = text;
     state.people = JSON.parse(text).people;

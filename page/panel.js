@@ -7,6 +7,7 @@ import { isGone } from "./crew.js";
 import { keepDraft, readDraft } from "./drafts.js";
 import { beginTask, closeEdit, isEditing, openEdit } from "./editing.js";
 import { shown as select } from "./filters.js";
+import { linked } from "./links.js";
 import { inFull, seconds } from "./moments.js";
 import { tellFault } from "./notices.js";
 import { faultInText } from "./rules.js";
@@ -47,7 +48,7 @@ function facts(one) {
         ...Object.entries(MOMENTS).filter(([name]) => told[name]).map(([name, label]) => [label, inFull(seconds(told[name]))]),
         ...Object.entries(told).filter(([name]) => !(name in MOMENTS) && !KNOWN.includes(name)).map(([name, value]) => [name, String(value)]),
     ];
-    const rows = facts.map(([name, text]) => [make("dt", {}, said(name, 60)), make("dd", {}, make("bdi", {}, text))]);
+    const rows = facts.map(([name, text]) => [make("dt", {}, said(name, 60)), make("dd", {}, make("bdi", {}, linked(text)))]);
     const template = state.board.byId.get(one.parent);
     if (template) rows.push([make("dt", {}, "Instance of"), make("dd", {}, button(said(template.description, 80), () => go(state.number, "repeating", template.uuid), { class: "link" }))]);
     return rows.flat();
@@ -57,7 +58,7 @@ const remove = (label, change) => button("Remove", () => hold(change), { class: 
 
 function noteRow(one, { description, entry }) {
     const away = remove(`Remove the note: ${oneLine(description, 60)}`, changes.denotate(state.number, one, description));
-    return make("li", {}, make("bdi", { class: "long" }, description), span("about", inFull(seconds(entry)), away));
+    return make("li", {}, make("bdi", { class: "long" }, linked(description)), span("about", inFull(seconds(entry)), away));
 }
 
 function taskRow(other, ...beside) {
@@ -95,12 +96,12 @@ function drawTask(one) {
     find("task-status").textContent = [...status, isUnanswered ? "a change isn't answered yet" : ""].filter(Boolean).join(" · ");
     const behind = state.board.behind(one);
     const ahead = one.depends.filter((id) => state.board.byId.has(id));
-    const linked = [...behind, ...ahead.map((id) => state.board.byId.get(id)), state.board.byId.get(one.parent)];
-    const seen = JSON.stringify(linked.map((other) => other && [other.description, other.status, other.uuid]));
+    const neighbours = [...behind, ...ahead.map((id) => state.board.byId.get(id)), state.board.byId.get(one.parent)];
+    const seen = JSON.stringify(neighbours.map((other) => other && [other.description, other.status, other.uuid]));
     if (drawn === one && seen === look) return;
     drawn = one;
     look = seen;
-    find("task-text").textContent = one.description;
+    fill(find("task-text"), linked(one.description));
     const hadFocus = find("task-actions").contains(document.activeElement);
     fill(find("task-actions"), actions(one));
     if (hadFocus) find("task-actions").firstChild.focus();

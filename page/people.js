@@ -1,11 +1,11 @@
 // The view of the people on a board and their roles, and of adding a person.
-import { look } from "./asking.js";
 import { changes } from "./changes.js";
 import { check, isWhole } from "./checking.js";
 import { button, fill, find, make, said, span, whenSent } from "./dom.js";
 import { options } from "./fields.js";
 import { tellFault } from "./notices.js";
 import { faultInKey, faultInName } from "./rules.js";
+import { lookOrSeen } from "./seen.js";
 import { keep } from "./sending.js";
 import { here, listen, state } from "./state.js";
 
@@ -13,8 +13,21 @@ import { here, listen, state } from "./state.js";
 const roles = new Set(["owner", "member", "reader"]);
 let shown = "";
 
+// Set once the server said that someone may not add people.
+const refusedTo = (name) => `taskboard.adds-nobody ${name}`;
+
 const isOwner = () => here()?.role === "owner";
 const choices = (chosen) => options([...roles].map((role) => [role, role]), chosen);
+
+// The first person of the server alone adds people. A board tells its people in the order in which they came, so whoever stands behind another
+// isn't that person.
+const mayAddPeople = (first) => first === state.who.name && localStorage.getItem(refusedTo(first)) === null;
+
+function noteRefusal({ change, status }) {
+    if (change.path !== "/people" || status !== 403) return;
+    localStorage.setItem(refusedTo(change.member), "yes");
+    draw(true);
+}
 
 function row({ name, role }) {
     const set = (given) => keep(changes.role(state.number, name, given)).catch(tellFault);
@@ -30,7 +43,7 @@ async function draw(isAnew) {
     const { who, number, view } = state;
     if (view !== "people" || !here()) return;
     if (isAnew) shown = "";
-    const text = await look(who, `/boards/${number}/people`).catch(() => shown);
+    const text = await lookOrSeen(who, `/boards/${number}/people`).catch(() => shown);
     if (state.number !== number || text === shown) return;
     shown = text;
     const { people } = JSON.parse(text);
@@ -38,6 +51,7 @@ async function draw(isAnew) {
     fill(find("people"), people.map(row));
     for (const id of ["invite-role", "person-role"]) fill(find(id), choices(find(id).value || "member"));
     find("invite-form").hidden = !isOwner();
+    find("person-form").hidden = !mayAddPeople(people[0].name);
 }
 
 function makeKey() {
@@ -74,4 +88,5 @@ export function beginPeople() {
     listen("tick", () => draw(false));
     listen("boards", () => draw(true));
     listen("answered", ({ change }) => change.path.endsWith("/roles") && draw(true));
+    listen("answered", noteRefusal);
 }

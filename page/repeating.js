@@ -51,6 +51,7 @@ function draw() {
     const templates = state.board.templates;
     find("ahead-form").hidden = here()?.role !== "owner";
     find("no-templates").hidden = templates.length > 0;
+    find("no-templates").textContent = `Nothing repeats on this board.${here()?.role === "reader" ? "" : " Add a task with a due date and a repeat, under Details."}`;
     fill(find("templates"), templates.map(card));
 }
 

@@ -4,7 +4,7 @@ import { grouped, shown } from "./filters.js";
 import { List } from "./list.js";
 import { chip, lookOf, makeRow, setUnanswered } from "./rows.js";
 import { waiting } from "./sending.js";
-import { listen, state } from "./state.js";
+import { here, listen, state } from "./state.js";
 
 // What was added and has no answer for longer than this, in milliseconds, is shown as a row of its own.
 const SOON = 500;
@@ -18,7 +18,8 @@ function draw(isAsked) {
     const tasks = isShown ? shown(board, state.filter, state.who.name) : [];
     const all = isShown ? board.tasks.length : 0;
     find("count").textContent = isShown ? `${counted(tasks.length)} of ${counted(all)} tasks` : "";
-    const hint = all > 0 ? "No task passes the filters." : "Nothing is here yet. Add the first task above, or import some.";
+    const first = here()?.role === "reader" ? "Nothing is here yet." : "Nothing is here yet. Add the first task above, or import some.";
+    const hint = all > 0 ? "No task passes the filters." : first;
     fill(find("nothing"), isShown && tasks.length === 0 ? hint : "");
     find("list").classList.toggle("assigned", isShown && board.assignees.length > 0);
     find("unknown-task").hidden = !isShown || !state.chosen || board.byId.has(state.chosen);

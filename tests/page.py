@@ -76,7 +76,7 @@ def first_steps(office):
 def by_keyboard(browser):
     """Completes the second task by keys alone, and takes that back."""
     browser.run("document.querySelector('#list .open').focus()")
-    browser.call("POST", "/actions", {"actions": [{"type": "key", "id": "keys", "actions": [{"type": kind, "value": key} for key in (DOWN, "d") for kind in ("keyDown", "keyUp")]}]})
+    browser.press(DOWN, "d")
     browser.wait("return document.querySelectorAll('#list .row').length === 2")
     browser.wait(ALL_ANSWERED)
     expect("done", "completed", tasks(1)[1]["status"])

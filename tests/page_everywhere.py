@@ -1,8 +1,10 @@
 """Scenes of the page everywhere: without a line, by keys, in print, for readers."""
+import base64
 import pathlib
+import re
 import shutil
 
-from office import ALL_ANSWERED, ENTER, IS_LISTED, IS_TOLD, PAGE, add, descriptions, expect, new_board
+from office import ALL_ANSWERED, ENTER, ESCAPE, IS_LISTED, IS_TOLD, PAGE, SHOTS, TAB, add, ask, descriptions, expect, new_board, tasks, tell
 
 # The names of what the worker keeps, and the paths of the files in it.
 KEPT = """return caches.keys().then(async (names) => {
@@ -16,6 +18,13 @@ IS_SEEN = """return new Promise((done) => {
         target.result.transaction("texts").objectStore("texts").getAllKeys().onsuccess = ({ target }) => done(target.result.includes(arguments[0]));
     };
 })"""
+HAS_FOCUS = "return document.activeElement !== null && document.activeElement !== document.body"
+IS_OPEN = "return document.getElementById('task-actions').checkVisibility() || document.getElementById('task-facts').checkVisibility()"
+HAS_COME = {
+    "repeating": "return document.getElementById('no-templates').textContent",
+    "people": "return document.querySelectorAll('#people li').length === 2",
+    "files": "return document.getElementById('save-export').offsetParent",
+}
 IS_SHOWN = "return Boolean(document.querySelector(arguments[0])?.offsetParent)"
 
 
@@ -79,4 +88,111 @@ def newer_version(office):
     expect("the first version again", [1, before], browser.run(KEPT))
 
 
-SCENES = (without_a_line, newer_version)
+def by_keys(office):
+    """All is done by keys, and at no step is the focus lost to the body."""
+    browser, board = office.browser, new_board("Keys")
+    first, second = add(board, description="Zero", priority="H"), add(board, description="One")
+    tell(f"/boards/{board}/tasks/{first}/annotate", description="See https://example.org/a_(b), or javascript:alert(1).")
+    tell(f"/boards/{board}/tasks/{first}/depend", on=second)
+    office.begin(board)
+    browser.wait(IS_LISTED, "One")
+    expect("a row's name", "Zero, priority high, blocked", browser.run("return [...document.querySelectorAll('#list .open')].find((row) => row.textContent === 'Zero').ariaLabel"))
+    browser.press("?")
+    browser.wait(IS_TOLD, "Complete or reopen the task")
+    expect("keys that are shown", True, {"n", "/", "b", "1"} <= set(browser.run("return [...document.querySelectorAll('#keys-shown kbd')].map((key) => key.textContent)")))
+    browser.press(ESCAPE, "n", *"Two", ENTER)
+    browser.wait(IS_LISTED, "Two")
+    for keys, done in (
+        ((TAB,), HAS_FOCUS),
+        ((), "document.querySelector('#list .open[tabindex=\"0\"]').focus(); return true"),
+        ((ENTER,), IS_OPEN),
+        (("m", *"Tea", ENTER), "return document.querySelectorAll('#task-notes li').length > 0"),
+        ((TAB, "e"), "return document.activeElement.tagName === 'TEXTAREA'"),
+        ((ESCAPE,), "return document.getElementById('edit-form').hidden"),
+        ((ESCAPE,), "return document.getElementById('panel').hidden"),
+        (("d",), "return document.querySelectorAll('#list .row').length === 2"),
+        (("d",), "return document.querySelectorAll('#list .row').length === 1"),
+        (("d",), "return document.querySelectorAll('#list .row').length === 0"),
+    ):
+        browser.press(*keys)
+        browser.wait(done)
+        browser.wait(HAS_FOCUS)
+    browser.wait(ALL_ANSWERED)
+    expect("completed by keys", {"completed"}, {task["status"] for task in tasks(board)})
+    gone_by_keys(office, board, first)
+
+
+def gone_by_keys(office, board, task):
+    """What takes the key that it was pressed with away: the focus goes to what stands near."""
+    browser = office.browser
+    office.go(board, "tasks", task)
+    browser.wait("return document.querySelectorAll('#task-notes li').length === 1 && document.querySelector('#task-notes a')")
+    links = browser.run("return [...document.querySelectorAll('#task-notes a')].map((link) => [link.href, link.rel])")
+    expect("links", [["https://example.org/a_(b)", "noopener noreferrer"]], links)
+    browser.run("document.querySelector('#task-notes button').focus()")
+    browser.press(ENTER)
+    browser.wait("return document.querySelectorAll('#task-notes li').length === 0")
+    expect("focus after a note is gone", True, browser.run(HAS_FOCUS))
+    office.go(board, "people")
+    browser.wait("return document.querySelectorAll('#people li').length === 1")
+    browser.run("const role = document.querySelector('#people select'); role.value = 'reader'; role.dispatchEvent(new Event('change'))")
+    browser.wait(IS_TOLD, "left without an owner")
+    browser.run("document.querySelector('#notices button:last-of-type').focus()")
+    browser.press(ENTER)
+    browser.wait("return document.querySelectorAll('#notices li').length === 0")
+    expect("focus after a notice is gone", True, browser.run(HAS_FOCUS))
+
+
+def on_paper(office):
+    """In print all rows stand that pass the filter, and no panel and no button."""
+    browser, board = office.browser, new_board("Paper")
+    lines = "".join(f"Row {number}\n" for number in range(120)) + "Another\n"
+    ask(f"/boards/{board}/import-todo", lines.encode())
+    office.begin(board)
+    browser.wait(IS_LISTED, "Row 1")
+    browser.type("#filter-text", "Row")
+    browser.wait("return document.getElementById('count').textContent.startsWith('120 of')")
+    browser.run("document.querySelector('#list .open').click()")
+    browser.wait(IS_OPEN)
+    browser.run("addEventListener('beforeprint', () => (window.printed = [...document.querySelectorAll('#list .open')].map((row) => row.textContent)))")
+    paper = base64.b64decode(browser.tell("Page.printToPDF", printBackground=True)["data"])
+    expect("rows on paper", {f"Row {number}" for number in range(120)}, set(browser.run("return window.printed")))
+    pages = len(re.findall(rb"/Type ?/Page\b", paper))
+    expect("pages, of which each has some rows", True, 2 <= pages <= 12)
+    browser.tell("Emulation.setEmulatedMedia", media="print")
+    shown = browser.run("return [...document.querySelectorAll('#panel, header, form, button:not(.open, .tick)')].filter((part) => part.checkVisibility()).length")
+    expect("panels, forms and buttons on paper", 0, shown)
+    if SHOTS:
+        pathlib.Path(SHOTS, "print.pdf").write_bytes(paper)
+    browser.tell("Emulation.setEmulatedMedia", media="")
+    browser.click("#close-panel")
+
+
+def for_readers(office):
+    """A reader has nothing to change; and who has no role any more sees nothing of the board."""
+    browser, board = office.browser, new_board("Read", bob="reader")
+    task = add(board, description="Only to be read")
+    [anns] = browser.tabs()
+    browser.new_tab()
+    office.begin(board, "bob")
+    browser.wait(IS_LISTED, "Only to be read")
+    office.go(board, "tasks", task)
+    browser.wait(IS_OPEN)
+    office.shot("reader")
+    shown = "return [...document.querySelectorAll('form, button.tick, #task-actions button, #task-notes button')].filter((part) => part.checkVisibility()).map((part) => part.id)"
+    expect("forms and circles for a reader", [], browser.run(shown))
+    for view in ("repeating", "people", "files"):
+        office.go(board, view)
+        browser.wait(HAS_COME[view])
+        expect(f"forms for a reader: {view}", [], browser.run(shown))
+    office.go(board, "tasks", task)
+    browser.wait(IS_OPEN)
+    tell(f"/boards/{board}/roles", member="bob", role=None)
+    browser.wait("dispatchEvent(new Event('focus')); return !document.querySelector('.views').checkVisibility() && !document.querySelector('nav').checkVisibility()")
+    expect("tasks of the board on screen", False, browser.run(IS_TOLD, "Only to be read"))
+    expect("the focus of one who was removed", True, browser.run(HAS_FOCUS))
+    browser.call("DELETE", "/window")
+    browser.to_tab(anns)
+
+
+SCENES = (without_a_line, newer_version, by_keys, on_paper, for_readers)

@@ -94,6 +94,11 @@ class Browser(Steered):
     def type(self, selector, text):
         self.act(selector, "value", {"text": text})
 
+    def press(self, *keys):
+        """Presses keys one after the other, wherever the focus is."""
+        strokes = [{"type": kind, "value": key} for key in keys for kind in ("keyDown", "keyUp")]
+        self.call("POST", "/actions", {"actions": [{"type": "key", "id": "keys", "actions": strokes}]})
+
     def tabs(self):
         return self.call("GET", "/window/handles")
 
