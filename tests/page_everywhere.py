@@ -137,9 +137,9 @@ def gone_by_keys(office, board, task):
     browser.wait("return document.querySelectorAll('#people li').length === 1")
     browser.run("const role = document.querySelector('#people select'); role.value = 'reader'; role.dispatchEvent(new Event('change'))")
     browser.wait(IS_TOLD, "left without an owner")
-    browser.run("document.querySelector('#notices button:last-of-type').focus()")
+    browser.run("document.querySelector('#notices .refused button:last-of-type').focus()")
     browser.press(ENTER)
-    browser.wait("return document.querySelectorAll('#notices li').length === 0")
+    browser.wait("return document.querySelectorAll('#notices .refused').length === 0")
     expect("focus after a notice is gone", True, browser.run(HAS_FOCUS))
 
 
