@@ -22,7 +22,7 @@ export class Task {
     constructor(line) {
         const told = JSON.parse(line);
         const { uuid, description, status, project = "", priority = "", recur = "", parent = "", mask = "", annotations = [], depends = [], tags = [] } = told;
-        Object.assign(this, { told, uuid, description, status, project, priority, recur, parent, mask, depends, tags, notes: annotations });
+        Object.assign(this, { line, told, uuid, description, status, project, priority, recur, parent, mask, depends, tags, notes: annotations });
         this.assignee = typeof told.assignee === "string" ? told.assignee : "";
         this.due = seconds(told.due);
         this.dueDay = this.due === undefined ? Infinity : dayOf(this.due);

@@ -28,6 +28,8 @@ export const changes = {
     undepend: (board, task, on) => ofTask(board, task, "undepend", { on }, "Take a dependency off"),
     ahead: (board, ahead) => change(board, `/boards/${board}/ahead`, { ahead }, "Look ahead", `${ahead} of each repeating task`),
     sweep: (board) => change(board, `/boards/${board}/sweep`, null, "Bring up to date", "the repeating tasks"),
+    // A task that comes from another board, as the server there tells it.
+    moveIn: (board, task, line) => ({ ...change(board, `/boards/${board}/import`, null, "Move here", task.description), body: line }),
     // One part of an import, as it is written; its answer is kept until it was read.
     part: (board, path, body, name) => ({ ...change(board, `/boards/${board}/${path}`, null, "Import", name), body, reports: true }),
 };

@@ -24,7 +24,7 @@ const drawAssignees = (select, name) => fill(select, options([["", "nobody"], ..
 listen("people", () => document.querySelectorAll("select.assignee").forEach((select) => drawAssignees(select, select.value)));
 
 // A day and a time; the time may be left empty.
-class MomentField {
+export class MomentField {
     constructor(label, second, disabled) {
         const { day, time } = toFields(second);
         this.day = make("input", { type: "date", value: day, min: "1970-01-01", max: "9999-12-31", disabled, "aria-label": `${label}: day` });
@@ -37,7 +37,7 @@ class MomentField {
     }
 }
 
-const tagsIn = (text) => [...new Set(text.split(/[\s,]+/).filter(Boolean).map((tag) => tag.replace(/^@/, "")))].sort();
+export const tagsIn = (text) => [...new Set(text.split(/[\s,]+/).filter(Boolean).map((tag) => tag.replace(/^@/, "")))].sort();
 
 export class Fields {
     // For a task, or a new one where none is given. What never changes on a task is shown and can't be changed.

@@ -8,6 +8,8 @@ const LIST = [
     ["↑ ↓, Page Up, Page Down, Home, End", "Go from task to task, in the list"],
     ["Enter", "Open the task"],
     ["d", "Complete or reopen the task"],
+    ["x", "Choose the task, to change several at once"],
+    ["Shift + ↑ ↓, Ctrl + A", "Choose on to the next one, choose all"],
 ];
 const ANYWHERE = [
     ["Escape", "Close the task or the form"],

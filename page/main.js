@@ -1,5 +1,6 @@
 // The page as a whole: who is signed in, which board and which view are shown.
 import { beginAdding } from "./adding.js";
+import { beginBulk } from "./bulk.js";
 import { changes } from "./changes.js";
 import { check, isWhole } from "./checking.js";
 import { beginCrew } from "./crew.js";
@@ -17,6 +18,7 @@ import { beginPanel } from "./panel.js";
 import { beginPeople } from "./people.js";
 import { beginRepeating } from "./repeating.js";
 import { faultInTitle } from "./rules.js";
+import { beginSelection } from "./selection.js";
 import { beginSending, keep } from "./sending.js";
 import { beginSigning, keepUnused } from "./signing.js";
 import { announce, go, goInstead, here, listen, readRoute, state, VIEWS } from "./state.js";
@@ -78,7 +80,9 @@ const PARTS = [
     beginCrew,
     beginAdding,
     beginFilters,
+    beginSelection,
     beginTasks,
+    beginBulk,
     beginEditing,
     beginPanel,
     beginRepeating,

@@ -16,7 +16,7 @@ const endToast = () => fill(find("toast"));
 const quoted = (text) => make("q", {}, said(text, 120));
 const about = (change) => [`${change.verb} `, quoted(change.subject)];
 
-function toast(...children) {
+export function toast(...children) {
     fill(find("toast"), ...children, button("Close", endToast, { class: "quiet" }));
     clearTimeout(timer);
     timer = setTimeout(endToast, TOLD_FOR);
@@ -119,7 +119,7 @@ const draw = () => [drawState, drawUnanswered, drawNotices].forEach((part) => pa
 // Offers a way back from what closed a task.
 function offerBack({ change, status }) {
     const word = WAYS_BACK[change.path.split("/").at(-1)];
-    if (status !== 200 || !word || document.hidden) return;
+    if (status !== 200 || !word || document.hidden || change.isOneOfMany) return;
     const task = { uuid: change.task, description: change.subject };
     const undo = button("Undo", () => {
         endToast();

@@ -5,6 +5,7 @@ import { isGone } from "./crew.js";
 import { button, make, oneLine, said, span } from "./dom.js";
 import { inWords, isOver, seconds } from "./moments.js";
 import { tellFault } from "./notices.js";
+import { isPicked, pick, pickByClick, pickTo } from "./selection.js";
 import { keep } from "./sending.js";
 import { go, here, state } from "./state.js";
 
@@ -62,21 +63,29 @@ function nameOf(task) {
     return [oneLine(description), ...about].join(", ");
 }
 
+// A box that chooses a task, to change several at once; the keys of the list do so too.
+function boxOf(task) {
+    const isChecked = isPicked(task.uuid);
+    const choose = (event) => (event.shiftKey ? pickTo(task.uuid) : pick(task.uuid));
+    return make("input", { type: "checkbox", class: "choose", checked: isChecked, "aria-label": `Choose: ${oneLine(task.description, 80)}`, tabindex: -1, click: choose });
+}
+
 export function makeRow(task) {
     const [act, word, kind] = task.isOpen ? ["done", "Complete", "tick"] : ["reopen", "Reopen", "tick ticked"];
     const settings = { class: kind, "aria-label": `${word}: ${oneLine(task.description, 80)}`, title: word, tabindex: -1 };
-    const open = button(said(task.description), () => go(state.number, "tasks", task.uuid), { class: "open", "aria-label": nameOf(task) });
+    const show = (event) => (!isReader() && pickByClick(event, task.uuid)) || go(state.number, "tasks", task.uuid);
+    const open = button(said(task.description), show, { class: "open", "aria-label": nameOf(task) });
     open.addEventListener("keydown", (event) => {
         if (event.key === "d" && !isReader() && !event.ctrlKey && !event.metaKey && !event.altKey) change(task, act);
     });
     const rank = task.isOpen ? span("urgency", span("hidden", "urgency "), urgencyText(task)) : "";
     const isChosen = task.uuid === state.chosen;
-    const about = { class: isChosen ? "row chosen" : "row", role: "listitem", "aria-current": isChosen ? "true" : null };
-    return make("div", about, isReader() ? span(kind) : button("", () => change(task, act), settings), open, span("chips", ...chips(task)), assigneeOf(task.assignee), dueOf(task), rank);
+    const about = { class: `row${isChosen ? " chosen" : ""}${isPicked(task.uuid) ? " picked" : ""}`, role: "listitem", "aria-current": isChosen ? "true" : null };
+    return make("div", about, isReader() ? "" : boxOf(task), isReader() ? span(kind) : button("", () => change(task, act), settings), open, span("chips", ...chips(task)), assigneeOf(task.assignee), dueOf(task), rank);
 }
 
 // What of a row comes from elsewhere than the task's own line.
 export function lookOf(task) {
     const due = task.due === undefined ? "" : inWords(task.due) + isOver(task.due);
-    return [isReader(), task.uuid === state.chosen, unanswered.has(task.uuid), task.isBlocked, task.isBlocking, urgencyText(task), due, isGone(task.assignee)].join();
+    return [isReader(), task.uuid === state.chosen, isPicked(task.uuid), unanswered.has(task.uuid), task.isBlocked, task.isBlocking, urgencyText(task), due, isGone(task.assignee)].join();
 }

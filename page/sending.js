@@ -56,15 +56,21 @@ export async function beginSending() {
 }
 
 // Holds changes on the device, and then sends them. Several are a group: where one is refused those behind it are taken back.
-export const keep = (...made) => hold(made, made.length > 1 ? newIdentifier() : "");
+export const keep = (...made) => keepGroups([made]);
 
 // Several that don't hang together: each is answered by itself.
-export const keepEach = (made) => hold(made, "");
+export const keepEach = (made) => keepGroups(made.map((change) => [change]));
 
-async function hold(made, group) {
-    // A second click on what waits already says nothing new.
-    if (made[0].task && !made[0].body && waiting().findLast((one) => one.task === made[0].task)?.path === made[0].path) return;
-    const kept = made.map((change) => toKeep(change, group));
+// A second click on what waits already says nothing new.
+const isNews = ({ task, body, path }) => !task || body || waiting().findLast((one) => one.task === task)?.path !== path;
+
+// Groups that don't hang together, all of them on the device at once.
+export async function keepGroups(groups) {
+    const kept = groups.flatMap((made) => {
+        const group = made.length > 1 ? newIdentifier() : "";
+        return made.filter(isNews).map((change) => toKeep(change, group));
+    });
+    if (kept.length === 0) return;
     putting.push(...kept);
     announce("kept");
     try {

@@ -3,6 +3,7 @@ import { counted, fill, find, make, said, span } from "./dom.js";
 import { grouped, shown } from "./filters.js";
 import { List } from "./list.js";
 import { chip, lookOf, makeRow, setUnanswered } from "./rows.js";
+import { pickByKey, setOrder } from "./selection.js";
 import { waiting } from "./sending.js";
 import { here, listen, state } from "./state.js";
 
@@ -23,7 +24,10 @@ function draw(isAsked) {
     fill(find("nothing"), isShown && tasks.length === 0 ? hint : "");
     find("list").classList.toggle("assigned", isShown && board.assignees.length > 0);
     find("unknown-task").hidden = !isShown || !state.chosen || board.byId.has(state.chosen);
-    if (isShown) list.show(grouped(tasks, state.filter.group), isAsked === true);
+    if (!isShown) return;
+    const items = grouped(tasks, state.filter.group);
+    setOrder(items === tasks ? tasks : items.filter((item) => item.heading === undefined));
+    list.show(items, isAsked === true);
 }
 
 // What was added and has no answer yet stands above the list.
@@ -46,6 +50,8 @@ export function beginTasks() {
     listen("kept", drawUnanswered);
     listen("filter", () => draw(true));
     listen("people", draw);
+    listen("chosen", () => list.draw());
+    find("list").addEventListener("keydown", (event) => here()?.role === "reader" || pickByKey(event));
     listen("route", () => [drawUnanswered, draw].forEach((part) => part()));
     listen("board", () => [drawUnanswered, draw].forEach((part) => part()));
 }
