@@ -3,7 +3,7 @@
 const FOCUSABLE = "a[href], button, input, select, textarea, summary, [tabindex]";
 // The parts of the page within which something near is looked for.
 const PARTS = "main, aside, header, dialog, .told";
-const FALLBACKS = ["#name", "dialog[open] button", "#list .open[tabindex='0']", "#heading"];
+const FALLBACKS = ["#name", "dialog[open] button", "#list .open[tabindex='0']", "#heading", "#board", "#new-board"];
 
 // What had the focus last: the element, what it stands in, from the inside out, and its place among what takes the focus there.
 let last = null;

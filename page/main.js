@@ -46,6 +46,7 @@ function drawBoards() {
     find("unknown-board").textContent = `You have no role on board ${state.number}, or it isn't there. Choose another board above, or ask an owner to let you in.`;
     if (!here()) find("board").selectedIndex = -1;
     document.body.classList.toggle("without-board", !here());
+    find("views").hidden = !here();
     document.body.classList.toggle("reader", here()?.role === "reader");
     find("heading").textContent = oneLine(here()?.title ?? "");
     document.title = here() ? `${oneLine(here().title, 60)} · taskboard` : "taskboard";
