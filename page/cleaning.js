@@ -35,34 +35,41 @@ const CONTROL = /[\u0000-\u001F]/g;
 const escaped = (piece) => piece.replace(CONTROL, (character) => `\\u${character.charCodeAt(0).toString(16).padStart(4, "0")}`);
 const withoutControls = (text) => text.replace(PIECE, (piece) => (piece.startsWith('"') ? escaped(piece) : piece));
 
-// How Taskwarrior calls units of time: as many days or months. It counts 14 days as a sennight.
-const DAYS = { d: 1, day: 1, days: 1, w: 7, wk: 7, wks: 7, week: 7, weeks: 7, weekly: 7, fortnight: 14, sennight: 14, biweekly: 14 };
-const MONTHS = { m: 1, mo: 1, mos: 1, mth: 1, mths: 1, mnths: 1, month: 1, months: 1, monthly: 1, bimonthly: 2, q: 3, qtr: 3, qtrs: 3, qrtr: 3, qrtrs: 3, quarter: 3, quarters: 3, quarterly: 3 };
-const YEARS = { y: 1, yr: 1, yrs: 1, year: 1, years: 1, annual: 1, yearly: 1, biannual: 2, biyearly: 2 };
-const UNITS = { ...Object.fromEntries(Object.entries(DAYS).map(([name, count]) => [name, ["d", count]])), ...Object.fromEntries(Object.entries(MONTHS).map(([name, count]) => [name, ["mo", count]])), ...Object.fromEntries(Object.entries(YEARS).map(([name, count]) => [name, ["y", count]])) };
-const WORDS = { "7d": "weekly", "14d": "biweekly", "1d": "daily", "1mo": "monthly", "3mo": "quarterly", "6mo": "semiannual", "1y": "yearly" };
+// How Taskwarrior calls its units of time: so many days, months or years each. A sennight has 14 days there.
+const UNITS = [
+    ["d", 1, "d day days daily"],
+    ["d", 7, "w wk wks week weeks weekly"],
+    ["d", 14, "fortnight sennight biweekly"],
+    ["mo", 1, "m mo mos mth mths mnths month months monthly"],
+    ["mo", 2, "bimonthly"],
+    ["mo", 3, "q qtr qtrs qrtr qrtrs quarter quarters quarterly"],
+    ["mo", 6, "semiannual"],
+    ["y", 1, "y yr yrs year years annual yearly"],
+    ["y", 2, "biannual biyearly"],
+];
+const byName = new Map(UNITS.flatMap(([letters, count, names]) => names.split(" ").map((name) => [name, { letters, count }])));
+const WORDS = { "1d": "daily", "7d": "weekly", "14d": "biweekly", "1mo": "monthly", "3mo": "quarterly", "6mo": "semiannual", "1y": "yearly" };
 
 // The step of the server that means the same; nothing where there is none.
 export function respelled(recur) {
     if (stepOf(recur)) return recur;
-    const [, count = "1", unit] = /^(\d*)\s*([a-z]+)$/i.exec(recur) ?? [];
-    const [letters, times] = UNITS[unit?.toLowerCase()] ?? [];
-    const total = letters && (Number(count || 1) * times);
-    if (!total) return "";
-    const short = letters === "d" && total % 7 === 0 && total > 999 ? `${total / 7}w` : `${total}${letters}`;
+    const [, times, name] = /^(\d*)\s*([a-z]+)$/.exec(recur) ?? [];
+    const unit = byName.get(name);
+    if (!unit) return "";
+    const short = `${unit.count * Number(times || 1)}${unit.letters}`;
     const step = WORDS[short] ?? short;
     return stepOf(step) ? step : "";
 }
 
-// A task's text as the server takes it, and what was changed for that: what stood there, and what stands there now.
+// A task's text as the server takes it, and what was changed for that.
 export function clean(given) {
-    const text = CONTROL.test(given) ? withoutControls(given) : given;
-    const changes = text === given ? [] : [["control characters", "written as JSON has them"]];
+    const text = given.search(CONTROL) >= 0 ? withoutControls(given) : given;
+    const changes = text === given ? [] : ["control characters, written as JSON has them"];
     let [cleaned, from] = ["", 0];
     for (const { name, value, from: begin, to } of membersOf(text)) {
         const now = cleanValue(name, value);
         if (now === value) continue;
-        changes.push([`${name} ${value}`, now]);
+        changes.push(`${name} ${value} is ${now}`);
         cleaned += text.slice(from, begin) + now;
         from = to;
     }

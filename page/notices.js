@@ -2,7 +2,7 @@
 import { hasForm, openAgain, textsOf } from "./again.js";
 import { NoAnswer } from "./asking.js";
 import { changes, reason } from "./changes.js";
-import { button, counted, fill, find, make, said, span } from "./dom.js";
+import { button, counted, fill, find, make, said, span, tasksTold } from "./dom.js";
 import { ago } from "./moments.js";
 import { forget, keep, sendAgain, sendAllTheSame, sendNow, settled, vainTries, waiting } from "./sending.js";
 import { listen } from "./state.js";
@@ -101,7 +101,8 @@ function report(parts) {
     ].filter(Boolean);
     const soFar = parts[0].parts > 1 ? ` (${parts.length} of ${parts[0].parts} parts)` : "";
     const text = make("p", {}, make("strong", {}, "Imported "), quoted(parts[0].file), `${soFar}: ${told.join("; ")}.`);
-    return make("li", { class: "notice" }, text, button("Dismiss", () => forget(...parts)));
+    const losses = tasksTold("Which tasks lost what", parts.flatMap((part) => part.losses ?? []));
+    return make("li", { class: "notice" }, make("div", {}, text, losses), button("Dismiss", () => forget(...parts)));
 }
 
 function drawNotices() {

@@ -13,6 +13,7 @@ import time
 import uuid
 
 import page_everywhere
+import page_files
 import page_several
 import page_views
 from office import ALL_ANSWERED, BACKSPACE, BROWSER, DOWN, ENTER, IS_LISTED, IS_TOLD, KEYS, LISTED, LOOK, PROGRAM, SHOTS, SLACK, Office, add, ask, descriptions, expect, new_board, tasks
@@ -352,6 +353,7 @@ def last_steps(office):
 SCENES = (
     *(first_steps, people, killed_server, two_tabs, plain_http, hostile_texts, imports),
     *page_everywhere.SCENES,
+    *page_files.SCENES,
     *page_views.SCENES,
     *page_several.SCENES,
     *(large_board, last_steps),
