@@ -279,7 +279,7 @@ def imports(office):
             browser.wait(ALL_ANSWERED)
     browser.wait(IS_TOLD, "(3 of 3 parts): 2,300 new; 0 known")
     browser.wait(IS_TOLD, "2 new; 0 known")
-    browser.wait(IS_TOLD, "has no tasks")
+    browser.wait(IS_TOLD, "the file breaks off in it")
     stored = {task["uuid"]: task for task in tasks(board)}
     expect("tasks that were taken in", 2302, len(stored))
     expect("links", {task["uuid"]: task["depends"] for task in sent if "depends" in task}, {name: task["depends"] for name, task in stored.items() if "depends" in task})
