@@ -4,7 +4,8 @@ import { beginBulk } from "./bulk.js";
 import { changes } from "./changes.js";
 import { check, isWhole } from "./checking.js";
 import { beginCrew } from "./crew.js";
-import { fill, find, oneLine, whenSent } from "./dom.js";
+import { beginDay } from "./day.js";
+import { fill, find, make, oneLine, whenSent } from "./dom.js";
 import { beginEditing } from "./editing.js";
 import { options } from "./fields.js";
 import { beginFiles } from "./files.js";
@@ -41,31 +42,43 @@ function enter(who) {
 function drawBoards() {
     fill(find("board"), options(state.boards.map(({ board, title }) => [String(board), oneLine(title, 60)]), String(state.number)));
     find("no-board").hidden = state.boards.length > 0;
-    if (!state.number && state.boards.length > 0) return goInstead(state.boards[0].board);
-    find("unknown-board").hidden = Boolean(here()) || state.boards.length === 0;
+    const isDay = state.view === "day";
+    if (isDay) find("board").prepend(make("option", { value: "", selected: true }, "All my boards"));
+    else if (!state.number && state.boards.length > 0) return goInstead(state.boards[0].board);
+    const isKnown = isDay ? state.boards.length > 0 : Boolean(here());
+    find("unknown-board").hidden = isKnown || state.boards.length === 0;
     find("unknown-board").textContent = `You have no role on board ${state.number}, or it isn't there. Choose another board above, or ask an owner to let you in.`;
+<<<<<<< HEAD
     if (!here()) find("board").selectedIndex = -1;
     document.body.classList.toggle("without-board", !here());
     find("views").hidden = !here();
     document.body.classList.toggle("reader", here()?.role === "reader");
     find("heading").textContent = oneLine(here()?.title ?? "");
     document.title = here() ? `${oneLine(here().title, 60)} · taskboard` : "taskboard";
+=======
+    if (!isKnown) find("board").selectedIndex = -1;
+    document.body.classList.toggle("without-board", !isKnown);
+    document.body.classList.toggle("reader", !isDay && here()?.role === "reader");
+    const title = isDay ? "My day" : oneLine(here()?.title ?? "");
+    find("heading").textContent = title;
+    document.title = title ? `${oneLine(title, 60)} · taskboard` : "taskboard";
+>>>>>>> f9b55d4 (Show what is due and started on all boards of a person as My day)
 }
 
 async function showRoute() {
     const before = `${state.number} ${state.view}`;
     readRoute();
     if (before !== `${state.number} ${state.view}`) scrollTo(0, 0);
-    if (state.boards.length > 0 && !here()) await lookAtBoards().catch(console.error);
+    if (state.boards.length > 0 && state.number && !here()) await lookAtBoards().catch(console.error);
     for (const view of VIEWS) {
         find(`${view}-view`).hidden = view !== state.view;
-        find(`to-${view}`).href = `#/${state.number}/${view}`;
+        find(`to-${view}`).href = view === "day" ? "#/day" : `#/${state.number || (state.boards[0]?.board ?? 0)}/${view}`;
         find(`to-${view}`).ariaCurrent = view === state.view ? "page" : null;
     }
     if (!state.who) return;
     if (state.boards.length > 0) drawBoards();
     announce("route");
-    if (state.board?.number !== state.number) lookAgain();
+    if (state.number && state.board?.number !== state.number) lookAgain();
 }
 
 // The board that this tab made is shown once its number is there.
@@ -89,6 +102,7 @@ const PARTS = [
     beginRepeating,
     beginPeople,
     beginFiles,
+    beginDay,
     beginLooking,
     beginOffline,
     beginFocus,
@@ -98,7 +112,7 @@ const PARTS = [
 function begin() {
     keepUnused();
     for (const beginPart of PARTS) beginPart();
-    find("board").addEventListener("change", (event) => go(event.target.value, state.view));
+    find("board").addEventListener("change", (event) => go(event.target.value, state.view === "day" ? "tasks" : state.view));
     find("new-board").addEventListener("click", () => find("board-dialog").showModal());
     find("cancel-board").addEventListener("click", () => find("board-dialog").close());
     check(find("board-title"), (text) => faultInTitle(text.trim()));

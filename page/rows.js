@@ -13,12 +13,13 @@ import { go, here, state } from "./state.js";
 let unanswered = new Set();
 
 export const setUnanswered = (uuids) => (unanswered = new Set(uuids));
-const isReader = () => here()?.role === "reader";
-const change = (task, action) => keep(changes.act(state.number, task, action)).catch(tellFault);
+// The board of a row where none is given: the one that is shown.
+const shownBoard = () => ({ number: state.number, role: here()?.role, title: "" });
 export const chip = (kind, ...children) => span(`chip ${kind}`, ...children);
 
-function chips(task) {
+function chips(task, { title }) {
     return [
+        title ? chip("board", said(title, 40)) : "",
         unanswered.has(task.uuid) ? chip("unanswered", "not answered yet") : "",
         task.priority ? chip(`priority-${task.priority}`, PRIORITIES[task.priority]) : "",
         task.isListed && task.told.start ? chip("started", "started") : "",
@@ -39,16 +40,16 @@ function dueOf(task) {
 }
 
 // Who has a task: the first letter in a circle, and the name.
-export function assigneeOf(name) {
+function assigneeOf(name, isOver) {
     if (!name) return span("assignee");
-    const kind = isGone(name) ? "gone" : name === state.who?.name ? "mine" : "";
-    const about = isGone(name) ? "no role any more" : "assignee";
+    const kind = isOver ? "gone" : name === state.who?.name ? "mine" : "";
+    const about = isOver ? "no role any more" : "assignee";
     const circle = make("i", { "aria-hidden": "true" }, oneLine(name, 1).slice(0, 1).toUpperCase());
-    return make("span", { class: `assignee ${kind}`, title: `${oneLine(name, 60)}: ${about}` }, circle, span("hidden", "assignee "), said(name, 40), isGone(name) ? span("hidden", " (no role any more)") : "");
+    return make("span", { class: `assignee ${kind}`, title: `${oneLine(name, 60)}: ${about}` }, circle, span("hidden", "assignee "), said(name, 40), isOver ? span("hidden", " (no role any more)") : "");
 }
 
 // A row's name, as it is heard: what the chips beside it show stands in it too.
-function nameOf(task) {
+function nameOf(task, { title }) {
     const { description, priority, due, isBlocked, isOpen, assignee, told } = task;
     const about = [
         priority && `priority ${PRIORITIES[priority]}`,
@@ -57,6 +58,7 @@ function nameOf(task) {
         isOpen && told.start && "started",
         task.status === "waiting" && "waiting",
         !isOpen && task.status,
+        title && `on ${oneLine(title, 40)}`,
         assignee && `for ${oneLine(assignee, 40)}`,
         unanswered.has(task.uuid) && "not answered yet",
     ].filter(Boolean);
@@ -70,22 +72,25 @@ function boxOf(task) {
     return make("input", { type: "checkbox", class: "choose", checked: isChecked, "aria-label": `Choose: ${oneLine(task.description, 80)}`, tabindex: -1, click: choose });
 }
 
-export function makeRow(task) {
+export function makeRow(task, place = shownBoard()) {
+    const isReader = place.role === "reader";
+    const change = (action) => keep(changes.act(place.number, task, action)).catch(tellFault);
+    const canBePicked = !isReader && !place.title;
     const [act, word, kind] = task.isOpen ? ["done", "Complete", "tick"] : ["reopen", "Reopen", "tick ticked"];
     const settings = { class: kind, "aria-label": `${word}: ${oneLine(task.description, 80)}`, title: word, tabindex: -1 };
-    const show = (event) => (!isReader() && pickByClick(event, task.uuid)) || go(state.number, "tasks", task.uuid);
-    const open = button(said(task.description), show, { class: "open", "aria-label": nameOf(task) });
+    const show = (event) => (canBePicked && pickByClick(event, task.uuid)) || go(place.number, "tasks", task.uuid);
+    const open = button(said(task.description), show, { class: "open", "aria-label": nameOf(task, place) });
     open.addEventListener("keydown", (event) => {
-        if (event.key === "d" && !isReader() && !event.ctrlKey && !event.metaKey && !event.altKey) change(task, act);
+        if (event.key === "d" && !isReader && !event.ctrlKey && !event.metaKey && !event.altKey) change(act);
     });
     const rank = task.isOpen ? span("urgency", span("hidden", "urgency "), urgencyText(task)) : "";
     const isChosen = task.uuid === state.chosen;
     const about = { class: `row${isChosen ? " chosen" : ""}${isPicked(task.uuid) ? " picked" : ""}`, role: "listitem", "aria-current": isChosen ? "true" : null };
-    return make("div", about, isReader() ? "" : boxOf(task), isReader() ? span(kind) : button("", () => change(task, act), settings), open, span("chips", ...chips(task)), assigneeOf(task.assignee), dueOf(task), rank);
+    return make("div", about, canBePicked ? boxOf(task) : "", isReader ? span(kind) : button("", () => change(act), settings), open, span("chips", ...chips(task, place)), assigneeOf(task.assignee, !place.title && isGone(task.assignee)), dueOf(task), rank);
 }
 
 // What of a row comes from elsewhere than the task's own line.
-export function lookOf(task) {
+export function lookOf(task, place = shownBoard()) {
     const due = task.due === undefined ? "" : inWords(task.due) + isOver(task.due);
-    return [isReader(), task.uuid === state.chosen, isPicked(task.uuid), unanswered.has(task.uuid), task.isBlocked, task.isBlocking, urgencyText(task), due, isGone(task.assignee)].join();
+    return [place.role, place.title, task.uuid === state.chosen, isPicked(task.uuid), unanswered.has(task.uuid), task.isBlocked, task.isBlocking, urgencyText(task), due, isGone(task.assignee)].join();
 }

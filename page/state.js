@@ -2,7 +2,7 @@
 // it draws.
 import { keepDraft, readDraft } from "./drafts.js";
 
-export const VIEWS = ["tasks", "repeating", "people", "files"];
+export const VIEWS = ["day", "tasks", "repeating", "people", "files"];
 // What a board's tasks are filtered, sorted and grouped by, and whether they stand in columns. Each stands in the address under its name.
 const WHOLE = { text: "", status: "open", assignee: "", due: "", project: "", tag: "", sort: "urgency", group: "", as: "list" };
 
@@ -15,6 +15,7 @@ export const state = {
     board: null, // the tasks of the board, once they came
     people: null, // who has a role on the board, once they came: name and role
     filter: { ...WHOLE }, // what of its tasks is shown, and how
+    isMineOnly: false, // whether My day shows nobody else's
 };
 
 // What is known of the shown board before its tasks came: its number, the role on it, and its title.
@@ -35,7 +36,7 @@ const filterOf = (query) => ({ ...WHOLE, ...Object.fromEntries([...new URLSearch
 
 // The addresses behind the #: My day; or a board, a view, a task where one is open, and what is shown of its tasks.
 function addressOf(number, view, chosen) {
-    if (view === "day") return "#/day";
+    if (view === "day") return state.isMineOnly ? "#/day/mine" : "#/day";
     const query = view === "tasks" && number === state.number ? `?${queryOf(state.filter)}` : "";
     return `#/${number}/${view}${chosen ? `/${chosen}` : ""}${query}`;
 }
@@ -80,7 +81,7 @@ export function readRoute() {
     [writing, isTyping] = [0, false];
     const [path, query] = location.hash.split("?");
     const [, number, view, chosen = ""] = path.split("/");
-    if (number === "day") return Object.assign(state, { view: "day", chosen: "" });
+    if (number === "day") return Object.assign(state, { view: "day", chosen: "", isMineOnly: view === "mine" });
     Object.assign(state, { number: Number(number) || 0, view: VIEWS.includes(view) && view !== "day" ? view : "tasks", chosen });
     if (!state.who || !state.number || state.view !== "tasks") return;
     state.filter = filterOf(query ?? readDraft("filters") ?? "");
@@ -88,4 +89,7 @@ export function readRoute() {
 }
 
 addEventListener("pagehide", writeNow);
-listen("left", () => ([writing, isTyping] = [clearTimeout(writing) ?? 0, false]));
+listen("left", () => {
+    clearTimeout(writing);
+    [writing, isTyping] = [0, false];
+});

@@ -12,6 +12,7 @@ import sys
 import time
 import uuid
 
+import page_day
 import page_everywhere
 import page_files
 import page_several
@@ -356,6 +357,7 @@ SCENES = (
     *page_files.SCENES,
     *page_views.SCENES,
     *page_several.SCENES,
+    *page_day.SCENES,
     *(large_board, last_steps),
 )
 
