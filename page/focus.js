@@ -3,11 +3,7 @@
 const FOCUSABLE = "a[href], button, input, select, textarea, summary, [tabindex]";
 // The parts of the page within which something near is looked for.
 const PARTS = "main, aside, header, dialog, .told";
-<<<<<<< HEAD
-const FALLBACKS = ["#name", "dialog[open] button", "#list .open[tabindex='0']", "#heading", "#board", "#new-board"];
-=======
-const FALLBACKS = ["#name", "dialog[open] button", "#list .open[tabindex='0']", "#day-list .open[tabindex='0']", "#heading"];
->>>>>>> f9b55d4 (Show what is due and started on all boards of a person as My day)
+const FALLBACKS = ["#name", "dialog[open] button", "#list .open[tabindex='0']", "#day-list .open[tabindex='0']", "#heading", "#board", "#new-board"];
 
 // What had the focus last: the element, what it stands in, from the inside out, and its place among what takes the focus there.
 let last = null;

@@ -48,21 +48,13 @@ function drawBoards() {
     const isKnown = isDay ? state.boards.length > 0 : Boolean(here());
     find("unknown-board").hidden = isKnown || state.boards.length === 0;
     find("unknown-board").textContent = `You have no role on board ${state.number}, or it isn't there. Choose another board above, or ask an owner to let you in.`;
-<<<<<<< HEAD
-    if (!here()) find("board").selectedIndex = -1;
-    document.body.classList.toggle("without-board", !here());
-    find("views").hidden = !here();
-    document.body.classList.toggle("reader", here()?.role === "reader");
-    find("heading").textContent = oneLine(here()?.title ?? "");
-    document.title = here() ? `${oneLine(here().title, 60)} · taskboard` : "taskboard";
-=======
     if (!isKnown) find("board").selectedIndex = -1;
     document.body.classList.toggle("without-board", !isKnown);
+    find("views").hidden = !isKnown;
     document.body.classList.toggle("reader", !isDay && here()?.role === "reader");
     const title = isDay ? "My day" : oneLine(here()?.title ?? "");
     find("heading").textContent = title;
     document.title = title ? `${oneLine(title, 60)} · taskboard` : "taskboard";
->>>>>>> f9b55d4 (Show what is due and started on all boards of a person as My day)
 }
 
 async function showRoute() {
