@@ -107,14 +107,18 @@ export async function lookAgain(withBoards = false) {
     }
 }
 
+function write(id, text) {
+    if (find(id).textContent !== text) find(id).textContent = text;
+}
+
 // Says how old the tasks are where the server doesn't answer, or takes its time to answer for the first time.
 function drawAge() {
     const { board, number } = state;
     const isShown = board?.number === number;
     const isOld = isShown && (!isThere || (board.isSeen && Date.now() - board.shownAt > PATIENCE));
-    find("age").hidden = !isOld;
-    if (isOld) find("age-ago").textContent = Date.now() - board.at < 60000 ? "less than a minute ago" : ago(board.at);
-    find("loading").textContent = isThere ? "Asking the server for the tasks." : "The server doesn't answer, and this device hasn't seen these tasks. They come when it answers.";
+    if (find("age").hidden === isOld) find("age").hidden = !isOld;
+    if (isOld) write("age-ago", Date.now() - board.at < 60000 ? "less than a minute ago" : ago(board.at));
+    write("loading", isThere ? "Asking the server for the tasks." : "The server doesn't answer, and this device hasn't seen these tasks. They come when it answers.");
 }
 
 function lookIfSeen() {
