@@ -106,6 +106,7 @@ function draw() {
     const isNew = find("bulk").hidden && tasks.length > 0;
     if (tasks.length === 0 && find("bulk").contains(document.activeElement)) find("list").querySelector(".open[tabindex='0']")?.focus();
     find("bulk").hidden = tasks.length === 0;
+    document.body.classList.toggle("with-bulk", tasks.length > 0);
     if (tasks.length === 0 && opened) open("");
     find("bulk-count").textContent = `${counted(tasks.length)} chosen`;
     const isFit = { done: tasks.some((task) => task.isListed), reopen: tasks.some((task) => !task.isOpen), delete: tasks.some((task) => task.isOpen) };
