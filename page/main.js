@@ -17,6 +17,7 @@ import { beginNotices, tellFault } from "./notices.js";
 import { beginOffline } from "./offline.js";
 import { beginPanel } from "./panel.js";
 import { beginPeople } from "./people.js";
+import { beginRenewing } from "./renewing.js";
 import { beginRepeating } from "./repeating.js";
 import { faultInTitle } from "./rules.js";
 import { beginSelection } from "./selection.js";
@@ -94,6 +95,7 @@ const PARTS = [
     beginRepeating,
     beginPeople,
     beginFiles,
+    beginRenewing,
     beginDay,
     beginLooking,
     beginOffline,

@@ -3,7 +3,7 @@ import json
 import os
 import pathlib
 
-from office import ALL_ANSWERED, IS_TOLD, add, expect, new_board, tasks, tell
+from office import ALL_ANSWERED, IS_TOLD, add, ask, expect, new_board, tasks, tell
 
 ID = "00000000-0000-4000-9000-00000000000{}"
 
@@ -80,4 +80,30 @@ def lost_in_export(office):
     office.go(board)
 
 
-SCENES = (the_rest, lost_in_export)
+def full_board(office):
+    """A board of 9,000 tasks goes on with a new one: the same people and roles, the open tasks and templates in their places, the old one as it was."""
+    browser, board = office.browser, new_board("Full", bob="member")
+    for part in range(9):
+        ask(f"/boards/{board}/import-todo", "".join(f"x 2026-01-01 Done {part} {number}\n" for number in range(999)).encode())
+    template = add(board, description="Each week", due="20260105T000000Z", recur="weekly")
+    first = next(task for task in tasks(board) if task.get("parent") == template)
+    tell(f"/boards/{board}/tasks/{first['uuid']}/done")
+    add(board, description="Open", depends=[add(board, description="Ahead")])
+    ask(f"/boards/{board}/import-todo", "".join(f"Filler {number}\n" for number in range(9000 - len(tasks(board)))).encode())
+    before = tasks(board)
+    office.begin(board)
+    browser.wait("return document.getElementById('go-on').offsetParent")
+    browser.click("#go-on")
+    expect("the title", "Full 2", browser.run("return document.getElementById('renew-title').value"))
+    browser.click("#renew-form .primary")
+    browser.wait("return document.title.startsWith('Full 2')")
+    browser.wait(IS_TOLD, "Imported")
+    browser.wait(ALL_ANSWERED)
+    made = int(browser.run("return location.hash.split('/')[1]"))
+    expect("the old board", before, tasks(board))
+    expect("people", json.loads(ask(f"/boards/{board}/people"))["people"], json.loads(ask(f"/boards/{made}/people"))["people"])
+    expect("tasks", [task for task in before if task["status"] in ("pending", "waiting", "recurring")], sorted(tasks(made), key=lambda task: [one["uuid"] for one in before].index(task["uuid"])))
+    browser.run("[...document.querySelectorAll('#notices button')].at(-1).click()")
+
+
+SCENES = (full_board, the_rest, lost_in_export)
