@@ -14,7 +14,7 @@ import { here, listen, state } from "./state.js";
 
 // How long Save waits for the freshest copy of the task, in milliseconds; without one it takes the copy that is shown.
 const PATIENCE = 5000;
-const LABELS = { description: "The description", project: "The project", priority: "The priority", assignee: "The assignee", due: "The due date", wait: "The date until which it waits", recur: "The repeat" };
+const LABELS = { description: "The description", project: "The project", priority: "The priority", assignee: "The assignee", due: "The due date", wait: "The date until which it waits", scheduled: "The scheduled date", until: "The date until which it repeats or counts", recur: "The repeat" };
 // The task in the form, its fields, what they said when the form was opened, and whether the task is to be reopened first.
 let [edited, fields, before, reopens] = [null, null, null, false];
 
@@ -77,7 +77,7 @@ async function freshest(task) {
 function worded(name, value) {
     if (value === null) return "nothing";
     if (name === "priority") return PRIORITIES[value];
-    return name === "due" || name === "wait" ? inFull(seconds(value)) : value;
+    return ["due", "wait", "scheduled", "until"].includes(name) ? inFull(seconds(value)) : value;
 }
 
 // Both texts beside each other; the one that is chosen is what Save goes on with.

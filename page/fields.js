@@ -8,6 +8,7 @@ import { STEPS } from "./recurrence.js";
 import { faultInDescription, faultInPair, faultInStep, faultInTags, faultInText } from "./rules.js";
 import { listen } from "./state.js";
 
+const MOMENTS = ["due", "wait", "scheduled", "until"];
 let made = 0;
 
 export const options = (choices, chosen) => choices.map(([value, label]) => make("option", { value, selected: value === chosen }, label));
@@ -53,6 +54,8 @@ export class Fields {
         drawAssignees(this.assignee, task?.assignee ?? "");
         this.due = new MomentField("Due", task?.due, isTemplate);
         this.wait = new MomentField("Wait until", seconds(task?.told.wait));
+        this.scheduled = new MomentField("Scheduled", seconds(task?.told.scheduled));
+        this.until = new MomentField("Until", seconds(task?.told.until));
         this.recur = input(task?.recur, { disabled: Boolean(task), placeholder: "weekly" });
         this.elements = [
             this.description ? labelled("Description", this.description) : "",
@@ -62,6 +65,8 @@ export class Fields {
             labelled("Assignee", this.assignee),
             this.due.element,
             this.wait.element,
+            this.scheduled.element,
+            this.until.element,
             !task || isTemplate ? labelled("Repeat", ...suggesting(this.recur, STEPS)) : "",
         ];
         this.#check();
@@ -77,8 +82,9 @@ export class Fields {
 
     // The elements that are typed into, by the names of what they hold.
     #inputs() {
-        const { description, project, tags, priority, assignee, due, wait, recur } = this;
-        const inputs = { description, project, tags, priority, assignee, "due day": due.day, "due time": due.time, "wait day": wait.day, "wait time": wait.time, recur };
+        const { description, project, tags, priority, assignee, recur } = this;
+        const moments = MOMENTS.flatMap((name) => [[`${name} day`, this[name].day], [`${name} time`, this[name].time]]);
+        const inputs = { description, project, tags, priority, assignee, ...Object.fromEntries(moments), recur };
         return Object.entries(inputs).filter(([, input]) => input);
     }
 
@@ -99,6 +105,7 @@ export class Fields {
         const tags = tagsIn(this.tags.value);
         const said = { project: this.project.value.trim() || null, tags: tags.length ? tags : null, priority: this.priority.value || null, assignee: this.assignee.value || null };
         if (this.description) said.description = this.description.value.trim();
-        return { ...said, due: this.due.read(), wait: this.wait.read(), recur: this.recur.value.trim() || null };
+        const moments = Object.fromEntries(MOMENTS.map((name) => [name, this[name].read()]));
+        return { ...said, ...moments, recur: this.recur.value.trim() || null };
     }
 }

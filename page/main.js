@@ -1,6 +1,7 @@
 // The page as a whole: who is signed in, which board and which view are shown.
 import { beginAdding } from "./adding.js";
 import { beginBulk } from "./bulk.js";
+import { beginBecoming } from "./becoming.js";
 import { changes } from "./changes.js";
 import { check, isWhole } from "./checking.js";
 import { beginCrew } from "./crew.js";
@@ -92,6 +93,7 @@ const PARTS = [
     beginBulk,
     beginEditing,
     beginPanel,
+    beginBecoming,
     beginRepeating,
     beginPeople,
     beginFiles,

@@ -3,7 +3,7 @@ import json
 import os
 import pathlib
 
-from office import ALL_ANSWERED, IS_TOLD, add, ask, expect, new_board, tasks, tell
+from office import ALL_ANSWERED, ENTER, IS_TOLD, add, ask, expect, new_board, tasks, tell
 
 ID = "00000000-0000-4000-9000-00000000000{}"
 
@@ -106,4 +106,30 @@ def full_board(office):
     browser.run("[...document.querySelectorAll('#notices button')].at(-1).click()")
 
 
-SCENES = (full_board, the_rest, lost_in_export)
+def made_to_repeat(office):
+    """An existing task gets other dates, and is made to repeat: another takes its place, with its notes and links."""
+    browser, board = office.browser, new_board("Becoming")
+    first = add(board, description="Water the plants", due="20991231T000000Z", depends=[add(board, description="Buy a can")], assignee="ann")
+    tell(f"/boards/{board}/tasks/{first}/annotate", description="Little")
+    office.begin(board)
+    office.go(board, "tasks", first)
+    browser.wait("return document.getElementById('edit')?.checkVisibility()")
+    browser.click("#edit")
+    for name, day in (("Scheduled", "2099-12-01"), ("Until", "2100-06-30")):
+        browser.run("const field = document.querySelector(`#edit-fields [aria-label='${arguments[0]}: day']`); field.value = arguments[1]; field.dispatchEvent(new Event('input', { bubbles: true }))", name, day)
+    browser.click("#edit-form .primary")
+    browser.wait("return document.getElementById('task-facts').textContent.includes('1 Dec 2099') && document.getElementById('task-facts').textContent.includes('30 Jun 2100')")
+    browser.click("#repeat-part summary")
+    browser.type("#repeat-step", "month" + ENTER)
+    browser.wait(IS_TOLD, "This isn't a repeat that the server knows")
+    browser.type("#repeat-step", "ly" + ENTER)
+    browser.wait("return !document.getElementById('repeat-part').checkVisibility()")
+    browser.wait(ALL_ANSWERED)
+    stored = [task for task in tasks(board) if task["description"] == "Water the plants"]
+    expect("statuses", ["deleted", "recurring", "pending"], [task["status"] for task in stored])
+    members = ("recur", "due", "scheduled", "until", "assignee", "depends")
+    expect("the repeating task", ["monthly", "20991231T000000Z", "20991201T000000Z", "21000630T000000Z", "ann", stored[0]["depends"]], [stored[1][name] for name in members])
+    expect("its notes", ["Little"], [note["description"] for note in stored[1]["annotations"]])
+
+
+SCENES = (made_to_repeat, full_board, the_rest, lost_in_export)
