@@ -39,6 +39,10 @@ function drawValues() {
         if (select.selectedIndex < 0) select.append(...options([[filter[name], oneLine(filter[name], 40)]], filter[name]));
         select.classList.toggle("set", isSet(name));
     }
+    const inColumns = filter.as === "columns";
+    find("as-list").ariaPressed = !inColumns;
+    find("as-columns").ariaPressed = inColumns;
+    for (const id of ["filter-status", "filter-group", "choose"]) find(id).hidden = inColumns;
     if (find("filter-text").value !== filter.text) find("filter-text").value = filter.text;
     find("filter-clear").hidden = !isFiltered();
     const count = ["status", "assignee", "due", "project", "tag"].filter(isSet).length;
@@ -48,6 +52,7 @@ function drawValues() {
 export function beginFilters() {
     for (const name of Object.keys(CHOICES)) find(`filter-${name}`).addEventListener("input", (event) => setFilter({ [name]: event.target.value }));
     find("filter-text").addEventListener("input", (event) => setFilter({ text: event.target.value }, true));
+    for (const as of ["list", "columns"]) find(`as-${as}`).addEventListener("click", () => setFilter({ as }));
     find("filter-clear").addEventListener("click", () => {
         clearFilter();
         find("filter-text").focus();

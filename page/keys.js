@@ -10,6 +10,7 @@ const LIST = [
     ["d", "Complete or reopen the task"],
     ["x", "Choose the task, to change several at once"],
     ["Shift + ↑ ↓, Ctrl + A", "Choose on to the next one, choose all"],
+    ["Shift + ← →", "In columns, move the card: start, stop, complete or reopen the task"],
 ];
 const ANYWHERE = [
     ["Escape", "Close the task or the form"],

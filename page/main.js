@@ -4,6 +4,7 @@ import { beginBulk } from "./bulk.js";
 import { beginBecoming } from "./becoming.js";
 import { changes } from "./changes.js";
 import { check, isWhole } from "./checking.js";
+import { beginColumns } from "./columns.js";
 import { beginCrew } from "./crew.js";
 import { beginDay } from "./day.js";
 import { fill, find, make, oneLine, whenSent } from "./dom.js";
@@ -90,6 +91,7 @@ const PARTS = [
     beginFilters,
     beginSelection,
     beginTasks,
+    beginColumns,
     beginBulk,
     beginEditing,
     beginPanel,

@@ -14,10 +14,10 @@ let unanswered = new Set();
 
 export const setUnanswered = (uuids) => (unanswered = new Set(uuids));
 // The board of a row where none is given: the one that is shown.
-const shownBoard = () => ({ number: state.number, role: here()?.role, title: "" });
+export const shownBoard = () => ({ number: state.number, role: here()?.role, title: "" });
 export const chip = (kind, ...children) => span(`chip ${kind}`, ...children);
 
-function chips(task, { title }) {
+export function chipsOf(task, { title }) {
     return [
         title ? chip("board", said(title, 40)) : "",
         unanswered.has(task.uuid) ? chip("unanswered", "not answered yet") : "",
@@ -33,14 +33,14 @@ function chips(task, { title }) {
     ];
 }
 
-function dueOf(task) {
+export function dueOf(task) {
     if (task.due === undefined) return span("due");
     const isLate = task.isOpen && isOver(task.due);
     return span(isLate ? "due late" : "due", span("hidden", isLate ? "was due " : "due "), inWords(task.due));
 }
 
 // Who has a task: the first letter in a circle, and the name.
-function assigneeOf(name, isOver) {
+export function assigneeOf(name, isOver) {
     if (!name) return span("assignee");
     const kind = isOver ? "gone" : name === state.who?.name ? "mine" : "";
     const about = isOver ? "no role any more" : "assignee";
@@ -49,7 +49,7 @@ function assigneeOf(name, isOver) {
 }
 
 // A row's name, as it is heard: what the chips beside it show stands in it too.
-function nameOf(task, { title }) {
+export function nameOf(task, { title }) {
     const { description, priority, due, isBlocked, isOpen, assignee, told } = task;
     const about = [
         priority && `priority ${PRIORITIES[priority]}`,
@@ -86,7 +86,7 @@ export function makeRow(task, place = shownBoard()) {
     const rank = task.isOpen ? span("urgency", span("hidden", "urgency "), urgencyText(task)) : "";
     const isChosen = task.uuid === state.chosen;
     const about = { class: `row${isChosen ? " chosen" : ""}${isPicked(task.uuid) ? " picked" : ""}`, role: "listitem", "aria-current": isChosen ? "true" : null };
-    return make("div", about, canBePicked ? boxOf(task) : "", isReader ? span(kind) : button("", () => change(act), settings), open, span("chips", ...chips(task, place)), assigneeOf(task.assignee, !place.title && isGone(task.assignee)), dueOf(task), rank);
+    return make("div", about, canBePicked ? boxOf(task) : "", isReader ? span(kind) : button("", () => change(act), settings), open, span("chips", ...chipsOf(task, place)), assigneeOf(task.assignee, !place.title && isGone(task.assignee)), dueOf(task), rank);
 }
 
 // What of a row comes from elsewhere than the task's own line.

@@ -1,4 +1,5 @@
 // The list of a board's tasks.
+import { columnOf, showColumns } from "./columns.js";
 import { counted, fill, find, make, said, span } from "./dom.js";
 import { grouped, shown } from "./filters.js";
 import { List } from "./list.js";
@@ -11,12 +12,20 @@ import { here, listen, state } from "./state.js";
 const SOON = 500;
 let list, drawn;
 
+// The tasks that pass the filters; in columns their status is told by the column.
+function shownTasks(inColumns) {
+    const { board, filter, who } = state;
+    return inColumns ? shown(board, { ...filter, status: "all" }, who.name).filter(columnOf) : shown(board, filter, who.name);
+}
+
 function draw(isAsked) {
     const { board } = state;
     const isShown = state.view === "tasks" && board?.number === state.number;
     find("loading").hidden = isShown || !state.number;
-    find("list").hidden = !isShown;
-    const tasks = isShown ? shown(board, state.filter, state.who.name) : [];
+    find("list").hidden = !isShown || state.filter.as === "columns";
+    find("columns").hidden = !isShown || state.filter.as !== "columns";
+    const inColumns = state.filter.as === "columns";
+    const tasks = isShown ? shownTasks(inColumns) : [];
     const all = isShown ? board.tasks.length : 0;
     find("count").textContent = isShown ? `${counted(tasks.length)} of ${counted(all)} tasks` : "";
     const first = here()?.role === "reader" ? "Nothing is here yet." : "Nothing is here yet. Add the first task above, or import some.";
@@ -25,6 +34,10 @@ function draw(isAsked) {
     find("list").classList.toggle("assigned", isShown && board.assignees.length > 0);
     find("unknown-task").hidden = !isShown || !state.chosen || board.byId.has(state.chosen);
     if (!isShown) return;
+    if (inColumns) {
+        setOrder([]);
+        return showColumns(tasks);
+    }
     const items = grouped(tasks, state.filter.group);
     setOrder(items === tasks ? tasks : items.filter((item) => item.heading === undefined));
     list.show(items, isAsked === true);

@@ -1,6 +1,12 @@
 """Scenes of the page: My day, over all boards of a person, and the columns of a board."""
-from office import ALL_ANSWERED, IS_TOLD, KEYS, add, expect, new_board, tasks, tell
-from page_views import moment
+import json
+import uuid
+
+from office import ALL_ANSWERED, IS_TOLD, KEYS, add, ask, expect, new_board, tasks, tell
+from page_several import SHIFT, press
+from page_views import day, moment
+
+LEFT, RIGHT = "\ue012", "\ue014"
 
 DAY = "return [...document.querySelectorAll('#day-list :is(h3 bdi, .open)')].map((text) => text.textContent)"
 IS_DAY = DAY.replace("return", "return JSON.stringify(", 1) + ") === JSON.stringify(arguments[0])"
@@ -59,4 +65,71 @@ def my_day(office):
     office.begin(first)
 
 
-SCENES = (my_day,)
+CARDS = "return Object.fromEntries([...document.querySelectorAll('.column')].map((column) => [column.id.slice(7), [...column.querySelectorAll('.open')].map((card) => card.textContent)]))"
+HAS_CARDS = "const cards = (() => { " + CARDS + " })(); return Object.entries(arguments[0]).every(([name, texts]) => cards[name].join() === texts.join())"
+CARD = "[...document.querySelectorAll('.column .card')].find((card) => card.querySelector('.open').textContent === arguments[0])"
+
+
+def middle(browser, element, *arguments):
+    return browser.run(f"const {{ x, y, width, height }} = {element}.getBoundingClientRect(); return [x + width / 2, y + height / 2].map(Math.round)", *arguments)
+
+
+def drag(browser, text, column):
+    """Drags a card into a column with the mouse."""
+    (left, top), (right, bottom) = middle(browser, CARD, text), middle(browser, "document.getElementById('column-' + arguments[0])", column)
+    stops = [(left + 9, top + 9), ((left + right) // 2, (top + bottom) // 2), (right, bottom), (right + 3, bottom + 3)]
+    moves = [{"type": "pointerMove", "duration": 50, "x": x, "y": y} for x, y in stops]
+    down, up = ({"type": kind, "button": 0} for kind in ("pointerDown", "pointerUp"))
+    start = {"type": "pointerMove", "duration": 0, "x": left, "y": top}
+    browser.call("POST", "/actions", {"actions": [{"type": "pointer", "id": "mouse", "parameters": {"pointerType": "mouse"}, "actions": [start, down, *moves, up]}]})
+
+
+def columns(office):
+    """Cards that are moved by keys and by the mouse are started, stopped, completed and reopened, or wait until a date."""
+    browser = office.browser
+    board = new_board("Columns")
+    add(board, description="Alpha", priority="H")
+    begun = add(board, description="Begun")
+    tell(f"/boards/{board}/tasks/{begun}/start")
+    add(board, description="Waits", wait=moment(3))
+    ended = [{"uuid": str(uuid.uuid4()), "description": text, "status": "completed", "entry": moment(-30), "end": moment(ahead)} for text, ahead in (("Just done", -13), ("Long done", -15))]
+    ask(f"/boards/{board}/import", json.dumps(ended).encode())
+    office.begin(board)
+    browser.click("#as-columns")
+    browser.wait(HAS_CARDS, {"todo": ["Alpha"], "started": ["Begun"], "waiting": ["Waits"], "done": ["Just done"]})
+    office.shot("columns")
+    status = lambda place, *names: [tasks(board)[place].get(name) for name in names]
+    browser.run(f"{CARD}.querySelector('.open').focus()", "Alpha")
+    press(browser, RIGHT, held=SHIFT)
+    browser.wait(HAS_CARDS, {"todo": [], "started": ["Alpha", "Begun"]})
+    browser.wait(ALL_ANSWERED)
+    expect("started", True, bool(status(0, "start")[0]))
+    browser.wait("return document.activeElement.textContent === 'Alpha'")
+    press(browser, LEFT, held=SHIFT)
+    browser.wait(HAS_CARDS, {"todo": ["Alpha"], "started": ["Begun"]})
+    browser.wait(ALL_ANSWERED)
+    expect("stopped", ["pending", None], status(0, "status", "start"))
+    drag(browser, "Alpha", "done")
+    browser.wait(HAS_CARDS, {"todo": [], "done": ["Alpha", "Just done"]})
+    browser.wait(ALL_ANSWERED)
+    expect("completed", ["completed"], status(0, "status"))
+    drag(browser, "Alpha", "started")
+    browser.wait(HAS_CARDS, {"started": ["Alpha", "Begun"], "done": ["Just done"]})
+    browser.wait(ALL_ANSWERED)
+    expect("reopened and started", ["pending", True], [status(0, "status")[0], bool(status(0, "start")[0])])
+    drag(browser, "Begun", "waiting")
+    browser.wait("return document.getElementById('wait-dialog').open")
+    browser.run("document.querySelector('#wait-fields input').value = arguments[0]", str(day(9)))
+    browser.click("#wait-form .primary")
+    browser.wait("return document.querySelectorAll('#column-waiting .card').length === 2")
+    browser.wait(ALL_ANSWERED)
+    expect("waits", ["waiting", moment(9)], status(1, "status", "wait"))
+    drag(browser, "Begun", "todo")
+    browser.wait(HAS_CARDS, {"todo": ["Begun"], "waiting": ["Waits"]})
+    browser.wait(ALL_ANSWERED)
+    expect("waits no more", ["pending", None, None], status(1, "status", "wait", "start"))
+    browser.click("#as-list")
+    browser.wait("return document.querySelectorAll('#list .row').length === 3")
+
+
+SCENES = (my_day, columns)
