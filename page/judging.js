@@ -75,7 +75,7 @@ export function lossesOf(task, isTemplateThere, isTaskThere) {
     const isOpen = ["pending", "waiting", "recurring"].includes(statusOf(task));
     return [
         isThere(task.priority) && !["H", "M", "L"].includes(task.priority) && `its priority ${task.priority}`,
-        isOrphan && "its place among the instances, since their template isn't there",
+        isOrphan && "its repeat and its place among the instances, since their template isn't there",
         !isTemplate(task) && !isInstance(task) && isThere(task.recur) && "its repeat, since it is no template",
         !isTemplate(task) && isThere(task.mask) && "its mask",
         isTemplate(task) && (isThere(task.parent) || hasPlace(task)) && "its place as an instance, since it is a template",

@@ -3,12 +3,12 @@
 //
 // The rest can be made once the new board has its number. Until then a note on this device says what is to be done, so that it is done after a
 // reload too. Done twice it changes nothing: roles are set again, and tasks are known already.
+import { look } from "./asking.js";
 import { changes } from "./changes.js";
 import { check, isWhole } from "./checking.js";
-import { cutTasks } from "./cutting.js";
+import { cutTasks, objectTexts } from "./cutting.js";
 import { counted, find, whenSent } from "./dom.js";
 import { tellFault, tellRefusal } from "./notices.js";
-import { look } from "./asking.js";
 import { faultInTitle, MOST_TASKS } from "./rules.js";
 import { keep, keepEach, settled, waiting } from "./sending.js";
 import { go, here, listen, state } from "./state.js";
@@ -75,9 +75,9 @@ async function goOn() {
 
 async function fill(number, { from, title }) {
     const { who } = state;
-    const [{ people }, tasks] = (await Promise.all(["people", "export"].map((view) => look(who, `/boards/${from}/${view}`)))).map((text) => JSON.parse(text));
-    const lines = tasks.filter(isTaken).map((task) => JSON.stringify(task));
-    const parts = cutTasks(lines);
+    const [crew, tasks] = await Promise.all(["people", "export"].map((view) => look(who, `/boards/${from}/${view}`)));
+    const { people } = JSON.parse(crew);
+    const parts = cutTasks(objectTexts(tasks).texts.filter((text) => isTaken(JSON.parse(text))));
     const called = (at) => (parts.length === 1 ? title : `${title}, part ${at + 1} of ${parts.length}`);
     await keepEach(people.filter(({ name }) => name !== who.name).map(({ name, role }) => changes.role(number, name, role)));
     if (parts.length > 0) await keep(...parts.map((part, at) => ({ ...changes.part(number, "import", part, called(at)), file: title, parts: parts.length })));

@@ -3,6 +3,7 @@ import base64
 import pathlib
 import re
 import shutil
+import time
 
 from office import ALL_ANSWERED, ENTER, ESCAPE, IS_LISTED, IS_TOLD, PAGE, SHOTS, TAB, add, ask, descriptions, expect, new_board, tasks, tell
 
@@ -195,4 +196,26 @@ def for_readers(office):
     browser.to_tab(anns)
 
 
-SCENES = (without_a_line, newer_version, by_keys, on_paper, for_readers)
+def asked_seldom(office):
+    """The board is asked for every 15 s while someone acts, and every 60 s while nobody does. Time is made to pass."""
+    browser, board = office.browser, new_board("Seldom")
+    office.begin(board)
+    browser.run("const real = performance.now.bind(performance); window.ahead = 0; performance.now = () => real() + window.ahead")
+    pass_time = "window.ahead += 1000 * arguments[0]; if (arguments[1]) dispatchEvent(new Event('pointermove'))"
+
+    def times_asked():
+        return office.relay.asked.count(("GET", f"/boards/{board}/export"))
+
+    for seconds, acts in ((16, True), (16, True), (61, False), (61, False)):
+        before, end = times_asked(), time.monotonic() + browser.patience
+        browser.run(pass_time, seconds, acts)
+        while times_asked() == before and time.monotonic() < end:
+            time.sleep(0.05)
+        expect(f"asked after {seconds} s", True, times_asked() > before)
+    before = times_asked()
+    browser.run(pass_time, 16, False)
+    time.sleep(2.5)
+    expect("asked after 16 s in which nobody acts", before, times_asked())
+
+
+SCENES = (asked_seldom, without_a_line, newer_version, by_keys, on_paper, for_readers)
