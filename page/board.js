@@ -56,13 +56,15 @@ function dueGroup(task, day) {
     return task.dueDay <= day ? "today" : task.dueDay < day + WEEK ? "week" : "later";
 }
 
-// What sorts by each word; what is equal stays by urgency.
+// The texts that sort by each word; moments do so as they are written. What is equal stays by urgency.
 const KEYS = {
-    due: (task) => task.due ?? Infinity,
-    project: (task) => task.project.toLowerCase() || "\uFFFF",
+    due: (task) => task.told.due ?? LAST,
+    project: (task) => task.project.toLowerCase() || LAST,
     title: (task) => (task.title ??= task.description.toLowerCase().normalize("NFD")),
-    changed: (task) => -seconds(task.told.modified ?? task.told.entry),
+    changed: (task) => task.told.modified ?? task.told.entry,
 };
+const LAST = "\uFFFF";
+const FALLING = ["changed"];
 
 // A project, and those of which it is a part, Finance.tax of Finance; a text with very many dots is none.
 const withWholes = (project) => [project, ...project.split(".", MOST_PARTS).map((_, at, parts) => parts.slice(0, at + 1).join("."))];
@@ -145,9 +147,10 @@ export class Board {
     sorted(word) {
         if (!(word in KEYS)) return this.ordered;
         if (!this.#sorted.has(word)) {
-            const keyed = this.ordered.map((task) => [KEYS[word](task), task]);
-            keyed.sort(([one], [other]) => (one < other ? -1 : one > other ? 1 : 0));
-            this.#sorted.set(word, keyed.map(([, task]) => task));
+            const byKey = Map.groupBy(this.ordered, KEYS[word]);
+            const keys = [...byKey.keys()].sort();
+            if (FALLING.includes(word)) keys.reverse();
+            this.#sorted.set(word, keys.flatMap((key) => byKey.get(key)));
         }
         return this.#sorted.get(word);
     }

@@ -3,27 +3,27 @@ import { changes } from "./changes.js";
 import { isGone } from "./crew.js";
 import { button, counted, fill, find, make, said, span, whenSent } from "./dom.js";
 import { MomentField } from "./fields.js";
-import { now, seconds } from "./moments.js";
+import { momentOf, now, seconds } from "./moments.js";
 import { tellFault } from "./notices.js";
 import { assigneeOf, chipsOf, dueOf, lookOf, nameOf, shownBoard } from "./rows.js";
 import { keep } from "./sending.js";
-import { go, state } from "./state.js";
+import { go, listen, state } from "./state.js";
 
 const RECENT = 14 * 86400;
 const [FIRST, MORE] = [50, 200];
-const COLUMNS = {
-    todo: ["To do", (task) => task.status === "pending" && !task.told.start],
-    started: ["Started", (task) => task.status === "pending" && task.told.start],
-    waiting: ["Waiting", (task) => task.status === "waiting"],
-    done: ["Done in the last 14 days", (task) => task.status === "completed" && seconds(task.told.end) > now() - RECENT],
-};
+const COLUMNS = { todo: "To do", started: "Started", waiting: "Waiting", done: "Done in the last 14 days" };
 const NAMES = Object.keys(COLUMNS);
-// The tasks that are shown, their cards by their uuids, and how many of each column are shown at most on which board.
-let [shown, cards, most, number] = [[], new Map(), {}, 0];
+// The tasks of each column, their cards by their uuids, and how many of each column are shown at most on which board.
+let [byColumn, cards, most, number] = [new Map(), new Map(), {}, 0];
 // The task that had the focus last, the one that is dragged, and what to do with the date until which one shall wait.
 let [current, dragged, whenDated] = ["", null, null];
 
-export const columnOf = (task) => NAMES.find((name) => COLUMNS[name][1](task)) ?? "";
+// The column of a task, none where it is in none; what ended before that moment is in none.
+function columnOf({ status, told }, since = momentOf(now() - RECENT)) {
+    if (status === "waiting") return "waiting";
+    if (status === "pending") return told.start ? "started" : "todo";
+    return status === "completed" && told.end > since ? "done" : "";
+}
 
 function hold(task, steps) {
     const made = steps.map((step) => (typeof step === "string" ? changes.act(state.number, task, step) : changes.modify(state.number, task, step)));
@@ -62,7 +62,7 @@ function moveTo(task, name) {
 const beside = (name, step, names) => names[names.indexOf(name) + step];
 
 function makeCard(task, place) {
-    const settings = { class: "open", "aria-label": `${nameOf(task, place)}, ${COLUMNS[columnOf(task)][0]}`, tabindex: -1 };
+    const settings = { class: "open", "aria-label": `${nameOf(task, place)}, ${COLUMNS[columnOf(task)]}`, tabindex: -1 };
     const open = button(said(task.description), () => go(state.number, "tasks", task.uuid), settings);
     const isOpen = task.uuid === state.chosen;
     const hasFoot = task.due !== undefined || task.assignee;
@@ -94,17 +94,18 @@ function drawColumn(name, tasks, place, drawn) {
     if (wanted.length !== list.children.length || wanted.some((card, at) => list.children[at] !== card)) list.replaceChildren(...wanted);
 }
 
-// Shows tasks of the columns. While a card is dragged they wait.
+// Shows those of the tasks that are in a column, and gives how many they are. While a card is dragged they wait.
 export function showColumns(tasks) {
     if (number !== state.number) [most, number] = [{}, state.number];
-    shown = tasks;
+    const since = momentOf(now() - RECENT);
+    byColumn = Map.groupBy(tasks, (task) => columnOf(task, since));
     if (!dragged) draw();
+    return NAMES.reduce((sum, name) => sum + (byColumn.get(name)?.length ?? 0), 0);
 }
 
 // The card that had the focus keeps it, also in another column.
 function draw() {
     const hadFocus = find("columns").contains(document.activeElement);
-    const byColumn = Map.groupBy(shown, columnOf);
     const drawn = new Map();
     const place = shownBoard();
     for (const name of NAMES) drawColumn(name, byColumn.get(name) ?? [], place, drawn);
@@ -171,10 +172,11 @@ function beginDragging(place) {
 
 export function beginColumns() {
     const place = find("columns");
-    fill(place, NAMES.map((name) => make("section", { class: "column", id: `column-${name}`, "aria-label": COLUMNS[name][0] }, make("h3", {}, `${COLUMNS[name][0]} `, span("about")), make("ul", {}))));
+    fill(place, NAMES.map((name) => make("section", { class: "column", id: `column-${name}`, "aria-label": COLUMNS[name] }, make("h3", {}, `${COLUMNS[name]} `, span("about")), make("ul", {}))));
     place.addEventListener("focusin", (event) => (current = event.target.closest(".card")?.dataset.uuid ?? current));
     place.addEventListener("keydown", steer);
     beginDragging(place);
+    listen("kept", () => find("columns").hidden || dragged || draw());
     whenSent("wait-form", () => {
         whenDated();
         find("wait-dialog").close();

@@ -64,10 +64,13 @@ export const goInstead = (number) => location.replace(addressOf(number, "tasks",
 
 // Filters anew. A text that is being typed is one step for Back, and is written once the typing pauses.
 export function setFilter(changes, typed = false) {
-    writeNow();
-    state.filter = { ...state.filter, ...changes };
-    if (!typed || !isTyping) history.pushState(null, "", location.href);
+    if (!typed || !isTyping) {
+        writeNow();
+        history.pushState(null, "", location.href);
+    }
     isTyping = typed;
+    state.filter = { ...state.filter, ...changes };
+    clearTimeout(writing);
     if (typed) writing = setTimeout(write, 250);
     else write();
     announce("filter");

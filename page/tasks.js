@@ -1,5 +1,5 @@
 // The list of a board's tasks.
-import { columnOf, showColumns } from "./columns.js";
+import { showColumns } from "./columns.js";
 import { counted, fill, find, make, said, span } from "./dom.js";
 import { grouped, shown } from "./filters.js";
 import { List } from "./list.js";
@@ -12,35 +12,34 @@ import { here, listen, state } from "./state.js";
 const SOON = 500;
 let list, drawn;
 
-// The tasks that pass the filters; in columns their status is told by the column.
-function shownTasks(inColumns) {
+// Shows the tasks that pass the filters, and gives how many they are. In columns their status is told by the column.
+function show(isAsked) {
     const { board, filter, who } = state;
-    return inColumns ? shown(board, { ...filter, status: "all" }, who.name).filter(columnOf) : shown(board, filter, who.name);
+    if (filter.as === "columns") {
+        setOrder([]);
+        return showColumns(shown(board, { ...filter, status: "all" }, who.name));
+    }
+    const tasks = shown(board, filter, who.name);
+    const items = grouped(tasks, filter.group);
+    setOrder(items === tasks ? tasks : items.filter((item) => item.heading === undefined));
+    list.show(items, isAsked);
+    return tasks.length;
 }
 
 function draw(isAsked) {
-    const { board } = state;
+    const { board, filter } = state;
     const isShown = state.view === "tasks" && board?.number === state.number;
     find("loading").hidden = isShown || !state.number;
-    find("list").hidden = !isShown || state.filter.as === "columns";
-    find("columns").hidden = !isShown || state.filter.as !== "columns";
-    const inColumns = state.filter.as === "columns";
-    const tasks = isShown ? shownTasks(inColumns) : [];
+    find("list").hidden = !isShown || filter.as === "columns";
+    find("columns").hidden = !isShown || filter.as !== "columns";
+    find("list").classList.toggle("assigned", isShown && board.assignees.length > 0);
+    const count = isShown ? show(isAsked === true) : 0;
     const all = isShown ? board.tasks.length : 0;
-    find("count").textContent = isShown ? `${counted(tasks.length)} of ${counted(all)} tasks` : "";
+    find("count").textContent = isShown ? `${counted(count)} of ${counted(all)} tasks` : "";
     const first = here()?.role === "reader" ? "Nothing is here yet." : "Nothing is here yet. Add the first task above, or import some.";
     const hint = all > 0 ? "No task passes the filters." : first;
-    fill(find("nothing"), isShown && tasks.length === 0 ? hint : "");
-    find("list").classList.toggle("assigned", isShown && board.assignees.length > 0);
+    fill(find("nothing"), isShown && count === 0 ? hint : "");
     find("unknown-task").hidden = !isShown || !state.chosen || board.byId.has(state.chosen);
-    if (!isShown) return;
-    if (inColumns) {
-        setOrder([]);
-        return showColumns(tasks);
-    }
-    const items = grouped(tasks, state.filter.group);
-    setOrder(items === tasks ? tasks : items.filter((item) => item.heading === undefined));
-    list.show(items, isAsked === true);
 }
 
 // What was added and has no answer yet stands above the list.
