@@ -21,12 +21,9 @@ function groupOf(task) {
     return task.dueGroup in GROUPS ? task.dueGroup : task.told.start ? "started" : "";
 }
 
-const ranks = (task) => [task.assignee === state.who.name ? 0 : task.assignee ? 2 : 1, task.due ?? Infinity, -task.parts];
-
-function compare(one, other) {
-    const at = one.ranks.findIndex((rank, place) => rank !== other.ranks[place]);
-    return at < 0 ? 0 : one.ranks[at] - other.ranks[at];
-}
+// Mine before nobody's, and those before what others have; then what is due first, then what is most urgent.
+const rankOf = (task) => (task.assignee === state.who.name ? 0 : task.assignee ? 2 : 1);
+const compare = (one, other) => one.rank - other.rank || one.task.dueDay - other.task.dueDay || other.task.parts - one.task.parts;
 
 // The tasks of the day, each with the board on which it is.
 function collect() {
@@ -35,7 +32,7 @@ function collect() {
         const place = { number, role, title };
         for (const task of boards.get(number)?.tasks ?? []) {
             if (state.isMineOnly && task.assignee !== state.who.name) continue;
-            groups.get(groupOf(task))?.push({ uuid: `${number} ${task.uuid}`, task, place, ranks: ranks(task) });
+            groups.get(groupOf(task))?.push({ uuid: `${number} ${task.uuid}`, task, place, rank: rankOf(task) });
         }
     }
     return groups;
