@@ -5,11 +5,11 @@ import { fill, find, make } from "./dom.js";
 const OFF = "taskboard.keys-off";
 const FIELDS = "input:not([type=checkbox], [type=radio]), select, textarea";
 const LIST = [
-    ["↑ ↓, Page Up, Page Down, Home, End", "Go from task to task, in the list"],
+    ["↑ ↓", "Go from task to task; by Page Up, Page Down, Home and End further"],
     ["Enter", "Open the task"],
     ["d", "Complete or reopen the task"],
     ["x", "Choose the task, to change several at once"],
-    ["Shift + ↑ ↓, Ctrl + A", "Choose on to the next one, choose all"],
+    ["Shift + ↑ ↓", "Choose the next one too; Ctrl + A chooses all"],
     ["Shift + ← →", "In columns, move the card: start, stop, complete or reopen the task"],
 ];
 const ANYWHERE = [
