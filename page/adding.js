@@ -8,6 +8,7 @@ import { keepDraft, readDraft } from "./drafts.js";
 import { Fields } from "./fields.js";
 import { inFull, seconds } from "./moments.js";
 import { tellFault } from "./notices.js";
+import { isMeant } from "./repeatpreview.js";
 import { faultInText } from "./rules.js";
 import { keep } from "./sending.js";
 import { listen, state } from "./state.js";
@@ -84,7 +85,7 @@ export function fillAdding(draft) {
 // What is added leaves the form at once, so that a second Enter adds nothing; where the device can't keep it, it is there again.
 async function add() {
     const task = newTask();
-    if (!task.description || !isWhole(find("add-form")) || isDoubted()) return;
+    if (!task.description || !isWhole(find("add-form")) || isDoubted() || !isMeant(seconds(task.due), task.recur, seconds(task.until))) return;
     const form = typed();
     fillAdding({ isShown: isShown() });
     find("add-line").focus();
@@ -97,6 +98,7 @@ async function add() {
 function showFields(isShown, typed) {
     fields = new Fields(state.board);
     fields.dueElsewhere = () => readNow().task.due;
+    fields.drawPreview();
     if (typed) fields.retype(typed);
     fill(find("add-fields"), fields.elements);
     find("add-fields").hidden = !isShown;
@@ -118,6 +120,7 @@ export function beginAdding() {
         keepTyped();
     });
     find("add-form").addEventListener("input", keepTyped);
+    find("add-line").addEventListener("input", () => fields.drawPreview());
     check(find("add-line"), (line) => (line.trim() ? faultInText(readNow().task.description) : ""));
     whenSent("add-form", () => add().catch(tellFault));
     listen("signed", () => (number = 0));

@@ -19,14 +19,14 @@ function openDraft({ board, view, task, kind, content }) {
 const FORMS = {
     tasks: ({ board, form }) => openDraft({ board, view: "tasks", kind: "add", content: form }),
     modify: ({ board, task, form }) => openDraft({ board, view: "tasks", kind: "edit", task, content: form }),
-    annotate: ({ board, task }, { description }) => openDraft({ board, view: "tasks", kind: "note", task, content: description }),
-    boards: (_, { title }) => {
+    annotate: ({ board, task, form }) => openDraft({ board, view: "tasks", kind: "note", task, content: form.description }),
+    boards: ({ form }) => {
         find("board-dialog").showModal();
-        find("board-title").value = title;
+        find("board-title").value = form.title;
         return true;
     },
     people: ({ form }, { name, key }) => openPeople({ "person-name": name, "person-key": key, "person-role": form.role, "person-here": form.joins }),
-    roles: ({ board }, { member, role }) => role !== null && openPeople({ "invite-name": member, "invite-role": role }, board),
+    roles: ({ board, form }) => openPeople({ "invite-name": form.member, "invite-role": form.role }, board),
 };
 
 function openPeople(values, board = state.number) {
@@ -37,12 +37,15 @@ function openPeople(values, board = state.number) {
 
 const actionOf = (change) => change.path.split("/").at(-1);
 
-// What of a refused change and those that were to follow it has a form of its own.
-const withForm = ({ behind, ...change }) => [change, ...behind].find((one) => one.form || ["annotate", "boards", "roles"].includes(actionOf(one)));
+// What of a refused change and those that were to follow it was typed into a form.
+const withForm = ({ behind, ...change }) => [change, ...behind].find((one) => one.form);
 const isOn = ({ board }) => board === 0 || state.boards.some((known) => known.board === board && known.role !== "reader");
 
-// Whether there is a form to open: its person has to be on the board still.
-export const hasForm = (change) => Boolean(withForm(change)) && isOn(withForm(change));
+// Which way there is for a change: its form, for whoever may change the board still, or sending it as it is where it has none.
+export function wayOf(change) {
+    const one = withForm(change);
+    return one ? (isOn(one) ? "form" : "none") : change.reports ? "none" : "as it is";
+}
 
 export async function openAgain(change) {
     const one = withForm(change);

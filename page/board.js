@@ -4,6 +4,7 @@
 // and notes, and would be a second view each time, of another moment than the export.
 import { breathe } from "./dom.js";
 import { dayOf, isOver, now, seconds, today } from "./moments.js";
+import { changed, unseen } from "./pending.js";
 
 // How long the browser may be kept from drawing at once, in milliseconds.
 const SLICE = 8;
@@ -70,6 +71,19 @@ const FALLING = ["changed"];
 const withWholes = (project) => [project, ...project.split(".", MOST_PARTS).map((_, at, parts) => parts.slice(0, at + 1).join("."))];
 const sortedTexts = (texts) => [...new Set(texts)].filter(Boolean).sort((one, other) => (one < other ? -1 : 1));
 
+// The tasks with the changes of some of them. Such a task knows how it was before, a new one how it was added.
+function laidOver(tasks, changes) {
+    if (changes.length === 0) return tasks;
+    const byId = new Map(tasks.map((task) => [task.uuid, task]));
+    const laid = new Map();
+    for (const change of changes) {
+        const last = laid.get(change.task) ?? byId.get(change.task);
+        const told = changed(last?.told, change);
+        if (told && told !== last?.told) laid.set(change.task, Object.assign(new Task(JSON.stringify(told)), { before: last?.before ?? last }));
+    }
+    return [...tasks.map((task) => laid.get(task.uuid) ?? task), ...[...laid.values()].filter(({ uuid }) => !byId.has(uuid))];
+}
+
 export class Board {
     tasks = [];
     ordered = [];
@@ -78,9 +92,42 @@ export class Board {
     #text = null;
     #sorted = new Map();
 
-    // Takes an export, a task a line, in slices; lines that are known aren't read again. Gives whether anything is new.
-    async take(text) {
-        if (text === this.#text) return false;
+    // The tasks as the server told them, and the changes that were laid over them.
+    #told = [];
+    #laid = { told: null, ids: "" };
+
+    // Takes an export that was asked for then. Gives whether anything is new.
+    async take(text, askedAt) {
+        this.askedAt = askedAt;
+        const isOther = text !== this.#text;
+        if (isOther) await this.#read(text);
+        if (!this.#lay() && !isOther) return false;
+        for (const part of [this.#link, this.#collect, this.rank]) {
+            await breathe();
+            part.call(this);
+        }
+        return true;
+    }
+
+    // Shows the changes that were made meanwhile, at once. Gives whether there are any.
+    relay() {
+        if (!this.#lay()) return false;
+        for (const part of [this.#link, this.#collect, this.rank]) part.call(this);
+        return true;
+    }
+
+    // Lays the changes that the server hasn't told of over its tasks. Gives whether they are others than before.
+    #lay() {
+        const changes = unseen(this.number, this.askedAt);
+        const ids = changes.map(({ id }) => id).join();
+        if (this.#laid.told === this.#told && this.#laid.ids === ids) return false;
+        this.#laid = { told: this.#told, ids };
+        this.tasks = laidOver(this.#told, changes);
+        return true;
+    }
+
+    // Reads an export, a task a line, in slices; lines that are known aren't read again.
+    async #read(text) {
         const byLine = new Map();
         const tasks = [];
         let begun = performance.now();
@@ -98,12 +145,7 @@ export class Board {
         }
         this.#text = text;
         this.#byLine = byLine;
-        this.tasks = tasks;
-        for (const part of [this.#link, this.#collect, this.rank]) {
-            await breathe();
-            part.call(this);
-        }
-        return true;
+        this.#told = tasks;
     }
 
     // Which tasks are blocked, and which are blocking.
@@ -119,6 +161,7 @@ export class Board {
             }
         }
         for (const task of this.tasks) task.isBlocking = task.isOpen && held.has(task.uuid);
+        for (const { before, isBlocked, isBlocking } of this.tasks) if (before) Object.assign(before, { isBlocked, isBlocking });
     }
 
     // Which templates and instances, projects and tags there are.
@@ -134,10 +177,16 @@ export class Board {
     // others, the last that ended first. What is equal keeps its place.
     rank() {
         const [moment, day] = [now(), today()];
-        for (const task of this.tasks) {
+        const rate = (task) => {
             task.dueGroup = dueGroup(task, day);
             task.parts = urgencyParts(task, moment);
             task.rank = task.isOpen ? task.parts : (seconds(task.told.end) ?? task.entry) - 1e12;
+        };
+        for (const task of this.tasks) {
+            rate(task);
+            if (task.before) rate(task.before);
+            // A row stays at its place until the server has told of its change.
+            if (task.before) task.rank = task.before.rank;
         }
         this.ordered = [...this.tasks].sort((one, other) => other.rank - one.rank);
         this.#sorted.clear();

@@ -11,7 +11,6 @@ import { keepGroups } from "./sending.js";
 import { here, listen, state } from "./state.js";
 
 const tasksIn = (count) => (count === 1 ? "1 task" : `${counted(count)} tasks`);
-const withBase = (board, task, edits) => ({ ...changes.modify(board, task, edits), base: Object.fromEntries(Object.keys(edits).map((name) => [name, task.told[name] ?? null])) });
 
 // Which form of the bar is open, and its fields.
 let [opened, read] = ["", null];
@@ -27,8 +26,9 @@ function act(action, word, isFit, wayBack) {
     const { number } = state;
     const tasks = picked().filter(isFit);
     const back = tasks.map((task) => changes.act(number, task, wayBack));
-    hold(tasks.map((task) => [changes.act(number, task, action)]), `${word} ${tasksIn(tasks.length)}.`, wayBack && back).catch(tellFault);
+    // The choice ends first: the focus goes to the list before the rows and the bar look otherwise.
     pickNone();
+    hold(tasks.map((task) => [changes.act(number, task, action)]), `${word} ${tasksIn(tasks.length)}.`, wayBack && back).catch(tellFault);
 }
 
 // Changes members of those tasks that are open and look otherwise; `editsOf` gives what to change of one.
@@ -36,7 +36,7 @@ function edit(editsOf, told) {
     const { number } = state;
     const isSame = (task, edits) => Object.entries(edits).every(([name, value]) => JSON.stringify(value) === JSON.stringify(task.told[name] ?? null));
     const edited = picked().filter((task) => task.isOpen).map((task) => [task, editsOf(task)]).filter(([task, edits]) => !isSame(task, edits));
-    const made = edited.map(([task, edits]) => withBase(number, task, edits));
+    const made = edited.map(([task, edits]) => changes.modify(number, task, edits));
     const back = edited.map(([task], at) => changes.modify(number, task, made[at].base));
     hold(made.map((change) => [change]), `${told} ${tasksIn(made.length)}.`, back).catch(tellFault);
 }
@@ -87,8 +87,8 @@ function move(to) {
     const { number } = state;
     const tasks = picked().filter((task) => task.isListed);
     const title = state.boards.find(({ board }) => board === to).title;
-    hold(moves(number, tasks, to), `Moved to ${oneLine(title, 60)}: ${tasksIn(tasks.length)}.`).catch(tellFault);
     pickNone();
+    hold(moves(number, tasks, to), `Moved to ${oneLine(title, 60)}: ${tasksIn(tasks.length)}.`).catch(tellFault);
 }
 
 function drawSelects() {

@@ -13,12 +13,12 @@ function mark(input) {
     place.textContent = fault;
 }
 
-// Holds a field to a rule, which gives what is wrong with a text, or nothing.
-export function check(input, rule) {
+// Holds a field to a rule, which gives what is wrong with a text, or nothing; it is told behind the field or another element.
+export function check(input, rule, beside = input) {
     made += 1;
     const place = make("span", { class: "fault", id: `fault-${made}`, role: "alert" });
     input.setAttribute("aria-describedby", `${input.getAttribute("aria-describedby") ?? ""} ${place.id}`.trim());
-    input.after(place);
+    beside.after(place);
     rules.set(input, { rule, place });
     input.addEventListener("input", () => mark(input));
 }

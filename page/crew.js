@@ -10,7 +10,7 @@ async function ask() {
     if (!here()) return;
     if (askedFor !== number) [state.people, told] = [null, ""];
     [askedFor, askedAt] = [number, performance.now()];
-    const text = await lookOrSeen(who, `/boards/${number}/people`).catch(() => told);
+    const text = await lookOrSeen(who, `/boards/${number}/people`).then(({ text }) => text, () => told);
     if (state.who !== who || state.number !== number || text === told) return;
     told = text;
     state.people = JSON.parse(text).people;

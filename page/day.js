@@ -55,9 +55,9 @@ function draw() {
     find("day-mine").ariaCurrent = state.isMineOnly ? "page" : null;
 }
 
-async function take(number, text) {
+async function take(number, { text, at }) {
     const board = boards.get(number) ?? Object.assign(new Board(), { number });
-    if (!(await board.take(text))) board.rank();
+    if (!(await board.take(text, at))) board.rank();
     boards.set(number, board);
     draw();
 }
@@ -67,9 +67,9 @@ async function ask(number) {
     const { who } = state;
     const path = `/boards/${number}/export`;
     const seen = boards.has(number) ? null : await lastSeen(who, path);
-    if (seen) await take(number, seen.text);
-    const text = await lookOrSeen(who, path);
-    if (state.who === who) await take(number, text);
+    if (seen) await take(number, seen);
+    const shown = await lookOrSeen(who, path);
+    if (state.who === who) await take(number, shown);
 }
 
 async function askForAll() {
@@ -94,7 +94,10 @@ export function beginDay() {
     });
     listen("boards", askForAll);
     listen("tick", askIfOld);
-    listen("kept", draw);
+    listen("kept", () => {
+        for (const board of boards.values()) board.relay();
+        draw();
+    });
     listen("answered", ({ change }) => isShown() && change.board > 0 && ask(change.board).catch(console.warn));
     listen("left", () => ([boards, askedAt] = [new Map(), -Infinity]));
 }

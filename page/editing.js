@@ -6,7 +6,6 @@ import { isWhole } from "./checking.js";
 import { keepDraft, readDraft } from "./drafts.js";
 import { fill, find, make, whenSent } from "./dom.js";
 import { Fields } from "./fields.js";
-import { merge } from "./merging.js";
 import { inFull, seconds } from "./moments.js";
 import { tellFault } from "./notices.js";
 import { keep, waiting } from "./sending.js";
@@ -67,6 +66,28 @@ function drop() {
     (find("edit") ?? find("task-text")).focus();
 }
 
+// The list with my additions and removals laid over it.
+function withMine(before, mine, fresh) {
+    const [old, now] = [before ?? [], mine ?? []];
+    const kept = (fresh ?? []).filter((tag) => now.includes(tag) || !old.includes(tag));
+    const joined = [...new Set([...kept, ...now.filter((tag) => !old.includes(tag))])].sort();
+    return joined.length ? joined : null;
+}
+
+// What has to be sent, and the fields that both changed, each to something else: of these a person has to choose. The three are what the
+// form said when it was opened, what it says now, and what it would say of the freshest task.
+function merge(before, mine, fresh) {
+    const edits = {};
+    const conflicts = [];
+    for (const name of Object.keys(mine).filter((name) => !isSame(mine[name], before[name]))) {
+        const wanted = name === "tags" ? withMine(before.tags, mine.tags, fresh.tags) : mine[name];
+        if (isSame(wanted, fresh[name])) continue;
+        if (name === "tags" || isSame(fresh[name], before[name])) edits[name] = wanted;
+        else conflicts.push(name);
+    }
+    return { edits, conflicts };
+}
+
 // The task as the server has it now; as it is shown, where no answer comes or changes of one's own aren't sent yet.
 async function freshest(task) {
     const shown = state.board.byId.get(task.uuid) ?? task;
@@ -113,8 +134,7 @@ async function save() {
     const { edits, conflicts } = merge(before, mine, theirs);
     if (conflicts.length > 0) return fill(find("edit-conflicts"), conflicts.map((name) => choice(name, mine[name], theirs[name])));
     if (Object.keys(edits).length > 0 && !now.isOpen && !reopens) return askToReopen(now);
-    const base = Object.fromEntries(Object.keys(edits).map((name) => [name, now.told[name] ?? null]));
-    const change = { ...changes.modify(state.number, now, edits), base, form: { before, typed: fields.typed() } };
+    const change = { ...changes.modify(state.number, now, edits), form: { before, typed: fields.typed() } };
     if (Object.keys(edits).length > 0) await keep(...(reopens ? [changes.act(state.number, now, "reopen")] : []), change);
     drop();
 }

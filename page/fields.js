@@ -5,7 +5,8 @@ import { choices } from "./crew.js";
 import { fill, make } from "./dom.js";
 import { fromFields, seconds, toFields } from "./moments.js";
 import { STEPS } from "./recurrence.js";
-import { faultInDescription, faultInPair, faultInStep, faultInTags, faultInText } from "./rules.js";
+import { drawPreview } from "./repeatpreview.js";
+import { faultInDescription, faultInMoment, faultInPair, faultInStep, faultInTags, faultInText } from "./rules.js";
 import { listen } from "./state.js";
 
 const MOMENTS = ["due", "wait", "scheduled", "until"];
@@ -24,21 +25,24 @@ function suggesting(input, texts) {
 const drawAssignees = (select, name) => fill(select, options([["", "nobody"], ...choices([name].filter(Boolean))], name));
 listen("people", () => document.querySelectorAll("select.assignee").forEach((select) => drawAssignees(select, select.value)));
 
+export const tagsIn = (text) => [...new Set(text.split(/[\s,]+/).filter(Boolean).map((tag) => tag.replace(/^@/, "")))].sort();
+
 // A day and a time; the time may be left empty.
 export class MomentField {
     constructor(label, second, disabled) {
         const { day, time } = toFields(second);
         this.day = make("input", { type: "date", value: day, min: "1970-01-01", max: "9999-12-31", disabled, "aria-label": `${label}: day` });
         this.time = make("input", { type: "time", value: time, disabled, "aria-label": `${label}: time, which may be left empty` });
-        this.element = make("div", { class: "field" }, make("span", {}, label), make("div", { class: "moment" }, this.day, this.time));
+        const both = make("div", { class: "moment" }, this.day, this.time);
+        this.element = make("div", { class: "field" }, make("span", {}, label), both);
+        check(this.day, (day) => faultInMoment(day, this.time.value, this.read()), both);
+        this.time.addEventListener("input", () => this.day.dispatchEvent(new Event("input")));
     }
 
     read() {
         return fromFields({ day: this.day.value, time: this.time.value });
     }
 }
-
-export const tagsIn = (text) => [...new Set(text.split(/[\s,]+/).filter(Boolean).map((tag) => tag.replace(/^@/, "")))].sort();
 
 export class Fields {
     // For a task, or a new one where none is given. What never changes on a task is shown and can't be changed.
@@ -68,16 +72,29 @@ export class Fields {
             this.scheduled.element,
             this.until.element,
             !task || isTemplate ? labelled("Repeat", ...suggesting(this.recur, STEPS)) : "",
+            (this.preview = make("div", { class: "preview about", role: "status" })),
         ];
         this.#check();
+        for (const input of [this.recur, this.due.day, this.due.time]) input.addEventListener("input", () => this.drawPreview());
+        this.drawPreview();
     }
 
-    // Each field holds what the server takes. A repeat may have its due date from elsewhere, as the line of a new task.
+    // The due date here, or that from elsewhere, as the line of a new task.
+    #dueText() {
+        return this.due.read() ?? this.dueElsewhere?.();
+    }
+
+    // Shows what the repeat comes to; to be called where a due date from elsewhere changes.
+    drawPreview() {
+        drawPreview(this.preview, seconds(this.#dueText()), this.recur.value.trim());
+    }
+
+    // Each field holds what the server takes.
     #check() {
         if (this.description) check(this.description, (text) => faultInDescription(text.trim()));
         check(this.project, (text) => faultInText(text.trim()));
         check(this.tags, faultInTags);
-        check(this.recur, (text) => faultInStep(text.trim()) || faultInPair(text.trim(), this.due.read() ?? this.dueElsewhere?.()));
+        check(this.recur, (text) => faultInStep(text.trim()) || faultInPair(text.trim(), this.#dueText()));
     }
 
     // The elements that are typed into, by the names of what they hold.
@@ -98,6 +115,7 @@ export class Fields {
             if (input === this.assignee) drawAssignees(input, typed.assignee ?? "");
             else if (!input.disabled) input.value = typed[name] ?? "";
         }
+        this.drawPreview();
     }
 
     // The members that the fields say; null for those that are empty.

@@ -34,10 +34,11 @@ function testsOf({ text, status, assignee, due, project, tag }, board, me) {
     return [...tests, ...readSearch(text, board, me)];
 }
 
-// The tasks that pass a filter, in its order.
+// The tasks that pass a filter, in its order; also those that won't pass any more once their change is answered.
 export function shown(board, filter, me) {
     const tests = testsOf(filter, board, me);
-    return board.sorted(filter.sort).filter((task) => tests.every((test) => test(task)));
+    const passes = (task) => tests.every((test) => test(task));
+    return board.sorted(filter.sort).filter((task) => passes(task) || (task.before && passes(task.before)));
 }
 
 const compareTexts = (one, other) => (one < other ? -1 : 1);

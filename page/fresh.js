@@ -57,7 +57,7 @@ async function showSeenBoard() {
     const seen = who && isWanting() && (await lastSeen(who, exportOf(number)));
     if (!seen) return;
     const board = Object.assign(new Board(), { number });
-    await board.take(seen.text);
+    await board.take(seen.text, seen.at);
     if (isWanting()) show(board, true, { at: seen.at, shownAt: Date.now(), isSeen: true });
 }
 
@@ -66,10 +66,11 @@ const showSeen = () => (showing = showing.then(showSeenBoard).catch(console.warn
 async function lookAtBoard() {
     const { who, number } = state;
     if (!here()) return;
+    const askedAt = Date.now();
     const text = await look(who, exportOf(number));
     await showing; // What it read needn't be read again.
     const board = state.board?.number === number ? state.board : Object.assign(new Board(), { number });
-    const isNew = await board.take(text);
+    const isNew = await board.take(text, askedAt);
     if (!isNew) board.rank();
     if (state.who !== who || state.number !== number) return;
     show(board, isNew, { at: Date.now(), isSeen: false });
@@ -147,5 +148,6 @@ export function beginLooking() {
     listen("signed", () => showSeenBoards(state.who));
     for (const news of ["boards", "route"]) listen(news, showSeen);
     listen("route", drawAge);
+    listen("kept", () => state.board?.relay() && announce("board", true));
     listen("answered", ({ change }) => document.hidden || lookAgain(change.board === 0 || change.path.endsWith("/roles")));
 }

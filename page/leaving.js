@@ -3,7 +3,7 @@ import { dropDrafts, draftsOf } from "./drafts.js";
 import * as device from "./device.js";
 import { button, counted, fill, find, make, said } from "./dom.js";
 import { canSeal } from "./sealing.js";
-import { forget, settled, waiting } from "./sending.js";
+import { allKept, forget, settled, waiting } from "./sending.js";
 import { state } from "./state.js";
 
 const MOST_SHOWN = 20;
@@ -47,21 +47,21 @@ const cantStay = (change) => change.isSecret && !canSeal();
 export function signOut(leave) {
     const { changes, rows } = unsent();
     if (rows.length === 0) return leave();
-    const lost = changes.filter(cantStay);
-    const end = (act, drops) => async () => {
-        await act();
+    const end = (isGone, drops) => async () => {
+        await allKept();
+        await forget(...unsent().changes.filter(isGone));
         if (drops) dropDrafts(state.who.name);
         leave();
     };
-    const told = lost.length > 0 ? "Without TLS this browser can't hide the key of a new person, so that change is thrown away in either case." : "";
+    const told = changes.some(cantStay) ? "Without TLS this browser can't hide the key of a new person, so that change is thrown away in either case." : "";
     fill(
         find("leave-parts"),
         make("p", {}, `This isn't sent yet, ${rows.length} in all. Keep it here, and it is sent when ${state.who.name} signs in on this device again.`),
         make("ul", { class: "lines" }, rows.slice(0, MOST_SHOWN), rows.length > MOST_SHOWN ? make("li", {}, `and ${rows.length - MOST_SHOWN} more`) : ""),
         told ? make("p", { class: "fault" }, told) : "",
         make("div", { class: "line" },
-            button("Keep it and sign out", end(() => forget(...lost), false), { class: "primary", id: "leave-keep" }),
-            button("Throw it away and sign out", end(() => forget(...changes), true), { class: "danger", id: "leave-drop" }),
+            button("Keep it and sign out", end(cantStay, false), { class: "primary", id: "leave-keep" }),
+            button("Throw it away and sign out", end(() => true, true), { class: "danger", id: "leave-drop" }),
             button("Stay signed in", () => find("leave-dialog").close())),
     );
     find("leave-dialog").showModal();

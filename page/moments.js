@@ -51,6 +51,10 @@ export function toFields(second) {
     return { day: new Date(day * DAY * 1000).toISOString().slice(0, 10), time };
 }
 
+// The clock's time of a moment where its reader is, and in UTC; empty where only a day is said.
+export const timeOf = (second) => toFields(second).time;
+export const utcTimeOf = (second) => (isUtcDay(second) ? "" : new Date(second * 1000).toISOString().slice(11, 16));
+
 // The moment's text of what the fields say; null where no day is said. A time that falls on the second by which a day is told is sent as the
 // next second, which is shown as the same minute.
 export function fromFields({ day, time }) {

@@ -1,5 +1,5 @@
 // What the page tells: whether all is answered, what isn't yet, what was refused and why, what an import did, and a way back.
-import { hasForm, openAgain, textsOf } from "./again.js";
+import { openAgain, textsOf, wayOf } from "./again.js";
 import { NoAnswer } from "./asking.js";
 import { changes, reason } from "./changes.js";
 import { button, counted, fill, find, make, said, span, tasksTold } from "./dom.js";
@@ -67,7 +67,9 @@ function refusal(change) {
         change.takenBack ? make("p", {}, change.reports ? parts : "What belonged to it wasn't sent.") : "",
         texts.length ? make("details", {}, make("summary", {}, "What was to be sent"), texts.map((text) => make("p", { class: "long" }, make("bdi", {}, text)))) : "",
     ];
-    const again = hasForm(change) ? button("Edit and send again", attempt(() => openAgain(change))) : change.reports ? "" : button("Send again", attempt(() => sendAgain(change)));
+    const ways = { form: ["Edit and send again", () => openAgain(change)], "as it is": ["Send again", () => sendAgain(change)] };
+    const [label, act] = ways[wayOf(change)] ?? [];
+    const again = label ? button(label, attempt(act)) : "";
     const away = button(texts.length ? "Throw away" : "Dismiss", () => forget(change), { class: "quiet" });
     return make("li", { class: "notice refused" }, make("div", {}, told), buttons(again, away));
 }
@@ -75,7 +77,7 @@ function refusal(change) {
 // Someone else did the same before: nothing is lost, and nothing left to do.
 function already(change) {
     const words = make("p", {}, make("strong", {}, change.by ? said(change.by) : "Someone else"), ` had ${DONE_BEFORE[change.path.split("/").at(-1)]} `, quoted(change.subject), " already.");
-    return make("li", { class: "notice" }, words, button("Dismiss", () => forget(change), { class: "quiet" }));
+    return make("li", { class: "notice already" }, words, button("Dismiss", () => forget(change), { class: "quiet" }));
 }
 
 const worded = (value) => (value === null || value === undefined ? "nothing" : [value].flat().join(" "));
@@ -107,7 +109,7 @@ function report(parts) {
 
 function drawNotices() {
     const all = settled();
-    const seen = all.map((one) => [one.order, one.state, one.state === "refused" && hasForm(one)]).join();
+    const seen = all.map((one) => [one.order, one.state, one.state === "refused" && wayOf(one)]).join();
     if (seen === look) return;
     look = seen;
     const of = (state) => all.filter((one) => one.state === state);

@@ -6,6 +6,7 @@ import { button, fill, find, make, oneLine, said, span, whenSent } from "./dom.j
 import { isGone } from "./crew.js";
 import { keepDraft, readDraft } from "./drafts.js";
 import { beginTask, closeEdit, isEditing, openEdit } from "./editing.js";
+import { endRepeat } from "./ending.js";
 import { shown as select } from "./filters.js";
 import { linked } from "./links.js";
 import { inFull, seconds } from "./moments.js";
@@ -36,7 +37,8 @@ function actions(one) {
         one.isOpen ? "" : button("Reopen", act("reopen"), { class: "primary", "aria-keyshortcuts": "d" }),
         one.status === "pending" ? button(isStarted ? "Stop" : "Start", act(isStarted ? "stop" : "start"), { "aria-keyshortcuts": "s" }) : "",
         one.isOpen ? button("Edit", () => openEdit(task()), { id: "edit", "aria-keyshortcuts": "e" }) : "",
-        one.isOpen ? button(one.isListed ? "Delete" : "Delete, and make no more", act("delete"), { class: "danger" }) : "",
+        one.isListed ? button("Delete", act("delete"), { class: "danger" }) : "",
+        one.isOpen && !one.isListed ? button("Delete, and make no more", () => endRepeat(task()), { class: "danger" }) : "",
     ];
 }
 

@@ -43,7 +43,7 @@ async function draw(isAnew) {
     const { who, number, view } = state;
     if (view !== "people" || !here()) return;
     if (isAnew) shown = "";
-    const text = await lookOrSeen(who, `/boards/${number}/people`).catch(() => shown);
+    const text = await lookOrSeen(who, `/boards/${number}/people`).then(({ text }) => text, () => shown);
     if (state.number !== number || text === shown) return;
     shown = text;
     const { people } = JSON.parse(text);

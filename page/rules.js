@@ -3,9 +3,10 @@
 import { counted } from "./dom.js";
 import { stepOf } from "./recurrence.js";
 
-const LONGEST = { text: 16384, body: 1048576, title: 200, name: 32, key: 64 };
+const LONGEST = { text: 16384, title: 200, name: 32, key: 64 };
 const SHORTEST_KEY = 8;
-export const MOST_AHEAD = 12;
+const MOST_AHEAD = 12;
+// 12 Full: the tasks on a board, those that are completed or deleted too.
 export const MOST_TASKS = 10000;
 
 const encoder = new TextEncoder();
@@ -39,6 +40,12 @@ export function faultInStep(text) {
 // 8 BadTask, field BadPair: a repeating task without its due date.
 export const faultInPair = (step, due) => (step && !due ? "A repeating task needs a due date." : "");
 
+// 400 BadBody, with the field: a moment outside the years 1970 to 9999. A time without its day can't be sent at all.
+export function faultInMoment(day, time, moment) {
+    if (!day && time) return "A time needs its day. Choose one, or take the time out.";
+    return moment && !/^(19[7-9]|[2-9]\d\d)\d{5}T\d{6}Z$/.test(moment) ? "Days go from 1970 to 9999." : "";
+}
+
 // 400 BadBody: the name of a person.
 export function faultInName(text) {
     if (!text) return "";
@@ -58,5 +65,8 @@ export function faultInTitle(text) {
     return /[\u0000-\u001F]/.test(text) ? "A title has no control characters, such as tabs and line breaks." : tooLong(text, LONGEST.title) || unreadable(text);
 }
 
-// 413 BodyTooLong: all of a change together.
-export const faultInBody = (body) => tooLong(body, LONGEST.body);
+// 400 BadBody: how many instances stand on a board ahead of their dates.
+export function faultInAhead(text) {
+    const isIn = /^[1-9]\d?$/.test(text) && Number(text) <= MOST_AHEAD;
+    return !text || isIn ? "" : `A board looks 1 to ${MOST_AHEAD} instances ahead.`;
+}

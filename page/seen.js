@@ -49,16 +49,17 @@ export function keepSeen(who, path, text) {
     });
 }
 
-// What a view shows; where no answer comes, what it showed last.
+// What a view shows, and when it was asked for; where no answer comes, what it showed last, and when that was.
 export async function lookOrSeen(who, path) {
+    const at = Date.now();
     try {
         const text = await look(who, path);
         keepSeen(who, path, text);
-        return text;
+        return { text, at };
     } catch (fault) {
         const seen = fault instanceof NoAnswer ? await lastSeen(who, path) : null;
         if (!seen) throw fault;
-        return seen.text;
+        return seen;
     }
 }
 

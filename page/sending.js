@@ -21,9 +21,10 @@ const tab = newIdentifier();
 // What the device holds of the person who is signed in: changes that wait, were refused, or have something to tell; and how often the
 // first that waits was sent in vain.
 let [held, tries, isSending] = [[], 0, false];
-// What is on its way to the device; it isn't sent before it stands there.
-let putting = [];
-let endPause = () => {};
+// What is on its way to the device, one after the other; it isn't sent before it stands there.
+let [putting, lastPut] = [[], Promise.resolve()];
+// Ends the pause, and whether one that begins is to be left out: somebody asked for sending while a message was on its way.
+let [endPause, isHurried] = [() => {}, false];
 
 const onDevice = () => held.filter((change) => change.state === "waiting");
 export const waiting = () => [...onDevice(), ...putting.filter(({ id }) => !held.some((one) => one.id === id))];
@@ -37,14 +38,15 @@ async function readDevice(then = () => {}) {
 }
 
 tabs.onmessage = async ({ data }) => {
-    await readDevice();
     if (data.change && data.change.member === state.who?.name) announce("answered", data);
+    await readDevice();
     send();
 };
 
 const toKeep = (made, group = "", member = state.who.name) => ({ ...made, member, state: "waiting", group, made: Date.now(), id: newIdentifier() });
 
 export function sendNow() {
+    isHurried = true;
     endPause();
     send();
 }
@@ -74,13 +76,22 @@ export async function keepGroups(groups) {
     putting.push(...kept);
     announce("kept");
     try {
-        await device.put(await Promise.all(kept.map(hideSecret)));
+        await inOrder(async () => device.put(await Promise.all(kept.map(hideSecret))));
     } finally {
         await readDevice(() => (putting = putting.filter((one) => !kept.includes(one))));
     }
     tabs.postMessage({});
     sendNow();
 }
+
+function inOrder(put) {
+    const done = lastPut.then(put);
+    lastPut = done.catch(() => {});
+    return done;
+}
+
+// Once all that was made stands on the device.
+export const allKept = () => lastPut.then(() => readDevice());
 
 // A new person's key doesn't stand on the device as it is.
 async function hideSecret(change) {
@@ -99,7 +110,7 @@ export async function sendAllTheSame(change) {
 
 // Sends again what was refused, and what was to follow it, under new identifiers.
 export async function sendAgain(change) {
-    const made = ({ board, path, body, verb, subject, task, adds, base, form, isSecret }) => ({ board, path, body, verb, subject, task, adds, base, form, isSecret });
+    const made = ({ board, path, body, verb, subject, task, known, adds, base, form, isSecret }) => ({ board, path, body, verb, subject, task, known, adds, base, form, isSecret });
     const all = await Promise.all([change, ...change.behind].map(async (one) => made({ ...one, body: await bodyOf(one) })));
     await keep(...all);
     await forget(change);
@@ -125,8 +136,9 @@ async function send() {
     if (isSending) return;
     isSending = true;
     while (state.who && onDevice().length > 0) {
+        isHurried = false;
         const isDone = await inTurn(`taskboard ${state.who.name}`, () => sendInOrder(state.who)).catch(() => false);
-        if (!isDone) await pause();
+        if (!isDone && !isHurried) await pause();
     }
     isSending = false;
 }
@@ -170,10 +182,10 @@ async function settle(who, change, answer) {
     if (left?.state === "refused") await device.remove(behind);
     if (left) await device.update([change], left);
     else await device.remove([change]);
-    await readDevice();
     const news = { change, status, body };
     tabs.postMessage(news);
     if (state.who?.name === change.member) announce("answered", news);
+    await readDevice();
 }
 
 const inTurn = (name, work) => (navigator.locks ? navigator.locks.request(name, work) : underLease(name, work));

@@ -52,7 +52,7 @@ export async function doubtAbout(who, change) {
     try {
         const now = await taskOf(who, change);
         const edits = change.base ? JSON.parse(change.body) : {};
-        if (now.description !== change.subject && now.description !== edits.description) return { name: "description", was: change.subject, is: now.description };
+        if (![...change.known, edits.description].includes(now.description)) return { name: "description", was: change.subject, is: now.description };
         const name = Object.keys(edits).find((name) => !isSame(now[name], change.base[name]) && !isSame(now[name], edits[name]));
         return name ? { name, was: change.base[name], is: now[name] ?? null } : null;
     } catch (fault) {

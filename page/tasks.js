@@ -1,16 +1,14 @@
 // The list of a board's tasks.
 import { showColumns } from "./columns.js";
-import { counted, fill, find, make, said, span } from "./dom.js";
+import { counted, fill, find } from "./dom.js";
 import { grouped, shown } from "./filters.js";
 import { List } from "./list.js";
-import { chip, lookOf, makeRow, setUnanswered } from "./rows.js";
+import { lookOf, makeRow, setUnanswered } from "./rows.js";
 import { pickByKey, setOrder } from "./selection.js";
 import { waiting } from "./sending.js";
 import { here, listen, state } from "./state.js";
 
-// What was added and has no answer for longer than this, in milliseconds, is shown as a row of its own.
-const SOON = 500;
-let list, drawn;
+let list;
 
 // Shows the tasks that pass the filters, and gives how many they are. In columns their status is told by the column.
 function show(isAsked) {
@@ -42,18 +40,9 @@ function draw(isAsked) {
     find("unknown-task").hidden = !isShown || !state.chosen || board.byId.has(state.chosen);
 }
 
-// What was added and has no answer yet stands above the list.
+// The rows of tasks with a change that isn't answered yet say so.
 function drawUnanswered() {
-    const mine = waiting().filter((one) => one.board === state.number);
-    const added = mine.filter((one) => one.adds);
-    const late = added.filter((one) => Date.now() - one.made > SOON);
-    setUnanswered(mine.map((one) => one.task));
-    const look = [state.number, late.length, ...mine.map((one) => one.order)].join();
-    if (look === drawn) return;
-    drawn = look;
-    const ghost = (one) => make("div", { class: "row ghost" }, span("tick"), span("open", said(one.subject)), span("chips", chip("unanswered", "not answered yet")));
-    fill(find("ghosts"), late.map(ghost));
-    if (late.length < added.length) setTimeout(drawUnanswered, SOON);
+    setUnanswered(waiting().filter((one) => one.board === state.number).map((one) => one.task));
     list.draw();
 }
 

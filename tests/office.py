@@ -103,7 +103,7 @@ class Office:
         self.browser.open("about:blank")
         self.browser.open(f"{self.address}#/{board}/tasks")
         if self.browser.wait("return document.getElementById('sign-in-form').offsetParent ? 'sign in' : document.getElementById('who').textContent") != name:
-            self.browser.run("[sessionStorage, localStorage].forEach((place) => place.clear())")
+            self.browser.run("[sessionStorage, localStorage].forEach((place) => place.removeItem('taskboard.session'))")
             self.enter(name)
         self.go(board)
 

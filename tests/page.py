@@ -13,10 +13,12 @@ import time
 import uuid
 
 import page_day
+import page_days
 import page_everywhere
 import page_files
 import page_several
 import page_views
+import page_words
 from office import ALL_ANSWERED, BACKSPACE, BROWSER, DOWN, ENTER, IS_LISTED, IS_TOLD, KEYS, LISTED, LOOK, PROGRAM, SHOTS, SLACK, Office, add, ask, descriptions, expect, new_board, tasks
 from relay import LOSES_ANSWERS, LOSES_POSTS
 from talking import end_by_signal, make_file
@@ -85,6 +87,7 @@ def by_keyboard(browser):
     expect("done", "completed", tasks(1)[1]["status"])
     browser.click("#toast button")
     browser.wait(IS_LISTED, "Buy milk")
+    browser.wait(ALL_ANSWERED)
     expect("taken back", "pending", tasks(1)[1]["status"])
 
 
@@ -138,9 +141,8 @@ def killed_server(office):
     browser.wait(IS_TOLD, "1 change isn't answered yet")
     browser.type("#add-line", "Is made while nobody is there" + ENTER)
     browser.wait(IS_TOLD, "2 changes aren't answered yet")
-    for _ in range(2):
-        browser.run("document.querySelector('#list .tick').click()")
-        browser.wait(IS_TOLD, "3 changes aren't answered yet")
+    browser.run("document.querySelector('#list .tick').click()")
+    browser.wait(IS_TOLD, "3 changes aren't answered yet")
     browser.click("#state")
     office.shot("unanswered")
     office.start()
@@ -155,7 +157,7 @@ def killed_server(office):
     for name in ("Acts before the kill", "Is made while nobody is there"):
         browser.wait(IS_LISTED, name)
         expect(f"tasks {name!r}", 1, descriptions(1).count(name))
-    expect("clicked twice", ["completed", 0], [tasks(1)[0]["status"], browser.run("return document.querySelectorAll('#notices li').length")])
+    expect("clicked", ["completed", 0], [tasks(1)[0]["status"], browser.run("return document.querySelectorAll('#notices li').length")])
 
 
 def two_tabs(office):
@@ -358,6 +360,8 @@ SCENES = (
     *page_views.SCENES,
     *page_several.SCENES,
     *page_day.SCENES,
+    *page_words.SCENES,
+    *page_days.SCENES,
     *(large_board, last_steps),
 )
 

@@ -60,7 +60,7 @@ def without_a_line(office):
     browser.wait(ALL_ANSWERED)
     browser.wait(IS_LISTED, "Written on the way")
     expect("written on the way", ["Read on the way", "Written on the way"], descriptions(board))
-    expect("the age of what is fresh", False, browser.run(IS_SHOWN, "#age"))
+    browser.wait("return !document.getElementById('age').offsetParent")
 
 
 def newer_version(office):

@@ -41,6 +41,7 @@ def add_words(office):
     browser.wait(IS_LISTED, "Fix the roof")
     browser.type("#add-line", f"Meet for:me due:{day(9)}T14:30 wait:friday" + ENTER)
     browser.wait("return document.getElementById('count').textContent === '2 of 2 tasks'")
+    browser.wait(ALL_ANSWERED)
     roof, meet = tasks(board)
     expect("words", {"assignee": "bob", "due": moment(1), "priority": "H", "project": "House.roof", "tags": ["tool"]}, members(roof, "assignee", "due", "priority", "project", "tags"))
     friday = next(ahead for ahead in range(1, 8) if day(ahead).weekday() == 4)
