@@ -71,11 +71,8 @@ function keepTyped() {
     keepDraft("add", "", isEmpty(draft) ? null : draft);
 }
 
-// Whether something stands in the form that isn't sent.
-export const isBegun = () => !isEmpty(typed());
-
 // Fills the form as it was left.
-export function fillAdding(draft) {
+function fillAdding(draft) {
     find("add-line").value = draft?.line ?? "";
     showFields(draft?.isShown ?? false, draft?.typed);
     drawUnderstood();

@@ -32,7 +32,7 @@ function aboutClock(first, step, begin) {
     return `It repeats at ${utcTimeOf(first)} by the clock of UTC, which knows no summer time.${change}`;
 }
 
-export const tasksAtOnce = (first, recur, until) => (first !== undefined && stepOf(recur ?? "") ? countAtOnce(first, stepOf(recur), now(), until) : 0);
+const tasksAtOnce = (first, recur, until) => (first !== undefined && stepOf(recur ?? "") ? countAtOnce(first, stepOf(recur), now(), until) : 0);
 
 // Whether so many tasks at once are what is wanted; asks where they are many.
 export function isMeant(first, recur, until) {
