@@ -43,7 +43,7 @@ class Browser(Steered):
 
     def __init__(self, program, patience):
         port = free_port()
-        self.patience, self.base = patience, f"http://127.0.0.1:{port}"
+        self.patience, self.base, self.measures = patience, f"http://127.0.0.1:{port}", (1280, 900)
         self.driver = subprocess.Popen(["chromedriver", f"--port={port}"], stdout=subprocess.DEVNULL, stderr=subprocess.DEVNULL)
         connected(port, 10).close()
         chrome = {"binary": program, "args": WORDS}
@@ -103,7 +103,9 @@ class Browser(Steered):
         return self.call("GET", "/window/handles")
 
     def new_tab(self):
+        """A tab as large as the window was made last; a row that isn't in sight isn't in the page."""
         self.to_tab(self.call("POST", "/window/new", {"type": "tab"})["handle"])
+        self.size(*self.measures)
 
     def to_tab(self, handle):
         self.call("POST", "/window", {"handle": handle})
@@ -116,6 +118,7 @@ class Browser(Steered):
         return self.call("POST", "/goog/cdp/execute", {"cmd": command, "params": settings})
 
     def size(self, width, height):
+        self.measures = (width, height)
         self.tell("Emulation.setDeviceMetricsOverride", width=width, height=height, deviceScaleFactor=1, mobile=False)
 
     def shot(self, file):
