@@ -51,8 +51,9 @@ function setOn(isWanted) {
 function act(event) {
     const { key, target } = event;
     if (event.ctrlKey || event.metaKey || event.altKey || event.defaultPrevented || find("app").hidden || document.querySelector("dialog[open]")) return;
+    if (target.matches?.(FIELDS)) return;
     if (key === "Escape" && !find("panel").hidden && !find("panel").contains(target)) return find("close-panel").click();
-    if (key.length > 1 || target.matches?.(FIELDS) || !isOn()) return;
+    if (key.length > 1 || !isOn()) return;
     const element = elementOf(key, target);
     if (!element) return;
     event.preventDefault();

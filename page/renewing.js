@@ -14,6 +14,8 @@ import { keep, keepEach, settled, waiting } from "./sending.js";
 import { go, here, listen, state } from "./state.js";
 
 const NEARLY_FULL = 9000;
+// How long a note counts whose board neither waits nor came, in milliseconds: its person gave the change up.
+const NOTED = 600000;
 const noteName = () => `taskboard.renewal ${state.who.name}`;
 const isTaken = (task) => ["pending", "waiting", "recurring"].includes(task.status);
 let isBusy = false;
@@ -48,7 +50,7 @@ function ask() {
 async function begin(form) {
     if (!isWhole(form)) return;
     const title = find("renew-title").value.trim();
-    const note = { title, from: state.number, known: state.boards.map(({ board }) => board) };
+    const note = { title, at: Date.now(), from: state.number, known: state.boards.map(({ board }) => board) };
     find("renew-dialog").close();
     localStorage.setItem(noteName(), JSON.stringify(note));
     await keep(changes.board(title));
@@ -62,6 +64,7 @@ async function goOn() {
     if (!note || isBusy || waiting().some(isOf(note.title))) return;
     if (settled().some(isOf(note.title))) return localStorage.removeItem(noteName());
     const made = state.boards.find(({ board, title, role }) => title === note.title && role === "owner" && !note.known.includes(board));
+    if (!made && Date.now() - note.at > NOTED) localStorage.removeItem(noteName());
     if (!made) return;
     isBusy = true;
     try {

@@ -34,6 +34,7 @@ async function loadAll() {
         for (const file of loaded) files.set(file.path, file);
         wanted = [...new Set(loaded.flatMap(namedBy))].filter((path) => FILE.test(path) && !files.has(path));
     }
+    if (!files.has("/main.js")) throw new Error("what came isn't the page");
     const inOrder = [...files.values()].sort((one, other) => (one.path < other.path ? -1 : 1));
     const parts = inOrder.flatMap(({ path, bytes }) => [`${path} ${bytes.byteLength}\n`, bytes]);
     const digest = await crypto.subtle.digest("SHA-256", await new Blob(parts).arrayBuffer());
@@ -101,7 +102,7 @@ function compareOnce(isWhole) {
 
 async function answer({ request, clientId, resultingClientId }, path) {
     const before = request.mode === "navigate" ? null : opened.get(clientId);
-    const cache = before ?? (await kept()).cache;
+    const { cache } = before ? { cache: before } : await kept().catch(() => ({}));
     if (cache && resultingClientId) opened.set(resultingClientId, cache);
     return (await cache?.match(path)) ?? fetch(request);
 }
