@@ -147,17 +147,17 @@ def gone_by_keys(office, board, task):
 def on_paper(office):
     """In print all rows stand that pass the filter, and no panel and no button."""
     browser, board = office.browser, new_board("Paper")
-    lines = "".join(f"Row {number}\n" for number in range(120)) + "Another\n"
+    lines = "".join(f"Shelf {number}\n" for number in range(120)) + "Another\n"
     ask(f"/boards/{board}/import-todo", lines.encode())
     office.begin(board)
-    browser.wait(IS_LISTED, "Row 1")
-    browser.type("#filter-text", "Row")
+    browser.wait(IS_LISTED, "Shelf 1")
+    browser.type("#filter-text", "Shelf")
     browser.wait("return document.getElementById('count').textContent.startsWith('120 of')")
     browser.run("document.querySelector('#list .open').click()")
     browser.wait(IS_OPEN)
     browser.run("addEventListener('beforeprint', () => (window.printed = [...document.querySelectorAll('#list .open')].map((row) => row.textContent)))")
     paper = base64.b64decode(browser.tell("Page.printToPDF", printBackground=True)["data"])
-    expect("rows on paper", {f"Row {number}" for number in range(120)}, set(browser.run("return window.printed")))
+    expect("rows on paper", {f"Shelf {number}" for number in range(120)}, set(browser.run("return window.printed")))
     pages = len(re.findall(rb"/Type ?/Page\b", paper))
     expect("pages, of which each has some rows", True, 2 <= pages <= 12)
     browser.tell("Emulation.setEmulatedMedia", media="print")
