@@ -14,6 +14,12 @@ curl curl
 sqlite3 sqlite3
 strace strace
 cc gcc libc6-dev
+nginx nginx
+openssl openssl
+sshd openssh-server
+task taskwarrior
+todo-txt todotxt-cli
+pyflakes3 pyflakes3
 '
 
 is_there() {
