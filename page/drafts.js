@@ -28,4 +28,7 @@ const keysOf = (name) => Object.keys(localStorage).filter((key) => key.startsWit
 
 // Those of a person that say something beside how a board was left.
 export const draftsOf = (name) => keysOf(name).filter((key) => !key.endsWith(" filters")).map((key) => JSON.parse(localStorage.getItem(key)));
+export function editDrafts(name, kind, edit) {
+    for (const key of keysOf(name).filter((key) => key.endsWith(` ${kind}`))) localStorage.setItem(key, JSON.stringify(edit(JSON.parse(localStorage.getItem(key)))));
+}
 export const dropDrafts = (name) => keysOf(name).forEach((key) => localStorage.removeItem(key));

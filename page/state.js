@@ -1,6 +1,6 @@
 // What this tab shows, where that stands in the address, and how its parts hear of news: each announces what changed, and listens for what
 // it draws.
-import { keepDraft, readDraft } from "./drafts.js";
+import { editDrafts, keepDraft, readDraft } from "./drafts.js";
 
 export const VIEWS = ["day", "tasks", "repeating", "people", "files"];
 // What a board's tasks are filtered, sorted and grouped by, and whether they stand in columns. Each stands in the address under its name.
@@ -47,7 +47,9 @@ let [writing, isTyping] = [0, false];
 function write() {
     clearTimeout(writing);
     writing = 0;
-    history.replaceState(null, "", addressOf(state.number, state.view, state.chosen));
+    const address = addressOf(state.number, state.view, state.chosen);
+    // To write what stands there would end a Back that is under way.
+    if (location.hash !== address) history.replaceState(null, "", address);
     const query = queryOf(state.filter);
     keepDraft("filters", "", query === queryOf(WHOLE) ? null : query);
 }
@@ -92,7 +94,10 @@ export function readRoute() {
 }
 
 addEventListener("pagehide", writeNow);
-listen("left", () => {
+// Who has left leaves the order and the groups of a board, and none of its words.
+const wordless = (query) => queryOf({ ...filterOf(query), text: "", project: "", tag: "", assignee: "" });
+listen("left", (name) => {
     clearTimeout(writing);
     [writing, isTyping] = [0, false];
+    editDrafts(name, "filters", wordless);
 });

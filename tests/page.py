@@ -348,7 +348,8 @@ def last_steps(office):
     browser.click("#sign-out")
     browser.wait("return document.getElementById('sign-in-form').offsetParent")
     expect("what is kept but filters", [[], []], browser.run("return [sessionStorage, localStorage].map((place) => Object.keys(place).filter((key) => !key.endsWith(' filters')))"))
-    expect("the key is kept", False, KEYS["ann"] in browser.run("return JSON.stringify({ ...localStorage })"))
+    kept = browser.run("return JSON.stringify({ ...localStorage })")
+    expect("the key, and what was searched for", [False, False], [KEYS["ann"] in kept, "text=" in kept])
     told = [message for message in browser.messages() if "Failed to load resource" not in message]
     expect("faults", [], told)
 

@@ -59,8 +59,7 @@ def my_day(office):
     browser.wait(IS_DAY, [text for text in overdue if text != "Mine and late"] + rest)
     expect("circles that a reader can't press", 2, browser.run("return document.querySelectorAll('#day-list span.tick').length"))
     add(first, description="From elsewhere", due=moment(0), assignee="dora")
-    browser.open(f"{office.address}#/day/mine")
-    browser.call("POST", "/refresh")
+    browser.click("#day-mine")
     browser.wait(IS_DAY, ["Today", "From elsewhere", "This week", "In six days"])
     office.begin(first)
 

@@ -146,7 +146,7 @@ def addresses(office):
     browser.wait(ARE_LISTED, ["Buy milk"])
     browser.wait("return location.hash.includes('text=milk')")
     browser.click("#list .open")
-    browser.wait("return location.hash.includes(arguments[0])", milk)
+    browser.wait("return location.hash.includes(arguments[0]) && document.getElementById('panel').checkVisibility()", milk)
     link = browser.run("return location.href")
     for parts in ("text=milk", "group=due", "sort=title", f"#/{board}/tasks/{milk}?"):
         expect("in the address", True, parts in link)
