@@ -41,6 +41,7 @@ function show() {
     fill(find("keys-shown"), part("Everywhere", [...others, ...ANYWHERE]), part("In the list", LIST), part("In the open task", ofTask));
     find("keys-on").checked = isOn();
     find("keys-dialog").showModal();
+    find("keys-close").focus();
 }
 
 function setOn(isWanted) {
