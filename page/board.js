@@ -67,21 +67,38 @@ const KEYS = {
 const LAST = "\uFFFF";
 const FALLING = ["changed"];
 
+// Up to so many changed tasks are put into the order by themselves.
+const FEW = 20;
+const byRank = (one, other) => other.rank - one.rank;
+
 // A project, and those of which it is a part, Finance.tax of Finance; a text with very many dots is none.
 const withWholes = (project) => [project, ...project.split(".", MOST_PARTS).map((_, at, parts) => parts.slice(0, at + 1).join("."))];
 const sortedTexts = (texts) => [...new Set(texts)].filter(Boolean).sort((one, other) => (one < other ? -1 : 1));
 
-// The tasks with the changes of some of them. Such a task knows how it was before, a new one how it was added.
-function laidOver(tasks, changes) {
-    if (changes.length === 0) return tasks;
-    const byId = new Map(tasks.map((task) => [task.uuid, task]));
+// The tasks, of which `at` has the places, with the changes of some of them. Such a task knows how it was before, a new one how it was added.
+function laidOver(tasks, at, changes) {
     const laid = new Map();
     for (const change of changes) {
-        const last = laid.get(change.task) ?? byId.get(change.task);
+        const last = laid.get(change.task) ?? tasks[at.get(change.task)];
         const told = changed(last?.told, change);
         if (told && told !== last?.told) laid.set(change.task, Object.assign(new Task(JSON.stringify(told)), { before: last?.before ?? last }));
     }
-    return [...tasks.map((task) => laid.get(task.uuid) ?? task), ...[...laid.values()].filter(({ uuid }) => !byId.has(uuid))];
+    const shown = [...tasks];
+    for (const [uuid, task] of laid) {
+        if (at.has(uuid)) shown[at.get(uuid)] = task;
+        else shown.push(task);
+    }
+    return shown;
+}
+
+function rate(task, moment, day) {
+    task.dueGroup = dueGroup(task, day);
+    task.parts = urgencyParts(task, moment);
+    task.rank = task.isOpen ? task.parts : (seconds(task.told.end) ?? task.entry) - 1e12;
+    if (!task.before) return;
+    rate(task.before, moment, day);
+    // A row stays at its place until the server has told of its change.
+    task.rank = task.before.rank;
 }
 
 export class Board {
@@ -92,8 +109,9 @@ export class Board {
     #text = null;
     #sorted = new Map();
 
-    // The tasks as the server told them, and the changes that were laid over them.
+    // The tasks as the server told them with the places of their uuids, and the changes that were laid over them.
     #told = [];
+    #at = new Map();
     #laid = { told: null, ids: "" };
 
     // Takes an export that was asked for then. Gives whether anything is new.
@@ -111,9 +129,38 @@ export class Board {
 
     // Shows the changes that were made meanwhile, at once. Gives whether there are any.
     relay() {
+        const shown = this.tasks;
         if (!this.#lay()) return false;
-        for (const part of [this.#link, this.#collect, this.rank]) part.call(this);
+        const count = this.#told.length;
+        const swapped = new Map(shown.slice(0, count).map((task, at) => [task, this.tasks[at]]).filter(([old, task]) => old !== task));
+        const [gone, added] = [shown.slice(count), this.tasks.slice(count)];
+        if (this.#isPlain(swapped, gone, added)) this.#swap(swapped, gone, added);
+        else for (const part of [this.#link, this.#collect, this.rank]) part.call(this);
         return true;
+    }
+
+    // Whether these changes touch no link, no instance, and no list of projects, tags and assignees.
+    #isPlain(swapped, gone, added) {
+        if (swapped.size + gone.length + added.length > FEW) return false;
+        const knows = ({ project, assignee, tags }) => (!project || this.projects.includes(project)) && (!assignee || this.assignees.includes(assignee)) && tags.every((tag) => this.tags.includes(tag));
+        const stands = (old, task) => old.isOpen === task.isOpen && old.depends.join() === task.depends.join();
+        const isApart = (task) => task.depends.length === 0 && this.behind(task).length === 0;
+        const isSingle = (task) => !task.parent && !task.recur && knows(task);
+        return [...swapped].every(([old, task]) => isSingle(task) && (stands(old, task) || isApart(task))) && [...gone, ...added].every((task) => isSingle(task) && isApart(task));
+    }
+
+    // Puts tasks at the places of others, which are ranked alike, and new ones behind all of their rank.
+    #swap(swapped, gone, added) {
+        const [moment, day] = [now(), today()];
+        for (const task of gone) this.byId.delete(task.uuid);
+        for (const [{ isBlocked, isBlocking }, task] of [...swapped, ...added.map((task) => [{ isBlocked: false, isBlocking: false }, task])]) {
+            for (const one of [task, task.before]) if (one) Object.assign(one, { isBlocked, isBlocking });
+            rate(task, moment, day);
+            this.byId.set(task.uuid, task);
+        }
+        const kept = gone.length ? this.ordered.filter((task) => !gone.includes(task)) : this.ordered;
+        this.ordered = [...kept.map((task) => swapped.get(task) ?? task), ...added].sort(byRank);
+        this.#sorted.clear();
     }
 
     // Lays the changes that the server hasn't told of over its tasks. Gives whether they are others than before.
@@ -122,7 +169,7 @@ export class Board {
         const ids = changes.map(({ id }) => id).join();
         if (this.#laid.told === this.#told && this.#laid.ids === ids) return false;
         this.#laid = { told: this.#told, ids };
-        this.tasks = laidOver(this.#told, changes);
+        this.tasks = changes.length > 0 ? laidOver(this.#told, this.#at, changes) : this.#told;
         return true;
     }
 
@@ -146,6 +193,7 @@ export class Board {
         this.#text = text;
         this.#byLine = byLine;
         this.#told = tasks;
+        this.#at = new Map(tasks.map((task, at) => [task.uuid, at]));
     }
 
     // Which tasks are blocked, and which are blocking.
@@ -177,18 +225,8 @@ export class Board {
     // others, the last that ended first. What is equal keeps its place.
     rank() {
         const [moment, day] = [now(), today()];
-        const rate = (task) => {
-            task.dueGroup = dueGroup(task, day);
-            task.parts = urgencyParts(task, moment);
-            task.rank = task.isOpen ? task.parts : (seconds(task.told.end) ?? task.entry) - 1e12;
-        };
-        for (const task of this.tasks) {
-            rate(task);
-            if (task.before) rate(task.before);
-            // A row stays at its place until the server has told of its change.
-            if (task.before) task.rank = task.before.rank;
-        }
-        this.ordered = [...this.tasks].sort((one, other) => other.rank - one.rank);
+        for (const task of this.tasks) rate(task, moment, day);
+        this.ordered = [...this.tasks].sort(byRank);
         this.#sorted.clear();
     }
 
