@@ -129,37 +129,44 @@ export class Board {
 
     // Shows the changes that were made meanwhile, at once. Gives whether there are any.
     relay() {
-        const shown = this.tasks;
+        const [shown, count] = [this.tasks, this.#told.length];
         if (!this.#lay()) return false;
-        const count = this.#told.length;
-        const swapped = new Map(shown.slice(0, count).map((task, at) => [task, this.tasks[at]]).filter(([old, task]) => old !== task));
-        const [gone, added] = [shown.slice(count), this.tasks.slice(count)];
-        if (this.#isPlain(swapped, gone, added)) this.#swap(swapped, gone, added);
+        const added = new Map(shown.slice(count).map((task) => [task.uuid, task]));
+        const isStill = this.tasks.slice(count).filter(({ uuid }) => added.has(uuid)).length === added.size;
+        // Each changed task with what was shown of it before; nothing of a new one.
+        const pairs = [];
+        for (const [at, task] of this.tasks.entries()) {
+            const old = at < count ? shown[at] : added.get(task.uuid);
+            if (old !== task) pairs.push([old, task]);
+        }
+        if (isStill && pairs.length <= FEW && pairs.every((pair) => this.#isPlain(...pair))) this.#swap(pairs);
         else for (const part of [this.#link, this.#collect, this.rank]) part.call(this);
         return true;
     }
 
-    // Whether these changes touch no link, no instance, and no list of projects, tags and assignees.
-    #isPlain(swapped, gone, added) {
-        if (swapped.size + gone.length + added.length > FEW) return false;
-        const knows = ({ project, assignee, tags }) => (!project || this.projects.includes(project)) && (!assignee || this.assignees.includes(assignee)) && tags.every((tag) => this.tags.includes(tag));
-        const stands = (old, task) => old.isOpen === task.isOpen && old.depends.join() === task.depends.join();
-        const isApart = (task) => task.depends.length === 0 && this.behind(task).length === 0;
-        const isSingle = (task) => !task.parent && !task.recur && knows(task);
-        return [...swapped].every(([old, task]) => isSingle(task) && (stands(old, task) || isApart(task))) && [...gone, ...added].every((task) => isSingle(task) && isApart(task));
+    // Whether a change touches no link, no instance, and no list of projects, tags and assignees.
+    #isPlain(old, task) {
+        const listed = (one) => JSON.stringify([one.project, one.assignee, one.tags]);
+        const isKnown = old
+            ? listed(old) === listed(task)
+            : [[task.project, this.projects], [task.assignee, this.assignees], ...task.tags.map((tag) => [tag, this.tags])].every(([text, texts]) => !text || texts.includes(text));
+        const isLinked = [...(old?.depends ?? []), ...task.depends].length > 0 || this.behind(task).length > 0;
+        const linksStay = old?.isOpen === task.isOpen && old.depends.join() === task.depends.join();
+        return !task.parent && !task.recur && isKnown && (linksStay || !isLinked);
     }
 
-    // Puts tasks at the places of others, which are ranked alike, and new ones behind all of their rank.
-    #swap(swapped, gone, added) {
+    // Puts changed tasks at the places of what was shown of them, which are ranked alike, and new ones behind all of their rank.
+    #swap(pairs) {
         const [moment, day] = [now(), today()];
-        for (const task of gone) this.byId.delete(task.uuid);
-        for (const [{ isBlocked, isBlocking }, task] of [...swapped, ...added.map((task) => [{ isBlocked: false, isBlocking: false }, task])]) {
+        for (const [old, task] of pairs) {
+            const { isBlocked = false, isBlocking = false } = old ?? {};
             for (const one of [task, task.before]) if (one) Object.assign(one, { isBlocked, isBlocking });
             rate(task, moment, day);
             this.byId.set(task.uuid, task);
         }
-        const kept = gone.length ? this.ordered.filter((task) => !gone.includes(task)) : this.ordered;
-        this.ordered = [...kept.map((task) => swapped.get(task) ?? task), ...added].sort(byRank);
+        const swapped = new Map(pairs);
+        const added = pairs.filter(([old]) => !old).map(([, task]) => task);
+        this.ordered = [...this.ordered.map((task) => swapped.get(task) ?? task), ...added].sort(byRank);
         this.#sorted.clear();
     }
 
