@@ -63,7 +63,7 @@ class Browser(Steered):
         body = json.dumps(content or {}).encode() if method == "POST" else None
         request = urllib.request.Request(self.base + path, body, {"content-type": "application/json"}, method=method)
         try:
-            with urllib.request.urlopen(request, timeout=60) as answer:
+            with urllib.request.urlopen(request, timeout=max(60, 5 * self.patience)) as answer:
                 return json.load(answer)["value"]
         except urllib.error.HTTPError as fault:
             told = fault.read().decode()
