@@ -17,9 +17,9 @@ let [opened, read] = ["", null];
 
 // Holds the groups of changes, and tells what was done, with a way back where there is one.
 async function hold(groups, told, back) {
-    if (groups.length === 0) return toast("None of the chosen tasks can be changed so.");
+    if (groups.length === 0) return toast("Nothing to change: the chosen tasks are so already, or their status doesn't allow it.");
     await keepGroups(groups.map((group) => group.map((change) => ({ ...change, isOneOfMany: true }))));
-    toast(told, back && groups.length > 0 ? button("Undo", () => keepGroups(back.map((change) => [{ ...change, isOneOfMany: true }])).catch(tellFault)) : "");
+    toast(told, back ? button("Undo", () => keepGroups(back.map((change) => [{ ...change, isOneOfMany: true }])).catch(tellFault)) : "");
 }
 
 function act(action, word, isFit, wayBack) {
@@ -88,7 +88,7 @@ function move(to) {
     const tasks = picked().filter((task) => task.isListed);
     const title = state.boards.find(({ board }) => board === to).title;
     pickNone();
-    hold(moves(number, tasks, to), `Moved to ${oneLine(title, 60)}: ${tasksIn(tasks.length)}.`).catch(tellFault);
+    hold(moves(number, tasks, to), `Moving to ${oneLine(title, 60)}: ${tasksIn(tasks.length)}.`).catch(tellFault);
 }
 
 function drawSelects() {

@@ -43,6 +43,12 @@ function addressOf(number, view, chosen) {
 
 let [writing, isTyping] = [0, false];
 
+// Keeps on the device how the board is left.
+function keepLeft() {
+    const query = queryOf(state.filter);
+    keepDraft("filters", "", query === queryOf(WHOLE) ? null : query);
+}
+
 // Puts what is shown into the address and onto the device, without a step more for Back.
 function write() {
     clearTimeout(writing);
@@ -50,8 +56,7 @@ function write() {
     const address = addressOf(state.number, state.view, state.chosen);
     // To write what stands there would end a Back that is under way.
     if (location.hash !== address) history.replaceState(null, "", address);
-    const query = queryOf(state.filter);
-    keepDraft("filters", "", query === queryOf(WHOLE) ? null : query);
+    keepLeft();
 }
 
 const writeNow = () => writing && write();
@@ -82,6 +87,8 @@ export const clearFilter = () => setFilter({ ...WHOLE, sort: state.filter.sort, 
 export const isFiltered = () => queryOf({ ...state.filter, sort: WHOLE.sort, group: WHOLE.group, as: WHOLE.as }) !== queryOf(WHOLE);
 
 export function readRoute() {
+    // What was typed just before is how the board is left, also where its address is gone by now.
+    if (writing) keepLeft();
     clearTimeout(writing);
     [writing, isTyping] = [0, false];
     const [path, query] = location.hash.split("?");
