@@ -139,20 +139,26 @@ export class Board {
             const old = at < count ? shown[at] : added.get(task.uuid);
             if (old !== task) pairs.push([old, task]);
         }
-        if (isStill && pairs.length <= FEW && pairs.every((pair) => this.#isPlain(...pair))) this.#swap(pairs);
-        else for (const part of [this.#link, this.#collect, this.rank]) part.call(this);
+        const isFew = isStill && pairs.length <= FEW;
+        const listsStay = isFew && pairs.every((pair) => this.#areListed(...pair));
+        if (listsStay && !pairs.some((pair) => this.#movesLinks(...pair))) this.#swap(pairs);
+        else for (const part of listsStay ? [this.#link, this.rank] : [this.#link, this.#collect, this.rank]) part.call(this);
         return true;
     }
 
-    // Whether a change touches no link, no instance, and no list of projects, tags and assignees.
-    #isPlain(old, task) {
+    // Whether a change touches no template and no instance, and no list of projects, tags and assignees.
+    #areListed(old, task) {
+        if (task.parent || task.recur) return false;
         const listed = (one) => JSON.stringify([one.project, one.assignee, one.tags]);
-        const isKnown = old
-            ? listed(old) === listed(task)
-            : [[task.project, this.projects], [task.assignee, this.assignees], ...task.tags.map((tag) => [tag, this.tags])].every(([text, texts]) => !text || texts.includes(text));
-        const isLinked = [...(old?.depends ?? []), ...task.depends].length > 0 || this.behind(task).length > 0;
-        const linksStay = old?.isOpen === task.isOpen && old.depends.join() === task.depends.join();
-        return !task.parent && !task.recur && isKnown && (linksStay || !isLinked);
+        if (old) return listed(old) === listed(task);
+        const texts = [[task.project, this.projects], [task.assignee, this.assignees], ...task.tags.map((tag) => [tag, this.tags])];
+        return texts.every(([text, known]) => !text || known.includes(text));
+    }
+
+    // Whether a change makes another task blocked or blocking, or one less.
+    #movesLinks(old, task) {
+        if (old?.isOpen === task.isOpen && old.depends.join() === task.depends.join()) return false;
+        return [...(old?.depends ?? []), ...task.depends].length > 0 || this.behind(task).length > 0;
     }
 
     // Puts changed tasks at the places of what was shown of them, which are ranked alike, and new ones behind all of their rank.
