@@ -23,6 +23,16 @@ DEVICE = """return new Promise((done) => {
     };
 });"""
 
+# Once all that waits was sent in vain, which is noted on the device.
+WAITED = """return new Promise((done) => {
+    indexedDB.open('taskboard').onsuccess = ({ target }) => {
+        target.result.transaction('changes').objectStore('changes').getAll().onsuccess = ({ target }) => {
+            const waiting = target.result.filter(({ state }) => state === 'waiting');
+            done(waiting.length === 2 && waiting.every(({ isOld }) => isOld));
+        };
+    };
+})"""
+
 
 @contextlib.contextmanager
 def beside(office, name, board):
@@ -299,7 +309,7 @@ def changed_while_waiting(office):
     for _ in range(2):
         browser.run("document.querySelector('#list .tick:not(.ticked)').click()")
     browser.wait(IS_TOLD, "2 changes aren't answered yet")
-    browser.wait("return " + WAITED)
+    browser.wait(WAITED)
     tell(f"/boards/{board}/tasks/{call}/modify", description="Call the office")
     heal(office)
     browser.wait(IS_TOLD, "Not sent yet: Complete Call Mom")
@@ -309,10 +319,6 @@ def changed_while_waiting(office):
     browser.wait("return document.querySelectorAll('#notices .asks').length === 0")
     browser.wait(ALL_ANSWERED)
     expect("after it", "completed", one_of(board, call)["status"])
-
-
-# Once what waits was sent in vain, which is noted on the device.
-WAITED = "new Promise((done) => { indexedDB.open('taskboard').onsuccess = ({ target }) => { target.result.transaction('changes').objectStore('changes').getAll().onsuccess = ({ target }) => done(target.result.length > 0 && target.result.every((one) => one.isOld)); }; })"
 
 
 def signing_out(office):
