@@ -22,7 +22,6 @@ DEVICE = """return new Promise((done) => {
             done(JSON.stringify([target.result, { ...localStorage }, { ...sessionStorage }], (_, value) => texts(value)));
     };
 });"""
-
 # Once all that waits was sent in vain, which is noted on the device.
 WAITED = """return new Promise((done) => {
     indexedDB.open('taskboard').onsuccess = ({ target }) => {
