@@ -140,6 +140,6 @@ export function beginBulk() {
     whenSent("bulk-form", () => close(read));
     whenChosen("bulk-assign", assign, "-");
     whenChosen("bulk-move", (value) => value && move(Number(value)), "");
-    for (const news of ["chosen", "board", "route"]) listen(news, draw);
+    for (const news of ["picked", "board", "route"]) listen(news, draw);
     for (const news of ["people", "boards"]) listen(news, drawSelects);
 }

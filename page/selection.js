@@ -13,7 +13,7 @@ export const picked = () => (chosen.size === 0 ? [] : order.filter((uuid) => cho
 
 function choose(uuids) {
     chosen = new Set(uuids);
-    announce("chosen");
+    announce("picked");
 }
 
 export const pickNone = () => choose([]);

@@ -21,7 +21,7 @@ export const state = {
 // What is known of the shown board before its tasks came: its number, the role on it, and its title.
 export const here = () => state.boards.find((known) => known.board === state.number);
 
-// "signed" in, "boards" and "board" (they came), "people" (of the board; they came), "route" (another view), "filter" (another one), "chosen"
+// "signed" in, "boards" and "board" (they came), "people" (of the board; they came), "route" (another view), "filter" (another one), "picked"
 // (rows, to change several at once), "kept" (changes are held or were settled), "answered" (with the change, the status and the body),
 // "reach" (the server is there or not), "unknown" (it doesn't know who is signed in), "tick" (15 s are over), "draft" (a form has a draft
 // from elsewhere), "left" (with the name of who signs out).

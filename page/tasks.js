@@ -51,7 +51,7 @@ export function beginTasks() {
     listen("kept", drawUnanswered);
     listen("filter", () => draw(true));
     listen("people", draw);
-    listen("chosen", () => list.draw());
+    listen("picked", () => list.draw());
     find("list").addEventListener("keydown", (event) => here()?.role === "reader" || pickByKey(event));
     listen("route", () => [drawUnanswered, draw].forEach((part) => part()));
     listen("board", () => [drawUnanswered, draw].forEach((part) => part()));
