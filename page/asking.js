@@ -19,10 +19,10 @@ export function newIdentifier() {
     return digits.replace(/^(.{8})(.{4})(.{4})(.{4})/, "$1-$2-$3-$4-");
 }
 
-async function ask(who, path, settings, fields = {}) {
+async function ask(who, path, settings, patience, fields = {}) {
     const headers = { "x-member": who.name, "x-key": who.key, ...fields };
     try {
-        const signal = AbortSignal.timeout(settings.method ? PATIENCE + settings.body.length / 16 : 2 * PATIENCE);
+        const signal = AbortSignal.timeout(patience);
         const answer = await fetch(path, { headers, cache: "no-store", redirect: "error", signal, ...settings });
         return { status: answer.status, text: await answer.text() };
     } catch (fault) {
@@ -41,8 +41,8 @@ function bodyOf({ status, text }) {
 }
 
 // What a view shows, as text.
-export async function look(who, path) {
-    const answer = await ask(who, path, {});
+export async function look(who, path, patience = 2 * PATIENCE) {
+    const answer = await ask(who, path, {}, patience);
     if (answer.status === 200) return answer.text;
     throw Object.assign(new Refused(bodyOf(answer).name), { status: answer.status });
 }
@@ -51,6 +51,6 @@ export async function look(who, path) {
 // and then the change may have acted or not, and the same bytes have to be sent again under the same identifier.
 export async function tell(who, change) {
     const fields = { "x-request-id": change.id, "content-type": "application/json" };
-    const answer = await ask(who, change.path, { method: "POST", body: change.body }, fields);
+    const answer = await ask(who, change.path, { method: "POST", body: change.body }, PATIENCE + change.body.length / 16, fields);
     return { status: answer.status, body: bodyOf(answer) };
 }

@@ -1,4 +1,5 @@
 // What each change is to the server (path and body) and to people (a verb and what it's about), and why one was refused, in plain words.
+import { newIdentifier } from "./asking.js";
 
 const VERBS = { done: "Complete", delete: "Delete", reopen: "Reopen", start: "Start", stop: "Stop" };
 
@@ -6,23 +7,39 @@ function change(board, path, content, verb, subject) {
     return { board, path, body: content === null ? "" : JSON.stringify(content), verb, subject };
 }
 
+// The descriptions by which the task is known here: as it is shown, and as the server told it before what isn't answered yet.
 function ofTask(board, task, action, content, verb) {
-    return { ...change(board, `/boards/${board}/tasks/${task.uuid}/${action}`, content, verb, task.description), task: task.uuid };
+    const known = [task.description, task.before?.description];
+    return { ...change(board, `/boards/${board}/tasks/${task.uuid}/${action}`, content, verb, task.description), task: task.uuid, known };
 }
 
+// A change that was typed into a form has what opens the form anew, as `form`.
 export const changes = {
-    board: (title) => change(0, "/boards", { title }, "Make the board", title),
-    person: (name, key) => change(0, "/people", { name, key }, "Add the person", name),
-    role: (board, member, role) => change(board, `/boards/${board}/roles`, { member, role }, role ? `Give the role ${role} to` : "End the role of", member),
-    add: (board, task) => ({ ...change(board, `/boards/${board}/tasks`, task, "Add", task.description), adds: true }),
+    board: (title) => ({ ...change(0, "/boards", { title }, "Make the board", title), form: { title } }),
+    person: (name, key, form) => ({ ...change(0, "/people", { name, key }, "Add the person", name), form, isSecret: true }),
+    role: (board, member, role) => ({
+        ...change(board, `/boards/${board}/roles`, { member, role }, role ? `Give the role ${role} to` : "End the role of", member),
+        form: role ? { member, role } : undefined,
+    }),
+    // A new task is named here, so that what is done with it can be held before it is answered.
+    add: (board, task) => {
+        const named = { uuid: newIdentifier(), ...task };
+        return { ...change(board, `/boards/${board}/tasks`, named, "Add", task.description), adds: true, task: named.uuid };
+    },
     act: (board, task, action) => ofTask(board, task, action, null, VERBS[action]),
-    modify: (board, task, edits) => ofTask(board, task, "modify", edits, "Change"),
-    annotate: (board, task, description) => ofTask(board, task, "annotate", { description }, "Note on"),
+    // What is changed keeps what it changes, to see later whether somebody else changed the same.
+    modify: (board, task, edits) => ({
+        ...ofTask(board, task, "modify", edits, "Change"),
+        base: Object.fromEntries(Object.keys(edits).map((name) => [name, task.told[name] ?? null])),
+    }),
+    annotate: (board, task, description) => ({ ...ofTask(board, task, "annotate", { description }, "Note on"), form: { description } }),
     denotate: (board, task, description) => ofTask(board, task, "denotate", { description }, "Take a note off"),
     depend: (board, task, on) => ofTask(board, task, "depend", { on }, "Add a dependency to"),
     undepend: (board, task, on) => ofTask(board, task, "undepend", { on }, "Take a dependency off"),
     ahead: (board, ahead) => change(board, `/boards/${board}/ahead`, { ahead }, "Look ahead", `${ahead} of each repeating task`),
     sweep: (board) => change(board, `/boards/${board}/sweep`, null, "Bring up to date", "the repeating tasks"),
+    // A task that comes from another board, as the server there tells it.
+    moveIn: (board, task, line) => ({ ...change(board, `/boards/${board}/import`, null, "Move here", task.description), body: line }),
     // One part of an import, as it is written; its answer is kept until it was read.
     part: (board, path, body, name) => ({ ...change(board, `/boards/${board}/${path}`, null, "Import", name), body, reports: true }),
 };

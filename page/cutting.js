@@ -1,22 +1,22 @@
-// Cuts the text of an import into parts that the server takes: at most 1,000 tasks and 1 MiB each. Tasks are passed on as they are written,
-// byte for byte. A part knows only tasks of its own and of parts before it, so templates go before their instances, and a task goes behind
-// those on which it depends.
+// Cuts the texts of an import into parts that the server takes: at most 1,000 tasks and 1 MiB each. A part knows only tasks of
+// its own and of parts before it, so templates go before their instances, and a task goes behind those on which it depends.
 
-const MOST_TASKS = 1000;
+const MOST_AT_ONCE = 1000;
 const MOST_BYTES = 1048576;
 const encoder = new TextEncoder();
 
-// The texts of the objects in a JSON list, in an object, or in lines of objects: from each outermost brace to the one that closes it.
+// The texts of the objects in a JSON list, in an object, or in lines of objects: from each outermost brace to the one that closes it; and the
+// rest, where the last one isn't closed.
 export function objectTexts(text) {
-    const found = [];
+    const texts = [];
     const mark = /"[^"\\]*(?:\\.[^"\\]*)*"|[{}]/gs;
     let depth = 0;
     let from = 0;
     for (let match = mark.exec(text); match; match = mark.exec(text)) {
         if (match[0] === "{" && depth++ === 0) from = match.index;
-        else if (match[0] === "}" && --depth === 0) found.push(text.slice(from, mark.lastIndex));
+        else if (match[0] === "}" && --depth === 0) texts.push(text.slice(from, mark.lastIndex));
     }
-    return found;
+    return { texts, rest: depth > 0 ? text.slice(from) : "" };
 }
 
 function read(text) {
@@ -60,7 +60,7 @@ function cut(texts) {
     let bytes = MOST_BYTES;
     for (const text of texts) {
         const size = encoder.encode(text).length + 2;
-        if (parts.length === 0 || parts.at(-1).length === MOST_TASKS || bytes + size > MOST_BYTES - 4) {
+        if (parts.length === 0 || parts.at(-1).length === MOST_AT_ONCE || bytes + size > MOST_BYTES - 4) {
             parts.push([]);
             bytes = 0;
         }
@@ -70,17 +70,9 @@ function cut(texts) {
     return parts;
 }
 
-// Which call takes a file, how many tasks it has, and the bodies of the calls.
-export function cutImport(text) {
-    if (/^\s*[[{]/.test(text)) {
-        const texts = objectTexts(text);
-        const isOne = texts.length <= MOST_TASKS && encoder.encode(text).length <= MOST_BYTES;
-        const parts = isOne ? [text] : cut(inOrder(texts)).map((part) => `[${part.join(",\n")}]`);
-        return { path: "import", count: texts.length, parts };
-    }
-    const lines = text.split(/\r?\n/).filter((line) => !/^[ \t]*$/.test(line));
-    return { path: "import-todo", count: lines.length, parts: cut(lines).map((part) => `${part.join("\n")}\n`) };
-}
+// The bodies of the calls that take tasks of Taskwarrior, and lines of todo.txt.
+export const cutTasks = (texts) => cut(inOrder(texts)).map((part) => `[${part.join(",\n")}]`);
+export const cutLines = (lines) => cut(lines).map((part) => `${part.join("\n")}\n`);
 
 // The description of one task of a part, to name the one that was refused.
-export const descriptionAt = (text, at) => String(read(objectTexts(text)[at]).description ?? "");
+export const descriptionAt = (text, at) => String(read(objectTexts(text).texts[at]).description ?? "");

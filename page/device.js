@@ -29,8 +29,17 @@ async function within(mode, work) {
 
 // Puts changes behind all others, all of them or none.
 export const put = (changes) => within("readwrite", (store) => changes.forEach((change) => store.add(change)));
-export const replace = (change) => within("readwrite", (store) => store.put(change));
+// Sets members of changes that are there still; one that was taken away meanwhile stays away.
+export const update = (changes, members) =>
+    within("readwrite", (store) => {
+        for (const { order } of changes) {
+            store.get(order).onsuccess = ({ target }) => target.result && store.put({ ...target.result, ...members });
+        }
+    });
 export const remove = (changes) => within("readwrite", (store) => changes.forEach((change) => store.delete(change.order)));
+
+// The changes of all who use this device.
+export const everyones = () => within("readonly", (store) => store.getAll());
 
 // A person's changes, in their order.
 export const all = (member) => within("readonly", (store) => store.index("member").getAll(member));

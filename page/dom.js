@@ -1,5 +1,7 @@
 // Elements and their text. Text goes in as text nodes alone, so nothing that a task says is ever read as HTML.
 
+const MOST_TOLD = 200;
+
 const isThere = (value) => value !== undefined && value !== null && value !== false;
 const isChild = (value) => isThere(value) && value !== "";
 export const find = (id) => document.getElementById(id);
@@ -30,6 +32,14 @@ export const counted = (number) => String(number).replace(/\B(?=(\d{3})+$)/g, ",
 
 // A text from a task or a person, apart from the direction of what stands around it.
 export const said = (text, longest) => make("bdi", {}, oneLine(text, longest));
+
+// Tasks and what is said of each, behind a line that sums them up.
+export function tasksTold(title, tasks, isOpen = false) {
+    if (tasks.length === 0) return "";
+    const rows = tasks.slice(0, MOST_TOLD).map(({ subject, what }) => make("li", {}, make("q", {}, said(subject)), `: ${what.join("; ")}`));
+    const more = tasks.length > MOST_TOLD ? make("li", {}, `and ${counted(tasks.length - MOST_TOLD)} more`) : "";
+    return make("details", { open: isOpen }, make("summary", {}, title), make("ul", { class: "told-tasks" }, rows, more));
+}
 
 // A form calls this with itself when it is sent; it never leaves the page.
 export function whenSent(id, act) {

@@ -1,9 +1,15 @@
 // The fields of a task in a form, for a new task and for one that is changed.
 import { PRIORITIES } from "./board.js";
-import { make } from "./dom.js";
+import { check } from "./checking.js";
+import { choices } from "./crew.js";
+import { fill, make } from "./dom.js";
 import { fromFields, seconds, toFields } from "./moments.js";
+import { STEPS } from "./recurrence.js";
+import { drawPreview } from "./repeatpreview.js";
+import { faultInDescription, faultInMoment, faultInPair, faultInStep, faultInTags, faultInText } from "./rules.js";
+import { listen } from "./state.js";
 
-const STEPS = ["daily", "weekdays", "weekly", "biweekly", "monthly", "quarterly", "semiannual", "yearly", "3d", "2w"];
+const MOMENTS = ["due", "wait", "scheduled", "until"];
 let made = 0;
 
 export const options = (choices, chosen) => choices.map(([value, label]) => make("option", { value, selected: value === chosen }, label));
@@ -15,13 +21,22 @@ function suggesting(input, texts) {
     return [input, make("datalist", { id: `suggestions-${made}` }, texts.map((value) => make("option", { value })))];
 }
 
+// The people who can have a task; where they come later they are filled in.
+const drawAssignees = (select, name) => fill(select, options([["", "nobody"], ...choices([name].filter(Boolean))], name));
+listen("people", () => document.querySelectorAll("select.assignee").forEach((select) => drawAssignees(select, select.value)));
+
+export const tagsIn = (text) => [...new Set(text.split(/[\s,]+/).filter(Boolean).map((tag) => tag.replace(/^@/, "")))].sort();
+
 // A day and a time; the time may be left empty.
-class MomentField {
+export class MomentField {
     constructor(label, second, disabled) {
         const { day, time } = toFields(second);
         this.day = make("input", { type: "date", value: day, min: "1970-01-01", max: "9999-12-31", disabled, "aria-label": `${label}: day` });
         this.time = make("input", { type: "time", value: time, disabled, "aria-label": `${label}: time, which may be left empty` });
-        this.element = make("div", { class: "field" }, make("span", {}, label), make("div", { class: "moment" }, this.day, this.time));
+        const both = make("div", { class: "moment" }, this.day, this.time);
+        this.element = make("div", { class: "field" }, make("span", {}, label), both);
+        check(this.day, (day) => faultInMoment(day, this.time.value, this.read()), both);
+        this.time.addEventListener("input", () => this.day.dispatchEvent(new Event("input")));
     }
 
     read() {
@@ -39,40 +54,76 @@ export class Fields {
         this.project = input(task?.project);
         this.tags = input(task?.tags.join(" "), { placeholder: "phone mail" });
         this.priority = make("select", {}, options([["", "none"], ...Object.entries(PRIORITIES)], task?.priority ?? ""));
+        this.assignee = make("select", { class: "assignee" });
+        drawAssignees(this.assignee, task?.assignee ?? "");
         this.due = new MomentField("Due", task?.due, isTemplate);
         this.wait = new MomentField("Wait until", seconds(task?.told.wait));
+        this.scheduled = new MomentField("Scheduled", seconds(task?.told.scheduled));
+        this.until = new MomentField("Until", seconds(task?.told.until));
         this.recur = input(task?.recur, { disabled: Boolean(task), placeholder: "weekly" });
         this.elements = [
             this.description ? labelled("Description", this.description) : "",
             labelled("Project", ...suggesting(this.project, projects)),
             labelled("Tags", ...suggesting(this.tags, tags)),
             labelled("Priority", this.priority),
+            labelled("Assignee", this.assignee),
             this.due.element,
             this.wait.element,
+            this.scheduled.element,
+            this.until.element,
             !task || isTemplate ? labelled("Repeat", ...suggesting(this.recur, STEPS)) : "",
+            (this.preview = make("div", { class: "preview about", role: "status" })),
         ];
-        this.recur.addEventListener("input", () => this.recur.setCustomValidity(""));
-        this.before = this.read();
+        this.#check();
+        for (const input of [this.recur, this.due.day, this.due.time]) input.addEventListener("input", () => this.drawPreview());
+        this.drawPreview();
+    }
+
+    // The due date here, or that from elsewhere, as the line of a new task.
+    #dueText() {
+        return this.due.read() ?? this.dueElsewhere?.();
+    }
+
+    // Shows what the repeat comes to; to be called where a due date from elsewhere changes.
+    drawPreview() {
+        drawPreview(this.preview, seconds(this.#dueText()), this.recur.value.trim());
+    }
+
+    // Each field holds what the server takes.
+    #check() {
+        if (this.description) check(this.description, (text) => faultInDescription(text.trim()));
+        check(this.project, (text) => faultInText(text.trim()));
+        check(this.tags, faultInTags);
+        check(this.recur, (text) => faultInStep(text.trim()) || faultInPair(text.trim(), this.#dueText()));
+    }
+
+    // The elements that are typed into, by the names of what they hold.
+    #inputs() {
+        const { description, project, tags, priority, assignee, recur } = this;
+        const moments = MOMENTS.flatMap((name) => [[`${name} day`, this[name].day], [`${name} time`, this[name].time]]);
+        const inputs = { description, project, tags, priority, assignee, ...Object.fromEntries(moments), recur };
+        return Object.entries(inputs).filter(([, input]) => input);
+    }
+
+    // What the fields hold as it was typed, for a draft, and the way back.
+    typed() {
+        return Object.fromEntries(this.#inputs().map(([name, input]) => [name, input.value]));
+    }
+
+    retype(typed) {
+        for (const [name, input] of this.#inputs()) {
+            if (input === this.assignee) drawAssignees(input, typed.assignee ?? "");
+            else if (!input.disabled) input.value = typed[name] ?? "";
+        }
+        this.drawPreview();
     }
 
     // The members that the fields say; null for those that are empty.
     read() {
-        const tags = [...new Set(this.tags.value.split(/[\s,]+/).filter(Boolean).map((tag) => tag.replace(/^@/, "")))].sort();
-        const said = { project: this.project.value.trim() || null, tags: tags.length ? tags : null, priority: this.priority.value || null };
+        const tags = tagsIn(this.tags.value);
+        const said = { project: this.project.value.trim() || null, tags: tags.length ? tags : null, priority: this.priority.value || null, assignee: this.assignee.value || null };
         if (this.description) said.description = this.description.value.trim();
-        return { ...said, due: this.due.read(), wait: this.wait.read(), recur: this.recur.value.trim() || null };
-    }
-
-    // What was changed since the form was shown: so what another person changed meanwhile stays.
-    edits() {
-        const after = this.read();
-        return Object.fromEntries(Object.entries(after).filter(([name, value]) => JSON.stringify(value) !== JSON.stringify(this.before[name])));
-    }
-
-    // Whether a repeat has the due date that it needs; says so at the field where it hasn't.
-    isWhole(due) {
-        const lacks = this.recur.value.trim() && !this.recur.disabled && !due;
-        this.recur.setCustomValidity(lacks ? "A repeating task needs a due date." : "");
-        return this.recur.reportValidity();
+        const moments = Object.fromEntries(MOMENTS.map((name) => [name, this[name].read()]));
+        return { ...said, ...moments, recur: this.recur.value.trim() || null };
     }
 }

@@ -1,33 +1,55 @@
 // The view of import and export.
 import { look } from "./asking.js";
 import { changes } from "./changes.js";
-import { cutImport } from "./cutting.js";
-import { counted, download, fill, find, said, whenSent } from "./dom.js";
+import { counted, download, fill, find, said, tasksTold, whenSent } from "./dom.js";
+import { plan } from "./importing.js";
+import { lostIn } from "./losing.js";
 import { tellFault, tellRefusal } from "./notices.js";
 import { keep } from "./sending.js";
 import { here, listen, state } from "./state.js";
 
 const KINDS = { import: "a Taskwarrior export", "import-todo": "todo.txt" };
+const MOST_SHOWN = 200;
 let chosen = null;
 
 const plural = (count, word) => `${counted(count)} ${word}${count === 1 ? "" : "s"}`;
 
-async function choose() {
-    const file = find("import-file").files[0];
-    const read = file ? { name: file.name, ...cutImport(await file.text()) } : null;
-    if (file !== find("import-file").files[0]) return;
-    chosen = read;
-    find("import-send").disabled = !chosen?.count;
-    const what = chosen?.count ? ` is ${KINDS[chosen.path]} of ${plural(chosen.count, "task")}, and goes in ${plural(chosen.parts.length, "part")}.` : " has no tasks.";
-    fill(find("import-told"), chosen ? [said(chosen.name, 80), what] : []);
+function aboutPlan({ count, parts, path, faults }) {
+    if (count + faults.length === 0) return " has no tasks.";
+    const taken = count > 0 ? `, and goes in ${plural(parts.length, "part")}` : ", of which none can be taken";
+    return ` is ${KINDS[path]} of ${plural(count + faults.length, "task")}${faults.length > 0 && count > 0 ? "" : taken}.`;
 }
 
+function drawPlan() {
+    const { name, count, faults, changes: spelled, losses } = chosen ?? { count: 0, faults: [], changes: [], losses: [] };
+    fill(find("import-told"), chosen ? [said(name, 80), aboutPlan(chosen)] : []);
+    fill(
+        find("import-details"),
+        tasksTold(`${plural(faults.length, "task")} can't be taken`, faults, true),
+        tasksTold(`${plural(spelled.length, "task")} will be spelled as this server reads it`, spelled),
+        tasksTold(`${plural(losses.length, "task")} will lose something`, losses),
+    );
+    find("import-send").textContent = faults.length > 0 && count > 0 ? `Import the other ${counted(count)}` : "Import";
+    find("import-send").disabled = count === 0;
+}
+
+async function choose() {
+    const file = find("import-file").files[0];
+    find("import-send").disabled = true;
+    const read = file ? { name: file.name, ...(await plan(await file.text(), state.board)) } : null;
+    if (file !== find("import-file").files[0]) return;
+    chosen = read;
+    drawPlan();
+}
+
+// What the tasks lost is told with what the import did.
 async function send(form) {
-    const { path, parts, name } = chosen;
+    const { path, parts, name, losses } = chosen;
     const called = (at) => (parts.length === 1 ? name : `${name}, part ${at + 1} of ${parts.length}`);
     form.reset();
     choose();
-    await keep(...parts.map((part, at) => ({ ...changes.part(state.number, path, part, called(at)), file: name, parts: parts.length })));
+    const lost = losses.slice(0, MOST_SHOWN);
+    await keep(...parts.map((part, at) => ({ ...changes.part(state.number, path, part, called(at)), file: name, parts: parts.length, losses: at === 0 ? lost : [] })));
 }
 
 async function save(view, ending, type) {
@@ -36,13 +58,22 @@ async function save(view, ending, type) {
     download(`${name}-${new Date().toISOString().slice(0, 10)}.${ending}`, text, type);
 }
 
+// What the files won't bring back when they are imported again.
+function drawLost() {
+    if (state.view !== "files" || state.board?.number !== state.number) return;
+    const lost = lostIn(state.board.tasks);
+    find("todo-lost").textContent = lost.length > 0 ? `Lines of todo.txt won't bring back: ${lost.join("; ")}.` : "Lines of todo.txt bring back all of this board's tasks.";
+}
+
 export function beginFiles() {
     find("import-file").addEventListener("change", () => choose().catch(tellFault));
     whenSent("import-form", (form) => send(form).catch(tellFault));
     find("save-export").addEventListener("click", () => save("export", "json", "application/json").catch(tellRefusal));
     find("save-todo").addEventListener("click", () => save("todo", "txt", "text/plain").catch(tellRefusal));
+    listen("board", drawLost);
     listen("route", () => {
         find("import-form").reset();
         choose();
+        drawLost();
     });
 }

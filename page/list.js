@@ -1,12 +1,18 @@
 // A long list of rows, of which only those in sight, and a few around them, are there. All rows are of one height, which the style says.
+// On paper all of them stand. Among the tasks may stand headings of groups, which take no focus.
+import { counted, make, said, span } from "./dom.js";
 
 const AROUND = 5;
 
+const isTask = (item) => item.heading === undefined;
+const makeHeading = ({ heading, count }) => make("div", { class: "row heading", role: "listitem" }, make("h3", {}, said(heading, 80), " ", span("about", counted(count))));
+
 export class List {
-    #tasks = [];
+    #items = [];
     #rows = new Map();
     #height = 0;
     #current = "";
+    #isPrinted = false;
 
     // `place` is the element that holds the rows; `makeRow` makes a task's row, and `lookOf` a text that is another when the row has to be.
     constructor(place, makeRow, lookOf) {
@@ -17,6 +23,12 @@ export class List {
             this.#height = 0;
             redraw();
         });
+        for (const [name, isPrinted] of [["beforeprint", true], ["afterprint", false]]) {
+            addEventListener(name, () => {
+                this.#isPrinted = isPrinted;
+                this.draw();
+            });
+        }
         place.addEventListener("keydown", (event) => this.#move(event));
         place.addEventListener("focusin", (event) => (this.#current = event.target.closest(".row").dataset.uuid));
     }
@@ -24,8 +36,8 @@ export class List {
     // Shows these tasks. Unless they are asked for by the person, what is at the upper edge of the window stays there.
     show(tasks, isAsked) {
         const edge = this.#firstInSight();
-        const anchor = edge > 0 && !isAsked ? this.#tasks[edge]?.uuid : "";
-        this.#tasks = tasks;
+        const anchor = edge > 0 && !isAsked ? this.#items[edge]?.uuid : "";
+        this.#items = tasks;
         this.draw();
         const at = anchor ? tasks.findIndex((task) => task.uuid === anchor) : -1;
         if (at >= 0 && at !== edge) {
@@ -49,24 +61,26 @@ export class List {
         if (!this.place.offsetParent) return;
         if (!this.#height) this.#measure();
         const height = this.#height;
-        this.place.style.height = `${this.#tasks.length * height}px`;
-        const first = Math.max(0, this.#firstInSight() - AROUND);
-        const last = Math.min(this.#tasks.length, this.#firstInSight() + Math.ceil(innerHeight / height) + AROUND);
+        this.place.style.height = `${this.#items.length * height}px`;
+        const top = this.#firstInSight() - AROUND;
+        const first = this.#isPrinted ? 0 : Math.max(0, top);
+        const last = this.#isPrinted ? this.#items.length : Math.min(this.#items.length, top + Math.ceil(innerHeight / height) + 2 * AROUND);
         const rows = new Map();
-        for (let at = first; at < last; at++) rows.set(this.#tasks[at].uuid, this.#rowAt(at));
+        for (let at = first; at < last; at++) rows.set(this.#items[at].uuid, this.#rowAt(at));
         this.#put(rows);
     }
 
     #rowAt(at) {
-        const task = this.#tasks[at];
-        const look = this.lookOf(task);
-        let row = this.#rows.get(task.uuid);
-        if (row?.task !== task || row.look !== look) row = Object.assign(this.makeRow(task), { task, look });
-        row.dataset.uuid = task.uuid;
+        const item = this.#items[at];
+        const look = isTask(item) ? this.lookOf(item) : item.heading + item.count;
+        let row = this.#rows.get(item.uuid);
+        const isNew = row?.look !== look || (isTask(item) && row.item !== item);
+        if (isNew) row = Object.assign(isTask(item) ? this.makeRow(item) : makeHeading(item), { item, look });
+        row.dataset.uuid = item.uuid;
         row.style.top = `${at * this.#height}px`;
         row.at = at;
         row.ariaPosInSet = at + 1;
-        row.ariaSetSize = this.#tasks.length;
+        row.ariaSetSize = this.#items.length;
         return row;
     }
 
@@ -85,8 +99,9 @@ export class List {
         }
         this.#rows = rows;
         if (focused && !this.place.contains(document.activeElement)) {
-            const isGone = !this.#tasks.some((task) => task.uuid === this.#current);
-            const row = isGone ? [...rows.values()].find((other) => other.at >= from) ?? this.place.lastChild : rows.get(this.#current);
+            const isGone = !this.#items.some((task) => task.uuid === this.#current);
+            const others = [...rows.values()].filter((other) => isTask(other.item));
+            const row = isGone ? others.find((other) => other.at >= from) ?? others.at(-1) : rows.get(this.#current);
             row?.querySelector(`.${focused.classList[0]}`).focus({ preventScroll: true });
         }
         this.#setTabStop();
@@ -94,8 +109,9 @@ export class List {
 
     // One row takes the focus by Tab: the one that had it last, else the first in sight; arrows go from row to row.
     #setTabStop() {
-        const stop = this.#rows.get(this.#current) ?? this.place.firstChild;
-        for (const row of this.#rows.values()) row.querySelector(".open").tabIndex = row === stop ? 0 : -1;
+        const opens = [...this.place.querySelectorAll(".open")];
+        const stop = this.#rows.get(this.#current)?.querySelector(".open") ?? opens[0];
+        for (const open of opens) open.tabIndex = open === stop ? 0 : -1;
     }
 
     #move(event) {
@@ -104,13 +120,22 @@ export class List {
         if (!(event.key in steps) || event.ctrlKey || event.metaKey || event.altKey) return;
         event.preventDefault();
         const { at } = event.target.closest(".row");
-        this.#focusAt(Math.min(this.#tasks.length - 1, Math.max(0, at + steps[event.key])));
+        const [step, last] = [steps[event.key], this.#items.length - 1];
+        const wanted = Math.min(last, Math.max(0, at + step));
+        this.#focusAt(this.#taskNear(wanted, Math.sign(step)) ?? this.#taskNear(wanted, -Math.sign(step)));
+    }
+
+    // The place of the task there, or of the next one in that direction.
+    #taskNear(at, step) {
+        let place = at;
+        while (this.#items[place] && !isTask(this.#items[place])) place += step;
+        return this.#items[place] && place;
     }
 
     #focusAt(at) {
         const top = this.place.getBoundingClientRect().top + at * this.#height;
         const edge = document.querySelector("header").offsetHeight;
-        this.#current = this.#tasks[at].uuid;
+        this.#current = this.#items[at].uuid;
         if (top < edge) scrollBy(0, top - edge);
         else if (top + this.#height > innerHeight) scrollBy(0, top + this.#height - innerHeight);
         this.draw();

@@ -1,45 +1,34 @@
 // The page as a whole: who is signed in, which board and which view are shown.
-import { look, Refused } from "./asking.js";
+import { beginAdding } from "./adding.js";
+import { beginBulk } from "./bulk.js";
+import { beginBecoming } from "./becoming.js";
 import { changes } from "./changes.js";
-import { fill, find, oneLine, whenSent } from "./dom.js";
+import { check, isWhole } from "./checking.js";
+import { beginColumns } from "./columns.js";
+import { beginCrew } from "./crew.js";
+import { beginDay } from "./day.js";
+import { fill, find, make, oneLine, whenSent } from "./dom.js";
+import { beginEditing } from "./editing.js";
 import { options } from "./fields.js";
 import { beginFiles } from "./files.js";
+import { beginFilters } from "./filterbar.js";
+import { beginFocus } from "./focus.js";
 import { beginLooking, lookAgain, lookAtBoards } from "./fresh.js";
+import { beginKeys } from "./keys.js";
 import { beginNotices, tellFault } from "./notices.js";
+import { beginOffline } from "./offline.js";
 import { beginPanel } from "./panel.js";
 import { beginPeople } from "./people.js";
+import { beginRenewing } from "./renewing.js";
 import { beginRepeating } from "./repeating.js";
+import { faultInTitle } from "./rules.js";
+import { beginSelection } from "./selection.js";
 import { beginSending, keep } from "./sending.js";
-import { announce, go, here, listen, readRoute, state, VIEWS } from "./state.js";
+import { beginSigning, keepUnused } from "./signing.js";
+import { announce, go, goInstead, here, listen, readRoute, state, VIEWS } from "./state.js";
 import { beginTasks } from "./tasks.js";
 
-// Name and key are kept for this tab, or on this device where that was asked for.
-const SESSION = "taskboard.session";
 let madeHere = "";
-
-const readSession = () => JSON.parse(sessionStorage.getItem(SESSION) ?? localStorage.getItem(SESSION));
-const forgetSession = () => [sessionStorage, localStorage].forEach((place) => place.removeItem(SESSION));
-
-function showSignIn(fault = "") {
-    forgetSession();
-    Object.assign(state, { who: null, board: null, boards: [] });
-    find("app").hidden = true;
-    find("sign-in").hidden = false;
-    find("sign-in-fault").textContent = fault;
-    document.title = "taskboard";
-    find("name").focus();
-}
-
-async function signIn(who, isKept) {
-    try {
-        await look(who, "/me");
-    } catch (fault) {
-        return showSignIn(fault instanceof Refused ? "The server doesn't know this name with this key. Look at both." : "The server doesn't answer. Try again when it is there.");
-    }
-    (isKept ? localStorage : sessionStorage).setItem(SESSION, JSON.stringify(who));
-    find("sign-in-form").reset();
-    enter(who);
-}
 
 // Shows the boards of someone whose name and key are known. Where the server is away the page waits for it.
 function enter(who) {
@@ -56,27 +45,35 @@ function enter(who) {
 function drawBoards() {
     fill(find("board"), options(state.boards.map(({ board, title }) => [String(board), oneLine(title, 60)]), String(state.number)));
     find("no-board").hidden = state.boards.length > 0;
-    if (!here() && state.boards.length > 0) return go(state.boards[0].board);
-    document.body.classList.toggle("without-board", !here());
-    document.body.classList.toggle("reader", here()?.role === "reader");
-    find("heading").textContent = oneLine(here()?.title ?? "");
-    document.title = here() ? `${oneLine(here().title, 60)} · taskboard` : "taskboard";
+    const isDay = state.view === "day";
+    if (isDay) find("board").prepend(make("option", { value: "", selected: true }, "All my boards"));
+    else if (!state.number && state.boards.length > 0) return goInstead(state.boards[0].board);
+    const isKnown = isDay ? state.boards.length > 0 : Boolean(here());
+    find("unknown-board").hidden = isKnown || state.boards.length === 0;
+    find("unknown-board").textContent = `You have no role on board ${state.number}, or it isn't there. Choose another board above, or ask an owner to let you in.`;
+    if (!isKnown) find("board").selectedIndex = -1;
+    document.body.classList.toggle("without-board", !isKnown);
+    find("views").hidden = !isKnown;
+    document.body.classList.toggle("reader", !isDay && here()?.role === "reader");
+    const title = isDay ? "My day" : oneLine(here()?.title ?? "");
+    find("heading").textContent = title;
+    document.title = title ? `${oneLine(title, 60)} · taskboard` : "taskboard";
 }
 
 async function showRoute() {
     const before = `${state.number} ${state.view}`;
     readRoute();
     if (before !== `${state.number} ${state.view}`) scrollTo(0, 0);
-    if (state.boards.length > 0 && !here()) await lookAtBoards().catch(console.error);
+    if (state.boards.length > 0 && state.number && !here()) await lookAtBoards().catch(console.error);
     for (const view of VIEWS) {
         find(`${view}-view`).hidden = view !== state.view;
-        find(`to-${view}`).href = `#/${state.number}/${view}`;
+        find(`to-${view}`).href = view === "day" ? "#/day" : `#/${state.number || (state.boards[0]?.board ?? 0)}/${view}`;
         find(`to-${view}`).ariaCurrent = view === state.view ? "page" : null;
     }
     if (!state.who) return;
     if (state.boards.length > 0) drawBoards();
     announce("route");
-    if (state.board?.number !== state.number) lookAgain();
+    if (state.number && state.board?.number !== state.number) lookAgain();
 }
 
 // The board that this tab made is shown once its number is there.
@@ -87,27 +84,47 @@ async function showMade({ change, status, body }) {
     go(body.board);
 }
 
+const PARTS = [
+    beginNotices,
+    beginCrew,
+    beginAdding,
+    beginFilters,
+    beginSelection,
+    beginTasks,
+    beginColumns,
+    beginBulk,
+    beginEditing,
+    beginPanel,
+    beginBecoming,
+    beginRepeating,
+    beginPeople,
+    beginFiles,
+    beginRenewing,
+    beginDay,
+    beginLooking,
+    beginOffline,
+    beginFocus,
+    beginKeys,
+];
+
 function begin() {
-    for (const part of [beginNotices, beginTasks, beginPanel, beginRepeating, beginPeople, beginFiles, beginLooking]) part();
-    whenSent("sign-in-form", () => signIn({ name: find("name").value.trim(), key: find("key").value }, find("remember").checked));
-    find("sign-out").addEventListener("click", () => showSignIn());
-    find("board").addEventListener("change", (event) => go(event.target.value, state.view));
+    keepUnused();
+    for (const beginPart of PARTS) beginPart();
+    find("board").addEventListener("change", (event) => go(event.target.value, state.view === "day" ? "tasks" : state.view));
     find("new-board").addEventListener("click", () => find("board-dialog").showModal());
     find("cancel-board").addEventListener("click", () => find("board-dialog").close());
+    check(find("board-title"), (text) => faultInTitle(text.trim()));
     whenSent("board-form", (form) => {
+        if (!isWhole(form)) return;
         madeHere = find("board-title").value.trim();
         if (madeHere) keep(changes.board(madeHere)).catch(tellFault);
         find("board-dialog").close();
         form.reset();
     });
     addEventListener("hashchange", showRoute);
-    addEventListener("storage", ({ key, newValue }) => key === SESSION && !newValue && !sessionStorage.getItem(SESSION) && showSignIn());
     listen("boards", () => [drawBoards, lookAgain].forEach((part) => part()));
-    listen("unknown", () => showSignIn("The server doesn't know this name with this key any more. What isn't answered yet is sent when you sign in again."));
     listen("answered", (news) => showMade(news).catch(() => {}));
-    const who = readSession();
-    if (who) enter(who);
-    else showSignIn();
+    beginSigning(enter);
 }
 
 begin();

@@ -1,5 +1,6 @@
 // Moments. The server has seconds in UTC, as 20260131T090000Z. A day without a time is the first second of that day in UTC, as in a line of
-// todo.txt, and is shown as that day everywhere; any other moment is shown in the time of whoever looks.
+// todo.txt, and is shown as that day everywhere. So is, to whoever is there, the moment at which a day begins where they are: Taskwarrior's
+// day. Any other moment is shown in the time of whoever looks.
 
 const DAY = 86400;
 const MONTHS = "Jan Feb Mar Apr May Jun Jul Aug Sep Oct Nov Dec".split(" ");
@@ -15,27 +16,59 @@ export function seconds(text) {
     return Date.UTC(Math.floor(day / 10000), pair(day, 100) - 1, pair(day, 1), pair(time, 10000), pair(time, 100), pair(time, 1)) / 1000;
 }
 
-const momentText = (date) => `${date.toISOString().slice(0, 19).replace(/[-:]/g, "")}Z`;
-const isDay = (second) => second % DAY === 0;
+export const momentOf = (second) => `${new Date(second * 1000).toISOString().slice(0, 19).replace(/[-:]/g, "")}Z`;
+const isUtcDay = (second) => second % DAY === 0;
 
-// How many seconds whoever looks is behind UTC then; a day is the same for all.
-const zoneOf = (second) => (isDay(second) ? 0 : new Date(second * 1000).getTimezoneOffset() * 60);
-const dayOf = (second) => Math.floor((second - zoneOf(second)) / DAY);
-const today = () => Math.floor((now() - new Date().getTimezoneOffset() * 60) / DAY);
+const dayNumber = (date) => Date.UTC(date.getFullYear(), date.getMonth(), date.getDate()) / 1000 / DAY;
+
+// Whether a day begins then where its reader is: at midnight, or later where the clock skips that.
+function beginsDay(date) {
+    if (date.getMinutes() + date.getSeconds() > 0 || date.getHours() > 2) return false;
+    return new Date(date.getFullYear(), date.getMonth(), date.getDate()).getTime() === date.getTime();
+}
+
+// The day that a moment falls on where its reader is, counted from the first of 1970, and its minute there (900 is 15:00); no minute where
+// only a day is said.
+function placed(second) {
+    if (isUtcDay(second)) return { day: second / DAY };
+    const date = new Date(second * 1000);
+    return beginsDay(date) ? { day: dayNumber(date) } : { day: dayNumber(date), minute: 60 * date.getHours() + date.getMinutes() };
+}
+
+export const dayOf = (second) => placed(second).day;
+export const today = () => dayNumber(new Date());
+
+// The day so many days after today, as 2026-01-31.
+export const dayAhead = (days) => new Date((today() + days) * DAY * 1000).toISOString().slice(0, 10);
+
+const twoDigits = (number) => String(number).padStart(2, "0");
 
 // A second as day (2026-01-31) and time (09:00) for the fields of a form; the time is empty where only a day was said.
 export function toFields(second) {
     if (second === undefined) return { day: "", time: "" };
-    const text = new Date((second - zoneOf(second)) * 1000).toISOString();
-    return { day: text.slice(0, 10), time: isDay(second) ? "" : text.slice(11, 16) };
+    const { day, minute } = placed(second);
+    const time = minute === undefined ? "" : `${twoDigits(Math.floor(minute / 60))}:${twoDigits(minute % 60)}`;
+    return { day: new Date(day * DAY * 1000).toISOString().slice(0, 10), time };
 }
 
-// The moment's text of what the fields say; null where no day is said.
+// The clock's time of a moment where its reader is, and in UTC; empty where only a day is said.
+export const timeOf = (second) => toFields(second).time;
+export const utcTimeOf = (second) => (isUtcDay(second) ? "" : new Date(second * 1000).toISOString().slice(11, 16));
+
+// The moment's text of what the fields say; null where no day is said. A time that falls on the second by which a day is told is sent as the
+// next second, which is shown as the same minute.
 export function fromFields({ day, time }) {
-    return day ? momentText(new Date(time ? `${day}T${time}` : `${day}T00:00:00Z`)) : null;
+    if (!day) return null;
+    if (!time) return momentOf(Date.parse(`${day}T00:00:00Z`) / 1000);
+    const second = Date.parse(`${day}T${time}`) / 1000;
+    return momentOf(isUtcDay(second) ? second + 1 : second);
 }
 
-export const isOver = (second) => (isDay(second) ? dayOf(second) < today() : second < now());
+// A day is over when it has ended where its reader is; any other moment once it is past.
+export function isOver(second) {
+    const { day, minute } = placed(second);
+    return minute === undefined ? day < today() : second < now();
+}
 
 function dayText(day, withYear) {
     const date = new Date(day * DAY * 1000);

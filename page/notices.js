@@ -1,20 +1,22 @@
 // What the page tells: whether all is answered, what isn't yet, what was refused and why, what an import did, and a way back.
+import { openAgain, textsOf, wayOf } from "./again.js";
 import { NoAnswer } from "./asking.js";
 import { changes, reason } from "./changes.js";
-import { button, counted, fill, find, make, said, span } from "./dom.js";
+import { button, counted, fill, find, make, said, span, tasksTold } from "./dom.js";
 import { ago } from "./moments.js";
-import { forget, keep, sendNow, settled, vainTries, waiting } from "./sending.js";
+import { forget, keep, sendAgain, sendAllTheSame, sendNow, settled, vainTries, waiting } from "./sending.js";
 import { listen } from "./state.js";
 
 const [TOLD_FOR, LATE, MOST_SHOWN] = [10000, 400, 20];
 const WAYS_BACK = { done: "Completed", delete: "Deleted" };
+const DONE_BEFORE = { done: "completed", delete: "deleted", reopen: "reopened", start: "started", stop: "stopped" };
 let [isThere, timer, look] = [true, 0, ""];
 
 const endToast = () => fill(find("toast"));
 const quoted = (text) => make("q", {}, said(text, 120));
 const about = (change) => [`${change.verb} `, quoted(change.subject)];
 
-function toast(...children) {
+export function toast(...children) {
     fill(find("toast"), ...children, button("Close", endToast, { class: "quiet" }));
     clearTimeout(timer);
     timer = setTimeout(endToast, TOLD_FOR);
@@ -51,15 +53,43 @@ function drawUnanswered() {
     fill(find("unanswered-list"), all.slice(0, MOST_SHOWN).map(row), all.length > MOST_SHOWN ? make("li", {}, `and ${all.length - MOST_SHOWN} more`) : "");
 }
 
+const buttons = (...children) => make("div", { class: "line" }, children);
+const attempt = (act) => () => Promise.resolve(act()).catch(tellFault);
+
+// A refused change keeps its text until its sender throws it away.
 function refusal(change) {
     const parts = "The parts behind it weren't sent. Mend the file, and import it again: tasks that are there already stay as they are.";
+    const texts = change.reports ? [] : textsOf(change);
     const told = [
         make("p", {}, make("strong", {}, "Refused: "), about(change)),
         make("p", {}, reason(change)),
         change.culprit ? make("p", {}, "It is the task ", quoted(change.culprit), ".") : "",
         change.takenBack ? make("p", {}, change.reports ? parts : "What belonged to it wasn't sent.") : "",
+        texts.length ? make("details", {}, make("summary", {}, "What was to be sent"), texts.map((text) => make("p", { class: "long" }, make("bdi", {}, text)))) : "",
     ];
-    return make("li", { class: "notice refused" }, make("div", {}, told), button("Dismiss", () => forget(change)));
+    const ways = { form: ["Edit and send again", () => openAgain(change)], "as it is": ["Send again", () => sendAgain(change)] };
+    const [label, act] = ways[wayOf(change)] ?? [];
+    const again = label ? button(label, attempt(act)) : "";
+    const away = button(texts.length ? "Throw away" : "Dismiss", () => forget(change), { class: "quiet" });
+    return make("li", { class: "notice refused" }, make("div", {}, told), buttons(again, away));
+}
+
+// Someone else did the same before: nothing is lost, and nothing left to do.
+function already(change) {
+    const words = make("p", {}, make("strong", {}, change.by ? said(change.by) : "Someone else"), ` had ${DONE_BEFORE[change.path.split("/").at(-1)]} `, quoted(change.subject), " already.");
+    return make("li", { class: "notice already" }, words, button("Dismiss", () => forget(change), { class: "quiet" }));
+}
+
+const worded = (value) => (value === null || value === undefined ? "nothing" : [value].flat().join(" "));
+
+// A change that waited while its task became another is sent once its person says so.
+function question(change) {
+    const { name, was, is } = change.doubt;
+    const told = [
+        make("p", {}, make("strong", {}, "Not sent yet: "), about(change)),
+        make("p", {}, `While it waited, the task's ${name} changed on the server from `, quoted(worded(was)), " to ", quoted(worded(is)), "."),
+    ];
+    return make("li", { class: "notice asks" }, make("div", {}, told), buttons(button("Send it all the same", attempt(() => sendAllTheSame(change))), button("Throw away", () => forget(change), { class: "quiet" })));
 }
 
 // What the parts of an import did together, those that are answered.
@@ -73,16 +103,18 @@ function report(parts) {
     ].filter(Boolean);
     const soFar = parts[0].parts > 1 ? ` (${parts.length} of ${parts[0].parts} parts)` : "";
     const text = make("p", {}, make("strong", {}, "Imported "), quoted(parts[0].file), `${soFar}: ${told.join("; ")}.`);
-    return make("li", { class: "notice" }, text, button("Dismiss", () => forget(...parts)));
+    const losses = tasksTold("Which tasks lost what", parts.flatMap((part) => part.losses ?? []));
+    return make("li", { class: "notice" }, make("div", {}, text, losses), button("Dismiss", () => forget(...parts)));
 }
 
 function drawNotices() {
     const all = settled();
-    const seen = all.map((one) => one.order).join();
+    const seen = all.map((one) => [one.order, one.state, one.state === "refused" && wayOf(one)]).join();
     if (seen === look) return;
     look = seen;
-    const imports = Object.groupBy(all.filter(({ state }) => state === "done"), (one) => one.group || one.id);
-    fill(find("notices"), all.filter(({ state }) => state === "refused").map(refusal), Object.values(imports).map(report));
+    const of = (state) => all.filter((one) => one.state === state);
+    const imports = Object.groupBy(of("done"), (one) => one.group || one.id);
+    fill(find("notices"), of("asks").map(question), of("refused").map(refusal), of("already").map(already), Object.values(imports).map(report));
 }
 
 const draw = () => [drawState, drawUnanswered, drawNotices].forEach((part) => part());
@@ -90,7 +122,7 @@ const draw = () => [drawState, drawUnanswered, drawNotices].forEach((part) => pa
 // Offers a way back from what closed a task.
 function offerBack({ change, status }) {
     const word = WAYS_BACK[change.path.split("/").at(-1)];
-    if (status !== 200 || !word || document.hidden) return;
+    if (status !== 200 || !word || document.hidden || change.isOneOfMany) return;
     const task = { uuid: change.task, description: change.subject };
     const undo = button("Undo", () => {
         endToast();
@@ -107,6 +139,7 @@ export function beginNotices() {
     });
     find("send-now").addEventListener("click", sendNow);
     listen("kept", draw);
+    listen("boards", drawNotices);
     listen("answered", offerBack);
     listen("reach", (reached) => {
         const isNews = reached !== isThere || !reached;

@@ -1,19 +1,26 @@
 // One task beside the list: what it says, what can be done with it, its notes, what it waits for and what waits for it.
 import { PRIORITIES, urgencyText } from "./board.js";
 import { changes } from "./changes.js";
+import { check, isWhole } from "./checking.js";
 import { button, fill, find, make, oneLine, said, span, whenSent } from "./dom.js";
-import { Fields } from "./fields.js";
+import { isGone } from "./crew.js";
+import { keepDraft, readDraft } from "./drafts.js";
+import { beginTask, closeEdit, isEditing, openEdit } from "./editing.js";
+import { endRepeat } from "./ending.js";
+import { shown as select } from "./filters.js";
+import { linked } from "./links.js";
 import { inFull, seconds } from "./moments.js";
 import { tellFault } from "./notices.js";
+import { faultInText } from "./rules.js";
 import { keep, waiting } from "./sending.js";
 import { go, listen, state } from "./state.js";
 
 const MOST_CHOICES = 6;
 const MOMENTS = { due: "Due", wait: "Waits until", scheduled: "Scheduled", until: "Until", start: "Started", entry: "Made", modified: "Changed", end: "Ended" };
 // What is shown elsewhere. Any other member is one of the user's own, and is shown under its name.
-const KNOWN = "uuid description status project priority tags recur annotations depends parent imask mask".split(" ");
-// The uuid of the task that is shown; the task as it was drawn, and what was drawn of others; and the fields while it is edited.
-let [shown, drawn, look, fields] = ["", null, "", null];
+const KNOWN = "uuid description status project priority tags recur annotations depends parent imask mask assignee".split(" ");
+// The uuid of the task that is shown; the task as it was drawn, and what was drawn of others.
+let [shown, drawn, look] = ["", null, ""];
 
 const hold = (change) => keep(change).catch(tellFault);
 const act = (action) => () => hold(changes.act(state.number, task(), action));
@@ -26,23 +33,24 @@ function task() {
 function actions(one) {
     const isStarted = Boolean(one.told.start);
     return [
-        one.isListed ? button("Done", act("done"), { class: "primary" }) : "",
-        one.isOpen ? "" : button("Reopen", act("reopen"), { class: "primary" }),
-        one.status === "pending" ? button(isStarted ? "Stop" : "Start", act(isStarted ? "stop" : "start")) : "",
-        one.isOpen ? button("Edit", () => showEdit(true), { id: "edit" }) : "",
-        one.isOpen ? button(one.isListed ? "Delete" : "Delete, and make no more", act("delete"), { class: "danger" }) : "",
+        one.isListed ? button("Done", act("done"), { class: "primary", "aria-keyshortcuts": "d" }) : "",
+        one.isOpen ? "" : button("Reopen", act("reopen"), { class: "primary", "aria-keyshortcuts": "d" }),
+        one.status === "pending" ? button(isStarted ? "Stop" : "Start", act(isStarted ? "stop" : "start"), { "aria-keyshortcuts": "s" }) : "",
+        one.isOpen ? button("Edit", () => openEdit(task()), { id: "edit", "aria-keyshortcuts": "e" }) : "",
+        one.isListed ? button("Delete", act("delete"), { class: "danger" }) : "",
+        one.isOpen && !one.isListed ? button("Delete, and make no more", () => endRepeat(task()), { class: "danger" }) : "",
     ];
 }
 
 function facts(one) {
     const { told } = one;
-    const texts = { Priority: PRIORITIES[one.priority], Project: one.project, Tags: one.tags.map((tag) => `@${tag}`).join(" "), Repeats: one.recur };
+    const texts = { Assignee: one.assignee && `${one.assignee}${isGone(one.assignee) ? " (no role any more)" : ""}`, Priority: PRIORITIES[one.priority], Project: one.project, Tags: one.tags.map((tag) => `@${tag}`).join(" "), Repeats: one.recur };
     const facts = [
         ...Object.entries(texts).filter(([, text]) => text),
         ...Object.entries(MOMENTS).filter(([name]) => told[name]).map(([name, label]) => [label, inFull(seconds(told[name]))]),
         ...Object.entries(told).filter(([name]) => !(name in MOMENTS) && !KNOWN.includes(name)).map(([name, value]) => [name, String(value)]),
     ];
-    const rows = facts.map(([name, text]) => [make("dt", {}, said(name, 60)), make("dd", {}, make("bdi", {}, text))]);
+    const rows = facts.map(([name, text]) => [make("dt", {}, said(name, 60)), make("dd", {}, make("bdi", {}, linked(text)))]);
     const template = state.board.byId.get(one.parent);
     if (template) rows.push([make("dt", {}, "Instance of"), make("dd", {}, button(said(template.description, 80), () => go(state.number, "repeating", template.uuid), { class: "link" }))]);
     return rows.flat();
@@ -52,7 +60,7 @@ const remove = (label, change) => button("Remove", () => hold(change), { class: 
 
 function noteRow(one, { description, entry }) {
     const away = remove(`Remove the note: ${oneLine(description, 60)}`, changes.denotate(state.number, one, description));
-    return make("li", {}, make("bdi", { class: "long" }, description), span("about", inFull(seconds(entry)), away));
+    return make("li", {}, make("bdi", { class: "long" }, linked(description)), span("about", inFull(seconds(entry)), away));
 }
 
 function taskRow(other, ...beside) {
@@ -70,7 +78,7 @@ function aheadRow(one, id) {
 function drawChoices() {
     const one = task();
     const text = find("depend-text").value.trim();
-    const all = text && one ? state.board.shown({ text, project: "", tag: "", status: "open" }) : [];
+    const all = text && one ? select(state.board, { text, status: "open" }, state.who.name) : [];
     const found = all.filter((other) => other !== one && !one.depends.includes(other.uuid));
     const choose = (other) => {
         hold(changes.depend(state.number, one, other.uuid));
@@ -83,21 +91,6 @@ function drawChoices() {
     find("depend-told").textContent = text && found.length === 0 ? "No open task has these words." : told;
 }
 
-function showEdit(isShown) {
-    find("edit-form").hidden = !isShown;
-    for (const id of ["task-text", "task-actions", "task-facts"]) find(id).hidden = isShown;
-    fields = isShown ? new Fields(state.board, task()) : null;
-    fill(find("edit-fields"), fields?.elements ?? []);
-    fields?.description.focus();
-}
-
-async function endEdit() {
-    const edits = fields.edits();
-    if (Object.keys(edits).length > 0) await keep(changes.modify(state.number, task(), edits));
-    showEdit(false);
-    find("edit")?.focus();
-}
-
 // Fills what comes from the board, and leaves the forms alone in which someone may be typing.
 function drawTask(one) {
     const isUnanswered = waiting().some((change) => change.task === one.uuid);
@@ -105,12 +98,12 @@ function drawTask(one) {
     find("task-status").textContent = [...status, isUnanswered ? "a change isn't answered yet" : ""].filter(Boolean).join(" · ");
     const behind = state.board.behind(one);
     const ahead = one.depends.filter((id) => state.board.byId.has(id));
-    const linked = [...behind, ...ahead.map((id) => state.board.byId.get(id)), state.board.byId.get(one.parent)];
-    const seen = JSON.stringify(linked.map((other) => other && [other.description, other.status, other.uuid]));
+    const neighbours = [...behind, ...ahead.map((id) => state.board.byId.get(id)), state.board.byId.get(one.parent)];
+    const seen = JSON.stringify(neighbours.map((other) => other && [other.description, other.status, other.uuid]));
     if (drawn === one && seen === look) return;
     drawn = one;
     look = seen;
-    find("task-text").textContent = one.description;
+    fill(find("task-text"), linked(one.description));
     const hadFocus = find("task-actions").contains(document.activeElement);
     fill(find("task-actions"), actions(one));
     if (hadFocus) find("task-actions").firstChild.focus();
@@ -135,26 +128,33 @@ function draw() {
     if (one) drawTask(one);
     if (shown === (one?.uuid ?? "")) return;
     shown = one?.uuid ?? "";
-    showEdit(false);
-    for (const id of ["note-text", "depend-text"]) find(id).value = "";
+    beginTask(one);
+    find("note-text").value = (one && readDraft("note", shown)) ?? "";
+    find("depend-text").value = "";
     drawChoices();
     find("panel").scrollTop = 0;
-    find("task-text").focus({ preventScroll: true });
+    if (!isEditing()) find("task-text").focus({ preventScroll: true });
 }
 
 export function beginPanel() {
     find("close-panel").addEventListener("click", close);
     find("panel").addEventListener("keydown", (event) => {
-        if (event.key === "Escape") fields ? showEdit(false) : close();
+        if (event.key === "Escape") isEditing() ? closeEdit() : close();
     });
     find("depend-text").addEventListener("input", drawChoices);
-    find("cancel-edit").addEventListener("click", () => showEdit(false));
-    whenSent("edit-form", () => endEdit().catch(tellFault));
     whenSent("depend-form", () => find("depend-choices").querySelector("button")?.click());
+    check(find("note-text"), (text) => faultInText(text.trim()));
+    find("note-text").addEventListener("input", () => keepDraft("note", shown, find("note-text").value));
     whenSent("note-form", (form) => {
         const text = find("note-text").value.trim();
+        if (!isWhole(form)) return;
         if (text) hold(changes.annotate(state.number, task(), text));
+        keepDraft("note", shown, null);
         form.reset();
     });
     for (const news of ["board", "route", "kept"]) listen(news, draw);
+    listen("draft", () => {
+        shown = "";
+        draw();
+    });
 }

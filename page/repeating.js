@@ -1,8 +1,10 @@
 // The view of a board's templates, each with the row of its instances.
 import { changes } from "./changes.js";
+import { check, isWhole } from "./checking.js";
 import { button, fill, find, make, said, whenSent } from "./dom.js";
 import { inFull, now, seconds } from "./moments.js";
 import { tellFault } from "./notices.js";
+import { faultInAhead } from "./rules.js";
 import { keep } from "./sending.js";
 import { go, here, listen, state } from "./state.js";
 
@@ -51,12 +53,15 @@ function draw() {
     const templates = state.board.templates;
     find("ahead-form").hidden = here()?.role !== "owner";
     find("no-templates").hidden = templates.length > 0;
+    find("no-templates").textContent = `Nothing repeats on this board.${here()?.role === "reader" ? "" : " Add a task with a due date and a repeat, under Details."}`;
     fill(find("templates"), templates.map(card));
 }
 
 export function beginRepeating() {
     find("sweep").addEventListener("click", sweep);
+    check(find("ahead"), faultInAhead);
     whenSent("ahead-form", (form) => {
+        if (!isWhole(form)) return;
         keep(changes.ahead(state.number, Number(find("ahead").value))).catch(tellFault);
         form.reset();
     });

@@ -6,38 +6,47 @@
 // lose while it sends. That does no harm: both tabs send the first change that isn't answered, and it acts once under its identifier.
 import { NoAnswer, newIdentifier, tell } from "./asking.js";
 import { changes as making } from "./changes.js";
-import { descriptionAt } from "./cutting.js";
 import * as device from "./device.js";
+import { canSeal, seal, unseal } from "./sealing.js";
+import { afterAnswer, doubtAbout } from "./settling.js";
 import { announce, state } from "./state.js";
 
 const PAUSES = [1, 2, 4, 8, 15, 30];
 const LEASE = 6000;
+// A change that waited longer than this, in milliseconds, or over a message without an answer, is compared with its task before it is sent.
+const OLD = 60000;
 const tabs = new BroadcastChannel("taskboard");
 const tab = newIdentifier();
 
 // What the device holds of the person who is signed in: changes that wait, were refused, or have something to tell; and how often the
 // first that waits was sent in vain.
 let [held, tries, isSending] = [[], 0, false];
-let endPause = () => {};
+// What is on its way to the device, one after the other; it isn't sent before it stands there.
+let [putting, lastPut] = [[], Promise.resolve()];
+// Ends the pause, and whether one that begins is to be left out: somebody asked for sending while a message was on its way.
+let [endPause, isHurried] = [() => {}, false];
 
-export const waiting = () => held.filter((change) => change.state === "waiting");
+const onDevice = () => held.filter((change) => change.state === "waiting");
+export const waiting = () => [...onDevice(), ...putting.filter(({ id }) => !held.some((one) => one.id === id))];
 export const settled = () => held.filter((change) => change.state !== "waiting");
 export const vainTries = () => tries;
 
-async function readDevice() {
+async function readDevice(then = () => {}) {
     held = state.who ? await device.all(state.who.name) : [];
+    then();
     announce("kept");
 }
 
 tabs.onmessage = async ({ data }) => {
-    await readDevice();
     if (data.change && data.change.member === state.who?.name) announce("answered", data);
+    await readDevice();
     send();
 };
 
 const toKeep = (made, group = "", member = state.who.name) => ({ ...made, member, state: "waiting", group, made: Date.now(), id: newIdentifier() });
 
 export function sendNow() {
+    isHurried = true;
     endPause();
     send();
 }
@@ -49,14 +58,62 @@ export async function beginSending() {
 }
 
 // Holds changes on the device, and then sends them. Several are a group: where one is refused those behind it are taken back.
-export async function keep(...made) {
-    // A second click on what waits already says nothing new.
-    if (made[0].task && !made[0].body && waiting().findLast((one) => one.task === made[0].task)?.path === made[0].path) return;
-    const group = made.length > 1 ? newIdentifier() : "";
-    await device.put(made.map((change) => toKeep(change, group)));
+export const keep = (...made) => keepGroups([made]);
+
+// Several that don't hang together: each is answered by itself.
+export const keepEach = (made) => keepGroups(made.map((change) => [change]));
+
+// A second click on what waits already says nothing new.
+const isNews = ({ task, body, path }) => !task || body || waiting().findLast((one) => one.task === task)?.path !== path;
+
+// Groups that don't hang together, all of them on the device at once.
+export async function keepGroups(groups) {
+    const kept = groups.flatMap((made) => {
+        const group = made.length > 1 ? newIdentifier() : "";
+        return made.filter(isNews).map((change) => toKeep(change, group));
+    });
+    if (kept.length === 0) return;
+    putting.push(...kept);
+    announce("kept");
+    try {
+        await inOrder(async () => device.put(await Promise.all(kept.map(hideSecret))));
+    } finally {
+        await readDevice(() => (putting = putting.filter((one) => !kept.includes(one))));
+    }
     tabs.postMessage({});
+    sendNow();
+}
+
+function inOrder(put) {
+    const done = lastPut.then(put);
+    lastPut = done.catch(() => {});
+    return done;
+}
+
+// Once all that was made stands on the device.
+export const allKept = () => lastPut.then(() => readDevice());
+
+// A new person's key doesn't stand on the device as it is.
+async function hideSecret(change) {
+    return change.isSecret && canSeal() ? { ...change, body: "", sealed: await seal(change.body, state.who.key) } : change;
+}
+
+// The body of a change, also where it was hidden.
+export const bodyOf = async (change) => (change.sealed ? unseal(change.sealed, state.who.key) : change.body);
+
+// Sends on what its person was asked about.
+export async function sendAllTheSame(change) {
+    await device.update([change], { state: "waiting", isSure: true });
     await readDevice();
     sendNow();
+}
+
+// Sends again what was refused, and what was to follow it, under new identifiers.
+export async function sendAgain(change) {
+    const made = ({ board, path, body, verb, subject, task, known, adds, base, form, isSecret }) => ({ board, path, body, verb, subject, task, known, adds, base, form, isSecret });
+    const all = await Promise.all([change, ...change.behind].map(async (one) => made({ ...one, body: await bodyOf(one) })));
+    await keep(...all);
+    await forget(change);
 }
 
 // Lets go of changes that were settled and read, or of one that the person gives up.
@@ -78,9 +135,10 @@ function pause() {
 async function send() {
     if (isSending) return;
     isSending = true;
-    while (state.who && waiting().length > 0) {
+    while (state.who && onDevice().length > 0) {
+        isHurried = false;
         const isDone = await inTurn(`taskboard ${state.who.name}`, () => sendInOrder(state.who)).catch(() => false);
-        if (!isDone) await pause();
+        if (!isDone && !isHurried) await pause();
     }
     isSending = false;
 }
@@ -88,40 +146,46 @@ async function send() {
 // Sends the first change of the device that waits, and then the next; gives whether all were answered.
 async function sendInOrder(who) {
     try {
-        for (await readDevice(); state.who === who && waiting().length > 0; await readDevice()) {
-            const [change] = waiting();
-            await settle(change, await tell(who, change));
+        for (await readDevice(); state.who === who && onDevice().length > 0; await readDevice()) {
+            const [change] = onDevice();
+            const doubt = isDoubtful(change) ? await doubtAbout(who, change) : null;
+            if (doubt) await device.update([change], { state: "asks", doubt });
+            else await settle(who, change, await tell(who, { ...change, body: await bodyOf(change) }));
             tries = 0;
             announce("reach", true);
         }
         return true;
     } catch (fault) {
         tries += 1;
-        if (fault instanceof NoAnswer) announce("reach", false);
+        if (fault instanceof NoAnswer) await noteVainTry();
         else console.error(fault);
         return false;
     }
 }
 
-// Takes an answer down before the next change is sent. One that says the key is wrong settles nothing: the server keeps no such answer,
-// so the change waits until its person signs in again.
-async function settle(change, { status, body }) {
-    if (status === 401) return state.who?.name === change.member && announce("unknown");
-    if (body.more) await device.put([toKeep(making.sweep(change.board), "", change.member)]);
-    if (status !== 200) await refuse(change, body);
-    else if (change.reports) await device.replace({ ...change, state: "done", body: "", answer: body });
-    else await device.remove([change]);
-    await readDevice();
-    const news = { change: { ...change, body: "" }, status, body };
-    tabs.postMessage(news);
-    if (state.who?.name === change.member) announce("answered", news);
+const isDoubtful = (change) => !change.isSure && (change.isOld || change.made < Date.now() - OLD);
+
+// What waits now has waited over a message without an answer.
+async function noteVainTry() {
+    announce("reach", false);
+    await device.update(onDevice().filter((change) => !change.isOld), { isOld: true });
 }
 
-async function refuse(change, body) {
-    const culprit = change.reports && body.at !== undefined ? descriptionAt(change.body, body.at) : "";
-    const behind = (await device.all(change.member)).filter((other) => change.group && other.group === change.group && other.order > change.order);
-    await device.remove(behind);
-    await device.replace({ ...change, state: "refused", body: "", answer: body, culprit, takenBack: behind.length });
+// Takes an answer down before the next change is sent. One that says the key is wrong settles nothing: the server keeps no such answer,
+// so the change waits until its person signs in again.
+async function settle(who, change, answer) {
+    const { status, body } = answer;
+    if (status === 401) return state.who?.name === change.member && announce("unknown");
+    if (body.more) await device.put([toKeep(making.sweep(change.board), "", change.member)]);
+    const behind = status === 200 ? [] : held.filter((other) => change.group && other.group === change.group && other.order > change.order);
+    const left = await afterAnswer(who, change, answer, behind);
+    if (left?.state === "refused") await device.remove(behind);
+    if (left) await device.update([change], left);
+    else await device.remove([change]);
+    const news = { change, status, body };
+    tabs.postMessage(news);
+    if (state.who?.name === change.member) announce("answered", news);
+    await readDevice();
 }
 
 const inTurn = (name, work) => (navigator.locks ? navigator.locks.request(name, work) : underLease(name, work));

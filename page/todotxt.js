@@ -1,11 +1,7 @@
-// A line of todo.txt as a task: marks from the left (`x`, `(A)`, dates), then words, of which +project, @tag, due: and uuid: are attributes.
+// A line of todo.txt as a task: marks from the left (`x`, `(A)`, dates), then words, of which some are attributes.
+import { isDay, readWord } from "./words.js";
 
 const PRIORITIES = { A: "H", B: "M", C: "L" };
-
-function isDay(word) {
-    const date = new Date(`${word}T00:00:00Z`);
-    return /^\d{4}-\d{2}-\d{2}$/.test(word) && word >= "1970" && !Number.isNaN(date.getTime()) && date.toISOString().startsWith(word);
-}
 
 const moment = (day) => `${day.replaceAll("-", "")}T000000Z`;
 
@@ -17,20 +13,25 @@ function takeMark(rest, test) {
     return word;
 }
 
-function takeWords(task, text) {
-    const plain = [];
+function takeWords(task, text, people, me) {
+    const [plain, misread] = [[], []];
     for (const word of text.split(/[ \t]+/).filter(Boolean)) {
-        if (/^\+./s.test(word) && !task.project) task.project = word.slice(1);
-        else if (/^@./s.test(word)) task.tags.push(word.slice(1));
-        else if (word.startsWith("due:") && isDay(word.slice(4)) && !task.due) task.due = moment(word.slice(4));
-        else if (/^uuid:[0-9a-f]{8}(-[0-9a-f]{4}){3}-[0-9a-f]{12}$/i.test(word) && !task.uuid) task.uuid = word.slice(5).toLowerCase();
-        else plain.push(word);
+        const { member, value, misread: why } = readWord(word, people, me);
+        if (/^uuid:[0-9a-f]{8}(-[0-9a-f]{4}){3}-[0-9a-f]{12}$/i.test(word) && !task.uuid) task.uuid = word.slice(5).toLowerCase();
+        else if (member === "tag") task.tags.push(value);
+        else if (member && !task[member]) task[member] = value;
+        else {
+            plain.push(word);
+            if (member || why) misread.push([word, why ?? "is a second one, and a task has one"]);
+        }
     }
     task.description = plain.join(" ") || text;
+    return misread;
 }
 
-// The attributes that a line gives a task.
-export function readLine(line) {
+// The attributes that a line gives a task, and the words that stay in its description though they look like attributes, each with why.
+// `people` are the names on the board, or null while they aren't known; `me` is the name of who types.
+export function readLine(line, people, me) {
     const rest = { text: line.trim() };
     const task = { tags: [] };
     const isDone = takeMark(rest, (word) => word === "x") !== "";
@@ -42,6 +43,6 @@ export function readLine(line) {
     if (ended) task.end = moment(ended);
     if (created) task.entry = moment(created);
     task.priority = PRIORITIES[letter[1]];
-    takeWords(task, rest.text);
-    return task;
+    const misread = takeWords(task, rest.text, people, me);
+    return { task, misread };
 }

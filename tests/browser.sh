@@ -8,7 +8,7 @@ for name in chromium chromium-browser google-chrome; do
     browser=${browser:-$(command -v "$name" || true)}
 done
 if [ -z "$browser" ]; then
-    echo "a page in a browser: skipped, since no chromium is there"
+    echo "a page in a browser: skipped, since chromium isn't there"
     exit 0
 fi
 

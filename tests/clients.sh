@@ -24,7 +24,7 @@ if command -v curl >/dev/null 2>&1; then
     fi
     echo "curl: 96 answers over up to 24 connections at once, in $((($(date +%s%N) - begun) / 1000000)) ms"
 else
-    echo "curl: skipped, since it isn't there"
+    echo "messages by curl: skipped, since curl isn't there"
 fi
 
 kill "$server"

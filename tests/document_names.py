@@ -150,7 +150,7 @@ def check_tests():
     """Each test has a row."""
     path = TOP / "docs/TESTING.md"
     rows = set(re.findall(r"(?m)^\| `tests/([\w.]+)", path.read_text()))
-    helpers = {"all.sh", "quick.sh", "prepare.sh", "release.sh"}
+    helpers = {"all.sh", "quick.sh", "prepare.sh", "packages.sh", "release.sh"}
     for name in sorted(test.name for test in (TOP / "tests").glob("*.sh")):
         if name not in rows | helpers:
             tell(path, 0, f"no row of tests/{name}")

@@ -158,6 +158,6 @@ if shutil.which("curl"):
     boards_in_a_file()
     asked_by_curl()
 else:
-    print("what the documents ask by curl: skipped, since it isn't there")
+    print("what the documents ask by curl: skipped, since curl isn't there")
 print(f"{worked_examples()} answers of examples are as their scripts have them")
 print(f"{len(ran)} commands of the documents print what stands behind them")

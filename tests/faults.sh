@@ -12,7 +12,9 @@ traced=${TRACED-calls stops}
 . "$(dirname "$0")/prepare.sh"
 
 if [ -n "$traced" ] && ! strace -qq -o /dev/null true 2>/dev/null; then
-    echo "system calls that fail, and stops at them: skipped, since strace isn't there or may not trace"
+    lacks="isn't there"
+    ! command -v strace >/dev/null || lacks="may not trace"
+    echo "system calls that fail, and stops at them: skipped, since strace $lacks"
     traced=
 fi
 PYTHONPATH=$top/tests python3 "$top/tests/faults.py" "$program" "$port" "$tries" $traced $kinds

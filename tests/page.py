@@ -1,6 +1,7 @@
 """The page in a real browser, as people use it: python3 page.py BROWSER PROGRAM PORT SLACK PAGE, in a folder that it may write to.
 
-SLACK is how many times longer than on a machine without other work things may take. With SHOTS pictures of each view are left in that folder."""
+SLACK is how many times longer than on a machine without other work things may take. With SHOTS pictures of each view are left in that folder;
+with SCENES, names of scenes with commas between them, these alone are played."""
 import datetime
 import json
 import os
@@ -9,24 +10,23 @@ import random
 import subprocess
 import sys
 import time
-import urllib.request
 import uuid
 
-from relay import LOSES_ANSWERS, LOSES_POSTS, Relay
-from talking import Server, end_by_signal, make_file
+import page_day
+import page_days
+import page_everywhere
+import page_files
+import page_several
+import page_views
+import page_words
+from office import ALL_ANSWERED, BACKSPACE, BROWSER, DOWN, ENTER, IS_LISTED, IS_TOLD, KEYS, LISTED, LOOK, PROGRAM, SHOTS, SLACK, Office, add, ask, descriptions, expect, new_board, tasks
+from relay import LOSES_ANSWERS, LOSES_POSTS
+from talking import end_by_signal, make_file
 from webdriver import STRANGER, Browser
 
-BROWSER, PROGRAM, PORT, SLACK, PAGE = sys.argv[1], sys.argv[2], int(sys.argv[3]), float(sys.argv[4]), sys.argv[5]
-SHOTS = os.environ.get("SHOTS")
-KEYS = {"ann": "ann-key-1", "bob": "bob-key-01"}
-ENTER, DOWN, BACKSPACE = "\ue007", "\ue015", "\ue003"
 # How soon a board of 10,000 tasks is shown, in seconds, how long the page may keep the browser from drawing, in milliseconds, and what ten
 # people's looks within 15 s may take of the server's processor, in seconds.
 SHOWN_WITHIN, STALL, LOOKS = 1.5, 100, 1.5
-ALL_ANSWERED = "return document.getElementById('state').textContent === 'All is answered'"
-LISTED = "return [...document.querySelectorAll('#list .open')].map((row) => row.textContent)"
-IS_LISTED = "return [...document.querySelectorAll('#list .open')].some((row) => row.textContent === arguments[0])"
-IS_TOLD = "return document.body.innerText.includes(arguments[0])"
 # From here on the pieces of the page's work that took 50 ms and more are noted, and one of none.
 WATCH = "window.stalls = [0]; new PerformanceObserver((list) => stalls.push(...list.getEntries().map((entry) => entry.duration))).observe({ type: 'longtask' })"
 # How many times longer a piece of work may take than where nothing else runs: the slowest of equal pieces, against the quickest.
@@ -42,76 +42,6 @@ IS_KEPT = """return new Promise((done) => {
         target.result.transaction("changes").objectStore("changes").count().onsuccess = () => done(true);
     };
 });"""
-LOOK = "window.dispatchEvent(new Event('focus')); return true"
-
-
-def expect(what, wanted, got):
-    if wanted != got:
-        sys.exit(f"{what}: expected {wanted!r}, but got {got!r}")
-
-
-def ask(path, body=None, who="ann"):
-    """An answer to a message that doesn't come from the page."""
-    fields = {"x-member": who, "x-key": KEYS[who], "x-request-id": str(uuid.uuid4())}
-    request = urllib.request.Request(f"http://127.0.0.1:{PORT}{path}", body, fields)
-    with urllib.request.urlopen(request, timeout=20) as answer:
-        return answer.read().decode()
-
-
-def tasks(board):
-    return json.loads(ask(f"/boards/{board}/export"))
-
-
-def descriptions(board):
-    return [task["description"] for task in tasks(board)]
-
-
-def add(board, **task):
-    return json.loads(ask(f"/boards/{board}/tasks", json.dumps(task).encode()))["uuid"]
-
-
-class Office:
-    """A server that may be killed, a line to it that may break, and a browser."""
-
-    def __init__(self, browser):
-        self.browser, self.relay, self.server = browser, Relay(PORT), None
-        self.address = f"http://127.0.0.1:{self.relay.port}/"
-        self.start()
-
-    def start(self):
-        self.server = Server(PROGRAM, PORT, words=("--page", PAGE, "--forever"), errors=subprocess.DEVNULL)
-
-    def restart(self):
-        self.server.end()
-        self.start()
-
-    def sign_in(self, name, key=None):
-        self.browser.open(self.address)
-        self.browser.wait("return document.getElementById('sign-in-form').offsetParent")
-        self.browser.type("#name", name)
-        self.browser.type("#key", (key or KEYS[name]) + ENTER)
-
-    def enter(self, name):
-        self.sign_in(name)
-        self.browser.wait("return document.getElementById('count').textContent")
-
-    def go(self, board, view="tasks", task=""):
-        self.browser.run("location.hash = arguments[0]", f"/{board}/{view}" + (f"/{task}" if task else ""))
-        self.browser.wait(f"return !document.getElementById('{view}-view').hidden")
-        if view == "tasks":
-            self.browser.wait("return document.getElementById('count').textContent")
-
-    def shot(self, name):
-        """Pictures of what is shown, wide and narrow; the layout fits in each, and at 320 too."""
-        for width, height in ((1280, 900), (390, 844), (320, 640)):
-            self.browser.size(width, height)
-            time.sleep(0.15)
-            wide = self.browser.run("return document.documentElement.scrollWidth")
-            if wide > width:
-                sys.exit(f"{name}: {wide} wide, in a window of {width}")
-            if SHOTS:
-                self.browser.shot(pathlib.Path(SHOTS) / f"{name}-{width}.png")
-        self.browser.size(1280, 900)
 
 
 def first_steps(office):
@@ -151,12 +81,13 @@ def first_steps(office):
 def by_keyboard(browser):
     """Completes the second task by keys alone, and takes that back."""
     browser.run("document.querySelector('#list .open').focus()")
-    browser.call("POST", "/actions", {"actions": [{"type": "key", "id": "keys", "actions": [{"type": kind, "value": key} for key in (DOWN, "d") for kind in ("keyDown", "keyUp")]}]})
+    browser.press(DOWN, "d")
     browser.wait("return document.querySelectorAll('#list .row').length === 2")
     browser.wait(ALL_ANSWERED)
     expect("done", "completed", tasks(1)[1]["status"])
     browser.click("#toast button")
     browser.wait(IS_LISTED, "Buy milk")
+    browser.wait(ALL_ANSWERED)
     expect("taken back", "pending", tasks(1)[1]["status"])
 
 
@@ -195,7 +126,7 @@ def people(office):
     browser.wait(IS_TOLD, "left without an owner")
     browser.wait("return document.querySelector('#people select').value === 'owner'")
     office.shot("people")
-    browser.click("#notices button")
+    browser.click("#notices .quiet")
     browser.wait("return document.querySelectorAll('#notices li').length === 0")
 
 
@@ -210,9 +141,8 @@ def killed_server(office):
     browser.wait(IS_TOLD, "1 change isn't answered yet")
     browser.type("#add-line", "Is made while nobody is there" + ENTER)
     browser.wait(IS_TOLD, "2 changes aren't answered yet")
-    for _ in range(2):
-        browser.run("document.querySelector('#list .tick').click()")
-        browser.wait(IS_TOLD, "3 changes aren't answered yet")
+    browser.run("document.querySelector('#list .tick').click()")
+    browser.wait(IS_TOLD, "3 changes aren't answered yet")
     browser.click("#state")
     office.shot("unanswered")
     office.start()
@@ -227,7 +157,7 @@ def killed_server(office):
     for name in ("Acts before the kill", "Is made while nobody is there"):
         browser.wait(IS_LISTED, name)
         expect(f"tasks {name!r}", 1, descriptions(1).count(name))
-    expect("clicked twice", ["completed", 0], [tasks(1)[0]["status"], browser.run("return document.querySelectorAll('#notices li').length")])
+    expect("clicked", ["completed", 0], [tasks(1)[0]["status"], browser.run("return document.querySelectorAll('#notices li').length")])
 
 
 def two_tabs(office):
@@ -293,24 +223,23 @@ def plain_http(office):
 
 def hostile_texts(office):
     """Texts that would be code, turn what stands around them or fill the window: nothing runs, and the layout stands."""
-    browser = office.browser
-    ask("/boards", json.dumps({"title": "<b>Hostile</b> \u202egnihton"}).encode())
+    browser, board = office.browser, new_board("<b>Hostile</b> \u202egnihton")
     code = ["<img src=x onerror=\"window.ran=1\">", "</script><script>window.ran=1</script>", "\"><svg onload=window.ran=1>", "javascript:window.ran=1", "{{constructor.constructor('window.ran=1')()}}"]
     turned = ["\u202e\u2066right to left\u202c", "\u0001\u0007\u001b[31m\u007f\u0085\u2028", "e\u0301" * 2000, "\U0001f469\u200d\U0001f467" * 500]
     long = ["W" * 16384, "ш" * 8192, " ".join(["word"] * 3000)]
     for text in (*code, *turned, *long):
         tag = "".join(text.split())[:4000] or "x"
-        uuid_of = add(2, description=text, project=text, tags=[tag], own=text)
-        ask(f"/boards/2/tasks/{uuid_of}/annotate", json.dumps({"description": text}).encode())
+        uuid_of = add(board, description=text, project=text, tags=[tag], own=text)
+        ask(f"/boards/{board}/tasks/{uuid_of}/annotate", json.dumps({"description": text}).encode())
     browser.open(office.address)
     browser.wait("return document.getElementById('count').textContent")
-    office.go(2)
+    office.go(board)
     browser.wait("return document.querySelectorAll('#list .row').length === arguments[0]", len(code + turned + long))
     heights = set(browser.run("return [...document.querySelectorAll('#list .row')].map((row) => row.offsetHeight)"))
     expect("heights of rows", 1, len(heights))
     office.shot("hostile")
-    for task in tasks(2):
-        office.go(2, "tasks", task["uuid"])
+    for task in tasks(board):
+        office.go(board, "tasks", task["uuid"])
         browser.wait("return document.getElementById('task-text').textContent.length > 0 && location.hash.includes(arguments[0])", task["uuid"])
         expect("a text", task["description"], browser.run("return document.getElementById('task-text').textContent"))
         wide = browser.run("return document.documentElement.scrollWidth")
@@ -338,11 +267,10 @@ def linked_tasks(count):
 def imports(office):
     """A Taskwarrior export in three parts with no link lost, a todo.txt file, one that can't be read; and the export as a file."""
     browser = office.browser
-    office.go(2)
     browser.click("#new-board")
     browser.type("#board-title", "Taken in" + ENTER)
-    browser.wait("return location.hash.startsWith('#/3/') && document.getElementById('nothing').offsetParent")
-    office.go(3, "files")
+    board = int(browser.wait("return document.title.startsWith('Taken in') && document.getElementById('nothing').offsetParent && location.hash.split('/')[1]"))
+    office.go(board, "files")
     sent = list(linked_tasks(2300))
     for name, text in (("export.json", json.dumps(sent)), ("todo.txt", "(A) Call Mom +Family\nBuy tea\n"), ("broken.json", "[{\"description\":")):
         pathlib.Path(name).write_text(text)
@@ -354,14 +282,14 @@ def imports(office):
             browser.wait(ALL_ANSWERED)
     browser.wait(IS_TOLD, "(3 of 3 parts): 2,300 new; 0 known")
     browser.wait(IS_TOLD, "2 new; 0 known")
-    browser.wait(IS_TOLD, "has no tasks")
-    stored = {task["uuid"]: task for task in tasks(3)}
+    browser.wait(IS_TOLD, "the file breaks off in it")
+    stored = {task["uuid"]: task for task in tasks(board)}
     expect("tasks that were taken in", 2302, len(stored))
     expect("links", {task["uuid"]: task["depends"] for task in sent if "depends" in task}, {name: task["depends"] for name, task in stored.items() if "depends" in task})
     browser.tell("Browser.setDownloadBehavior", behavior="allow", downloadPath=os.getcwd())
     browser.click("#save-export")
     [file] = saved_files("Taken-in-*.json", browser.patience)
-    expect("the export as a file", ask("/boards/3/export"), file.read_text())
+    expect("the export as a file", ask(f"/boards/{board}/export"), file.read_text())
     browser.wait("return document.querySelectorAll('#notices button').length === 2")
 
 
@@ -377,22 +305,21 @@ def saved_files(pattern, patience):
 
 def large_board(office):
     """A board of 10,000 tasks: shown soon, in the listing's order, typed into without a stall, and cheap to look at."""
-    browser = office.browser
-    ask("/boards", b'{"title":"Large"}')
+    browser, board = office.browser, new_board("Large")
     large = list(linked_tasks(9998))
     for part in range(9, -1, -1):
-        ask("/boards/4/import", json.dumps(large[part * 1000 : part * 1000 + 1000]).encode())
-    browser.open(office.address + "#/4/tasks")
+        ask(f"/boards/{board}/import", json.dumps(large[part * 1000 : part * 1000 + 1000]).encode())
+    browser.open(office.address + f"#/{board}/tasks")
     browser.call("POST", "/refresh")
     shown = browser.wait("return document.querySelectorAll('#list .row').length > 10 && performance.now()") / 1000
     busy = [browser.run(BUSY)]
     browser.run(WATCH)
-    listed = [line[49:] for line in ask("/boards/4/list").splitlines()[1:11]]
+    listed = [line[49:] for line in ask(f"/boards/{board}/list").splitlines()[1:11]]
     expect("order", listed, browser.run(LISTED)[:10])
     expect("all of them", "9,998 of 9,998 tasks", browser.run("return document.getElementById('count').textContent"))
     for letter in "number 99":
         browser.type("#filter-text", letter)
-    add(4, description="From elsewhere")
+    add(board, description="From elsewhere")
     browser.run(LOOK)
     for letter in "Typed meanwhile" + ENTER:
         browser.type("#add-line", letter)
@@ -406,23 +333,49 @@ def large_board(office):
     office.shot("large")
     used = office.server.seconds_used()
     for _ in range(10):
-        ask("/boards/4/export")
+        ask(f"/boards/{board}/export")
     used = office.server.seconds_used() - used
     figures = f"10,000 tasks shown after {shown:.2f} s, the longest stall {stall:.0f} ms where work takes up to {max(busy):.1f} times its time, ten looks {used:.2f} s of the server"
     slack = max(SLACK, *busy)
     if shown > SHOWN_WITHIN * slack or stall > STALL * slack or used > LOOKS:
         sys.exit(f"too slow: {figures}")
-    return figures
+    office.figures.append(figures)
 
 
 def last_steps(office):
-    """Signing out forgets the key; no fault was told on the way but for messages that were lost or refused."""
+    """Signing out forgets the key, and keeps how boards were left; no fault was told on the way but for messages that were lost or refused."""
     browser = office.browser
     browser.click("#sign-out")
     browser.wait("return document.getElementById('sign-in-form').offsetParent")
-    expect("what is kept of the key", "", browser.run("return JSON.stringify([{ ...sessionStorage }, { ...localStorage }])").replace("[{},{}]", ""))
+    expect("what is kept but filters", [[], []], browser.run("return [sessionStorage, localStorage].map((place) => Object.keys(place).filter((key) => !key.endsWith(' filters')))"))
+    kept = browser.run("return JSON.stringify({ ...localStorage })")
+    expect("the key, and what was searched for", [False, False], [KEYS["ann"] in kept, "text=" in kept])
     told = [message for message in browser.messages() if "Failed to load resource" not in message]
     expect("faults", [], told)
+
+
+SCENES = (
+    *(first_steps, people, killed_server, two_tabs, plain_http, hostile_texts, imports),
+    *page_everywhere.SCENES,
+    *page_files.SCENES,
+    *page_views.SCENES,
+    *page_several.SCENES,
+    *page_day.SCENES,
+    *page_words.SCENES,
+    *page_days.SCENES,
+    *(large_board, last_steps),
+)
+
+
+def play(office):
+    chosen = os.environ.get("SCENES", "").split(",")
+    for scene in SCENES:
+        if scene.__name__ not in chosen and chosen != [""]:
+            continue
+        begun = time.monotonic()
+        scene(office)
+        if SHOTS or chosen != [""]:
+            print(f"{scene.__name__}: {time.monotonic() - begun:.1f} s", flush=True)
 
 
 end_by_signal()
@@ -431,15 +384,9 @@ with Browser(BROWSER, 10 * SLACK) as browser:
     browser.size(1280, 900)
     office = Office(browser)
     try:
-        for scene in (first_steps, people, killed_server, two_tabs, plain_http, hostile_texts, imports):
-            begun = time.monotonic()
-            scene(office)
-            if SHOTS:
-                print(f"{scene.__name__}: {time.monotonic() - begun:.1f} s")
-        figures = large_board(office)
-        last_steps(office)
+        play(office)
     finally:
         office.server.end()
 checked = subprocess.run([PROGRAM, "check", "b.db"], check=True, stdout=subprocess.PIPE, text=True).stdout.strip()
 expect("faults of the file", True, checked.endswith("faults 0"))
-print(f"the page in a browser: all scenes; {figures}")
+print("; ".join(["the page in a browser: all scenes", *office.figures]))

@@ -8,8 +8,11 @@ browser=
 for name in chromium chromium-browser google-chrome; do
     browser=${browser:-$(command -v "$name" || true)}
 done
-if [ -z "$browser" ] || ! command -v chromedriver >/dev/null; then
-    echo "the page in a browser: skipped, since no chromium with its chromedriver is there"
+lacks=
+[ -n "$browser" ] || lacks=chromium
+[ -n "$lacks" ] || command -v chromedriver >/dev/null || lacks=chromedriver
+if [ -n "$lacks" ]; then
+    echo "the page in a browser: skipped, since $lacks isn't there"
     exit 0
 fi
 

@@ -6,7 +6,9 @@ set -eu
 
 tries=${1:-10}
 if ! strace -qq -o /dev/null true 2>/dev/null; then
-    echo "a loss of power: skipped, since strace isn't there or may not trace"
+    lacks="isn't there"
+    ! command -v strace >/dev/null || lacks="may not trace"
+    echo "a loss of power: skipped, since strace $lacks"
     exit 0
 fi
 . "$(dirname "$0")/prepare.sh"

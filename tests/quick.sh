@@ -56,6 +56,7 @@ attempt install.sh sh
 attempt ship.sh python3
 attempt browser.sh python3
 attempt page.sh python3
+attempt firefox.sh python3
 attempt faults.sh python3
 attempt power.sh python3 strace
 attempt memory.sh python3 cc

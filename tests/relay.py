@@ -8,11 +8,12 @@ PASSES, LOSES_POSTS, LOSES_ANSWERS = range(3)
 
 
 class Relay:
-    """Listens on a port of its own, and passes on to the server's port."""
+    """Listens on a port of its own, and passes on to the server's port. `asked` has the method and the path of each message that came."""
 
     def __init__(self, port):
         self.server_port, self.mode = port, PASSES
         self.lost = threading.Event()
+        self.asked = []
         self.listener = socket.create_server(("127.0.0.1", 0))
         self.port = self.listener.getsockname()[1]
         threading.Thread(target=self.listen, daemon=True).start()
@@ -42,6 +43,7 @@ class Relay:
     def pass_on(self, client, server, state):
         with contextlib.suppress(OSError):
             while sent := client.recv(65536):
+                self.asked += [tuple(words[:2]) for words in [sent[:200].decode("latin-1").split(" ")] if words[0] in ("GET", "HEAD", "POST")]
                 if sent.startswith(b"POST ") and self.mode == LOSES_POSTS:
                     self.lost.set()
                     break

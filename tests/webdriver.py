@@ -20,12 +20,30 @@ class Gone(Exception):
     """An element that was found isn't in the page any more."""
 
 
-class Browser:
+class Steered:
+    """What steers a page by `run`, and waits for `patience` seconds for what shall come."""
+
+    def wait(self, script, *arguments):
+        """The first value of a piece of JavaScript that counts as true; without one in time the test ends."""
+        end = time.monotonic() + self.patience
+        while time.monotonic() < end:
+            value = self.run(script, *arguments)
+            if value:
+                return value
+            time.sleep(0.03)
+        sys.exit(f"the page didn't come to: {script} {arguments}; it shows: {self.run('return document.body.innerText')[:1500]}\nits console: {self.messages()[-10:]}")
+
+    def messages(self):
+        """What the page's console told since this was asked last, where the browser tells it."""
+        return []
+
+
+class Browser(Steered):
     """One browser, whose tabs share what it keeps on the device. `patience` is how long it waits for what shall come, in seconds."""
 
     def __init__(self, program, patience):
         port = free_port()
-        self.patience, self.base = patience, f"http://127.0.0.1:{port}"
+        self.patience, self.base, self.measures = patience, f"http://127.0.0.1:{port}", (1280, 900)
         self.driver = subprocess.Popen(["chromedriver", f"--port={port}"], stdout=subprocess.DEVNULL, stderr=subprocess.DEVNULL)
         connected(port, 10).close()
         chrome = {"binary": program, "args": WORDS}
@@ -45,7 +63,7 @@ class Browser:
         body = json.dumps(content or {}).encode() if method == "POST" else None
         request = urllib.request.Request(self.base + path, body, {"content-type": "application/json"}, method=method)
         try:
-            with urllib.request.urlopen(request, timeout=60) as answer:
+            with urllib.request.urlopen(request, timeout=max(60, 5 * self.patience)) as answer:
                 return json.load(answer)["value"]
         except urllib.error.HTTPError as fault:
             told = fault.read().decode()
@@ -56,16 +74,6 @@ class Browser:
     def run(self, script, *arguments):
         """What a piece of JavaScript returns."""
         return self.call("POST", "/execute/sync", {"script": script, "args": arguments})
-
-    def wait(self, script, *arguments):
-        """The first value of a piece of JavaScript that counts as true; without one in time the test ends."""
-        end = time.monotonic() + self.patience
-        while time.monotonic() < end:
-            value = self.run(script, *arguments)
-            if value:
-                return value
-            time.sleep(0.03)
-        sys.exit(f"the page didn't come to: {script} {arguments}; it shows: {self.run('return document.body.innerText')[:1500]}")
 
     def open(self, address):
         self.call("POST", "/url", {"url": address})
@@ -86,11 +94,18 @@ class Browser:
     def type(self, selector, text):
         self.act(selector, "value", {"text": text})
 
+    def press(self, *keys):
+        """Presses keys one after the other, wherever the focus is."""
+        strokes = [{"type": kind, "value": key} for key in keys for kind in ("keyDown", "keyUp")]
+        self.call("POST", "/actions", {"actions": [{"type": "key", "id": "keys", "actions": strokes}]})
+
     def tabs(self):
         return self.call("GET", "/window/handles")
 
     def new_tab(self):
+        """A tab as large as the window was made last; a row that isn't in sight isn't in the page."""
         self.to_tab(self.call("POST", "/window/new", {"type": "tab"})["handle"])
+        self.size(*self.measures)
 
     def to_tab(self, handle):
         self.call("POST", "/window", {"handle": handle})
@@ -103,6 +118,7 @@ class Browser:
         return self.call("POST", "/goog/cdp/execute", {"cmd": command, "params": settings})
 
     def size(self, width, height):
+        self.measures = (width, height)
         self.tell("Emulation.setDeviceMetricsOverride", width=width, height=height, deviceScaleFactor=1, mobile=False)
 
     def shot(self, file):

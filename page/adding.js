@@ -1,0 +1,130 @@
+// The form that adds a task: a line in the words of todo.txt, and fields for the rest.
+import { PRIORITIES } from "./board.js";
+import { changes } from "./changes.js";
+import { check, isWhole } from "./checking.js";
+import { names } from "./crew.js";
+import { fill, find, make, said, span, whenSent } from "./dom.js";
+import { keepDraft, readDraft } from "./drafts.js";
+import { Fields } from "./fields.js";
+import { inFull, seconds } from "./moments.js";
+import { tellFault } from "./notices.js";
+import { isMeant } from "./repeatpreview.js";
+import { faultInText } from "./rules.js";
+import { keep } from "./sending.js";
+import { listen, state } from "./state.js";
+import { readLine } from "./todotxt.js";
+
+// The fields of the form, and the line that was asked about since something in it isn't understood.
+let [fields, asked] = [null, ""];
+
+const chip = (...children) => span("chip", ...children);
+
+const readNow = () => readLine(find("add-line").value, names(), state.who?.name);
+
+// What the line and the fields say together; the fields go first.
+function newTask() {
+    const line = readNow().task;
+    const given = fields.read();
+    const both = { ...line, ...Object.fromEntries(Object.entries(given).filter(([, value]) => value)) };
+    both.tags = [...new Set([...line.tags, ...(given.tags ?? [])])];
+    return Object.fromEntries(Object.entries(both).filter(([, value]) => value?.length));
+}
+
+// Shows what the line says beside its description.
+function drawUnderstood() {
+    const { task: line, misread } = readNow();
+    const day = (moment) => moment && inFull(seconds(moment));
+    const parts = [
+        ["", line.status],
+        ["priority ", PRIORITIES[line.priority]],
+        ["project ", line.project],
+        ...line.tags.map((tag) => ["tag ", tag]),
+        ["for ", line.assignee],
+        ["due ", day(line.due)],
+        ["waits until ", day(line.wait)],
+        ["scheduled ", day(line.scheduled)],
+        ["until ", day(line.until)],
+        ["made ", day(line.entry)],
+    ].filter(([, text]) => text);
+    const hint = "Words like (A), +Family, @phone, for:me, due:friday and due:2026-01-31 are understood.";
+    const odd = misread.map(([word, why]) => make("span", { class: "misread" }, make("q", {}, said(word, 60)), ` ${why}.`));
+    const ask = odd.length && asked === find("add-line").value ? " What isn't understood stays in the description if you press Enter again." : "";
+    const chips = parts.map(([name, text]) => chip(name, said(text, 60)));
+    fill(find("understood"), chips, odd, ask, chips.length || odd.length ? "" : hint);
+}
+
+// A line with words that look like attributes and aren't understood is added by a second Enter: until then it is told.
+function isDoubted() {
+    const line = find("add-line").value;
+    if (asked === line || readNow().misread.length === 0) return false;
+    asked = line;
+    drawUnderstood();
+    return true;
+}
+
+const isShown = () => !find("add-fields").hidden;
+const typed = () => ({ line: find("add-line").value, typed: fields.typed(), isShown: isShown() });
+const isEmpty = ({ line, typed }) => ![line, ...Object.values(typed)].some(Boolean);
+
+function keepTyped() {
+    const draft = typed();
+    keepDraft("add", "", isEmpty(draft) ? null : draft);
+}
+
+// Fills the form as it was left.
+function fillAdding(draft) {
+    find("add-line").value = draft?.line ?? "";
+    showFields(draft?.isShown ?? false, draft?.typed);
+    drawUnderstood();
+    keepTyped();
+}
+
+// What is added leaves the form at once, so that a second Enter adds nothing; where the device can't keep it, it is there again.
+async function add() {
+    const task = newTask();
+    if (!task.description || !isWhole(find("add-form")) || isDoubted() || !isMeant(seconds(task.due), task.recur, seconds(task.until))) return;
+    const form = typed();
+    fillAdding({ isShown: isShown() });
+    find("add-line").focus();
+    await keep({ ...changes.add(state.number, task), form }).catch((fault) => {
+        fillAdding(form);
+        throw fault;
+    });
+}
+
+function showFields(isShown, typed) {
+    fields = new Fields(state.board);
+    fields.dueElsewhere = () => readNow().task.due;
+    fields.drawPreview();
+    if (typed) fields.retype(typed);
+    fill(find("add-fields"), fields.elements);
+    find("add-fields").hidden = !isShown;
+    find("add-more").ariaExpanded = isShown;
+}
+
+// Each board has its own draft.
+let number = 0;
+function drawBoard() {
+    if (!state.who || state.number === number) return;
+    number = state.number;
+    fillAdding(readDraft("add"));
+}
+
+export function beginAdding() {
+    find("add-line").addEventListener("input", drawUnderstood);
+    find("add-more").addEventListener("click", () => {
+        showFields(!isShown(), fields.typed());
+        keepTyped();
+    });
+    find("add-form").addEventListener("input", keepTyped);
+    find("add-line").addEventListener("input", () => fields.drawPreview());
+    check(find("add-line"), (line) => (line.trim() ? faultInText(readNow().task.description) : ""));
+    whenSent("add-form", () => add().catch(tellFault));
+    listen("signed", () => (number = 0));
+    listen("people", drawUnderstood);
+    listen("route", drawBoard);
+    listen("draft", () => {
+        number = 0;
+        drawBoard();
+    });
+}

@@ -1,0 +1,60 @@
+// Opens the form of a refused change as it was filled, so that it can be mended and sent again under a new identifier.
+import { keepDraft, readDraft } from "./drafts.js";
+import { find } from "./dom.js";
+import { bodyOf, forget } from "./sending.js";
+import { announce, go, state } from "./state.js";
+
+const REPLACES = "Something else stands in this form and isn't sent. Replace it?";
+
+// Puts the text where its form looks for a draft, and shows that form. Gives whether it stands there.
+function openDraft({ board, view, task, kind, content }) {
+    const old = readDraft(kind, task, board);
+    if (old && JSON.stringify(old) !== JSON.stringify(content) && !confirm(REPLACES)) return false;
+    if (!keepDraft(kind, task, content, board)) return false;
+    go(board, view, task);
+    announce("draft");
+    return true;
+}
+
+const FORMS = {
+    tasks: ({ board, form }) => openDraft({ board, view: "tasks", kind: "add", content: form }),
+    modify: ({ board, task, form }) => openDraft({ board, view: "tasks", kind: "edit", task, content: form }),
+    annotate: ({ board, task, form }) => openDraft({ board, view: "tasks", kind: "note", task, content: form.description }),
+    boards: ({ form }) => {
+        find("board-dialog").showModal();
+        find("board-title").value = form.title;
+        return true;
+    },
+    people: ({ form }, { name, key }) => openPeople({ "person-name": name, "person-key": key, "person-role": form.role, "person-here": form.joins }),
+    roles: ({ board, form }) => openPeople({ "invite-name": form.member, "invite-role": form.role }, board),
+};
+
+function openPeople(values, board = state.number) {
+    go(board, "people");
+    for (const [id, value] of Object.entries(values)) find(id)[typeof value === "boolean" ? "checked" : "value"] = value;
+    return true;
+}
+
+const actionOf = (change) => change.path.split("/").at(-1);
+
+// What of a refused change and those that were to follow it was typed into a form.
+const withForm = ({ behind, ...change }) => [change, ...behind].find((one) => one.form);
+const isOn = ({ board }) => board === 0 || state.boards.some((known) => known.board === board && known.role !== "reader");
+
+// Which way there is for a change: its form, for whoever may change the board still, or sending it as it is where it has none.
+export function wayOf(change) {
+    const one = withForm(change);
+    return one ? (isOn(one) ? "form" : "none") : change.reports ? "none" : "as it is";
+}
+
+export async function openAgain(change) {
+    const one = withForm(change);
+    const isOpen = FORMS[actionOf(one)](one, JSON.parse(await bodyOf(one)));
+    if (isOpen) await forget(change);
+}
+
+// The texts of a change, for whoever can't open its form: its members, a line each. Keys aren't shown.
+export function textsOf(change) {
+    const bodies = [change, ...change.behind].filter((one) => one.body && !one.isSecret).map((one) => JSON.parse(one.body));
+    return bodies.flatMap((body) => Object.entries(body)).filter(([name, value]) => value !== null && name !== "uuid").map(([name, value]) => `${name}: ${value}`);
+}

@@ -1,0 +1,34 @@
+// What was typed and isn't sent yet, on this device: a text for each person and place, as the line that is added or a note. It stays over
+// reloads and closed tabs until it is sent or taken back.
+import { state } from "./state.js";
+
+const FRONT = "taskboard.draft";
+const named = (name) => `${FRONT} ${name} `;
+
+// The place of a draft: its kind, the board, and the task where it is of one.
+const keyOf = (kind, task, board) => `${named(state.who.name)}${board} ${kind}${task ? ` ${task}` : ""}`;
+
+export function readDraft(kind, task = "", board = state.number) {
+    return JSON.parse(localStorage.getItem(keyOf(kind, task, board)));
+}
+
+// Keeps a draft, or none where nothing is given. Gives whether it is kept: a device without room has it in the form alone.
+export function keepDraft(kind, task, content, board = state.number) {
+    try {
+        if (content) localStorage.setItem(keyOf(kind, task, board), JSON.stringify(content));
+        else localStorage.removeItem(keyOf(kind, task, board));
+        return true;
+    } catch (fault) {
+        console.warn(fault);
+        return false;
+    }
+}
+
+const keysOf = (name) => Object.keys(localStorage).filter((key) => key.startsWith(named(name)));
+
+// Those of a person that say something beside how a board was left.
+export const draftsOf = (name) => keysOf(name).filter((key) => !key.endsWith(" filters")).map((key) => JSON.parse(localStorage.getItem(key)));
+export function editDrafts(name, kind, edit) {
+    for (const key of keysOf(name).filter((key) => key.endsWith(` ${kind}`))) localStorage.setItem(key, JSON.stringify(edit(JSON.parse(localStorage.getItem(key)))));
+}
+export const dropDrafts = (name) => keysOf(name).forEach((key) => localStorage.removeItem(key));

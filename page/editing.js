@@ -1,0 +1,153 @@
+// The form that changes a task: its draft, and what someone else changed of the same task meanwhile.
+import { look } from "./asking.js";
+import { PRIORITIES, Task } from "./board.js";
+import { changes } from "./changes.js";
+import { isWhole } from "./checking.js";
+import { keepDraft, readDraft } from "./drafts.js";
+import { fill, find, make, whenSent } from "./dom.js";
+import { Fields } from "./fields.js";
+import { inFull, seconds } from "./moments.js";
+import { tellFault } from "./notices.js";
+import { keep, waiting } from "./sending.js";
+import { here, listen, state } from "./state.js";
+
+// How long Save waits for the freshest copy of the task, in milliseconds; without one it takes the copy that is shown.
+const PATIENCE = 5000;
+const LABELS = { description: "The description", project: "The project", priority: "The priority", assignee: "The assignee", due: "The due date", wait: "The date until which it waits", scheduled: "The scheduled date", until: "The date until which it repeats or counts", recur: "The repeat" };
+// The task in the form, its fields, what they said when the form was opened, and whether the task is to be reopened first.
+let [edited, fields, before, reopens] = [null, null, null, false];
+
+const isSame = (one, other) => JSON.stringify(one) === JSON.stringify(other);
+const tell = (text) => (find("edit-told").textContent = text);
+
+function show(isShown) {
+    find("edit-form").hidden = !isShown;
+    for (const id of ["task-text", "task-actions", "task-facts"]) find(id).hidden = isShown;
+    reopens = false;
+    tell("");
+    fill(find("edit-conflicts"));
+    find("edit-save").textContent = "Save";
+    find("edit-save").disabled = false;
+}
+
+// Opens the form as its draft left it, or with what the task says.
+export function openEdit(task) {
+    const draft = readDraft("edit", task.uuid);
+    [edited, fields] = [task, new Fields(state.board, task)];
+    before = draft?.before ?? fields.read();
+    if (draft) fields.retype(draft.typed);
+    show(true);
+    fill(find("edit-fields"), fields.elements);
+    fields.description.focus();
+}
+
+export function closeEdit() {
+    [edited, fields, before] = [null, null, null];
+    show(false);
+    fill(find("edit-fields"));
+}
+
+// Another task is shown: its form is open where it has a draft.
+export function beginTask(task) {
+    if (task && here()?.role !== "reader" && readDraft("edit", task.uuid)) openEdit(task);
+    else closeEdit();
+}
+
+export const isEditing = () => fields !== null;
+
+function keepEdit() {
+    const isChanged = !isSame(fields.read(), before);
+    keepDraft("edit", edited.uuid, isChanged ? { before, typed: fields.typed() } : null);
+}
+
+function drop() {
+    keepDraft("edit", edited.uuid, null);
+    closeEdit();
+    (find("edit") ?? find("task-text")).focus();
+}
+
+// The list with my additions and removals laid over it.
+function withMine(before, mine, fresh) {
+    const [old, now] = [before ?? [], mine ?? []];
+    const kept = (fresh ?? []).filter((tag) => now.includes(tag) || !old.includes(tag));
+    const joined = [...new Set([...kept, ...now.filter((tag) => !old.includes(tag))])].sort();
+    return joined.length ? joined : null;
+}
+
+// What has to be sent, and the fields that both changed, each to something else: of these a person has to choose. The three are what the
+// form said when it was opened, what it says now, and what it would say of the freshest task.
+function merge(before, mine, fresh) {
+    const edits = {};
+    const conflicts = [];
+    for (const name of Object.keys(mine).filter((name) => !isSame(mine[name], before[name]))) {
+        const wanted = name === "tags" ? withMine(before.tags, mine.tags, fresh.tags) : mine[name];
+        if (isSame(wanted, fresh[name])) continue;
+        if (name === "tags" || isSame(fresh[name], before[name])) edits[name] = wanted;
+        else conflicts.push(name);
+    }
+    return { edits, conflicts };
+}
+
+// The task as the server has it now; as it is shown, where no answer comes or changes of one's own aren't sent yet.
+async function freshest(task) {
+    const shown = state.board.byId.get(task.uuid) ?? task;
+    if (waiting().some((change) => change.task === task.uuid)) return shown;
+    return look(state.who, `/boards/${state.number}/tasks/${task.uuid}`, PATIENCE).then((text) => new Task(text), () => shown);
+}
+
+function worded(name, value) {
+    if (value === null) return "nothing";
+    if (name === "priority") return PRIORITIES[value];
+    return ["due", "wait", "scheduled", "until"].includes(name) ? inFull(seconds(value)) : value;
+}
+
+// Both texts beside each other; the one that is chosen is what Save goes on with.
+function choice(name, mine, theirs) {
+    const option = (value, label, text) =>
+        make("label", { class: "side" }, make("span", {}, make("input", { type: "radio", name: `side-${name}`, value, required: true }), ` ${label}`), make("bdi", { class: "long" }, worded(name, text)));
+    return make("fieldset", { class: "conflict", "data-name": name }, make("legend", {}, `${LABELS[name]} was changed by someone else meanwhile. Choose one:`), option("mine", "Yours", mine), option("theirs", "Theirs", theirs));
+}
+
+// Takes the choices that were made into the form: from here on the freshest task is what was changed.
+function takeChoices(fresh) {
+    const typed = fields.typed();
+    for (const { dataset } of find("edit-conflicts").querySelectorAll("fieldset")) {
+        const isTheirs = find("edit-form").elements[`side-${dataset.name}`].value === "theirs";
+        const parts = Object.keys(typed).filter((part) => part === dataset.name || part.startsWith(`${dataset.name} `));
+        if (isTheirs) parts.forEach((part) => (typed[part] = fresh.typed()[part]));
+        before = { ...before, [dataset.name]: fresh.read()[dataset.name] };
+    }
+    fields.retype(typed);
+    fill(find("edit-conflicts"));
+}
+
+async function save() {
+    if (!isWhole(find("edit-form"))) return;
+    const [form, task] = [fields, edited];
+    find("edit-save").disabled = true;
+    const now = await freshest(task);
+    if (fields !== form) return;
+    find("edit-save").disabled = false;
+    const fresh = new Fields(state.board, now);
+    takeChoices(fresh);
+    const [mine, theirs] = [fields.read(), fresh.read()];
+    const { edits, conflicts } = merge(before, mine, theirs);
+    if (conflicts.length > 0) return fill(find("edit-conflicts"), conflicts.map((name) => choice(name, mine[name], theirs[name])));
+    if (Object.keys(edits).length > 0 && !now.isOpen && !reopens) return askToReopen(now);
+    const change = { ...changes.modify(state.number, now, edits), form: { before, typed: fields.typed() } };
+    if (Object.keys(edits).length > 0) await keep(...(reopens ? [changes.act(state.number, now, "reopen")] : []), change);
+    drop();
+}
+
+function askToReopen(task) {
+    reopens = true;
+    tell(`Meanwhile this task was ${task.status}. Your text is kept: reopen the task to save it, or cancel.`);
+    find("edit-save").textContent = "Reopen and save";
+}
+
+export function beginEditing() {
+    find("edit-form").addEventListener("input", keepEdit);
+    find("cancel-edit").addEventListener("click", drop);
+    whenSent("edit-form", () => save().catch(tellFault));
+    listen("left", closeEdit);
+}

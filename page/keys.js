@@ -1,0 +1,70 @@
+// Keys that act from anywhere but where someone types. An element names its key itself, by aria-keyshortcuts: a field then takes the focus, and
+// all else is clicked. "?" shows them all.
+import { fill, find, make } from "./dom.js";
+
+const OFF = "taskboard.keys-off";
+const FIELDS = "input:not([type=checkbox], [type=radio]), select, textarea";
+const LIST = [
+    ["↑ ↓", "Go from task to task; by Page Up, Page Down, Home and End further"],
+    ["Enter", "Open the task"],
+    ["d", "Complete or reopen the task"],
+    ["x", "Choose the task, to change several at once"],
+    ["Shift + ↑ ↓", "Choose the next one too; Ctrl + A chooses all"],
+    ["Shift + ← →", "In columns, move the card: start, stop, complete or reopen the task"],
+];
+const ANYWHERE = [
+    ["Escape", "Close the task or the form"],
+    ["?", "Show these keys"],
+];
+
+const isOn = () => localStorage.getItem(OFF) === null;
+const isInSight = (element) => element.checkVisibility() && !element.disabled;
+const shortcuts = (place) => [...place.querySelectorAll("[aria-keyshortcuts]")].filter(isInSight);
+const labelOf = (element) => element.ariaLabel || element.title || element.textContent;
+
+// The element with a key, that of the open task only while the focus is in it.
+function elementOf(key, target) {
+    const panel = find("panel");
+    const isElsewhere = (element) => panel.contains(element) && !panel.contains(target);
+    return shortcuts(document).find((element) => element.getAttribute("aria-keyshortcuts") === key && !isElsewhere(element));
+}
+
+function row([key, text]) {
+    return make("div", {}, make("dt", {}, make("kbd", {}, key)), make("dd", {}, text));
+}
+
+function show() {
+    const named = (place) => shortcuts(place).map((element) => [element.getAttribute("aria-keyshortcuts"), labelOf(element)]);
+    const ofTask = named(find("panel"));
+    const others = named(document).filter(([key]) => key !== "?" && !ofTask.some(([other]) => other === key));
+    const part = (title, rows) => (rows.length > 0 ? [make("h3", {}, title), make("dl", { class: "keys" }, rows.map(row))] : []);
+    fill(find("keys-shown"), part("Everywhere", [...others, ...ANYWHERE]), part("In the list", LIST), part("In the open task", ofTask));
+    find("keys-on").checked = isOn();
+    find("keys-dialog").showModal();
+    find("keys-close").focus();
+}
+
+function setOn(isWanted) {
+    if (isWanted) localStorage.removeItem(OFF);
+    else localStorage.setItem(OFF, "yes");
+}
+
+function act(event) {
+    const { key, target } = event;
+    if (event.ctrlKey || event.metaKey || event.altKey || event.defaultPrevented || find("app").hidden || document.querySelector("dialog[open]")) return;
+    if (target.matches?.(FIELDS)) return;
+    if (key === "Escape" && !find("panel").hidden && !find("panel").contains(target)) return find("close-panel").click();
+    if (key.length > 1 || !isOn()) return;
+    const element = elementOf(key, target);
+    if (!element) return;
+    event.preventDefault();
+    if (element.matches(FIELDS)) element.focus();
+    else element.click();
+}
+
+export function beginKeys() {
+    document.addEventListener("keydown", act);
+    find("show-keys").addEventListener("click", show);
+    find("keys-close").addEventListener("click", () => find("keys-dialog").close());
+    find("keys-on").addEventListener("change", ({ target }) => setOn(target.checked));
+}

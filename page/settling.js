@@ -1,0 +1,62 @@
+// What becomes of a change on this device once it is answered, and whether one that waited over a broken line may still be sent.
+import { look, NoAnswer } from "./asking.js";
+import { descriptionAt } from "./cutting.js";
+
+// How a task looks after each action: where it looks so already, somebody else did the same before.
+const AFTER = {
+    done: ({ status }) => status === "completed",
+    delete: ({ status }) => status === "deleted",
+    reopen: ({ status }) => status === "pending" || status === "waiting",
+    start: ({ start }) => Boolean(start),
+    stop: ({ status, start }) => status === "pending" && !start,
+};
+
+const actionOf = (change) => change.path.split("/").at(-1);
+const taskOf = async (who, change) => JSON.parse(await look(who, `/boards/${change.board}/tasks/${change.task}`));
+
+// Who else can have done it: a name where only one other person may change the board.
+async function anotherOn(who, board) {
+    const { people } = JSON.parse(await look(who, `/boards/${board}/people`));
+    const others = people.filter(({ name, role }) => name !== who.name && role !== "reader");
+    return others.length === 1 ? others[0].name : "";
+}
+
+// Where a refused action has happened all the same: who did it, where that is known. Nothing where it hasn't.
+async function doneBefore(who, change, body) {
+    const isSo = AFTER[actionOf(change)];
+    if (body.name !== "WrongStatus" || !isSo) return null;
+    try {
+        return isSo(await taskOf(who, change)) ? { by: await anotherOn(who, change.board) } : null;
+    } catch {
+        return null;
+    }
+}
+
+// What is set of a change that was answered, which is told until it is read; nothing where all is said. A refused one keeps its text, and
+// those of its group that were to follow it; the file of an import is there still.
+export async function afterAnswer(who, change, { status, body }, behind) {
+    if (status === 200) return change.reports ? { state: "done", body: "", answer: body } : null;
+    const before = await doneBefore(who, change, body);
+    if (before) return { ...before, state: "already" };
+    const culprit = change.reports && body.at !== undefined ? descriptionAt(change.body, body.at) : "";
+    const file = change.reports ? { body: "", behind: [] } : { behind };
+    return { ...file, state: "refused", answer: body, culprit, takenBack: behind.length };
+}
+
+const isSame = (one, other) => JSON.stringify(one ?? null) === JSON.stringify(other ?? null);
+
+// What has changed of the task while a change waited, so that its person has to be asked: its description, and what is edited. Its own
+// effect is no such news, since it may have acted with its answer lost.
+export async function doubtAbout(who, change) {
+    if (!change.task || change.adds) return null;
+    try {
+        const now = await taskOf(who, change);
+        const edits = change.base ? JSON.parse(change.body) : {};
+        if (![...change.known, edits.description].includes(now.description)) return { name: "description", was: change.subject, is: now.description };
+        const name = Object.keys(edits).find((name) => !isSame(now[name], change.base[name]) && !isSame(now[name], edits[name]));
+        return name ? { name, was: change.base[name], is: now[name] ?? null } : null;
+    } catch (fault) {
+        if (fault instanceof NoAnswer) throw fault;
+        return null; // It is refused when it is sent.
+    }
+}

@@ -1,0 +1,221 @@
+"""Scenes of the page everywhere: without a line, by keys, in print, for readers."""
+import base64
+import pathlib
+import re
+import shutil
+import time
+
+from office import ALL_ANSWERED, ENTER, ESCAPE, IS_LISTED, IS_TOLD, PAGE, SHOTS, TAB, add, ask, descriptions, expect, new_board, tasks, tell
+
+# The names of what the worker keeps, and the paths of the files in it.
+KEPT = """return caches.keys().then(async (names) => {
+    const caught = await Promise.all(names.map(async (name) => (await caches.open(name)).keys()));
+    return [names.length, caught.flat().map(({ url }) => new URL(url).pathname).sort()];
+})"""
+IS_CONTROLLED = "return Boolean(navigator.serviceWorker.controller)"
+# Once what the page has seen last stands on the device.
+IS_SEEN = """return new Promise((done) => {
+    indexedDB.open("taskboard-seen").onsuccess = ({ target }) => {
+        target.result.transaction("texts").objectStore("texts").getAllKeys().onsuccess = ({ target }) => done(target.result.includes(arguments[0]));
+    };
+})"""
+HAS_FOCUS = "return document.activeElement !== null && document.activeElement !== document.body"
+IS_OPEN = "return document.getElementById('task-actions').checkVisibility() || document.getElementById('task-facts').checkVisibility()"
+HAS_COME = {
+    "repeating": "return document.getElementById('no-templates').textContent",
+    "people": "return document.querySelectorAll('#people li').length === 2",
+    "files": "return document.getElementById('save-export').offsetParent",
+}
+IS_SHOWN = "return Boolean(document.querySelector(arguments[0])?.offsetParent)"
+
+
+def files_asked(office):
+    return [path for method, path in office.relay.asked if method == "GET" and (path == "/" or "." in path) and path != "/worker.js"]
+
+
+def without_a_line(office):
+    """The page opens while the server is away: its files and the board are on the device, with their age, and a change waits."""
+    browser, board = office.browser, new_board("Train")
+    add(board, description="Read on the way")
+    office.begin(board)
+    browser.wait(IS_LISTED, "Read on the way")
+    browser.wait(IS_CONTROLLED)
+    browser.wait(IS_SEEN, f"ann /boards/{board}/export")
+    office.relay.asked.clear()
+    office.begin(board)
+    browser.wait(IS_LISTED, "Read on the way")
+    expect("files loaded at a second start", [], files_asked(office))
+    names = {"/" if file.name == "index.html" else f"/{file.name}" for file in pathlib.Path(PAGE).iterdir()}
+    expect("files that are kept", [1, sorted(names - {"/worker.js"} | {"/kept/compared"})], browser.run(KEPT))
+    office.server.end()
+    browser.open("about:blank")
+    browser.open(f"{office.address}#/{board}/tasks")
+    browser.wait(IS_LISTED, "Read on the way")
+    browser.wait(IS_TOLD, "The tasks are shown as they were seen here")
+    browser.type("#add-line", "Written on the way" + ENTER)
+    browser.wait(IS_TOLD, "1 change isn't answered yet")
+    office.shot("without-a-line")
+    office.start()
+    browser.run("dispatchEvent(new Event('online'))")
+    browser.wait(ALL_ANSWERED)
+    browser.wait(IS_LISTED, "Written on the way")
+    expect("written on the way", ["Read on the way", "Written on the way"], descriptions(board))
+    browser.wait("return !document.getElementById('age').offsetParent")
+
+
+def newer_version(office):
+    """A server with other files: what is open goes on as it is, says so, and the next start has the new files, all of them and no old one."""
+    browser, board = office.browser, new_board("Renewed")
+    office.begin(board)
+    browser.wait(IS_CONTROLLED)
+    [_, before] = browser.run(KEPT)
+    office.page = "page-renewed"
+    shutil.copytree(PAGE, office.page)
+    index = pathlib.Path(office.page, "index.html")
+    index.write_text(index.read_text().replace("<title>", '<link rel="help" href="renewed.svg"><title>'))
+    shutil.copy(f"{PAGE}/icon.svg", f"{office.page}/renewed.svg")
+    office.restart()
+    office.begin(board)
+    expect("files of the version before", 0, browser.run("return document.querySelectorAll('link[rel=help]').length"))
+    browser.wait(IS_SHOWN, "#renewed")
+    browser.click("#load-renewed")
+    browser.wait("return document.querySelectorAll('link[rel=help]').length === 1 && document.getElementById('count')?.textContent")
+    expect("files of the newer version", [1, sorted([*before, "/renewed.svg"])], browser.run(KEPT))
+    office.page = PAGE
+    office.restart()
+    office.begin(board)
+    browser.wait(IS_SHOWN, "#renewed")
+    office.begin(board)
+    expect("the first version again", [1, before], browser.run(KEPT))
+
+
+def by_keys(office):
+    """All is done by keys, and at no step is the focus lost to the body."""
+    browser, board = office.browser, new_board("Keys")
+    first, second = add(board, description="Zero", priority="H"), add(board, description="One")
+    tell(f"/boards/{board}/tasks/{first}/annotate", description="See https://example.org/a_(b), or javascript:alert(1).")
+    tell(f"/boards/{board}/tasks/{first}/depend", on=second)
+    office.begin(board)
+    browser.wait(IS_LISTED, "One")
+    expect("a row's name", "Zero, priority high, blocked", browser.run("return [...document.querySelectorAll('#list .open')].find((row) => row.textContent === 'Zero').ariaLabel"))
+    browser.press("?")
+    browser.wait(IS_TOLD, "Complete or reopen the task")
+    expect("keys that are shown", True, {"n", "/", "b", "1"} <= set(browser.run("return [...document.querySelectorAll('#keys-shown kbd')].map((key) => key.textContent)")))
+    browser.press(ESCAPE, "n", *"Two", ENTER)
+    browser.wait(IS_LISTED, "Two")
+    for keys, done in (
+        ((TAB,), HAS_FOCUS),
+        ((), "document.querySelector('#list .open[tabindex=\"0\"]').focus(); return true"),
+        ((ENTER,), IS_OPEN),
+        (("m", *"Tea", ENTER), "return document.querySelectorAll('#task-notes li').length > 0"),
+        ((TAB, "e"), "return document.activeElement.tagName === 'TEXTAREA'"),
+        ((ESCAPE,), "return document.getElementById('edit-form').hidden"),
+        ((ESCAPE,), "return document.getElementById('panel').hidden"),
+        (("d",), "return document.querySelectorAll('#list .row').length === 2"),
+        (("d",), "return document.querySelectorAll('#list .row').length === 1"),
+        (("d",), "return document.querySelectorAll('#list .row').length === 0"),
+    ):
+        browser.press(*keys)
+        browser.wait(done)
+        browser.wait(HAS_FOCUS)
+    browser.wait(ALL_ANSWERED)
+    expect("completed by keys", {"completed"}, {task["status"] for task in tasks(board)})
+    gone_by_keys(office, board, first)
+
+
+def gone_by_keys(office, board, task):
+    """What takes the key that it was pressed with away: the focus goes to what stands near."""
+    browser = office.browser
+    office.go(board, "tasks", task)
+    browser.wait("return document.querySelectorAll('#task-notes li').length === 1 && document.querySelector('#task-notes a')")
+    links = browser.run("return [...document.querySelectorAll('#task-notes a')].map((link) => [link.href, link.rel])")
+    expect("links", [["https://example.org/a_(b)", "noopener noreferrer"]], links)
+    browser.run("document.querySelector('#task-notes button').focus()")
+    browser.press(ENTER)
+    browser.wait("return document.querySelectorAll('#task-notes li').length === 0")
+    expect("focus after a note is gone", True, browser.run(HAS_FOCUS))
+    office.go(board, "people")
+    browser.wait("return document.querySelectorAll('#people li').length === 1")
+    browser.run("const role = document.querySelector('#people select'); role.value = 'reader'; role.dispatchEvent(new Event('change'))")
+    browser.wait(IS_TOLD, "left without an owner")
+    browser.run("document.querySelector('#notices .refused button:last-of-type').focus()")
+    browser.press(ENTER)
+    browser.wait("return document.querySelectorAll('#notices .refused').length === 0")
+    expect("focus after a notice is gone", True, browser.run(HAS_FOCUS))
+
+
+def on_paper(office):
+    """In print all rows stand that pass the filter, and no panel and no button."""
+    browser, board = office.browser, new_board("Paper")
+    lines = "".join(f"Shelf {number}\n" for number in range(120)) + "Another\n"
+    ask(f"/boards/{board}/import-todo", lines.encode())
+    office.begin(board)
+    browser.wait(IS_LISTED, "Shelf 1")
+    browser.type("#filter-text", "Shelf")
+    browser.wait("return document.getElementById('count').textContent.startsWith('120 of')")
+    browser.run("document.querySelector('#list .open').click()")
+    browser.wait(IS_OPEN)
+    browser.run("addEventListener('beforeprint', () => (window.printed = [...document.querySelectorAll('#list .open')].map((row) => row.textContent)))")
+    paper = base64.b64decode(browser.tell("Page.printToPDF", printBackground=True)["data"])
+    expect("rows on paper", {f"Shelf {number}" for number in range(120)}, set(browser.run("return window.printed")))
+    pages = len(re.findall(rb"/Type ?/Page\b", paper))
+    expect("pages, of which each has some rows", True, 2 <= pages <= 12)
+    browser.tell("Emulation.setEmulatedMedia", media="print")
+    shown = browser.run("return [...document.querySelectorAll('#panel, header, form, button:not(.open, .tick)')].filter((part) => part.checkVisibility()).length")
+    expect("panels, forms and buttons on paper", 0, shown)
+    if SHOTS:
+        pathlib.Path(SHOTS, "print.pdf").write_bytes(paper)
+    browser.tell("Emulation.setEmulatedMedia", media="")
+    browser.click("#close-panel")
+
+
+def for_readers(office):
+    """A reader has nothing to change; and who has no role any more sees nothing of the board."""
+    browser, board = office.browser, new_board("Read", bob="reader")
+    task = add(board, description="Only to be read")
+    [anns] = browser.tabs()
+    browser.new_tab()
+    office.begin(board, "bob")
+    browser.wait(IS_LISTED, "Only to be read")
+    office.go(board, "tasks", task)
+    browser.wait(IS_OPEN)
+    office.shot("reader")
+    shown = "return [...document.querySelectorAll('form, button.tick, #task-actions button, #task-notes button')].filter((part) => part.checkVisibility()).map((part) => part.id)"
+    expect("forms and circles for a reader", [], browser.run(shown))
+    for view in ("repeating", "people", "files"):
+        office.go(board, view)
+        browser.wait(HAS_COME[view])
+        expect(f"forms for a reader: {view}", [], browser.run(shown))
+    office.go(board, "tasks", task)
+    browser.wait(IS_OPEN)
+    tell(f"/boards/{board}/roles", member="bob", role=None)
+    browser.wait("dispatchEvent(new Event('focus')); return !document.querySelector('.views').checkVisibility() && !document.querySelector('nav').checkVisibility()")
+    expect("tasks of the board on screen", False, browser.run(IS_TOLD, "Only to be read"))
+    expect("the focus of one who was removed", True, browser.run(HAS_FOCUS))
+    browser.call("DELETE", "/window")
+    browser.to_tab(anns)
+
+
+def asked_seldom(office):
+    """The board is asked for every 15 s while someone acts, and every 60 s while nobody does. Time is made to pass."""
+    browser, board = office.browser, new_board("Seldom")
+    office.begin(board)
+    browser.run("const real = performance.now.bind(performance); window.ahead = 0; performance.now = () => real() + window.ahead")
+    pass_time = "window.ahead += 1000 * arguments[0]; if (arguments[1]) dispatchEvent(new Event('pointermove'))"
+
+    def times_asked():
+        return office.relay.asked.count(("GET", f"/boards/{board}/export"))
+
+    for seconds, acts in ((16, True), (16, True), (61, False), (61, False)):
+        before, end = times_asked(), time.monotonic() + browser.patience
+        browser.run(pass_time, seconds, acts)
+        while times_asked() == before and time.monotonic() < end:
+            time.sleep(0.05)
+        expect(f"asked after {seconds} s", True, times_asked() > before)
+    before = times_asked()
+    browser.run(pass_time, 16, False)
+    time.sleep(2.5)
+    expect("asked after 16 s in which nobody acts", before, times_asked())
+
+
+SCENES = (asked_seldom, without_a_line, newer_version, by_keys, on_paper, for_readers)

@@ -1,0 +1,135 @@
+"""Scenes of the page with files, full boards, and tasks that repeat."""
+import json
+import os
+import pathlib
+
+from office import ALL_ANSWERED, ENTER, IS_TOLD, add, ask, expect, new_board, tasks, tell
+
+ID = "00000000-0000-4000-9000-00000000000{}"
+
+
+def strange_export():
+    """An export of Taskwarrior as it writes it, with its faults: its text, which isn't JSON as it stands."""
+    named = [{"uuid": ID.format(digit), "entry": "20260101T000000Z", "status": "pending"} for digit in range(10)]
+    named[0] |= {"description": "Instance", "parent": ID.format(1), "imask": 0, "recur": "2wks", "due": "20260110T000000Z"}
+    named[1] |= {"description": "Template", "status": "recurring", "recur": "2wks", "due": "20260110T000000Z", "mask": "-"}
+    named[2] |= {"description": "Tab here", "priority": "X", "estimate": 3.5}
+    named[3] |= {"description": "By the hour", "status": "recurring", "recur": "PT1H", "due": "20260110T000000Z"}
+    named[4] |= {"description": "Two words", "tags": ["two words"]}
+    named[5] |= {"description": "One of two", "depends": [ID.format(6)]}
+    named[6] |= {"description": "Two of two", "depends": [ID.format(5)]}
+    named[7] |= {"description": "Waits for the circle", "depends": [ID.format(6), ID.format(2)]}
+    named[8] |= {"description": "Long " + "ш" * 9000}
+    named[9] |= {"description": "Sound"}
+    text = json.dumps(named, ensure_ascii=False)
+    return text.replace('"imask": 0', '"imask":0.000000').replace("Tab here", "Tab\there")
+
+
+def choose_file(browser, name, text):
+    pathlib.Path(name).write_text(text)
+    browser.type("#import-file", os.path.abspath(name))
+    browser.wait("return document.getElementById('import-told').textContent.includes(arguments[0])", name)
+
+
+def told(browser):
+    """What is told of the tasks of a file: the summaries, and each task's line."""
+    return browser.run("return [...document.querySelectorAll('#import-details details')].map((part) => [part.firstChild.textContent, [...part.querySelectorAll('li')].map((row) => row.textContent)])")
+
+
+def the_rest(office):
+    """Of an export with tasks that the server refuses each is named, at once; the rest is taken, and what it loses is told."""
+    browser, board = office.browser, new_board("The rest")
+    office.begin(board)
+    office.go(board, "files")
+    choose_file(browser, "strange.json", strange_export())
+    [faults, spelled, losses] = told(browser)
+    expect("faults", "5 tasks can't be taken", faults[0])
+    for name, why in (("By the hour", "PT1H"), ("Two words", "a tag"), ("One of two", "in a circle"), ("Two of two", "in a circle"), ("Long", "too long")):
+        expect(f"the reason of {name}", 1, len([line for line in faults[1] if name in line and why in line]))
+    expect("spelled anew", "3 tasks will be spelled as this server reads it", spelled[0])
+    expect("a step", 1, len([line for line in spelled[1] if "Template" in line and '"2wks" is "biweekly"' in line]))
+    expect("losses", "2 tasks will lose something", losses[0])
+    expect("what is lost", [True, True], ["priority X" in losses[1][0] and "estimate" in losses[1][0], "1 link" in losses[1][1]])
+    office.shot("import")
+    expect("what is offered", "Import the other 5", browser.run("return document.getElementById('import-send').textContent"))
+    browser.click("#import-send")
+    browser.wait(ALL_ANSWERED)
+    browser.wait(IS_TOLD, "5 new; 0 known")
+    browser.wait(IS_TOLD, "Which tasks lost what")
+    stored = {task["description"]: task for task in tasks(board)}
+    expect("taken", {"Instance", "Template", "Tab\there", "Waits for the circle", "Sound"}, set(stored))
+    expect("an instance in its place", [0, "biweekly", [ID.format(2)]], [stored["Instance"].get("imask"), stored["Template"]["recur"], stored["Waits for the circle"]["depends"]])
+    browser.run("[...document.querySelectorAll('#notices button')].at(-1).click()")
+    choose_file(browser, "torn.json", json.dumps([{"uuid": ID.format(9), "description": "Whole"}, {"uuid": ID.format(8), "description": "Torn"}])[:-8])
+    expect("a file that breaks off", True, told(browser)[0][1][0].endswith("the file breaks off in it"))
+    office.go(board)
+
+
+def lost_in_export(office):
+    """What lines of todo.txt won't bring back is told before the file is saved."""
+    browser, board = office.browser, new_board("Kept")
+    office.begin(board)
+    first = add(board, description="Has all", due="20260110T093000Z", wait="20260101T000000Z")
+    second = add(board, description="Next", depends=[first])
+    tell(f"/boards/{board}/tasks/{first}/annotate", description="A note")
+    tell(f"/boards/{board}/tasks/{add(board, description='Gone')}/delete")
+    office.begin(board)
+    office.go(board, "files")
+    browser.wait(IS_TOLD, "won't bring back: 1 deleted task; 1 task's notes; 1 task's links; 1 due date's time; 1 task's other dates")
+    expect("links", [first], [task for task in tasks(board) if task["uuid"] == second][0]["depends"])
+    office.go(board)
+
+
+def full_board(office):
+    """A board of 9,000 tasks goes on with a new one: the same people and roles, the open tasks and templates in their places, the old one as it was."""
+    browser, board = office.browser, new_board("Full", bob="member")
+    for part in range(9):
+        ask(f"/boards/{board}/import-todo", "".join(f"x 2026-01-01 Done {part} {number}\n" for number in range(999)).encode())
+    template = add(board, description="Each week", due="20260105T000000Z", recur="weekly")
+    first = next(task for task in tasks(board) if task.get("parent") == template)
+    tell(f"/boards/{board}/tasks/{first['uuid']}/done")
+    add(board, description="Open", depends=[add(board, description="Ahead")])
+    ask(f"/boards/{board}/import-todo", "".join(f"Filler {number}\n" for number in range(9000 - len(tasks(board)))).encode())
+    before = tasks(board)
+    office.begin(board)
+    browser.wait("return document.getElementById('go-on').offsetParent")
+    browser.click("#go-on")
+    expect("the title", "Full 2", browser.run("return document.getElementById('renew-title').value"))
+    browser.click("#renew-form .primary")
+    browser.wait("return document.title.startsWith('Full 2')")
+    browser.wait(IS_TOLD, "Imported")
+    browser.wait(ALL_ANSWERED)
+    made = int(browser.run("return location.hash.split('/')[1]"))
+    expect("the old board", before, tasks(board))
+    expect("people", json.loads(ask(f"/boards/{board}/people"))["people"], json.loads(ask(f"/boards/{made}/people"))["people"])
+    expect("tasks", [task for task in before if task["status"] in ("pending", "waiting", "recurring")], sorted(tasks(made), key=lambda task: [one["uuid"] for one in before].index(task["uuid"])))
+    browser.run("[...document.querySelectorAll('#notices button')].at(-1).click()")
+
+
+def made_to_repeat(office):
+    """An existing task gets other dates, and is made to repeat: another takes its place, with its notes and links."""
+    browser, board = office.browser, new_board("Becoming")
+    first = add(board, description="Water the plants", due="20991231T000000Z", depends=[add(board, description="Buy a can")], assignee="ann")
+    tell(f"/boards/{board}/tasks/{first}/annotate", description="Little")
+    office.begin(board)
+    office.go(board, "tasks", first)
+    browser.wait("return document.getElementById('edit')?.checkVisibility()")
+    browser.click("#edit")
+    for name, day in (("Scheduled", "2099-12-01"), ("Until", "2100-06-30")):
+        browser.run("const field = document.querySelector(`#edit-fields [aria-label='${arguments[0]}: day']`); field.value = arguments[1]; field.dispatchEvent(new Event('input', { bubbles: true }))", name, day)
+    browser.click("#edit-form .primary")
+    browser.wait("return document.getElementById('task-facts').textContent.includes('1 Dec 2099') && document.getElementById('task-facts').textContent.includes('30 Jun 2100')")
+    browser.click("#repeat-part summary")
+    browser.type("#repeat-step", "month" + ENTER)
+    browser.wait(IS_TOLD, "This isn't a repeat that the server knows")
+    browser.type("#repeat-step", "ly" + ENTER)
+    browser.wait("return !document.getElementById('repeat-part').checkVisibility()")
+    browser.wait(ALL_ANSWERED)
+    stored = [task for task in tasks(board) if task["description"] == "Water the plants"]
+    expect("statuses", ["deleted", "recurring", "pending"], [task["status"] for task in stored])
+    members = ("recur", "due", "scheduled", "until", "assignee", "depends")
+    expect("the repeating task", ["monthly", "20991231T000000Z", "20991201T000000Z", "21000630T000000Z", "ann", stored[0]["depends"]], [stored[1][name] for name in members])
+    expect("its notes", ["Little"], [note["description"] for note in stored[1]["annotations"]])
+
+
+SCENES = (made_to_repeat, full_board, the_rest, lost_in_export)

@@ -1,0 +1,115 @@
+"""Scenes of the page: several tasks changed at once, and moved to another board over a line that breaks."""
+from office import ALL_ANSWERED, DOWN, ENTER, IS_TOLD, add, expect, new_board, tasks
+from page_views import ARE_LISTED, moment
+from relay import LOSES_ANSWERS, LOSES_POSTS
+
+SHIFT, CONTROL = "\ue008", "\ue009"
+IS_PICKED = "return document.getElementById('bulk').offsetParent && document.getElementById('bulk-count').textContent === arguments[0]"
+CHANGE = "const select = document.getElementById(arguments[0]); select.value = arguments[1]; select.dispatchEvent(new Event('change'))"
+IS_UNDER = "return document.querySelector('#list .open')?.checkVisibility() && document.activeElement.closest('#list') !== null"
+
+
+def press(browser, *keys, held=""):
+    """Presses keys one after the other, while another one is held."""
+    steps = [{"type": kind, "value": key} for key in keys for kind in ("keyDown", "keyUp")]
+    around = [{"type": kind, "value": held} for kind in ("keyDown", "keyUp")] if held else []
+    browser.call("POST", "/actions", {"actions": [{"type": "key", "id": "keys", "actions": around[:1] + steps + around[1:]}]})
+
+
+def pick(browser, *texts):
+    """Chooses rows by their boxes."""
+    if not browser.run("return document.getElementById('list').classList.contains('choosing')"):
+        browser.click("#choose")
+    for count, text in enumerate(texts, 1):
+        browser.run("[...document.querySelectorAll('#list .row')].find((row) => row.querySelector('.open').textContent === arguments[0]).querySelector('.choose').click()", text)
+        browser.wait(IS_PICKED, f"{count} chosen")
+
+
+def of_all(board, name):
+    return [task.get(name) for task in tasks(board)]
+
+
+def several(office):
+    """Rows chosen by keys and by the mouse: completed with a way back, assigned, tagged, dated, put into a project, deleted."""
+    browser = office.browser
+    board = new_board("Several", bob="member")
+    names = ["Alpha", "Beta", "Gamma", "Delta"]
+    for place, name in enumerate(names):
+        add(board, description=name, priority="HML"[min(place, 2)], tags=["old"], **({"due": moment(-9)} if place == 3 else {}))
+    office.begin(board)
+    shown = ["Delta", "Alpha", "Beta", "Gamma"]
+    browser.wait(ARE_LISTED, shown)
+    browser.run("document.querySelector('#list .open').focus()")
+    press(browser, "x")
+    browser.wait(IS_PICKED, "1 chosen")
+    press(browser, DOWN, DOWN, held=SHIFT)
+    browser.wait(IS_PICKED, "3 chosen")
+    office.shot("several")
+    browser.click("#bulk-done")
+    browser.wait(ARE_LISTED, ["Gamma"])
+    browser.wait(ALL_ANSWERED)
+    expect("completed", ["completed", "completed", "pending", "completed"], of_all(board, "status"))
+    browser.wait(IS_UNDER)
+    browser.click("#toast button")
+    browser.wait(ARE_LISTED, shown)
+    browser.wait(ALL_ANSWERED)
+    expect("taken back", ["pending"] * 4, of_all(board, "status"))
+    pick(browser, "Alpha", "Beta")
+    browser.run(CHANGE, "bulk-assign", "bob")
+    browser.wait(IS_TOLD, "Assigned to bob: 2 tasks")
+    browser.click("#bulk-tag")
+    browser.type("#bulk-form input", "new @fresh" + ENTER)
+    browser.wait(IS_TOLD, "Tagged: 2 tasks")
+    browser.click("#bulk-project")
+    browser.type("#bulk-form input", "House.roof" + ENTER)
+    browser.wait(IS_TOLD, "Project set: 2 tasks")
+    browser.click("#bulk-due")
+    browser.run("document.querySelector('#bulk-form input[type=date]').value = '2027-03-01'")
+    browser.click("#bulk-form .primary")
+    browser.wait(IS_TOLD, "Due date set: 2 tasks")
+    browser.wait(ALL_ANSWERED)
+    for name, value, other in (("assignee", "bob", None), ("tags", ["fresh", "new", "old"], ["old"]), ("project", "House.roof", None), ("due", "20270301T000000Z", None)):
+        expect(name, [value, value, other], of_all(board, name)[:3])
+    browser.click("#bulk-none")
+    browser.wait("return !document.getElementById('bulk').offsetParent")
+    browser.run("document.querySelector('#list .open').focus()")
+    press(browser, "a", held=CONTROL)
+    browser.wait(IS_PICKED, "4 chosen")
+    browser.click("#bulk-delete")
+    browser.wait(ARE_LISTED, [])
+    browser.wait(ALL_ANSWERED)
+    expect("deleted", ["deleted"] * 4, of_all(board, "status"))
+
+
+def moves(office):
+    """Tasks that move to another board over a line that breaks and a page that is closed on the way: each is there once, and gone here."""
+    browser, relay = office.browser, office.relay
+    there = new_board("There")
+    board = new_board("From here")
+    ground = add(board, description="Ground", tags=["a"], big=9007199254740993, assignee="ann")
+    add(board, description="Upon it", depends=[ground])
+    add(board, description="Stays", depends=[ground])
+    office.begin(board)
+    browser.wait("return document.getElementById('count').textContent === '3 of 3 tasks'")
+    pick(browser, "Upon it", "Ground")
+    relay.break_off(LOSES_ANSWERS)
+    browser.run(CHANGE, "bulk-move", str(there))
+    relay.lost.wait(browser.patience)
+    browser.wait(IS_TOLD, "4 changes aren't answered yet")
+    browser.open("about:blank")
+    expect("after the stop", [["Ground"], ["pending"] * 3], [of_all(there, "description"), of_all(board, "status")])
+    relay.break_off(LOSES_POSTS)
+    browser.open(f"{office.address}#/{board}/tasks")
+    browser.wait(IS_TOLD, "4 changes aren't answered yet")
+    relay.heal()
+    browser.run("dispatchEvent(new Event('online'))")
+    browser.wait(ALL_ANSWERED)
+    expect("here", ["deleted", "deleted", "pending"], of_all(board, "status"))
+    first, second = tasks(there)
+    kept = {name: first[name] for name in ("description", "tags", "big", "assignee", "status")}
+    expect("there", {"description": "Ground", "tags": ["a"], "big": 9007199254740993, "assignee": "ann", "status": "pending"}, kept)
+    expect("its link", ["Upon it", [first["uuid"]]], [second["description"], second["depends"]])
+    browser.wait(ARE_LISTED, ["Stays"])
+
+
+SCENES = (several, moves)

@@ -1,0 +1,391 @@
+"""Scenes of the page in which no word is lost: refusals, drafts, two people at once, and what waits when someone signs out."""
+import contextlib
+import copy
+import json
+
+from office import ALL_ANSWERED, BROWSER, ENTER, IS_LISTED, IS_TOLD, KEYS, PORT, ask, expect, new_board, tasks, tell
+from office import add as add_task
+from relay import LOSES_ANSWERS, LOSES_POSTS
+from webdriver import Browser
+
+SENT = "dispatchEvent(new Event('online')); " + ALL_ANSWERED
+OPENED = "return document.getElementById('task-text').textContent === arguments[0] && !document.getElementById('panel').hidden"
+VALUE = "return document.querySelector(arguments[0]).value"
+HAS_VALUE = "return document.querySelector(arguments[0])?.value === arguments[1]"
+EDITED = "return document.getElementById('edit-form').offsetParent && document.querySelector('#edit-fields textarea').value === arguments[0]"
+IS_SHOWN = "return Boolean(document.querySelector(arguments[0])?.offsetParent)"
+# What stands on the device, its changes and what it keeps beside them, as text.
+DEVICE = """return new Promise((done) => {
+    const texts = (value) => (value instanceof ArrayBuffer || ArrayBuffer.isView(value) ? String.fromCharCode(...new Uint8Array(value.buffer ?? value)) : value);
+    indexedDB.open("taskboard").onsuccess = ({ target }) => {
+        target.result.transaction("changes").objectStore("changes").getAll().onsuccess = ({ target }) =>
+            done(JSON.stringify([target.result, { ...localStorage }, { ...sessionStorage }], (_, value) => texts(value)));
+    };
+});"""
+# Once all that waits was sent in vain, which is noted on the device.
+WAITED = """return new Promise((done) => {
+    indexedDB.open('taskboard').onsuccess = ({ target }) => {
+        target.result.transaction('changes').objectStore('changes').getAll().onsuccess = ({ target }) => {
+            const waiting = target.result.filter(({ state }) => state === 'waiting');
+            done(waiting.length === 2 && waiting.every(({ isOld }) => isOld));
+        };
+    };
+})"""
+
+
+@contextlib.contextmanager
+def beside(office, name, board):
+    """A second browser, in which another person is on the board, over a line of its own that doesn't break."""
+    with Browser(BROWSER, office.browser.patience) as browser:
+        browser.size(1280, 900)
+        other = copy.copy(office)
+        other.browser, other.address = browser, f"http://127.0.0.1:{PORT}/"
+        other.begin(board, name)
+        yield other
+        expect(f"faults in the browser of {name}", [], [told for told in browser.messages() if "Failed to load resource" not in told])
+
+
+def press(browser, label, inside="#notices"):
+    """Clicks the button with these words, once it is there."""
+    found = "[...document.querySelector(arguments[1]).querySelectorAll('button')].find((button) => button.textContent === arguments[0] && !button.disabled)"
+    browser.wait(f"const found = {found}; found?.click(); return Boolean(found)", label, inside)
+
+
+def type_into(browser, selector, text):
+    """Types a text in place of what a field holds."""
+    browser.run("const field = document.querySelector(arguments[0]); field.focus(); field.select()", selector)
+    browser.type(selector, text)
+
+
+def put_into(browser, selector, text):
+    """A text that would take long to type, as if it were pasted."""
+    browser.run("const field = document.querySelector(arguments[0]); field.value = arguments[1]; field.dispatchEvent(new Event('input', { bubbles: true }))", selector, text)
+
+
+def open_task(office, board, task):
+    office.go(board, "tasks", task)
+    office.browser.wait("return location.hash.includes(arguments[0]) && !document.getElementById('panel').hidden", task)
+
+
+def open_edit(office, board, task, description):
+    open_task(office, board, task)
+    office.browser.wait(OPENED, description)
+    office.browser.click("#edit")
+    office.browser.wait(EDITED, description)
+
+
+def save(browser, label="Save"):
+    """Saves what the form for changing a task says, once the page has looked at the freshest copy."""
+    press(browser, label, "#edit-form")
+    browser.wait("return !document.getElementById('edit-form').offsetParent")
+    browser.wait(ALL_ANSWERED)
+
+
+def one_of(board, uuid):
+    return json.loads(ask(f"/boards/{board}/tasks/{uuid}"))
+
+
+def heal(office):
+    """The line is whole again, and what waits is answered over it."""
+    office.relay.heal()
+    office.browser.wait(SENT)
+
+
+def refused_keep_text(office):
+    """A refused edit, note, new task and person keep their texts over a reload, and are sent again from their forms."""
+    browser, relay = office.browser, office.relay
+    board = new_board("Refused", bob="member")
+    task = add_task(board, description="Buy paint")
+    office.begin(board, "bob")
+    open_edit(office, board, task, "Buy paint")
+    relay.break_off(LOSES_POSTS)
+    type_into(browser, "#edit-fields textarea", "Buy green paint")
+    press(browser, "Save", "#edit-form")
+    browser.type("#note-text", "Two tins, not three" + ENTER)
+    browser.click("#add-more")
+    browser.type("#add-line", "Sand the door +House")
+    browser.type("#add-fields input[placeholder='phone mail']", "saturday" + ENTER)
+    browser.wait(IS_TOLD, "3 changes aren't answered yet")
+    tell(f"/boards/{board}/roles", member="bob", role="reader")
+    heal(office)
+    browser.wait("return document.querySelectorAll('#notices .refused').length === 3")
+    office.begin(board, "bob")
+    for text in ("Buy green paint", "Two tins, not three", "Sand the door"):
+        browser.wait("return document.getElementById('notices').textContent.includes(arguments[0])", text)
+    expect("forms that are offered to a reader", False, browser.run(IS_TOLD, "Edit and send again"))
+    office.shot("refused")
+    tell(f"/boards/{board}/roles", member="bob", role="member")
+    tell(f"/boards/{board}/tasks/{task}/delete")
+    browser.wait("dispatchEvent(new Event('focus')); " + IS_TOLD, "Edit and send again")
+    press(browser, "Edit and send again")
+    browser.wait(EDITED, "Buy green paint")
+    press(browser, "Save", "#edit-form")
+    browser.wait(IS_TOLD, "Meanwhile this task was deleted")
+    save(browser, "Reopen and save")
+    browser.wait("return document.querySelectorAll('#notices .refused').length === 2")
+    press(browser, "Edit and send again")
+    browser.wait(HAS_VALUE, "#note-text", "Two tins, not three")
+    browser.type("#note-text", ENTER)
+    press(browser, "Edit and send again")
+    browser.wait(HAS_VALUE, "#add-line", "Sand the door +House")
+    expect("a field", "saturday", browser.run(VALUE, "#add-fields input[placeholder='phone mail']"))
+    browser.type("#add-line", ENTER)
+    browser.wait("return document.querySelectorAll('#notices .refused').length === 0")
+    browser.wait(ALL_ANSWERED)
+    sent = one_of(board, task)
+    expect("the edit and the note", ["Buy green paint", "pending", ["Two tins, not three"]], [sent["description"], sent["status"], [note["description"] for note in sent["annotations"]]])
+    expect("the new task", [["Sand the door", "House", ["saturday"]]], [[one["description"], one["project"], one["tags"]] for one in tasks(board) if one["uuid"] != task])
+
+
+def refused_person(office):
+    """A new person whose name somebody has, and a role for nobody: both open their forms as they were filled."""
+    browser = office.browser
+    board = new_board("Crew", bob="member")
+    office.begin(board)
+    office.go(board, "people")
+    browser.type("#person-name", "bob")
+    browser.type("#person-key", "carolas-key-1" + ENTER)
+    browser.wait(IS_TOLD, "Someone has this name already")
+    press(browser, "Edit and send again")
+    browser.wait(HAS_VALUE, "#person-key", "carolas-key-1")
+    expect("the name", "bob", browser.run(VALUE, "#person-name"))
+    type_into(browser, "#person-name", "carola" + ENTER)
+    browser.wait("return [...document.querySelectorAll('#people .person')].some((row) => row.textContent === 'carola')")
+    browser.type("#invite-name", "nobody-here" + ENTER)
+    browser.wait(IS_TOLD, "The server knows nobody of that name")
+    press(browser, "Edit and send again")
+    browser.wait(HAS_VALUE, "#invite-name", "nobody-here")
+    type_into(browser, "#invite-name", "bob" + ENTER)
+    browser.wait(ALL_ANSWERED)
+    expect("told afterwards", 0, browser.run("return document.querySelectorAll('#notices .refused, #notices .asks').length"))
+
+
+def told_before(office):
+    """What the server would refuse is told beside its field, and nothing is sent."""
+    browser = office.browser
+    board = new_board("Rules")
+    task = add_task(board, description="Short")
+    office.begin(board)
+    browser.click("#add-more")
+    put_into(browser, "#add-line", "ш" * 9000)
+    browser.wait("return document.querySelector('#add-form .fault').textContent.includes('1,616 bytes too long')")
+    browser.type("#add-line", ENTER)
+    put_into(browser, "#add-line", "Water the plants due:2026-11-30")
+    browser.type("#add-fields input[placeholder=weekly]", "every month" + ENTER)
+    browser.wait("return document.getElementById('add-fields').textContent.includes(\"isn't a repeat\")")
+    put_into(browser, "#add-line", "Water the plants")
+    type_into(browser, "#add-fields input[placeholder=weekly]", "weekly" + ENTER)
+    browser.wait("return document.getElementById('add-fields').textContent.includes('needs a due date')")
+    open_edit(office, board, task, "Short")
+    put_into(browser, "#edit-fields textarea", "l" * 20000)
+    press(browser, "Save", "#edit-form")
+    browser.wait("return document.getElementById('edit-fields').textContent.includes('3,616 bytes too long')")
+    put_into(browser, "#note-text", "ж" * 9000)
+    browser.wait("return document.querySelector('#note-form .fault').textContent.includes('too long')")
+    browser.type("#note-text", ENTER)
+    office.go(board, "people")
+    for name, key, told in (("Carol", "carolas-key-1", "A name has small letters"), ("c" * 33, "carolas-key-1", "1 bytes too long"), ("carola", "short", "8 characters at least"), ("carola", "a key with spaces", "no spaces")):
+        type_into(browser, "#person-name", name)
+        type_into(browser, "#person-key", key + ENTER)
+        browser.wait("return document.getElementById('person-form').textContent.includes(arguments[0])", told)
+    browser.click("#new-board")
+    put_into(browser, "#board-title", "Ш" * 101)
+    browser.type("#board-title", ENTER)
+    browser.wait("return document.getElementById('board-form').textContent.includes('2 bytes too long')")
+    browser.click("#cancel-board")
+    expect("sent", [["Short", None]], [[one["description"], one.get("annotations")] for one in tasks(board)])
+    expect("refused", [True, 0], [browser.run(ALL_ANSWERED), browser.run("return document.querySelectorAll('#notices .refused, #notices .asks').length")])
+
+
+def drafts_stay(office):
+    """A line, an edit and a note survive another task, Back, a reload and a closed tab, each on its board; what is sent or taken back is gone."""
+    browser = office.browser
+    board, other = new_board("Drafts"), new_board("Drafts, too")
+    first, second = add_task(board, description="First"), add_task(board, description="Second")
+    office.begin(board)
+    browser.click("#add-more")
+    browser.type("#add-line", "Half a line +House")
+    browser.type("#add-fields input[placeholder='phone mail']", "half")
+    open_edit(office, board, first, "First")
+    type_into(browser, "#edit-fields textarea", "First, and more")
+    browser.type("#note-text", "Half a note")
+    open_task(office, board, second)
+    browser.wait(OPENED, "Second")
+    expect("of another task", ["", False], [browser.run(VALUE, "#note-text"), browser.run(IS_SHOWN, "#edit-form")])
+    browser.run("history.back()")
+    browser.wait(EDITED, "First, and more")
+    for way in ("reload", "tab"):
+        if way == "tab":
+            old = browser.call("GET", "/window")
+            browser.new_tab()
+            new = browser.call("GET", "/window")
+            browser.to_tab(old)
+            browser.call("DELETE", "/window")
+            browser.to_tab(new)
+        office.begin(board)
+        browser.wait(HAS_VALUE, "#add-line", "Half a line +House")
+        expect("a field", "half", browser.run(VALUE, "#add-fields input[placeholder='phone mail']"))
+        open_task(office, board, first)
+        browser.wait(EDITED, "First, and more")
+        browser.wait(HAS_VALUE, "#note-text", "Half a note")
+    office.go(other)
+    browser.wait(HAS_VALUE, "#add-line", "")
+    open_task(office, board, first)
+    browser.wait(EDITED, "First, and more")
+    browser.click("#cancel-edit")
+    browser.type("#note-text", ENTER)
+    browser.type("#add-line", ENTER)
+    browser.wait(ALL_ANSWERED)
+    office.begin(board)
+    open_task(office, board, first)
+    browser.wait(OPENED, "First")
+    expect("left of the drafts", ["", "", False], [browser.run(VALUE, "#add-line"), browser.run(VALUE, "#note-text"), browser.run(IS_SHOWN, "#edit-form")])
+    expect("sent", ["First", "Half a line", "Second"], sorted(one["description"] for one in tasks(board)))
+
+
+def two_edit_one_task(office):
+    """Two people change one task at once: what they didn't both change stays of both, and where they did the second chooses."""
+    browser = office.browser
+    board = new_board("Edits", bob="member")
+    task = add_task(board, description="Paint the fence", tags=["house", "old"])
+    office.begin(board)
+    with beside(office, "bob", board) as bobs:
+        open_edit(office, board, task, "Paint the fence")
+        open_edit(bobs, board, task, "Paint the fence")
+        type_into(bobs.browser, "#edit-fields textarea", "Paint the fence green")
+        type_into(bobs.browser, "#edit-fields input[placeholder='phone mail']", "house bobs")
+        save(bobs.browser)
+        type_into(browser, "#edit-fields textarea", "Paint the fence white")
+        type_into(browser, "#edit-fields input[placeholder='phone mail']", "house old anns")
+        browser.run("document.querySelector('#edit-fields select').value = 'H'")
+        press(browser, "Save", "#edit-form")
+        browser.wait("return document.querySelectorAll('#edit-conflicts fieldset').length === 1")
+        sides = browser.run("return [...document.querySelectorAll('#edit-conflicts bdi')].map((side) => side.textContent)")
+        expect("beside each other", ["Paint the fence white", "Paint the fence green"], sides)
+        expect("before the choice", "Paint the fence green", one_of(board, task)["description"])
+        office.shot("two-edits")
+        browser.click("#edit-conflicts input[value=mine]")
+        save(browser)
+        browser.wait(OPENED, "Paint the fence white")
+        stored = one_of(board, task)
+        expect("joined", ["Paint the fence white", ["anns", "bobs", "house"], "H"], [stored[name] for name in ("description", "tags", "priority")])
+        open_edit(bobs, board, task, "Paint the fence green")
+        type_into(bobs.browser, "#edit-fields textarea", "Paint nothing")
+        press(bobs.browser, "Save", "#edit-form")
+        bobs.browser.wait("return document.querySelectorAll('#edit-conflicts fieldset').length === 1")
+        bobs.browser.click("#edit-conflicts input[value=theirs]")
+        save(bobs.browser)
+        expect("theirs is chosen", "Paint the fence white", one_of(board, task)["description"])
+
+
+def two_complete_one_task(office):
+    """Two people complete the same task: the second is told who did, in no refusal."""
+    browser, relay = office.browser, office.relay
+    board = new_board("Both", bob="member")
+    task = add_task(board, description="Take the bins out")
+    office.begin(board)
+    relay.break_off(LOSES_POSTS)
+    browser.run("document.querySelector('#list .tick').click()")
+    browser.wait(IS_TOLD, "1 change isn't answered yet")
+    with beside(office, "bob", board) as bobs:
+        bobs.browser.run("document.querySelector('#list .tick').click()")
+        bobs.browser.wait(ALL_ANSWERED)
+        expect("bob's", "completed", one_of(board, task)["status"])
+    heal(office)
+    browser.wait(IS_TOLD, "bob had completed Take the bins out already.")
+    expect("red ones", 0, browser.run("return document.querySelectorAll('#notices .refused').length"))
+    press(browser, "Dismiss", "#notices .already")
+    browser.wait("return document.querySelectorAll('#notices .already').length === 0")
+
+
+def changed_while_waiting(office):
+    """A change that waited over a broken line asks where its task has become another, and is sent once its person says so."""
+    browser, relay = office.browser, office.relay
+    board = new_board("Waited")
+    call, write = add_task(board, description="Call Mom"), add_task(board, description="Write to Dad")
+    office.begin(board)
+    relay.break_off(LOSES_POSTS)
+    for _ in range(2):
+        browser.run("document.querySelector('#list .tick:not(.ticked)').click()")
+    browser.wait(IS_TOLD, "2 changes aren't answered yet")
+    browser.wait(WAITED)
+    tell(f"/boards/{board}/tasks/{call}/modify", description="Call the office")
+    heal(office)
+    browser.wait(IS_TOLD, "Not sent yet: Complete Call Mom")
+    browser.wait(ALL_ANSWERED)
+    expect("before the answer", ["pending", "completed"], [one_of(board, uuid)["status"] for uuid in (call, write)])
+    press(browser, "Send it all the same")
+    browser.wait("return document.querySelectorAll('#notices .asks').length === 0")
+    browser.wait(ALL_ANSWERED)
+    expect("after it", "completed", one_of(board, call)["status"])
+
+
+def signing_out(office):
+    """Signing out names what isn't sent and asks; no key of a new person is readable on the device, and nothing of the boards stays in the page."""
+    browser, relay = office.browser, office.relay
+    board = new_board("Secret title")
+    add_task(board, description="Secret task")
+    office.begin(board)
+    browser.wait(IS_LISTED, "Secret task")
+    for way in ("keep", "drop"):
+        office.go(board, "people")
+        browser.wait("return document.querySelectorAll('#people li').length > 0")
+        relay.break_off(LOSES_POSTS)
+        browser.type("#person-name", f"erin-{way}")
+        browser.type("#person-key", f"erins-key-{way}" + ENTER)
+        office.go(board)
+        browser.type("#add-line", f"Unsent {way}" + ENTER)
+        browser.wait(IS_TOLD, "3 changes aren't answered yet")
+        browser.click("#sign-out")
+        for text in (f"erin-{way}", f"Unsent {way}"):
+            browser.wait("return document.getElementById('leave-dialog').innerText.includes(arguments[0])", text)
+        office.shot("signing-out")
+        browser.click(f"#leave-{way}")
+        browser.wait(IS_SHOWN, "#sign-in-form")
+        left = browser.run("return document.documentElement.outerHTML + [...document.querySelectorAll('input')].map((input) => input.value) + location.href")
+        expect("left in the page", [], [text for text in ("Secret", "Unsent", "erin", "tasks/") if text in left])
+        device = browser.run(DEVICE)
+        expect("keys on the device", [], [key for key in (f"erins-key-{way}", KEYS["ann"]) if key in device])
+        expect("changes on the device", way == "keep", "Unsent keep" in device)
+        if way == "keep":
+            browser.wait("return document.getElementById('sign-in-waiting').innerText === 'ann: 3 changes not sent yet'")
+            office.shot("sign-in-waiting")
+        browser.type("#name", "ann")
+        browser.type("#key", KEYS["ann"] + ENTER)
+        browser.wait("return document.getElementById('count').textContent")
+        if way == "keep":
+            browser.wait(IS_TOLD, "3 changes aren't answered yet")
+        heal(office)
+        office.begin(board)
+    expect("sent", ["Secret task", "Unsent keep"], sorted(one["description"] for one in tasks(board)))
+    expect("people", ["ann", "erin-keep"], [one["name"] for one in json.loads(ask(f"/boards/{board}/people"))["people"]])
+
+
+def unsent_looks_done(office):
+    """While changes are on their way their tasks look as they will be, also a new one that is completed before it is there; each acts once."""
+    browser, relay = office.browser, office.relay
+    board = new_board("On the way")
+    task = add_task(board, description="Slow one")
+    office.begin(board)
+    browser.wait(IS_LISTED, "Slow one")
+    relay.break_off(LOSES_ANSWERS)
+    browser.run("document.querySelector('#list .tick').click()")
+    browser.wait("return document.querySelector('#list .tick.ticked')?.parentElement.textContent.includes('not answered yet')")
+    browser.type("#add-line", "New one +House" + ENTER)
+    browser.wait("return [...document.querySelectorAll('#list .row')].some((row) => row.textContent.includes('New one') && row.textContent.includes('not answered yet'))")
+    browser.run("[...document.querySelectorAll('#list .row')].find((row) => row.textContent.includes('New one')).querySelector('.tick').click()")
+    browser.wait("return document.querySelectorAll('#list .ticked').length === 2")
+    browser.wait(IS_TOLD, "3 changes aren't answered yet")
+    office.begin(board)
+    browser.wait("return [...document.querySelectorAll('#list .row')].some((row) => row.textContent.includes('New one') && row.querySelector('.ticked'))")
+    sent = browser.run(DEVICE)
+    heal(office)
+    browser.wait("return document.querySelectorAll('#list .row').length === 0")
+    stored = {one["description"]: one for one in tasks(board)}
+    expect("afterwards", [2, "completed", "completed"], [len(stored), stored["Slow one"]["status"], stored["New one"]["status"]])
+    expect("the uuid that it got here", True, stored["New one"]["uuid"] in sent)
+    expect("told", 0, browser.run("return document.querySelectorAll('#notices .refused, #notices .asks').length"))
+    expect("the first", task, stored["Slow one"]["uuid"])
+
+
+SCENES = (refused_keep_text, refused_person, told_before, drafts_stay, two_edit_one_task, two_complete_one_task, changed_while_waiting, signing_out, unsent_looks_done)
