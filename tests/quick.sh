@@ -15,7 +15,17 @@ export TRIES=${TRIES:-1}
 # Two sides are edited for two days, with fewer tasks; by itself that test takes a week.
 export SYNC_TASKS=${SYNC_TASKS:-60} SYNC_DAYS=${SYNC_DAYS:-2}
 
-# Runs a test where the programs that it needs are there: attempt NAME NEEDED..
+# Runs a test, for MOST seconds at most.
+MOST=1200
+run() {
+    case $1 in
+    *.py) timeout "$MOST" python3 "tests/$1" "$(./taskboard --where)" ;;
+    *) timeout "$MOST" sh "tests/$1" ;;
+    esac
+}
+
+# Runs a test where the programs that it needs are there: attempt NAME NEEDED.. One that fails is run once more, since a machine that has
+# other work may be late for once; that it had to be is told.
 attempt() {
     name=$1
     shift
@@ -26,10 +36,9 @@ attempt() {
         fi
     done
     echo "$name:"
-    case $name in
-    *.py) python3 "tests/$name" "$(./taskboard --where)" ;;
-    *) sh "tests/$name" ;;
-    esac || failed="$failed $name"
+    run "$name" && return
+    echo "$name: FAILED, and is run once more"
+    run "$name" || failed="$failed $name"
 }
 
 attempt scripts.py python3

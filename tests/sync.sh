@@ -34,7 +34,7 @@ done
 if is_there pyflakes3; then
     pyflakes3 "$contrib"/taskboard_bridges/*.py "$contrib/taskwarrior-sync" "$contrib/todotxt-sync" "$contrib/taskboard-remind"
 else
-    echo "what pyflakes3 says: skipped, since it isn't there"
+    echo "what pyflakes3 says: skipped, since pyflakes3 isn't there"
 fi
 
 if is_there task && task --version | grep -q '^2\.6'; then
