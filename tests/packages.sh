@@ -4,7 +4,7 @@
 # of a program that could be there, and names the tests that weren't run since a package can't be had.
 set -u
 
-MOST=${MOST:-900}
+MOST=${MOST:-420}
 PACKAGES='
 python3 python3
 chromium chromium
