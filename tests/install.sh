@@ -187,6 +187,7 @@ if is_there systemctl; then
 fi
 if is_there shellcheck; then
     for script in "$contrib"/*; do
+        [ -f "$script" ] || continue
         case $(head -n 1 "$script") in
         '#!/bin/sh') shellcheck "$script" ;;
         esac
