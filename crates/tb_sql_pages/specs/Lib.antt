@@ -1,0 +1,3 @@
+pub mod Entries
+pub mod First
+pub mod Parts
