@@ -5,10 +5,10 @@ use Rattle.std.proofs.lemmas.Bool.{lt-ltb, le-ltb}
 use Rattle.tb_task.specs.declared.task.Task.{Task}
 use Rattle.tb_board.specs.declared.board.Board.{Board}
 use Rattle.tb_board.specs.declared.change.Change.{Change}
-use Rattle.tb_board.specs.declared.change.Change.TheVariants.{PutTask, SetGone, TakeGone, SetAhead}
+use Rattle.tb_board.specs.declared.change.Change.TheVariants.{PutTask, SetTitle, SetGone, TakeGone, SetAhead}
 use Rattle.tb_board.specs.declared.draft.Draft.{Draft}
 use Rattle.tb_board.specs.declared.gone.Gone.{Gone}
-use Rattle.tb_board.specs.Changing.{put, with_task_at, changed_on, replayed, with_gone, without_gone, with_ahead, IsOn, Follows}
+use Rattle.tb_board.specs.Changing.{put, with_task_at, changed_on, replayed, with_gone, with_title, without_gone, with_ahead, IsOn, Follows}
 
 all_push : (n : ℕ) (cs : List Change) (c : Change) → AllByRecursion (IsOn n) cs → IsOn n c → AllByRecursion (IsOn n) (cs ++ c ∷ [])
 all_push n [] c all on = (on, tt)
@@ -59,4 +59,11 @@ follows-set_ahead d ahead start h =
     record {
       own = all_push d.board.number d.changes (SetAhead d.board.number ahead) h.own refl;
       made = replayed-push start d.changes (SetAhead d.board.number ahead) ∙ ap (with_ahead ahead) h.made;
+    }
+
+pub follows-set_title : (d : Draft) (title : List ℕ) → Follows d (record { board = with_title title d.board; changes = d.changes ++ SetTitle d.board.number title ∷ [] })
+follows-set_title d title start h =
+    record {
+      own = all_push d.board.number d.changes (SetTitle d.board.number title) h.own refl;
+      made = replayed-push start d.changes (SetTitle d.board.number title) ∙ ap (with_title title) h.made;
     }

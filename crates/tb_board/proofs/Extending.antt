@@ -1,16 +1,16 @@
 -- A world has all that it had itself, and what it has stays over several steps.
-use Rattle.std.proofs.Common.{◌≡◌, ℕ, Bool, List, [], ◌∷◌, ◌++◌, Some, find, map, refl, sym, ◌∙◌, ap, subst, inl, inr, append_assoc}
+use Rattle.std.proofs.Common.{◌≡◌, ℕ, Bool, List, [], ◌∷◌, ◌++◌, Option, Some, find, map, refl, sym, ◌∙◌, subst, inl, inr}
 use Rattle.std.proofs.lemmas.Bool.{cases_Bool}
-use Rattle.std.proofs.lemmas.List.{append-nil}
 use Rattle.tb_task.specs.declared.task.Task.{Task}
 use Rattle.tb_board.specs.declared.board.Board.{Board}
+use Rattle.tb_board.specs.declared.world.Person.{Person}
 use Rattle.tb_board.specs.declared.world.World.{World}
 use Rattle.tb_board.specs.Board.{wake}
 use Rattle.tb_board.specs.Tasks.{woken}
-use Rattle.tb_board.specs.Changing.{change_board}
-use Rattle.tb_board.specs.Extends.{Extends, ExtendsBoard, ExtendsTask, IsFrontOf}
+use Rattle.tb_board.specs.Changing.{change_board, set_key, with_key, with_title}
+use Rattle.tb_board.specs.Extends.{Extends, ExtendsBoard, ExtendsPerson, ExtendsTask, IsFrontOf}
 use Rattle.tb_board.specs.First.{change_first}
-use Rattle.tb_board.specs.World.{has_number}
+use Rattle.tb_board.specs.World.{has_name, has_number}
 
 -- ---- fronts of lists
 
@@ -53,37 +53,52 @@ pub task-trans : (t u v : Task) → ExtendsTask t u → ExtendsTask u v → Exte
 task-trans t u v first later = record { id = later.id ∙ first.id; parent = later.parent ∙ first.parent; imask = later.imask ∙ first.imask }
 
 pub board-refl : (b : Board) → ExtendsBoard b b
-board-refl b = record { number = refl; title = refl; tasks = front-refl ExtendsTask task-refl b.tasks }
+board-refl b = record { number = refl; tasks = front-refl ExtendsTask task-refl b.tasks }
 
 pub board-trans : (b c d : Board) → ExtendsBoard b c → ExtendsBoard c d → ExtendsBoard b d
 board-trans b c d first later =
     record {
       number = later.number ∙ first.number;
-      title = later.title ∙ first.title;
       tasks = front-trans ExtendsTask task-trans b.tasks c.tasks d.tasks first.tasks later.tasks;
     }
 
 -- tasks go last on the board, whatever becomes of its gone places
-pub board-append : (b c : Board) (more : List Task) → c.number ≡ b.number → c.title ≡ b.title → c.tasks ≡ b.tasks ++ more → ExtendsBoard b c
-board-append b c more number title tasks =
-    record { number = number; title = title; tasks = subst (IsFrontOf ExtendsTask b.tasks) (sym tasks) (front-append ExtendsTask task-refl b.tasks more) }
+pub board-append : (b c : Board) (more : List Task) → c.number ≡ b.number → c.tasks ≡ b.tasks ++ more → ExtendsBoard b c
+board-append b c more number tasks =
+    record { number = number; tasks = subst (IsFrontOf ExtendsTask b.tasks) (sym tasks) (front-append ExtendsTask task-refl b.tasks more) }
 
 pub board-change : (b : Board) (test : Task → Bool) (f : Task → Task) → ((t : Task) → ExtendsTask t (f t)) → ExtendsBoard b (record b { tasks = change_first test f b.tasks })
-board-change b test f each = record { number = refl; title = refl; tasks = front-change ExtendsTask task-refl test f b.tasks (λ t found. each t) }
+board-change b test f each = record { number = refl; tasks = front-change ExtendsTask task-refl test f b.tasks (λ t found. each t) }
 
 pub board-wake : (b : Board) (m : ℕ) → ExtendsBoard b (wake b m)
-board-wake b m = record { number = refl; title = refl; tasks = front-map ExtendsTask (woken m) (λ t. record { id = refl; parent = refl; imask = refl }) b.tasks }
+board-wake b m = record { number = refl; tasks = front-map ExtendsTask (woken m) (λ t. record { id = refl; parent = refl; imask = refl }) b.tasks }
+
+-- ---- people
+
+pub people-refl : (ps : List Person) → IsFrontOf ExtendsPerson ps ps
+people-refl ps = front-refl ExtendsPerson (λ p. refl) ps
+
+pub people-trans : (ps qs rs : List Person) → IsFrontOf ExtendsPerson ps qs → IsFrontOf ExtendsPerson qs rs → IsFrontOf ExtendsPerson ps rs
+people-trans ps qs rs first later = front-trans ExtendsPerson (λ p q r. λ one two. two ∙ one) ps qs rs first later
+
+pub people-append : (ps more : List Person) → IsFrontOf ExtendsPerson ps (ps ++ more)
+people-append ps more = front-append ExtendsPerson (λ p. refl) ps more
+
+pub people-set_key : (name : List ℕ) (key : Option (List ℕ)) (ps : List Person) → IsFrontOf ExtendsPerson ps (set_key name key ps)
+people-set_key name key ps = front-change ExtendsPerson (λ p. refl) (has_name name) (with_key key) ps (λ p found. refl)
+
+pub board-retitle : (b : Board) (title : List ℕ) → ExtendsBoard b (with_title title b)
+board-retitle b title = record { number = refl; tasks = front-refl ExtendsTask task-refl b.tasks }
 
 -- ---- worlds
 
 pub extends-refl : (w : World) → Extends w w
-extends-refl w = record { more = []; people = sym (append-nil w.people); boards = front-refl ExtendsBoard board-refl w.boards }
+extends-refl w = record { people = people-refl w.people; boards = front-refl ExtendsBoard board-refl w.boards }
 
 pub extends-trans : (u v w : World) → Extends u v → Extends v w → Extends u w
 extends-trans u v w first later =
     record {
-      more = first.more ++ later.more;
-      people = later.people ∙ ap (λ ps. ps ++ later.more) first.people ∙ append_assoc u.people first.more later.more;
+      people = people-trans u.people v.people w.people first.people later.people;
       boards = front-trans ExtendsBoard board-trans u.boards v.boards w.boards first.boards later.boards;
     }
 

@@ -4,11 +4,11 @@ use Rattle.std.specs.List.{AllByRecursion}
 use Rattle.std.proofs.lemmas.Bool.{cases_Bool, eqb-true}
 use Rattle.tb_board.specs.declared.board.Board.{Board}
 use Rattle.tb_board.specs.declared.change.Change.{Change}
-use Rattle.tb_board.specs.declared.change.Change.TheVariants.{PutTask, AddPerson, AddBoard, SetRole, SetGone, TakeGone, SetAhead}
+use Rattle.tb_board.specs.declared.change.Change.TheVariants.{PutTask, AddPerson, SetKey, AddBoard, SetTitle, SetRole, SetGone, TakeGone, SetAhead}
 use Rattle.tb_board.specs.declared.draft.Draft.{Draft}
 use Rattle.tb_board.specs.declared.world.World.{World}
 use Rattle.tb_board.specs.World.{has_number}
-use Rattle.tb_board.specs.Changing.{change_board, changed, changed_by, changed_on, replayed, with_task_at, with_gone, without_gone, with_ahead, IsOn, IsDraft}
+use Rattle.tb_board.specs.Changing.{change_board, changed, changed_by, changed_on, replayed, with_task_at, with_gone, with_title, without_gone, with_ahead, IsOn, IsDraft}
 
 change_board-none : (n : ℕ) (bs : List Board) → change_board n (λ b. b) bs ≡ bs
 change_board-none n [] = refl
@@ -47,7 +47,10 @@ changed-one w n (TakeGone k id place ∷ cs) on =
     changed-one (record w { boards = change_board k (without_gone id place) w.boards }) n cs on.1 ∙ one_more w k n (without_gone id place) cs on.0 (λ b. refl)
 changed-one w n (SetAhead k ahead ∷ cs) on =
     changed-one (record w { boards = change_board k (with_ahead ahead) w.boards }) n cs on.1 ∙ one_more w k n (with_ahead ahead) cs on.0 (λ b. refl)
+changed-one w n (SetTitle k title ∷ cs) on =
+    changed-one (record w { boards = change_board k (with_title title) w.boards }) n cs on.1 ∙ one_more w k n (with_title title) cs on.0 (λ b. refl)
 changed-one w n (AddPerson name key ∷ cs) on = absurd on.0
+changed-one w n (SetKey name key ∷ cs) on = absurd on.0
 changed-one w n (AddBoard k title ∷ cs) on = absurd on.0
 changed-one w n (SetRole k person role ∷ cs) on = absurd on.0
 
@@ -79,7 +82,9 @@ number_found n (b ∷ bs) x h =
 pub changed_on-number : (b : Board) (c : Change) → (changed_on b c).number ≡ b.number
 changed_on-number b (PutTask n place t) = refl
 changed_on-number b (AddPerson name key) = refl
+changed_on-number b (SetKey name key) = refl
 changed_on-number b (AddBoard n title) = refl
+changed_on-number b (SetTitle n title) = refl
 changed_on-number b (SetRole n person role) = refl
 changed_on-number b (SetGone n g) = refl
 changed_on-number b (TakeGone n id k) = refl

@@ -5,6 +5,7 @@ abbrev pub most_ahead : ℕ
 most_ahead = 12
 
 -- from 1 to the most
+-- Rule: a board looks 1 to 12 instances ahead. Refused as BadBody. Tried by ahead_bodies.
 abbrev pub is_ahead : ℕ → Bool
 is_ahead n = nat_le 1 n && nat_le n most_ahead
 

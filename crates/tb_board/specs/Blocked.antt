@@ -15,6 +15,7 @@ abbrev pub are_open : List Task → List Bool
 are_open ts = map (λ (t : Task). is_open t.status) ts
 
 -- for each task whether it is blocked: it is open, and depends on an open one
+-- Rule: completed and deleted tasks block nothing. Tried by cycle.
 abbrev pub blocked : Board → List Bool
 blocked b = map (is_blocked (links b) (are_open b.tasks)) (range_with_len 0 (length b.tasks))
 

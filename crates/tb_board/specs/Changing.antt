@@ -1,17 +1,18 @@
 -- What changes make of a board and of a world.
-use Rattle.std.specs.Prelude.{◌≡◌, ℕ, not, List, [], ◌∷◌, ◌++◌, if◌then◌else◌, filter, length, nat_lt, slice_set}
+use Rattle.std.specs.Prelude.{◌≡◌, ℕ, not, List, [], ◌∷◌, ◌++◌, Option, Some, if◌then◌else◌, filter, length, nat_lt, slice_set}
 use Rattle.std.specs.List.{AllByRecursion}
 use Rattle.tb_task.specs.declared.task.Task.{Task}
 use Rattle.tb_board.specs.declared.board.Board.{Board}
 use Rattle.tb_board.specs.declared.change.Change.{Change}
-use Rattle.tb_board.specs.declared.change.Change.TheVariants.{PutTask, AddPerson, AddBoard, SetRole, SetGone, TakeGone, SetAhead}
+use Rattle.tb_board.specs.declared.change.Change.TheVariants.{PutTask, AddPerson, SetKey, AddBoard, SetTitle, SetRole, SetGone, TakeGone, SetAhead}
 use Rattle.tb_board.specs.declared.draft.Draft.{Draft}
 use Rattle.tb_board.specs.declared.gone.Gone.{Gone}
+use Rattle.tb_board.specs.declared.world.Person.{Person}
 use Rattle.tb_board.specs.declared.world.World.{World}
 use Rattle.tb_board.specs.First.{change_first}
 use Rattle.tb_board.specs.Roles.{set_role}
 use Rattle.tb_board.specs.Templates.{is_gone_at}
-use Rattle.tb_board.specs.World.{has_number}
+use Rattle.tb_board.specs.World.{has_name, has_number}
 
 -- a task at its place, or last where the list has no such place
 abbrev pub put : List Task → ℕ → Task → List Task
@@ -35,6 +36,20 @@ without_gone id k b = record b { gone = without_place id k b.gone }
 abbrev pub with_ahead : ℕ → Board → Board
 with_ahead ahead b = record b { ahead = ahead }
 
+-- another title
+-- Rule: a board may get another title, and keeps its number. Tried by board_retitled.
+abbrev pub with_title : List ℕ → Board → Board
+with_title title b = record b { title = title }
+
+-- another key, or none
+-- Rule: name and roles stay when a key is set or removed. Tried by person_key.
+abbrev pub with_key : Option (List ℕ) → Person → Person
+with_key key p = record p { key = key }
+
+-- the first person of this name has this key, or none
+abbrev pub set_key : List ℕ → Option (List ℕ) → List Person → List Person
+set_key name key people = change_first (has_name name) (with_key key) people
+
 -- the first board with this number is changed by f, and nothing else
 abbrev pub change_board : ℕ → (Board → Board) → List Board → List Board
 change_board n f bs = change_first (has_number n) f bs
@@ -43,12 +58,15 @@ abbrev pub changed_by : World → Change → World
 changed_by w (PutTask n place t) =
     record w { boards = change_board n (with_task_at place t) w.boards }
 changed_by w (AddPerson name key) =
-    record w { people = w.people ++ record { name = name; key = key } ∷ [] }
+    record w { people = w.people ++ record { name = name; key = Some key } ∷ [] }
+changed_by w (SetKey name key) = record w { people = set_key name key w.people }
 changed_by w (AddBoard n title) =
     record w {
       boards = w.boards
           ++ record { number = n; title = title; tasks = []; gone = []; ahead = 1 } ∷ [];
     }
+changed_by w (SetTitle n title) =
+    record w { boards = change_board n (with_title title) w.boards }
 changed_by w (SetRole n person role) = record w { roles = set_role w.roles n person role }
 changed_by w (SetGone n g) = record w { boards = change_board n (with_gone g) w.boards }
 changed_by w (TakeGone n id k) = record w { boards = change_board n (without_gone id k) w.boards }
@@ -63,7 +81,9 @@ changed w (c ∷ cs) = changed (changed_by w c) cs
 abbrev pub changed_on : Board → Change → Board
 changed_on b (PutTask n place t) = with_task_at place t b
 changed_on b (AddPerson name key) = b
+changed_on b (SetKey name key) = b
 changed_on b (AddBoard n title) = b
+changed_on b (SetTitle n title) = with_title title b
 changed_on b (SetRole n person role) = b
 changed_on b (SetGone n g) = with_gone g b
 changed_on b (TakeGone n id k) = without_gone id k b
@@ -78,7 +98,9 @@ replayed b (c ∷ cs) = replayed (changed_on b c) cs
 abbrev pub IsOn : ℕ → Change → Type 0
 IsOn n (PutTask m place t) = m ≡ n
 IsOn n (AddPerson name key) = ⊥
+IsOn n (SetKey name key) = ⊥
 IsOn n (AddBoard m title) = ⊥
+IsOn n (SetTitle m title) = m ≡ n
 IsOn n (SetRole m person role) = ⊥
 IsOn n (SetGone m g) = m ≡ n
 IsOn n (TakeGone m id k) = m ≡ n

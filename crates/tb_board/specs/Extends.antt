@@ -1,5 +1,5 @@
 -- A later world that has all that an earlier one had.
-use Rattle.std.specs.Prelude.{◌≡◌, List, [], ◌∷◌, ◌++◌}
+use Rattle.std.specs.Prelude.{◌≡◌, List, [], ◌∷◌}
 use Rattle.tb_task.specs.declared.task.Task.{Task}
 use Rattle.tb_board.specs.declared.board.Board.{Board}
 use Rattle.tb_board.specs.declared.world.Person.{Person}
@@ -17,14 +17,18 @@ pub record ExtendsTask (earlier later : Task) : Type 0 where
   pub parent : later.parent ≡ earlier.parent
   pub imask : later.imask ≡ earlier.imask
 
--- the board keeps its number and title, and each task its place
+-- the person keeps the name
+abbrev pub ExtendsPerson : Person → Person → Type 0
+ExtendsPerson earlier later = later.name ≡ earlier.name
+
+-- the board keeps its number, and each task its place
+-- Rule: a task keeps its place and stays for good. Tried by place_is_taken_once.
 pub record ExtendsBoard (earlier later : Board) : Type 0 where
   pub number : later.number ≡ earlier.number
-  pub title : later.title ≡ earlier.title
   pub tasks : IsFrontOf ExtendsTask earlier.tasks later.tasks
 
--- people stay as they are, boards stay at their places, and new ones go last
+-- people and boards stay at their places, and new ones go last
+-- Rule: people and boards stay, and new ones go last. Tried by no test.
 pub record Extends (earlier later : World) : Type 0 where
-  pub more : List Person
-  pub people : later.people ≡ earlier.people ++ more
+  pub people : IsFrontOf ExtendsPerson earlier.people later.people
   pub boards : IsFrontOf ExtendsBoard earlier.boards later.boards

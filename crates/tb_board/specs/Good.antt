@@ -39,6 +39,7 @@ IsLinkedOn b t = lacks_depends b t.depends ≡ false
 
 -- a good board: distinct identifiers, 10,000 tasks at most, each sound and linked to tasks of the board alone, no cycles; the places of each
 -- template's instances are 0 up to their number; parents and gone places are of templates of the board
+-- Rule: a board's identifiers differ, and its links form no cycle. Tried by worlds.
 pub record IsGood (b : Board) : Type 0 where
   pub distinct : IsDistinct nat_eq (ids b.tasks)
   pub few : length b.tasks ≤ most_tasks

@@ -11,6 +11,7 @@ use Rattle.tb_board.specs.Statuses.{is_template}
 use Rattle.tb_board.specs.Templates.{places, IsRun}
 
 -- the places of each template are 0 up to their number, each once
+-- Rule: a template's places are 0 up to their number, each once. Tried by worlds.
 abbrev pub HasRuns : Board → Type 0
 HasRuns b = (id : ℕ) → IsRun (places b id)
 

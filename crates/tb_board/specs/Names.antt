@@ -12,6 +12,7 @@ is_name_byte c =
     (nat_le 97 c && nat_le c 122) || (nat_le 48 c && nat_le c 57) || (c == 95) || (c == 45)
 
 -- 1 to 32 such bytes
+-- Rule: a name is 1 to 32 of a-z, 0-9, '_' and '-'. Refused as BadBody or Bad. Tried by words.
 unfoldable pub is_name : List ℕ → Bool
 is_name text = has_length 1 32 text && list_all is_name_byte text
 
@@ -20,6 +21,7 @@ abbrev pub is_key_byte : ℕ → Bool
 is_key_byte c = nat_le 0x21 c && nat_le c 0x7E
 
 -- 8 to 64 such characters
+-- Rule: a key is 8 to 64 visible characters of ASCII. Refused as BadBody or Bad. Tried by words.
 unfoldable pub is_key : List ℕ → Bool
 is_key text = has_length 8 64 text && list_all is_key_byte text
 
@@ -28,6 +30,7 @@ abbrev pub is_title_byte : ℕ → Bool
 is_title_byte c = nat_le 0x20 c
 
 -- 1 to 200 bytes without characters below U+0020
+-- Rule: a title is 1 to 200 bytes, none below U+0020. Refused as BadBody. Tried by refused_lines.
 unfoldable pub is_title : List ℕ → Bool
 is_title text = has_length 1 200 text && list_all is_title_byte text
 

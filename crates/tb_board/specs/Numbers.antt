@@ -10,6 +10,7 @@ first_free b n zero = n
 first_free b n (suc steps) = if is_on b (made b.number n) then first_free b (n + 1) steps else n
 
 -- the least number from 1 whose identifier isn't on the board; as many steps as the board has tasks are enough
+-- Rule: a new task takes the least number that is free. Tried by number_used_by_hand.
 unfoldable pub free : Board → ℕ
 free b = first_free b 1 (length b.tasks)
 

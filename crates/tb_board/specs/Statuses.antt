@@ -31,6 +31,7 @@ abbrev pub is_template : Task → Bool
 is_template t = is_some t.recur && not (is_some t.parent)
 
 -- waiting where the wait is after m, and else pending
+-- Rule: wait alone tells waiting from pending. Tried by waiting_until.
 abbrev pub settled : Option ℕ → ℕ → Status
 settled None m = Pending
 settled (Some wait) m = if nat_lt m wait then Waiting else Pending

@@ -19,6 +19,7 @@ is_waiting Completed = false
 is_waiting Deleted = false
 
 -- a task that waited until m
+-- Rule: a task wakes at the moment of its wait. Tried by waiting_until_now.
 unfoldable pub wakes : ℕ → Task → Bool
 wakes m t = is_waiting t.status && has_come t.wait m
 

@@ -38,6 +38,7 @@ abbrev pub mark_at : Board → ℕ → ℕ → ℕ
 mark_at b id k = mark_here (find (is_instance_at id k) b.tasks) (find (is_gone_at id k) b.gone)
 
 -- a mark for each place from 0 up to the count
+-- Rule: a mask is made of a template's instances and gone places. Tried by mask_of_three.
 abbrev pub mask : Board → ℕ → List ℕ
 mask b id = map (mark_at b id) (range_with_len 0 (count b id))
 

@@ -1,6 +1,6 @@
 -- People, boards and roles.
 use Rattle.std.specs.Prelude.{ℕ, ◌+◌, Bool, true, false, ◌&&◌, ◌==◌, List, [], ◌∷◌, Option, Some, None, find, position, codes}
-use Rattle.std.specs.Option.{option_map}
+use Rattle.std.specs.Option.{option_and_then, option_map}
 use Rattle.std.specs.List.{count_by}
 use Rattle.std.specs.Str.{bytes_eq}
 use Rattle.tb_board.specs.declared.board.Board.{Board}
@@ -17,17 +17,15 @@ has_name name p = bytes_eq p.name name
 abbrev pub number_of : World → List ℕ → Option ℕ
 number_of w name = option_map (λ place. place + 1) (position (has_name name) w.people)
 
--- the key of the first person of this name
+-- the key of the first person of this name, who may have none
 abbrev pub key_of : World → List ℕ → Option (List ℕ)
-key_of w name = option_map (λ (p : Person). p.key) (find (has_name name) w.people)
+key_of w name = option_and_then (λ (p : Person). p.key) (find (has_name name) w.people)
 
-abbrev pub is_key_of : Option Person → List ℕ → Bool
-is_key_of None key = false
-is_key_of (Some p) key = bytes_eq p.key key
-
--- the first person of this name has this key
-abbrev pub is_known : World → List ℕ → List ℕ → Bool
-is_known w name key = is_key_of (find (has_name name) w.people) key
+-- there is a key, and it is this one
+-- Rule: who has no key is unknown. Refused as UnknownCaller. Tried by person_key.
+abbrev pub has_key : Option (List ℕ) → List ℕ → Bool
+has_key None key = false
+has_key (Some own) key = bytes_eq own key
 
 abbrev pub has_number : ℕ → Board → Bool
 has_number n b = b.number == n
@@ -64,7 +62,7 @@ owners w board = count_by (owns board) w.roles
 -- one person, who owns the one board
 abbrev pub opening : List ℕ → List ℕ → World
 opening name key = record {
-  people = record { name = name; key = key } ∷ [];
+  people = record { name = name; key = Some key } ∷ [];
   boards = record { number = 1; title = codes "board"; tasks = []; gone = []; ahead = 1 } ∷ [];
   roles = record { board = 1; person = 1; role = Owner } ∷ [];
 }

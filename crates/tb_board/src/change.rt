@@ -21,9 +21,19 @@ pub enum Change {
         name: Name,
         key: Key,
     },
+    /// The person of this name has this key, or none.
+    SetKey {
+        name: Name,
+        key: Option<Key>,
+    },
     /// A board without tasks goes last.
     AddBoard {
         number: u32,
+        title: Title,
+    },
+    /// A board has this title.
+    SetTitle {
+        board: u32,
         title: Title,
     },
     /// A person has this role on a board, or none, both by their numbers.

@@ -1,12 +1,12 @@
 ghost use Rattle.std.specs.Prelude.{◌≡◌, ◌≤◌, [], ◌∷◌, ◌++◌, Some, None, IfOk, OnOk, insert, length, position};
-ghost use Rattle.tb_board.specs.Changing.{change_board, changed, changed_by, put, with_ahead, with_gone, with_task_at, without_gone};
+ghost use Rattle.tb_board.specs.Changing.{change_board, changed, changed_by, put, set_key, with_ahead, with_gone, with_key, with_task_at, with_title, without_gone};
 ghost use Rattle.tb_board.specs.Roles.{comes_before, set_role, with_new_role};
 ghost use Rattle.tb_board.specs.World.{empty_board};
 
 use crate::ahead::Ahead;
 use crate::board::Board;
 use crate::change::Change;
-use crate::first::{place_of_board, place_of_role};
+use crate::first::{place_of_board, place_of_person, place_of_role};
 use crate::gone::{Gone, gone_without};
 use crate::key::Key;
 use crate::name::Name;
@@ -36,7 +36,9 @@ fn changed_world(alloc: Global, world: World, change: &Change) -> Result<World, 
     match change {
         Change::PutTask { board, place, task } => put_task(alloc, world, *board, *place, task),
         Change::AddPerson { name, key } => add_person(world, name, key),
+        Change::SetKey { name, key } => set_key(world, name, key),
         Change::AddBoard { number, title } => add_board(alloc, world, *number, title),
+        Change::SetTitle { board, title } => set_title(alloc, world, *board, title),
         Change::SetRole {
             board,
             person,
@@ -56,13 +58,57 @@ fn add_person(mut world: World, name: &Name, key: &Key) -> Result<World, AllocEr
     ensures { IfOk result
         (λ later. later ≡ record world {
           people = world.people
-              ++ record { name = name.now; key = key.now } ∷ [];
+              ++ record { name = name.now; key = Some key.now } ∷ [];
         }) }
 {
     let name = name.duplicate()?;
     let key = key.duplicate()?;
-    world.people.push(Person { name, key })?;
+    world.people.push(Person {
+        name,
+        key: Some(key),
+    })?;
     Ok(world)
+}
+
+fn set_key(world: World, name: &Name, key: &Option<Key>) -> Result<World, AllocError>
+    ensures { IfOk result
+        (λ later. later ≡ record world { people = set_key name.now key.now world.people }) }
+{
+    let World {
+        people,
+        boards,
+        roles,
+    } = world;
+    let people = people_with_key(people, name, key)?;
+    Ok(World {
+        people,
+        boards,
+        roles,
+    })
+}
+
+/// Gives the first person of this name a key, or none.
+fn people_with_key(
+    mut people: Items<Person>,
+    name: &Name,
+    key: &Option<Key>,
+) -> Result<Items<Person>, AllocError>
+    ensures { IfOk result (λ later. later ≡ set_key name.now key.now people) }
+{
+    let Some(place) = place_of_person(people.as_slice(), name) else {
+        return Ok(people);
+    };
+    let person = person_with_key(&people.as_slice()[place], key)?;
+    people.set(place, person);
+    Ok(people)
+}
+
+fn person_with_key(person: &Person, key: &Option<Key>) -> Result<Person, AllocError>
+    ensures { IfOk result (λ later. later ≡ with_key key.now person.now) }
+{
+    let name = person.name.duplicate()?;
+    let key = key.duplicate()?;
+    Ok(Person { name, key })
 }
 
 fn add_board(
@@ -414,5 +460,54 @@ fn board_with_ahead(board: Shared<Board>, ahead: Ahead) -> Result<Board, AllocEr
         return Err(AllocError);
     };
     board.ahead = ahead;
+    Ok(board)
+}
+
+fn set_title(alloc: Global, world: World, number: u32, title: &Title) -> Result<World, AllocError>
+    ensures { IfOk result
+        (λ later. later ≡ record world {
+          boards = change_board number
+              (with_title title.now) world.boards;
+        }) }
+{
+    let World {
+        people,
+        boards,
+        roles,
+    } = world;
+    let boards = boards_with_title(alloc, boards, number, title)?;
+    Ok(World {
+        people,
+        boards,
+        roles,
+    })
+}
+
+/// The first board with this number has this title.
+fn boards_with_title(
+    alloc: Global,
+    boards: Items<Shared<Board>>,
+    number: u32,
+    title: &Title,
+) -> Result<Items<Shared<Board>>, AllocError>
+    ensures { IfOk result (λ later. later ≡ change_board number (with_title title.now) boards) }
+{
+    let Some(index) = place_of_board(boards.as_slice(), number) else {
+        return Ok(boards);
+    };
+    let mut boards = boards.into_vec();
+    let board = boards.remove(index);
+    let board = board_with_title(board, title)?;
+    boards.insert(index, Shared::new(alloc, board)?)?;
+    Ok(Items::from_vec(boards))
+}
+
+fn board_with_title(board: Shared<Board>, title: &Title) -> Result<Board, AllocError>
+    ensures { IfOk result (λ b. b ≡ with_title title.now board) }
+{
+    let Ok(mut board) = board.into_value() else {
+        return Err(AllocError);
+    };
+    board.title = title.duplicate()?;
     Ok(board)
 }

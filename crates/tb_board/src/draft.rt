@@ -1,11 +1,12 @@
 ghost use Rattle.std.specs.Prelude.{◌≡◌, ◌<◌, [], ◌∷◌, ◌++◌, length, IfOk, slice_set};
-ghost use Rattle.tb_board.specs.Changing.{IsDraft, Follows, with_ahead, with_gone, without_gone};
+ghost use Rattle.tb_board.specs.Changing.{IsDraft, Follows, with_ahead, with_gone, with_title, without_gone};
 ghost use Rattle.tb_board.specs.declared.change.Change.TheVariants.{PutTask};
 
 use crate::ahead::Ahead;
 use crate::board::Board;
 use crate::change::Change;
 use crate::gone::{Gone, gone_without};
+use crate::title::Title;
 use std::alloc::{AllocError, Global};
 use tb_task::{Task, TaskId};
 use tb_values::{Duplicate, Items, Shared};
@@ -122,6 +123,23 @@ impl Draft {
             ahead,
         })?;
         board.ahead = ahead;
+        Ok(Draft { board, changes })
+    }
+
+    /// Gives the board another title.
+    pub fn set_title(self, title: &Title) -> Result<Draft, AllocError>
+        ensures board { IfOk result (λ draft. draft.board ≡ with_title title.now self.board) }
+        ensures follows { IfOk result (Follows self) }
+    {
+        let Draft {
+            mut board,
+            mut changes,
+        } = self;
+        changes.push(Change::SetTitle {
+            board: board.number,
+            title: title.duplicate()?,
+        })?;
+        board.title = title.duplicate()?;
         Ok(Draft { board, changes })
     }
 }

@@ -26,11 +26,18 @@ impl Model for Name {
 }
 
 impl Name {
+    /// Whether a text has the form of a name.
+    pub fn fits(text: &str) -> bool
+        ensures { result ≡ is_name text.now }
+    {
+        is_name(text.as_bytes())
+    }
+
     /// The name that a text is, if it has the form of one.
     pub fn read(alloc: Global, text: &str) -> Result<Option<Name>, AllocError>
         ensures { IfOk result (λ name. name ≡ read_name text.now) }
     {
-        if !is_name(text.as_bytes()) {
+        if !Name::fits(text) {
             return Ok(None);
         }
         let text = Text::from_str(alloc, text)?;

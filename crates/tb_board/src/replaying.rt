@@ -6,6 +6,7 @@ use crate::change::Change;
 use crate::changing::put_at;
 use crate::gone::gone_without;
 use std::alloc::{AllocError, Global};
+use tb_values::Duplicate;
 
 /// The board after changes, one after the other: people, boards and roles that change don't change it. It shares with this one
 /// whatever stays.
@@ -34,7 +35,11 @@ pub fn changed_on(alloc: Global, mut board: Board, change: &Change) -> Result<Bo
             board.gone = gone_without(alloc, board.gone.as_slice(), *template, *place)?;
         }
         Change::SetAhead { ahead, .. } => board.ahead = *ahead,
-        Change::AddPerson { .. } | Change::AddBoard { .. } | Change::SetRole { .. } => {}
+        Change::SetTitle { title, .. } => board.title = title.duplicate()?,
+        Change::AddPerson { .. }
+        | Change::SetKey { .. }
+        | Change::AddBoard { .. }
+        | Change::SetRole { .. } => {}
     }
     Ok(board)
 }

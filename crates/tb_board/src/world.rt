@@ -1,6 +1,5 @@
-ghost use Rattle.std.specs.Prelude.{◌≡◌, IfOk, codes};
-ghost use Rattle.std.specs.Str.{bytes_eq};
-ghost use Rattle.tb_board.specs.World.{find_board, is_known, number_of, opening, owners, owns, role_of};
+ghost use Rattle.std.specs.Prelude.{◌≡◌, IfOk, codes, find};
+ghost use Rattle.tb_board.specs.World.{find_board, has_name, number_of, opening, owners, owns, role_of};
 
 use crate::board::Board;
 use crate::first::{place_of_board, place_of_person};
@@ -18,11 +17,11 @@ pub enum Role {
     Reader,
 }
 
-/// A person, and the key by which the person is known.
+/// A person, and the key by which the person is known. Nobody is known as a person without a key.
 #[derive(Drop)]
 pub struct Person {
     pub name: Name,
-    pub key: Key,
+    pub key: Option<Key>,
 }
 
 /// The role of a person on a board, both by their numbers. People count from 1.
@@ -50,7 +49,10 @@ impl World {
         let key = key.duplicate()?;
         let board = Board::new(alloc, 1, first_title(alloc)?);
         let mut people = Items::new(alloc);
-        people.push(Person { name, key })?;
+        people.push(Person {
+            name,
+            key: Some(key),
+        })?;
         let mut boards = Items::new(alloc);
         boards.push(Shared::new(alloc, board)?)?;
         let mut roles = Items::new(alloc);
@@ -76,13 +78,13 @@ impl World {
         }
     }
 
-    /// Whether the person of that name has that key.
-    pub fn knows(&self, name: &Name, key: &Key) -> bool
-        ensures { result ≡ is_known self.now name.now key.now }
+    /// The person of that name.
+    pub fn person(&self, name: &Name) -> Result<Option<Person>, AllocError>
+        ensures { IfOk result (λ person. person ≡ find (has_name name.now) self.now.people) }
     {
         match place_of_person(self.people.as_slice(), name) {
-            Some(place) => has_key(&self.people.as_slice()[place], key),
-            None => false,
+            Some(place) => Ok(Some(self.people.as_slice()[place].duplicate()?)),
+            None => Ok(None),
         }
     }
 
@@ -121,12 +123,6 @@ impl World {
             .filter(|role| is_owned(role, board))
             .count()
     }
-}
-
-fn has_key(person: &Person, key: &Key) -> bool
-    ensures { result ≡ bytes_eq person.now.key key.now }
-{
-    person.key.as_str() == key.as_str()
 }
 
 fn is_owned(role: &RoleOn, board: u32) -> bool

@@ -8,10 +8,10 @@ use Rattle.std.proofs.lemmas.List.{take_more}
 use Rattle.tb_board.proofs.Worlds.{changed-append}
 use Rattle.tb_board.specs.declared.board.Board.{Board}
 use Rattle.tb_board.specs.declared.change.Change.{Change}
-use Rattle.tb_board.specs.declared.change.Change.TheVariants.{PutTask, AddPerson, AddBoard, SetRole, SetGone, TakeGone, SetAhead}
+use Rattle.tb_board.specs.declared.change.Change.TheVariants.{PutTask, AddPerson, SetKey, AddBoard, SetTitle, SetRole, SetGone, TakeGone, SetAhead}
 use Rattle.tb_board.specs.declared.world.World.{World}
 use Rattle.tb_board.specs.World.{find_board, has_number}
-use Rattle.tb_board.specs.Changing.{change_board, changed, changed_by, changed_on, with_task_at, with_ahead, with_gone, without_gone}
+use Rattle.tb_board.specs.Changing.{change_board, changed, changed_by, changed_on, with_task_at, with_ahead, with_gone, with_title, without_gone}
 use Rattle.lru.specs.LruCache.{LruCache, lru_cache}
 use Rattle.tb_cache.specs.BoardCache.{AreOf}
 use Rattle.tb_cache.specs.Following.{touched}
@@ -64,7 +64,9 @@ at n (Some m) b later = if n == m then later else b
 pub found_after : (n : ℕ) (w : World) (c : Change) (b : Board) → find_board w n ≡ Some b → find_board (changed_by w c) n ≡ Some (at n (touched c) b (changed_on b c))
 found_after n w (PutTask m place t) b found = found_changed n m (with_task_at place t) w.boards b (λ x. refl) found
 found_after n w (AddPerson name key) b found = found
+found_after n w (SetKey name key) b found = found
 found_after n w (AddBoard m title) b found = find-append (has_number n) w.boards _ ∙ rw found refl
+found_after n w (SetTitle m title) b found = found_changed n m (with_title title) w.boards b (λ x. refl) found
 found_after n w (SetRole m person role) b found = found
 found_after n w (SetGone m g) b found = found_changed n m (with_gone g) w.boards b (λ x. refl) found
 found_after n w (TakeGone m id k) b found = found_changed n m (without_gone id k) w.boards b (λ x. refl) found

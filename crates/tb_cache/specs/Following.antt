@@ -5,13 +5,15 @@ use Rattle.std.specs.Option.{option_map_or}
 use Rattle.tb_board.specs.declared.board.Board.{Board}
 use Rattle.tb_board.specs.declared.change.Change.{Change}
 use Rattle.tb_board.specs.Changing.{changed_on}
-use Rattle.tb_board.specs.declared.change.Change.TheVariants.{PutTask, AddPerson, AddBoard, SetRole, SetGone, TakeGone, SetAhead}
+use Rattle.tb_board.specs.declared.change.Change.TheVariants.{PutTask, AddPerson, SetKey, AddBoard, SetTitle, SetRole, SetGone, TakeGone, SetAhead}
 
--- the board that a change touches: its tasks, its gone places, or how far ahead it looks
+-- the board that a change touches: its title, its tasks, its gone places, or how far ahead it looks
 abbrev pub touched : Change → Option ℕ
 touched (PutTask m place t) = Some m
 touched (AddPerson name key) = None
+touched (SetKey name key) = None
 touched (AddBoard m title) = None
+touched (SetTitle m title) = Some m
 touched (SetRole m person role) = None
 touched (SetGone m g) = Some m
 touched (TakeGone m id k) = Some m

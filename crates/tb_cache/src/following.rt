@@ -6,16 +6,20 @@ use std::alloc::{AllocError, Global};
 use tb_board::{Board, Change, changed_on};
 use tb_values::Shared;
 
-/// The board that a change touches: its tasks, its gone places, or how far ahead it looks.
+/// The board that a change touches: its title, its tasks, its gone places, or how far ahead it looks.
 pub(crate) fn touched(change: &Change) -> Option<u32>
     ensures { result ≡ touched change.now }
 {
     match change {
         Change::PutTask { board, .. }
+        | Change::SetTitle { board, .. }
         | Change::SetGone { board, .. }
         | Change::TakeGone { board, .. }
         | Change::SetAhead { board, .. } => Some(*board),
-        Change::AddPerson { .. } | Change::AddBoard { .. } | Change::SetRole { .. } => None,
+        Change::AddPerson { .. }
+        | Change::SetKey { .. }
+        | Change::AddBoard { .. }
+        | Change::SetRole { .. } => None,
     }
 }
 

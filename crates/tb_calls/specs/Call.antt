@@ -1,5 +1,5 @@
 -- What calls lead to: plainly, once each, and their replies.
-use Rattle.std.specs.Prelude.{ℕ, ◌==◌, Bool, false, not, ◌&&◌, if◌then◌else◌, List, [], ◌∷◌, ◌++◌, Option, Some, None, Err, is_some}
+use Rattle.std.specs.Prelude.{ℕ, ◌==◌, Bool, false, not, ◌&&◌, ◌||◌, if◌then◌else◌, List, [], ◌∷◌, ◌++◌, Option, Some, None, Err, is_some}
 use Rattle.std.specs.List.{list_any}
 use Rattle.std.specs.Str.{bytes_eq}
 use Rattle.std.specs.Ordering.{ordering_then, nat_cmp}
@@ -9,8 +9,9 @@ use Rattle.std.specs.FinMap.{FinMap, get, insert, empty}
 use Rattle.tb_core.specs.declared.refusal.Refusal.TheVariants.{UnknownCaller, IdReused}
 use Rattle.tb_board.specs.declared.world.World.{World}
 use Rattle.tb_core.specs.Apply.{apply}
+use Rattle.tb_core.specs.GoodLaws.{own_keys}
 use Rattle.tb_core.specs.Outcomes.{Outcome}
-use Rattle.tb_board.specs.World.{key_of, opening as opening_world}
+use Rattle.tb_board.specs.World.{has_key, key_of, opening as opening_world}
 use Rattle.tb_calls.specs.declared.call.Call.{Call}
 use Rattle.tb_calls.specs.declared.call.KeptReply.{KeptReply}
 use Rattle.tb_reply.specs.declared.reply.Reply.{Reply}
@@ -29,6 +30,7 @@ pub record State : Type 0 where
   pub world : World
   pub kept : FinMap name_cmp KeptReply
 
+-- Rule: two people may use one identifier. Tried by one_identifier_two_people.
 abbrev pub name_of : Call → CallName
 name_of c = (c.member, c.id)
 
@@ -40,13 +42,31 @@ same_name c d = bytes_eq c.member d.member && (c.id == d.id)
 abbrev pub kept_for : State → Call → Option KeptReply
 kept_for s c = get s.kept (name_of c)
 
-abbrev pub has_key : Option (List ℕ) → List ℕ → Bool
-has_key None key = false
-has_key (Some known) key = bytes_eq known key
-
 -- the call's person is there, with this key
+-- Rule: a call comes with its person's key. Refused as UnknownCaller. Tried by wrong_key.
 abbrev pub is_known : State → Call → Bool
 is_known s c = has_key (key_of s.world c.member) c.key
+
+-- these are the key of a call and the one that is there
+abbrev pub changes_key : Option (List ℕ × List ℕ) → List ℕ → Option (List ℕ) → Bool
+changes_key None key now = false
+changes_key (Some keys) key now = bytes_eq keys.0 key && has_key now keys.1
+
+abbrev pub is_kept_as : Option KeptReply → List ℕ → Bool
+is_kept_as None content = false
+is_kept_as (Some kept) content = bytes_eq kept.content content
+
+-- a change of the caller's own key, from the call's to the one that is there, that was made by this very call
+-- Rule: a change of the own key may come again with the old key. Tried by own_key.
+abbrev pub has_changed_key : State → Call → Bool
+has_changed_key s c =
+    changes_key (own_keys c.command) c.key (key_of s.world c.member)
+    && is_kept_as (kept_for s c) c.content
+
+-- the call's caller is known, or was until this very call changed the key
+-- Rule: no other call comes with an old key. Refused as UnknownCaller. Tried by own_key.
+abbrev pub is_heard : State → Call → Bool
+is_heard s c = is_known s c || has_changed_key s c
 
 abbrev pub unknown_caller : Reply
 unknown_caller = reply_of (Err UnknownCaller)
@@ -59,6 +79,7 @@ unfoldable pub outcome : State → Call → Outcome
 outcome s c = apply s.world c.member c.command c.moment
 
 -- a state after a call, its content and reply kept under its name: no name is compared
+-- Rule: a refusal is kept as any reply is. Tried by refusal_kept.
 abbrev pub after_call : State → Call → State
 after_call s c = record {
   world = (outcome s c).world;
@@ -84,17 +105,19 @@ once_after s taken (c ∷ cs) = if counts s taken c then c ∷ once_after s (tak
     else once_after s taken cs
 
 -- the calls that count: of each name the first whose caller is known
+-- Rule: a call acts once, however often it is sent. Tried by retry_later.
 abbrev pub once : State → List Call → List Call
 once s cs = once_after s [] cs
 
 -- the reply kept, where the content is the same
+-- Rule: an identifier stays with its content. Refused as IdReused. Tried by identifier_used_again.
 abbrev pub kept_or_new : Option KeptReply → State → Call → Reply
 kept_or_new None s c = reply_of (outcome s c).answer
 kept_or_new (Some kept) s c = if bytes_eq kept.content c.content then kept.reply else id_reused
 
 -- what a call is told in a state
 abbrev pub told_in : State → Call → Reply
-told_in s c = if is_known s c then kept_or_new (kept_for s c) s c else unknown_caller
+told_in s c = if is_heard s c then kept_or_new (kept_for s c) s c else unknown_caller
 
 -- what a call is told after the calls before it
 abbrev pub reply : State → List Call → Call → Reply

@@ -6,7 +6,7 @@ use Rattle.tb_board.specs.Changing.{changed}
 use Rattle.tb_board.specs.Extends.{Extends}
 use Rattle.tb_core.specs.GoodWorld.{IsGoodWorld}
 use Rattle.tb_core.specs.Shapes.{AreOfOne}
-use Rattle.tb_board.specs.World.{key_of}
+use Rattle.tb_board.specs.World.{number_of}
 use Rattle.tb_calls.specs.declared.call.Call.{Call}
 use Rattle.tb_reply.specs.declared.reply.Reply.{Reply}
 use Rattle.tb_calls.specs.declared.fault.KeepFault.{KeepFault}
@@ -39,10 +39,10 @@ with_reply s changes c r =
       kept = insert s.kept (name_of c) (record { content = c.content; reply = r });
     }
 
--- when a call's changes and reply may be put: its person is known, its name is new, the world stays good and keeps what it has, and the
+-- when a call's changes and reply may be put: its person is there, its name is new, the world stays good and keeps what it has, and the
 -- changes are of one board or of one person
 pub record MayCommit (s : State) (changes : List Change) (c : Call) : Type 0 where
-  pub known : IsSome (key_of s.world c.member)
+  pub known : IsSome (number_of s.world c.member)
   pub new : kept_for s c ≡ None
   pub good : IsGoodWorld (changed s.world changes)
   pub extends : Extends s.world (changed s.world changes)

@@ -8,6 +8,7 @@ abbrev pub Only : State → (State → Type 0) → Type 0
 Only s stops = (t : State) → stops t → t ≡ s
 
 -- a state after some of the calls, each acting once: all that were answered, and one more at most
+-- Rule: a crash keeps each answered call, and one other at most. Tried by stopped_at_each_write.
 abbrev pub IsAfterSome : State → List Call → ℕ → State → Type 0
 IsAfterSome s calls answered t = (j : ℕ) × (answered ≤ j) × (j ≤ answered + 1)
     × (t ≡ plain s (once s (take j calls)))

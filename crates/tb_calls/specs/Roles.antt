@@ -27,6 +27,7 @@ with_title r b = record { board = r.board; title = b.title; role = r.role }
 abbrev pub board_role : World → RoleOn → Option BoardRole
 board_role w r = option_map (with_title r) (find_board w r.board)
 
+-- Rule: GET /me has the boards on which one has a role. Tried by me_and_people.
 abbrev pub boards_for : World → Option ℕ → List BoardRole
 boards_for w None = []
 boards_for w (Some person) = filter_map (board_role w) (filter (is_of person) w.roles)

@@ -28,6 +28,10 @@ word_named name =
     else if bytes_eq name (codes "person") then Some word.Person
     else if bytes_eq name (codes "board") then Some word.Board
     else if bytes_eq name (codes "role") then Some word.Role
+    else if bytes_eq name (codes "own-key") then Some word.OwnKey
+    else if bytes_eq name (codes "key") then Some word.Key
+    else if bytes_eq name (codes "take") then Some word.Take
+    else if bytes_eq name (codes "title") then Some word.Title
     else if bytes_eq name (codes "people") then Some word.People
     else if bytes_eq name (codes "me") then Some word.Me
     else None

@@ -38,7 +38,7 @@ pub trait Keep {
     fn failures(&self) -> u64
         ensures { result ≡ (if has_failed self.now then 1 else 0) };
 
-    /// The key of the person of that name.
+    /// The key of the person of that name, who may have none.
     fn person(&mut self, alloc: Global, name: &Name) -> Result<Option<Key>, KeepFault>
         ensures answer { is_honest self.new ≡ true → (s : State) → holds self.old s
             → IfOk result (λ key. key ≡ key_of s.world name.now) }

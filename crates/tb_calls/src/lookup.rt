@@ -8,17 +8,12 @@ use tb_board::{Key, Name, World};
 use tb_reply::Reply;
 use tb_values::Duplicate;
 
-/// The key of the person of that name.
+/// The key of the person of that name, who may have none.
 pub fn key_in(world: &World, name: &Name) -> Result<Option<Key>, AllocError>
     ensures { IfOk result (λ key. key ≡ key_of world.now name.now) }
 {
-    match world
-        .people
-        .as_slice()
-        .iter()
-        .find(|person| person.name.as_str() == name.as_str())
-    {
-        Some(person) => Ok(Some(person.key.duplicate()?)),
+    match world.person(name)? {
+        Some(person) => Ok(person.key),
         None => Ok(None),
     }
 }

@@ -19,7 +19,7 @@ use Rattle.tb_sweep.specs.Sweeping.{more, sweep}
 use Rattle.tb_sweep.proofs.Adding.{number-sweep}
 use Rattle.tb_sweep.proofs.Settled.{adds_last, sweep_ends, sweep_fits, wake_swept}
 use Rattle.tb_core.specs.declared.command.Answer.{Answer}
-use Rattle.tb_core.specs.declared.command.Answer.TheVariants.{OnBoard, NewPerson, NewBoard}
+use Rattle.tb_core.specs.declared.command.Answer.TheVariants.{OnBoard, OfPerson, NewBoard}
 use Rattle.tb_core.specs.declared.command.BoardAnswer.{BoardAnswer}
 use Rattle.tb_core.specs.declared.command.BoardCommand.TheVariants.{Import}
 use Rattle.tb_core.specs.declared.command.Import.TheVariants.{Todo}
@@ -171,7 +171,7 @@ put_twice n y (b ∷ bs) is =
 
 abbrev answer_on : BoardAnswer → Result Answer Refusal → BoardAnswer
 answer_on a (Ok (OnBoard b)) = b
-answer_on a (Ok (NewPerson name)) = a
+answer_on a (Ok (OfPerson name)) = a
 answer_on a (Ok (NewBoard n)) = a
 answer_on a (Err refusal) = a
 

@@ -28,7 +28,7 @@ use Rattle.tb_core.specs.declared.command.BoardAnswer.{BoardAnswer}
 use Rattle.tb_core.specs.declared.command.Command.{Command}
 use Rattle.tb_core.specs.declared.command.Command.TheVariants as Commands
 use Rattle.tb_core.specs.declared.command.BoardCommand.{BoardCommand}
-use Rattle.tb_core.specs.declared.command.BoardCommand.TheVariants.{Add, OnTask, Modify, Depend, Undepend, SetAhead, Sweep, Import}
+use Rattle.tb_core.specs.declared.command.BoardCommand.TheVariants.{Add, OnTask, Modify, Depend, Undepend, SetAhead, Retitle, Sweep, Import}
 use Rattle.tb_core.specs.declared.command.Import.TheVariants.{Json, Todo}
 use Rattle.tb_core.specs.declared.command.AnswerDetail.{AnswerDetail}
 use Rattle.tb_core.specs.declared.command.AnswerDetail.TheVariants.{Swept}
@@ -36,7 +36,7 @@ use Rattle.tb_core.specs.declared.look.Seen.{Seen}
 use Rattle.tb_core.specs.declared.refusal.Refusal.{Refusal}
 use Rattle.tb_core.specs.Action.{action_refusals}
 use Rattle.tb_core.specs.Add.{add_refusals}
-use Rattle.tb_core.specs.AheadOne.{answers_by, is_first_command, is_first_role, leaves_ahead, world_by, AheadOne, IsFirstWorld, IsNoReader, LooksOne}
+use Rattle.tb_core.specs.AheadOne.{answers_by, is_first_command, is_first_role, is_first_board_command, world_by, AheadOne, IsFirstWorld, IsNoReader, LooksOne}
 use Rattle.tb_core.specs.Allowed.{allows}
 use Rattle.tb_core.specs.Apply.{answered, applied, apply, board_answer, board_for, decided, if_allowed, judged, outcome, role_answer, role_given, role_refusals, seen_of, seen_with, with_role}
 use Rattle.tb_core.specs.AtOnce.{answer_at_once, answered_at_once, apply_at_once, decided_at_once, outcome_at_once, role_at_once}
@@ -66,13 +66,14 @@ looks_import : (b : Board) (is : List Incoming) (o : Option ImportRefusal)
 looks_import b is None = looks_all b (import_new.new_tasks b is) (with_masks b (import_new.new_tasks b is)) (import_new.new_tasks b is)
 looks_import b is (Some refusal) = tt
 
-looks_judged : (b : Board) (c : BoardCommand) (m : ℕ) → leaves_ahead c ≡ true → IfOk (judged b c m) (λ after. after.0.ahead ≡ b.ahead)
+looks_judged : (b : Board) (c : BoardCommand) (m : ℕ) → is_first_board_command c ≡ true → IfOk (judged b c m) (λ after. after.0.ahead ≡ b.ahead)
 looks_judged b (Add i) m command = looks_unless b _ (least (add_refusals b i)) _ refl
 looks_judged b (OnTask id a) m command = looks_unless b _ (least (action_refusals b id a)) _ refl
 looks_judged b (Modify id es) m command = looks_unless b _ (least (modify_refusals b id es m)) _ refl
 looks_judged b (Depend id on) m command = looks_unless b _ (least (depend_refusals b id on)) _ refl
 looks_judged b (Undepend id on) m command = looks_unless b _ (least (undepend_refusals b id on)) _ refl
 looks_judged b (SetAhead ahead) m command = absurd (true≢false (sym command))
+looks_judged b (Retitle title) m command = refl
 looks_judged b Sweep m command = refl
 looks_judged b (Import (Json is)) m command = looks_import b is (import.least (import.import_refusals b is))
 looks_judged b (Import (Todo ts)) m command = looks_unless b _ (least (import_todo_refusals b ts)) _ refl
@@ -81,7 +82,7 @@ one_if_same : (n : ℕ) (r : Result (Board × AnswerDetail) Refusal) → IfOk r 
 one_if_same n (Ok after) same one = same ∙ one
 one_if_same n (Err refusal) same one = tt
 
-one_judged : (b : Board) (c : BoardCommand) (m : ℕ) → leaves_ahead c ≡ true → LooksOne b → IfOk (judged (wake b m) c m) (λ after. LooksOne after.0)
+one_judged : (b : Board) (c : BoardCommand) (m : ℕ) → is_first_board_command c ≡ true → LooksOne b → IfOk (judged (wake b m) c m) (λ after. LooksOne after.0)
 one_judged b c m command one = one_if_same b.ahead (judged (wake b m) c m) (looks_judged (wake b m) c m command) one
 
 one_answered : (m : ℕ) (r : Result (Board × AnswerDetail) Refusal) → IfOk r (λ after. LooksOne after.0) → IfOk (answered m r) (λ after. LooksOne after.0)
@@ -106,7 +107,7 @@ answered_same m (Ok after) one =
     ∙ ap (taken (sweep_at_once after.0 m)) (answer_same after.0 m after.1 one)
 answered_same m (Err refusal) one = refl
 
-outcome_same : (b : Board) (c : BoardCommand) (m : ℕ) → leaves_ahead c ≡ true → LooksOne b → outcome b c m ≡ outcome_at_once b c m
+outcome_same : (b : Board) (c : BoardCommand) (m : ℕ) → is_first_board_command c ≡ true → LooksOne b → outcome b c m ≡ outcome_at_once b c m
 outcome_same b c m command one = answered_same m (judged (wake b m) c m) (one_judged b c m command one)
 
 -- ---- and so is each command, and leaves such a world
@@ -137,7 +138,7 @@ role_found test (r ∷ rs) role all h =
 abbrev IsForMembers : BoardCommand → Type 0
 IsForMembers c = (role : Role) → may_change role ≡ true → allows role c ≡ true
 
-seen_same : (w : World) (caller n : ℕ) (own : Option Role) (o : Option Board) (c : BoardCommand) (m : ℕ) → IsFirstWorld w → leaves_ahead c ≡ true → IsForMembers c
+seen_same : (w : World) (caller n : ℕ) (own : Option Role) (o : Option Board) (c : BoardCommand) (m : ℕ) → IsFirstWorld w → is_first_board_command c ≡ true → IsForMembers c
     → role_of w n caller ≡ own → find_board w n ≡ o
     → IsSame (applied w (decided (Some caller) (seen_with own o) c m)) (applied w (decided_at_once (Some caller) (seen_with own o) c m))
 seen_same w caller n None o c m first command lets known found = record { same = refl; first = first }
@@ -152,7 +153,7 @@ seen_same w caller n (Some role) (Some x) c m first command lets known found =
           (applied_first w (outcome x c m) first (one_answered m (judged (wake x m) c m) (one_judged x c m command one)));
     }
 
-decided_same : (w : World) (caller n : Option ℕ) (c : BoardCommand) (m : ℕ) → IsFirstWorld w → leaves_ahead c ≡ true → IsForMembers c
+decided_same : (w : World) (caller n : Option ℕ) (c : BoardCommand) (m : ℕ) → IsFirstWorld w → is_first_board_command c ≡ true → IsForMembers c
     → IsSame (applied w (decided caller (board_for w caller n) c m)) (applied w (decided_at_once caller (board_for w caller n) c m))
 decided_same w None n c m first command lets = record { same = refl; first = first }
 decided_same w (Some caller) None c m first command lets = record { same = refl; first = first }
@@ -195,7 +196,7 @@ person_same : (w : World) (seen : Seen) (caller : Option ℕ) (p k : List ℕ) �
 person_same w seen None p k first = record { same = refl; first = first }
 person_same w seen (Some caller) p k first =
     let later = with_person w p k in
-    given_same (least (person_refusals seen caller)) w later later (Answers.NewPerson p) (Answers.NewPerson p) first refl refl
+    given_same (least (person_refusals seen caller)) w later later (Answers.OfPerson p) (Answers.OfPerson p) first refl refl
     (record { boards = first.boards; roles = first.roles })
 
 board_same : (w : World) (seen : Seen) (caller : Option ℕ) (title : List ℕ) → IsFirstWorld w → IsSame (new_board w seen caller title) (new_board w seen caller title)
@@ -207,7 +208,7 @@ board_same w seen (Some caller) title first =
     given_same (least (board_refusals seen)) w later later (Answers.NewBoard number) (Answers.NewBoard number) first refl refl
     (record { boards = all_push LooksOne w.boards board first.boards refl; roles = roles_set w.roles number caller (Some Owner) first.roles refl })
 
-command_same : (w : World) (name : List ℕ) (n : ℕ) (c : BoardCommand) (m : ℕ) → IsFirstWorld w → leaves_ahead c ≡ true
+command_same : (w : World) (name : List ℕ) (n : ℕ) (c : BoardCommand) (m : ℕ) → IsFirstWorld w → is_first_board_command c ≡ true
     → IsSame (apply w name (Commands.OnBoard n c) m) (apply_at_once w name (Commands.OnBoard n c) m)
 command_same w name n (Add i) m first command = decided_same w (number_of w name) (Some n) (Add i) m first command (λ role may. may)
 command_same w name n (OnTask id a) m first command = decided_same w (number_of w name) (Some n) (OnTask id a) m first command (λ role may. may)
@@ -215,12 +216,16 @@ command_same w name n (Modify id es) m first command = decided_same w (number_of
 command_same w name n (Depend id on) m first command = decided_same w (number_of w name) (Some n) (Depend id on) m first command (λ role may. may)
 command_same w name n (Undepend id on) m first command = decided_same w (number_of w name) (Some n) (Undepend id on) m first command (λ role may. may)
 command_same w name n (SetAhead ahead) m first command = absurd (true≢false (sym command))
+command_same w name n (Retitle title) m first command = absurd (true≢false (sym command))
 command_same w name n Sweep m first command = decided_same w (number_of w name) (Some n) Sweep m first command (λ role may. may)
 command_same w name n (Import tasks) m first command = decided_same w (number_of w name) (Some n) (Import tasks) m first command (λ role may. may)
 
 step_same : (w : World) (name : List ℕ) (c : Command) (m : ℕ) → IsFirstWorld w → is_first_command c ≡ true → IsSame (apply w name c m) (apply_at_once w name c m)
 step_same w name (Commands.NewPerson p k) m first command = person_same w (seen_of w name (Commands.NewPerson p k)) (number_of w name) p k first
 step_same w name (Commands.NewBoard title) m first command = board_same w (seen_of w name (Commands.NewBoard title)) (number_of w name) title first
+step_same w name (Commands.OwnKey old new) m first command = absurd (true≢false (sym command))
+step_same w name (Commands.SetKey other key) m first command = absurd (true≢false (sym command))
+step_same w name (Commands.Take n) m first command = absurd (true≢false (sym command))
 step_same w name (Commands.SetRole n other role) m first command = role_same w (seen_of w name (Commands.SetRole n other role)) (number_of w name) n role m first command
 step_same w name (Commands.OnBoard n c) m first command = command_same w name n c m first command
 

@@ -1,18 +1,19 @@
 -- A command leaves what a world has.
 use Rattle.std.proofs.Common.{◌≡◌, ℕ, ◌+◌, Bool, true, false, List, [], ◌∷◌, Option, Some, None, IfOk, Result, Ok, Err, find, refl, sym, ◌∙◌, subst, inl, inr}
 use Rattle.std.proofs.lemmas.Bool.{cases_Bool}
-use Rattle.std.proofs.lemmas.List.{append-nil}
 use Rattle.tb_task.specs.declared.edit.Edit.{Edit}
 use Rattle.tb_task.specs.declared.task.Task.{Task}
 use Rattle.tb_board.specs.declared.board.Board.{Board}
+use Rattle.tb_board.specs.declared.world.Person.{Person}
 use Rattle.tb_board.specs.declared.world.Role.{Role}
+use Rattle.tb_board.specs.declared.world.Role.TheVariants.{Owner}
 use Rattle.tb_board.specs.declared.world.World.{World}
 use Rattle.tb_board.specs.Board.{wake, with_task}
 use Rattle.tb_board.specs.Tasks.{has_id}
 use Rattle.tb_board.specs.Changing.{change_board}
 use Rattle.tb_board.specs.Extends.{Extends, ExtendsBoard, ExtendsTask, IsFrontOf}
 use Rattle.tb_board.specs.World.{find_board, has_number, number_of, role_of}
-use Rattle.tb_board.proofs.Extending.{board-append, board-change, board-refl, board-trans, board-wake, extends-board, extends-refl, front-append, front-refl}
+use Rattle.tb_board.proofs.Extending.{board-append, board-change, board-refl, board-retitle, board-trans, board-wake, extends-board, extends-refl, front-append, front-refl, people-append, people-refl, people-set_key}
 use Rattle.tb_board.proofs.Worlds.{number_found}
 use Rattle.tb_sweep.specs.Sweeping.{sweep}
 use Rattle.tb_sweep.proofs.Extending.{extends-sweep}
@@ -27,7 +28,7 @@ use Rattle.tb_core.specs.declared.command.Answer.TheVariants as Answers
 use Rattle.tb_core.specs.declared.command.BoardAnswer.{BoardAnswer}
 use Rattle.tb_core.specs.declared.command.Command.TheVariants as Commands
 use Rattle.tb_core.specs.declared.command.BoardCommand.{BoardCommand}
-use Rattle.tb_core.specs.declared.command.BoardCommand.TheVariants.{Add, OnTask, Modify, Depend, Undepend, SetAhead, Sweep, Import}
+use Rattle.tb_core.specs.declared.command.BoardCommand.TheVariants.{Add, OnTask, Modify, Depend, Undepend, SetAhead, Retitle, Sweep, Import}
 use Rattle.tb_core.specs.declared.command.Import.TheVariants.{Json, Todo}
 use Rattle.tb_core.specs.declared.command.AnswerDetail.{AnswerDetail}
 use Rattle.tb_core.specs.declared.look.Seen.{Seen}
@@ -35,12 +36,13 @@ use Rattle.tb_core.specs.declared.refusal.Refusal.{Refusal}
 use Rattle.tb_core.specs.Action.{acted, action_refusals}
 use Rattle.tb_core.specs.Add.{add_refusals, entered}
 use Rattle.tb_core.specs.Allowed.{allows}
-use Rattle.tb_core.specs.Apply.{answered, applied, board_for, decided, if_allowed, judged, outcome, role_answer, role_given, role_refusals, seen_of, seen_with, with_role}
+use Rattle.tb_core.specs.Apply.{answered, applied, board_for, board_taken, decided, if_allowed, judged, outcome, own_for, role_answer, role_given, role_refusals, seen_of, seen_with, take_refusals, taken, taking_role, with_role}
 use Rattle.tb_core.specs.Linking.{depend_refusals, depends_on, linked, undepend_refusals, unlinked}
 use Rattle.tb_core.specs.Edits.{modified}
 use Rattle.tb_core.specs.GoodLaws.{AlwaysExtends}
 use Rattle.tb_core.specs.ImportJson.{told_of}
 use Rattle.tb_core.specs.ImportTodo.{import_todo_refusals, imported, new_tasks}
+use Rattle.tb_core.specs.Keys.{key_given, key_refusals, own_key, own_refusals, with_key_of}
 use Rattle.tb_core.specs.Modify.{modify_refusals}
 use Rattle.tb_core.specs.Outcomes.{given}
 use Rattle.tb_core.specs.Owners.{person_number}
@@ -78,16 +80,17 @@ told_import b (Ok after) extends = extends
 told_import b (Err refusal) extends = tt
 
 extends_judged : (b : Board) (c : BoardCommand) (m : ℕ) → IfOk (judged b c m) (λ after. ExtendsBoard b after.0)
-extends_judged b (Add i) m = unless b (with_task b (entered b i m)) (least (add_refusals b i)) _ (board-append b (with_task b (entered b i m)) (entered b i m ∷ []) refl refl refl)
+extends_judged b (Add i) m = unless b (with_task b (entered b i m)) (least (add_refusals b i)) _ (board-append b (with_task b (entered b i m)) (entered b i m ∷ []) refl refl)
 extends_judged b (OnTask id a) m = unless b _ (least (action_refusals b id a)) _ (board-change b (has_id id) (acted m a) (acted_task m a))
 extends_judged b (Modify id es) m = unless b _ (least (modify_refusals b id es m)) _ (board-change b (has_id id) (modified m es) (modified_task m es))
 extends_judged b (Depend id on) m = unless b _ (least (depend_refusals b id on)) _ (board-change b (has_id id) (linked m on) (linked_task m on))
 extends_judged b (Undepend id on) m =
     unless b _ (least (undepend_refusals b id on)) _ (board-change b (has_id id) (unlinked m on) (λ t. record { id = refl; parent = refl; imask = refl }))
-extends_judged b (SetAhead ahead) m = record { number = refl; title = refl; tasks = (board-refl b).tasks }
+extends_judged b (SetAhead ahead) m = record { number = refl; tasks = (board-refl b).tasks }
+extends_judged b (Retitle title) m = board-retitle b title
 extends_judged b Sweep m = board-refl b
 extends_judged b (Import (Json is)) m = told_import b (judged_import b is) (extends-import b is)
-extends_judged b (Import (Todo ts)) m = unless b (imported b ts) (least (import_todo_refusals b ts)) _ (board-append b (imported b ts) (new_tasks b ts) refl refl refl)
+extends_judged b (Import (Todo ts)) m = unless b (imported b ts) (least (import_todo_refusals b ts)) _ (board-append b (imported b ts) (new_tasks b ts) refl refl)
 
 extends_answered : (b : Board) (m : ℕ) (r : Result (Board × AnswerDetail) Refusal) → IfOk r (λ after. ExtendsBoard b after.0) → IfOk (answered m r) (λ after. ExtendsBoard b after.0)
 extends_answered b m (Ok after) extends = board-trans b after.0 (sweep after.0 m) extends (extends-sweep after.0 m)
@@ -110,7 +113,7 @@ in_place w n x b found extends =
 
 extends_applied : (w : World) (n : ℕ) (x : Board) (r : Result (Board × BoardAnswer) Refusal) → find (has_number n) w.boards ≡ Some x → IfOk r (λ after. ExtendsBoard x after.0)
     → Extends w (applied w r).world
-extends_applied w n x (Ok after) found extends = record { more = []; people = sym (append-nil w.people); boards = in_place w n x after.0 found extends }
+extends_applied w n x (Ok after) found extends = record { people = people-refl w.people; boards = in_place w n x after.0 found extends }
 extends_applied w n x (Err refusal) found extends = extends-refl w
 
 extends_allowed : (w : World) (allowed : Bool) (r : Result (Board × BoardAnswer) Refusal) → Extends w (applied w r).world → Extends w (applied w (if_allowed allowed r)).world
@@ -139,7 +142,7 @@ extends_role w seen caller n None o role m is = extends-refl w
 extends_role w seen caller n (Some own) None role m is = extends-refl w
 extends_role w seen caller n (Some own) (Some x) role m is =
     extends_given (least (role_refusals seen (record { board = x; role = own }) role)) w (with_role w (sweep x m) (person_number seen.other) role) (role_answer x m)
-    (record { more = []; people = sym (append-nil w.people); boards = in_place w n x (sweep x m) is (extends-sweep x m) })
+    (record { people = people-refl w.people; boards = in_place w n x (sweep x m) is (extends-sweep x m) })
 
 extends_role_by : (w : World) (seen : Seen) (caller : Option ℕ) (n : ℕ) (role : Option Role) (m : ℕ) → Extends w (role_given w seen caller (board_for w caller (Some n)) role m).world
 extends_role_by w seen None n role m = extends-refl w
@@ -148,8 +151,31 @@ extends_role_by w seen (Some caller) n role m = extends_role w seen caller n (ro
 extends_person : (w : World) (seen : Seen) (caller : Option ℕ) (p k : List ℕ) → Extends w (new_person w seen caller p k).world
 extends_person w seen None p k = extends-refl w
 extends_person w seen (Some caller) p k =
-    extends_given (least (person_refusals seen caller)) w (with_person w p k) (Answers.NewPerson p)
-    (record { more = record { name = p; key = k } ∷ []; people = refl; boards = front-refl ExtendsBoard board-refl w.boards })
+    extends_given (least (person_refusals seen caller)) w (with_person w p k) (Answers.OfPerson p)
+    (record { people = people-append w.people (record { name = p; key = Some k } ∷ []); boards = front-refl ExtendsBoard board-refl w.boards })
+
+extends_key : (w : World) (o : Option Refusal) (name : List ℕ) (key : Option (List ℕ)) (a : Answer) → Extends w (given o w (with_key_of w name key) a).world
+extends_key w o name key a =
+    extends_given o w (with_key_of w name key) a (record { people = people-set_key name key w.people; boards = front-refl ExtendsBoard board-refl w.boards })
+
+extends_own : (w : World) (own : Option Person) (old new : List ℕ) → Extends w (own_key w own old new).world
+extends_own w None old new = extends-refl w
+extends_own w (Some p) old new = extends_key w (least (own_refusals p old)) p.name (Some new) (Answers.OfPerson p.name)
+
+extends_set : (w : World) (seen : Seen) (caller : Option ℕ) (name : List ℕ) (key : Option (List ℕ)) → Extends w (key_given w seen caller name key).world
+extends_set w seen None name key = extends-refl w
+extends_set w seen (Some caller) name key = extends_key w (least (key_refusals seen caller)) name key (Answers.OfPerson name)
+
+extends_taken : (w : World) (caller n : ℕ) (own : Option Role) (o : Option Board) (m : ℕ) → find_board w n ≡ o → Extends w (taken w (Some caller) (seen_with own o) m).world
+extends_taken w caller n None o m is = extends-refl w
+extends_taken w caller n (Some own) None m is = extends-refl w
+extends_taken w caller n (Some own) (Some x) m is =
+    extends_given (least (take_refusals caller)) w (with_role w (sweep x m) caller (Some Owner)) (role_answer x m)
+    (record { people = people-refl w.people; boards = in_place w n x (sweep x m) is (extends-sweep x m) })
+
+extends_taken_by : (w : World) (caller : Option ℕ) (n m : ℕ) → Extends w (taken w caller (board_taken w caller n) m).world
+extends_taken_by w None n m = extends-refl w
+extends_taken_by w (Some caller) n m = extends_taken w caller n (taking_role w n caller) (find_board w n) m refl
 
 extends_new_board : (w : World) (seen : Seen) (caller : Option ℕ) (title : List ℕ) → Extends w (new_board w seen caller title).world
 extends_new_board w seen None title = extends-refl w
@@ -157,10 +183,13 @@ extends_new_board w seen (Some caller) title =
     let number = seen.boards + 1 in
     let board : Board = record { number = number; title = title; tasks = []; gone = []; ahead = 1 } in
     extends_given (least (board_refusals seen)) w (with_new_board w number caller title) (Answers.NewBoard number)
-    (record { more = []; people = sym (append-nil w.people); boards = front-append ExtendsBoard board-refl w.boards (board ∷ []) })
+    (record { people = people-refl w.people; boards = front-append ExtendsBoard board-refl w.boards (board ∷ []) })
 
 pub extends : AlwaysExtends
 extends w name (Commands.NewPerson p k) m = extends_person w (seen_of w name (Commands.NewPerson p k)) (number_of w name) p k
 extends w name (Commands.NewBoard title) m = extends_new_board w (seen_of w name (Commands.NewBoard title)) (number_of w name) title
+extends w name (Commands.OwnKey old new) m = extends_own w (own_for w name (Commands.OwnKey old new)) old new
+extends w name (Commands.SetKey other key) m = extends_set w (seen_of w name (Commands.SetKey other key)) (number_of w name) other key
+extends w name (Commands.Take n) m = extends_taken_by w (number_of w name) n m
 extends w name (Commands.SetRole n other role) m = extends_role_by w (seen_of w name (Commands.SetRole n other role)) (number_of w name) n role m
 extends w name (Commands.OnBoard n c) m = extends_decided w (number_of w name) (Some n) c m

@@ -13,9 +13,11 @@ use Rattle.tb_board.specs.declared.world.Role.{Role}
 use Rattle.tb_board.specs.declared.world.Role.TheVariants.{Owner}
 use Rattle.tb_board.specs.declared.world.RoleOn.{RoleOn}
 use Rattle.tb_board.specs.declared.world.World.{World}
+use Rattle.tb_board.specs.Changing.{set_key}
 use Rattle.tb_board.specs.First.{IsFirst, IsNone}
 use Rattle.tb_core.specs.GoodWorld.{HasOwner, IsGoodWorld, IsRoleIn, names}
 use Rattle.tb_board.specs.Good.{IsGood}
+use Rattle.tb_core.specs.Keys.{with_key_of}
 use Rattle.tb_core.specs.People.{with_new_board, with_person}
 use Rattle.tb_core.specs.Owners.{leaves_none}
 use Rattle.tb_board.specs.Roles.{set_role}
@@ -68,7 +70,7 @@ name_apart name (p ∷ ps) h =
 
 pub good-person : (w : World) (name key : List ℕ) → IsGoodWorld w → length w.people < 10000 → number_of w name ≡ None → IsGoodWorld (with_person w name key)
 good-person w name key good room none =
-    let person : Person = record { name = name; key = key } in
+    let person : Person = record { name = name; key = Some key } in
     let more : length (w.people ++ person ∷ []) ≡ length w.people + 1 = omega (arith, length-append w.people (person ∷ [])) in
     record {
       apart = subst (IsDistinct bytes_eq) (sym (map-append (λ (p : Person). p.name) w.people (person ∷ [])))
@@ -79,6 +81,38 @@ good-person w name key good room none =
       good = good.good;
       owned = good.owned;
       roles = roles-within w (with_person w name key) (omega (arith, more)) (omega arith) w.roles good.roles;
+      ordered = good.ordered;
+    }
+
+names-set : (name : List ℕ) (key : Option (List ℕ)) (people : List Person)
+    → map (λ (p : Person). p.name) (set_key name key people) ≡ map (λ (p : Person). p.name) people
+names-set name key [] = refl
+names-set name key (p ∷ ps) =
+    elim (cases_Bool (has_name name p)) [
+      | inl here ↦ rw here refl
+      | inr other ↦ rw other (ap (λ names. p.name ∷ names) (names-set name key ps))
+    ]
+
+length-set : (name : List ℕ) (key : Option (List ℕ)) (people : List Person) → length (set_key name key people) ≡ length people
+length-set name key [] = refl
+length-set name key (p ∷ ps) =
+    elim (cases_Bool (has_name name p)) [
+      | inl here ↦ rw here refl
+      | inr other ↦ rw other (ap suc (length-set name key ps))
+    ]
+
+-- a world is as good whatever the keys
+pub good-key : (w : World) (name : List ℕ) (key : Option (List ℕ)) → IsGoodWorld w → IsGoodWorld (with_key_of w name key)
+good-key w name key good =
+    let size = length-set name key w.people in
+    record {
+      apart = subst (IsDistinct bytes_eq) (sym (names-set name key w.people)) good.apart;
+      people = omega (arith, size, good.people);
+      numbered = good.numbered;
+      boards = good.boards;
+      good = good.good;
+      owned = good.owned;
+      roles = roles-within w (with_key_of w name key) (omega (arith, size)) (omega arith) w.roles good.roles;
       ordered = good.ordered;
     }
 

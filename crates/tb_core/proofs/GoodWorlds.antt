@@ -5,10 +5,11 @@ use Rattle.std.proofs.lemmas.Bool.{cases_Bool, eqb-true}
 use Rattle.tb_board.specs.declared.board.Board.{Board}
 use Rattle.tb_board.specs.declared.world.RoleOn.{RoleOn}
 use Rattle.tb_board.specs.declared.world.World.{World}
-use Rattle.tb_board.specs.Changing.{change_board}
+use Rattle.tb_board.specs.Changing.{change_board, with_title}
 use Rattle.tb_board.specs.Good.{IsGood}
 use Rattle.tb_core.specs.GoodWorld.{IsGoodWorld, HasOwner, IsRoleIn, numbers}
 use Rattle.tb_board.specs.World.{has_number}
+use Rattle.tb_board.proofs.Relinking.{acyclic-same}
 
 -- what holds of all holds of the first that is found
 pub all-found : (P : Board → Type 0) (test : Board → Bool) (bs : List Board) (x : Board) → AllByRecursion P bs → find test bs ≡ Some x → P x
@@ -72,4 +73,19 @@ good-with_board w x b good found number is_good =
       owned = all-changed (HasOwner w) b.number b w.boards good.owned owner;
       roles = roles-kept w (with_board w b) refl size w.roles good.roles;
       ordered = good.ordered;
+    }
+
+-- a board is as good whatever its title
+pub good-title : (b : Board) (title : List ℕ) → IsGood b → IsGood (with_title title b)
+good-title b title good =
+    record {
+      distinct = good.distinct;
+      few = good.few;
+      sound = good.sound;
+      linked = good.linked;
+      acyclic = acyclic-same b (with_title title b) refl refl good.acyclic;
+      runs = good.runs;
+      parents = good.parents;
+      gone = good.gone;
+      gone_order = good.gone_order;
     }

@@ -12,6 +12,7 @@ pub mod GoodPeople
 pub mod GoodRoles
 pub mod GoodWorlds
 pub mod Importing
+pub mod KnownKeys
 pub mod Modifying
 pub mod Opening
 pub mod Planning

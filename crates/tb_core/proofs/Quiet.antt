@@ -13,7 +13,7 @@ use Rattle.tb_core.specs.declared.command.BoardAnswer.{BoardAnswer}
 use Rattle.tb_core.specs.declared.command.BoardCommand.{BoardCommand}
 use Rattle.tb_core.specs.declared.command.AnswerDetail.{AnswerDetail}
 use Rattle.tb_core.specs.declared.effect.BoardChange.{BoardChange}
-use Rattle.tb_core.specs.declared.effect.BoardChange.TheVariants.{Set, Push, Stay, LookAhead}
+use Rattle.tb_core.specs.declared.effect.BoardChange.TheVariants.{Set, Push, Stay, LookAhead, Retitle}
 use Rattle.tb_core.specs.declared.judged.CommandFailure.{CommandFailure}
 use Rattle.tb_core.specs.declared.judged.CommandFailure.TheVariants.{Memory, Refused}
 use Rattle.tb_core.specs.declared.refusal.Refusal.{Refusal}
@@ -33,18 +33,21 @@ made_by b (Push t) fits =
     rw beyond refl
 made_by b Stay fits = refl
 made_by b (LookAhead ahead) fits = refl
+made_by b (Retitle title) fits = refl
 
 own : (b : Board) (s : BoardChange) → IsDraft b (record { board = replayed b (changes_by b s); changes = changes_by b s })
 own b (Set place t) = record { own = (refl, tt); made = refl }
 own b (Push t) = record { own = (refl, tt); made = refl }
 own b Stay = record { own = tt; made = refl }
 own b (LookAhead ahead) = record { own = (refl, tt); made = refl }
+own b (Retitle title) = record { own = (refl, tt); made = refl }
 
 same_number : (b : Board) (s : BoardChange) → (after b s).number ≡ b.number
 same_number b (Set place t) = refl
 same_number b (Push t) = refl
 same_number b Stay = refl
 same_number b (LookAhead ahead) = refl
+same_number b (Retitle title) = refl
 
 -- ---- what a command makes of a quiet board
 

@@ -12,17 +12,17 @@ use Rattle.tb_core.specs.declared.command.Answer.{Answer}
 use Rattle.tb_core.specs.declared.command.Answer.TheVariants as Answers
 use Rattle.tb_core.specs.declared.command.BoardAnswer.{BoardAnswer}
 use Rattle.tb_core.specs.declared.look.Seen.{Seen}
-use Rattle.tb_core.specs.declared.look.SeenBoard.{SeenBoard}
 use Rattle.tb_board.specs.declared.world.Person.{Person}
 use Rattle.tb_core.specs.declared.command.Command.TheVariants as Commands
 use Rattle.tb_core.specs.declared.command.BoardCommand.{BoardCommand}
-use Rattle.tb_core.specs.declared.command.BoardCommand.TheVariants.{Add, OnTask, Modify, Depend, Undepend, SetAhead, Sweep, Import}
+use Rattle.tb_core.specs.declared.command.BoardCommand.TheVariants.{Add, OnTask, Modify, Depend, Undepend, SetAhead, Retitle, Sweep, Import}
 use Rattle.tb_core.specs.declared.command.Import.TheVariants.{Json, Todo}
 use Rattle.tb_core.specs.declared.command.AnswerDetail.{AnswerDetail}
 use Rattle.tb_core.specs.declared.command.AnswerDetail.TheVariants.{Added, Changed, TodoImported, Swept}
 use Rattle.tb_core.specs.declared.refusal.Refusal.{Refusal}
 use Rattle.tb_core.specs.declared.refusal.Refusal.TheVariants.{NoTask, UuidTaken, Full, WrongStatus, TemplateFixed, NotAllowed, NoPerson, LastOwner, NameTaken, Cycle}
 use Rattle.tb_board.specs.declared.world.Role.{Role}
+use Rattle.tb_board.specs.declared.world.Role.TheVariants.{Owner}
 use Rattle.tb_board.specs.declared.world.World.{World}
 use Rattle.tb_core.specs.declared.action.Action.{Action}
 use Rattle.tb_core.specs.declared.action.Action.TheVariants.{Done, Delete, Reopen, Start, Stop, Annotate, Denotate}
@@ -37,20 +37,20 @@ use Rattle.tb_core.specs.Add.{add_fault, add_refusals, entered, entered_id, firs
 use Rattle.tb_board.specs.Board.{lacks_depends, is_on, wake, with_task}
 use Rattle.tb_board.specs.Tasks.{has_id}
 use Rattle.tb_core.specs.Allowed.{allows}
-use Rattle.tb_core.specs.Apply.{answered, applied, board_for, decided, if_allowed, outcome, person_for, role_answer, role_given, role_refusals, seen_of, seen_with, with_role}
-use Rattle.tb_board.specs.Changing.{with_ahead}
+use Rattle.tb_core.specs.Apply.{answered, applied, board_for, board_taken, decided, if_allowed, outcome, own_for, person_for, role_answer, role_given, role_refusals, seen_of, seen_with, take_refusals, taken, taking_role, with_role}
+use Rattle.tb_board.specs.Changing.{with_ahead, with_title}
 use Rattle.tb_board.specs.First.{change_first}
 use Rattle.tb_board.specs.Statuses.{is_open}
 use Rattle.tb_board.specs.Good.{has_template_form, IsGood, IsSound}
 use Rattle.tb_core.specs.GoodWorld.{HasOwner, IsGoodWorld}
-use Rattle.tb_core.specs.GoodLaws.{KeepsGood, KeepsPeople}
+use Rattle.tb_core.specs.GoodLaws.{KeepsGood}
 use Rattle.tb_board.specs.Numbers.{free_id}
 use Rattle.tb_core.specs.Refusals.{bad_task, least, unless_refused, where_holds}
 use Rattle.tb_core.specs.Outcomes.{given}
+use Rattle.tb_core.specs.Keys.{key_given, key_refusals, own_key, own_refusals, with_key_of}
 use Rattle.tb_core.specs.People.{board_refusals, new_board, new_person, person_refusals, with_new_board, with_person}
 use Rattle.tb_core.specs.Owners.{leaves_none, person_number}
-use Rattle.tb_board.specs.World.{find_board, has_name, has_number, is_owner, key_of, number_of, owners, role_of}
-use Rattle.std.specs.Option.{option_map}
+use Rattle.tb_board.specs.World.{find_board, has_number, is_owner, number_of, owners, role_of}
 use Rattle.std.specs.Prelude.{IfOk}
 use Rattle.tb_import.specs.declared.imported.ImportCounts.{ImportCounts}
 use Rattle.tb_import.specs.declared.refusal.ImportRefusal.{ImportRefusal}
@@ -64,9 +64,10 @@ use Rattle.tb_core.specs.ImportJson.{told_of}
 use Rattle.tb_sweep.specs.Sweeping.{sweep}
 use Rattle.tb_sweep.proofs.Adding.{number-sweep}
 use Rattle.tb_sweep.proofs.Keeping.{sweep_kept}
-use Rattle.tb_core.proofs.GoodPeople.{good-new_board, good-person, good-role, number_in}
+use Rattle.tb_core.proofs.GoodPeople.{good-key, good-new_board, good-person, good-role, number_in}
+use Rattle.tb_core.proofs.GoodRoles.{owner_leaves}
 use Rattle.tb_board.proofs.Fresh.{fresh}
-use Rattle.tb_core.proofs.GoodWorlds.{all-found, good-with_board, with_board}
+use Rattle.tb_core.proofs.GoodWorlds.{all-found, good-title, good-with_board, with_board}
 use Rattle.tb_board.specs.Instances.{has_template}
 use Rattle.tb_board.proofs.Runs.{runs-plain}
 use Rattle.tb_board.proofs.Goodness.{good-ahead, good-change, good-push, good-wake, Keeps}
@@ -278,6 +279,8 @@ kept_outcome w x (Undepend id on) m good found is_good =
     (λ none. record { number = refl; good = good-undepend (wake x m) id on m (good-wake x m is_good) none })
 kept_outcome w x (SetAhead ahead) m good found is_good =
     kept m w x None (with_ahead ahead (wake x m)) Swept good found (λ none. record { number = refl; good = good-ahead (wake x m) ahead (good-wake x m is_good) })
+kept_outcome w x (Retitle title) m good found is_good =
+    kept m w x None (with_title title (wake x m)) Swept good found (λ none. record { number = refl; good = good-title (wake x m) title (good-wake x m is_good) })
 kept_outcome w x Sweep m good found is_good = kept m w x None (wake x m) Swept good found (λ none. record { number = refl; good = good-wake x m is_good })
 kept_outcome w x (Import (Json is)) m good found is_good =
     kept_import m w x (wake x m) (judged_import (wake x m) is) good found refl (import_kept (wake x m) is (good-wake x m is_good))
@@ -362,7 +365,7 @@ kept_person : (w : World) (seen : Seen) (caller : Option ℕ) (p k : List ℕ) �
     → IsGoodWorld (new_person w seen caller p k).world
 kept_person w seen None p k good people other = good
 kept_person w seen (Some caller) p k good people other =
-    kept_given (least (person_refusals seen caller)) w (with_person w p k) (Answers.NewPerson p) good
+    kept_given (least (person_refusals seen caller)) w (with_person w p k) (Answers.OfPerson p) good
     (λ h.
     let allowed = none_least (where_holds NotAllowed (not (caller == 1))) _ h in
     let full = none_least (where_holds Full (nat_le 10000 seen.people)) _ allowed.1 in
@@ -382,55 +385,37 @@ kept_board w seen (Some caller) title good boards within =
     let bounds = within caller refl in
     rw boards (good-new_board w caller title good (omega (arith, room, boards)) bounds.0 bounds.1))
 
+kept_own : (w : World) (own : Option Person) (old new : List ℕ) → IsGoodWorld w → IsGoodWorld (own_key w own old new).world
+kept_own w None old new good = good
+kept_own w (Some p) old new good =
+    kept_given (least (own_refusals p old)) w (with_key_of w p.name (Some new)) (Answers.OfPerson p.name) good (λ none. good-key w p.name (Some new) good)
+
+kept_key : (w : World) (seen : Seen) (caller : Option ℕ) (name : List ℕ) (key : Option (List ℕ)) → IsGoodWorld w → IsGoodWorld (key_given w seen caller name key).world
+kept_key w seen None name key good = good
+kept_key w seen (Some caller) name key good =
+    kept_given (least (key_refusals seen caller)) w (with_key_of w name key) (Answers.OfPerson name) good (λ none. good-key w name key good)
+
+kept_taken : (w : World) (caller n : ℕ) (own : Option Role) (o : Option Board) (m : ℕ) → IsGoodWorld w → find_board w n ≡ o → 1 ≤ caller → caller ≤ length w.people
+    → IsGoodWorld (taken w (Some caller) (seen_with own o) m).world
+kept_taken w caller n None o m good is from to = good
+kept_taken w caller n (Some own) None m good is from to = good
+kept_taken w caller n (Some own) (Some x) m good is from to =
+    kept_given (least (take_refusals caller)) w (with_role w (sweep x m) caller (Some Owner)) (role_answer x m) good
+    (λ none. good_role_at w x n caller (Some Owner) m good is (number_found n w.boards x is) from to (owner_leaves (role_of w n caller) caller (owners w n)))
+
+kept_taken_by : (w : World) (caller : Option ℕ) (n m : ℕ) → IsGoodWorld w → ((k : ℕ) → caller ≡ Some k → (1 ≤ k) × (k ≤ length w.people))
+    → IsGoodWorld (taken w caller (board_taken w caller n) m).world
+kept_taken_by w None n m good within = good
+kept_taken_by w (Some caller) n m good within =
+    let bounds = within caller refl in
+    kept_taken w caller n (taking_role w n caller) (find_board w n) m good refl bounds.0 bounds.1
+
 pub stays_good : KeepsGood
 stays_good w name (Commands.NewPerson p k) m good = kept_person w (seen_of w name (Commands.NewPerson p k)) (number_of w name) p k good refl refl
 stays_good w name (Commands.NewBoard title) m good = kept_board w (seen_of w name (Commands.NewBoard title)) (number_of w name) title good refl (number_in w name)
+stays_good w name (Commands.OwnKey old new) m good = kept_own w (own_for w name (Commands.OwnKey old new)) old new good
+stays_good w name (Commands.SetKey other key) m good = kept_key w (seen_of w name (Commands.SetKey other key)) (number_of w name) other key good
+stays_good w name (Commands.Take n) m good = kept_taken_by w (number_of w name) n m good (number_in w name)
 stays_good w name (Commands.SetRole n other role) m good =
     kept_role_by w (seen_of w name (Commands.SetRole n other role)) (number_of w name) n (number_of w other) role m good refl refl (number_in w other)
 stays_good w name (Commands.OnBoard n c) m good = kept_decided w (number_of w name) (Some n) c m good
-
-same_people : (w : World) (r : Result (Board × BoardAnswer) Refusal) → (applied w r).world.people ≡ w.people
-same_people w (Ok r) = refl
-same_people w (Err refusal) = refl
-
-still_there : (test : Person → Bool) (people : List Person) (p : Person) (key : List ℕ)
-    → option_map (λ (q : Person). q.key) (find test people) ≡ Some key → option_map (λ (q : Person). q.key) (find test (people ++ p ∷ [])) ≡ Some key
-still_there test [] p key h = absurd (cc)
-still_there test (q ∷ qs) p key h =
-    elim (cases_Bool (test q)) [
-      | inl here ↦ let found : Some q.key ≡ Some key = rw here at h in rw here found
-      | inr other ↦ let later : option_map (λ (q : Person). q.key) (find test qs) ≡ Some key = rw other at h in rw other (still_there test qs p key later)
-    ]
-
-known_given : (o : Option Refusal) (w v : World) (a : Answer) (person key : List ℕ) → key_of w person ≡ Some key → key_of v person ≡ Some key → key_of (given o w v a).world person ≡ Some key
-known_given None w v a person key known later = later
-known_given (Some refusal) w v a person key known later = known
-
-known_role : (w : World) (seen : Seen) (caller : Option ℕ) (b : Option SeenBoard) (role : Option Role) (m : ℕ) (person key : List ℕ) → key_of w person ≡ Some key
-    → key_of (role_given w seen caller b role m).world person ≡ Some key
-known_role w seen None b role m person key known = known
-known_role w seen (Some caller) None role m person key known = known
-known_role w seen (Some caller) (Some b) role m person key known =
-    known_given (least (role_refusals seen b role)) w (with_role w (sweep b.board m) (person_number seen.other) role) (role_answer b.board m) person key known known
-
-known_person : (w : World) (seen : Seen) (caller : Option ℕ) (p k : List ℕ) (person key : List ℕ) → key_of w person ≡ Some key
-    → key_of (new_person w seen caller p k).world person ≡ Some key
-known_person w seen None p k person key known = known
-known_person w seen (Some caller) p k person key known =
-    known_given (least (person_refusals seen caller)) w (with_person w p k) (Answers.NewPerson p) person key known
-    (still_there (has_name person) w.people (record { name = p; key = k }) key known)
-
-known_board : (w : World) (seen : Seen) (caller : Option ℕ) (title : List ℕ) (person key : List ℕ) → key_of w person ≡ Some key
-    → key_of (new_board w seen caller title).world person ≡ Some key
-known_board w seen None title person key known = known
-known_board w seen (Some caller) title person key known =
-    known_given (least (board_refusals seen)) w (with_new_board w (seen.boards + 1) caller title) (Answers.NewBoard (seen.boards + 1)) person key known known
-
-pub stay_known : KeepsPeople
-stay_known w name (Commands.NewPerson p k) m person key known =
-    let seen = seen_of w name (Commands.NewPerson p k) in known_person w seen seen.caller p k person key known
-stay_known w name (Commands.NewBoard title) m person key known =
-    let seen = seen_of w name (Commands.NewBoard title) in known_board w seen seen.caller title person key known
-stay_known w name (Commands.SetRole n other role) m person key known =
-    let seen = seen_of w name (Commands.SetRole n other role) in known_role w seen seen.caller seen.board role m person key known
-stay_known w name (Commands.OnBoard n c) m person key known = rw (same_people w (decided (number_of w name) (board_for w (number_of w name) (Some n)) c m)) known

@@ -18,6 +18,7 @@ use Rattle.tb_core.specs.Transitions.{completed, deleted, reopened, started, sto
 use Rattle.tb_board.specs.Statuses.{is_open, is_pending, is_pending_or_waiting}
 
 -- which tasks an action takes
+-- Rule: an action takes tasks of its statuses. Refused as WrongStatus. Tried by template_fixed.
 abbrev pub takes : Action → Task → Bool
 takes Done t = is_pending_or_waiting t.status
 takes Delete t = is_open t.status
@@ -38,6 +39,7 @@ action_fault (Annotate text) = note_fault text
 action_fault (Denotate text) = None
 
 -- the task lacks what the action would remove
+-- Rule: denotate takes a note of the task. Refused as NoLink. Tried by links_and_notes_removed.
 abbrev pub lacks : Action → Task → Bool
 lacks Done t = false
 lacks Delete t = false

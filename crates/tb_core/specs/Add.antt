@@ -18,6 +18,7 @@ use Rattle.tb_board.specs.Good.{has_template_form}
 use Rattle.tb_task.specs.Limits.{most_tasks}
 
 -- it came as an instance or with a mask
+-- Rule: add takes no instance and no mask. Refused as BadTask. Tried by no test.
 abbrev pub is_linked : Incoming → Bool
 is_linked i = is_some i.raw_parent || is_some i.raw_imask || is_some i.raw_mask
 
@@ -37,6 +38,7 @@ abbrev pub is_full : Board → Bool
 is_full b = nat_le most_tasks (length b.tasks)
 
 -- in the order of their numbers
+-- Rule: a given uuid is new to the board. Refused as UuidTaken. Tried by number_used_by_hand.
 abbrev pub add_refusals : Board → Incoming → List (Option Refusal)
 add_refusals b i =
     where_holds NoTask (lacks_depends b i.task.depends)
@@ -46,6 +48,7 @@ add_refusals b i =
     ∷ []
 
 -- its own identifier, or that of the least free number
+-- Rule: a task without a uuid gets that of the least free number. Tried by number_used_by_hand.
 abbrev pub entered_id : Board → Incoming → ℕ
 entered_id b i = if i.named then i.task.id else free_id b
 

@@ -10,7 +10,7 @@ use Rattle.tb_core.specs.declared.command.Answer.{Answer}
 use Rattle.tb_core.specs.declared.command.Command.{Command}
 use Rattle.tb_core.specs.declared.command.Command.TheVariants as command
 use Rattle.tb_core.specs.declared.command.BoardCommand.{BoardCommand}
-use Rattle.tb_core.specs.declared.command.BoardCommand.TheVariants.{Add, OnTask, Modify, Depend, Undepend, SetAhead, Sweep, Import}
+use Rattle.tb_core.specs.declared.command.BoardCommand.TheVariants.{Add, OnTask, Modify, Depend, Undepend, SetAhead, Retitle, Sweep, Import}
 use Rattle.tb_core.specs.declared.refusal.Refusal.{Refusal}
 use Rattle.tb_core.specs.Apply.{apply}
 use Rattle.tb_core.specs.AtOnce.{apply_at_once}
@@ -32,23 +32,27 @@ abbrev pub is_first_role : Option Role → Bool
 is_first_role None = true
 is_first_role (Some role) = may_change role
 
--- doesn't say how far a board looks ahead
-abbrev pub leaves_ahead : BoardCommand → Bool
-leaves_ahead (Add i) = true
-leaves_ahead (OnTask id a) = true
-leaves_ahead (Modify id edits) = true
-leaves_ahead (Depend id on) = true
-leaves_ahead (Undepend id on) = true
-leaves_ahead (SetAhead ahead) = false
-leaves_ahead Sweep = true
-leaves_ahead (Import tasks) = true
+-- one of the first commands on a board: none says how far it looks ahead or retitles it
+abbrev pub is_first_board_command : BoardCommand → Bool
+is_first_board_command (Add i) = true
+is_first_board_command (OnTask id a) = true
+is_first_board_command (Modify id edits) = true
+is_first_board_command (Depend id on) = true
+is_first_board_command (Undepend id on) = true
+is_first_board_command (SetAhead ahead) = false
+is_first_board_command (Retitle title) = false
+is_first_board_command Sweep = true
+is_first_board_command (Import tasks) = true
 
--- neither lets a board look ahead nor makes a reader
+-- one of the first commands: neither lets a board look ahead nor makes a reader, changes no key and no title, and takes no board
 abbrev pub is_first_command : Command → Bool
 is_first_command (command.NewPerson name key) = true
 is_first_command (command.NewBoard title) = true
+is_first_command (command.OwnKey old new) = false
+is_first_command (command.SetKey name key) = false
 is_first_command (command.SetRole n name role) = is_first_role role
-is_first_command (command.OnBoard n c) = leaves_ahead c
+is_first_command (command.Take n) = false
+is_first_command (command.OnBoard n c) = is_first_board_command c
 
 -- a person's command at a moment
 pub record Request : Type 0 where

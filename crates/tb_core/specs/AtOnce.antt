@@ -11,7 +11,7 @@ use Rattle.tb_core.specs.declared.command.BoardAnswer.{BoardAnswer}
 use Rattle.tb_core.specs.declared.command.Command.{Command}
 use Rattle.tb_core.specs.declared.command.Command.TheVariants as command
 use Rattle.tb_core.specs.declared.command.BoardCommand.{BoardCommand}
-use Rattle.tb_core.specs.declared.command.BoardCommand.TheVariants.{Add, OnTask, Modify, Depend, Undepend, SetAhead, Sweep, Import}
+use Rattle.tb_core.specs.declared.command.BoardCommand.TheVariants.{Add, OnTask, Modify, Depend, Undepend, SetAhead, Retitle, Sweep, Import}
 use Rattle.tb_core.specs.declared.command.AnswerDetail.{AnswerDetail}
 use Rattle.tb_core.specs.declared.command.AnswerDetail.TheVariants.{Swept}
 use Rattle.tb_core.specs.declared.look.Seen.{Seen}
@@ -63,7 +63,7 @@ role_at_once w seen (Some caller) (Some b) role m =
     (with_role w (sweep_at_once b.board m) (person_number seen.other) role)
     (OnBoard (answer_at_once b.board m Swept))
 
--- a command on a board; the text has none by which a board looks ahead
+-- a command on a board; the text has none by which a board looks ahead or gets another title
 abbrev pub command_at_once : World → Seen → BoardCommand → ℕ → Outcome
 command_at_once w seen (Add i) m = on_board_at_once w seen (Add i) m
 command_at_once w seen (OnTask id a) m = on_board_at_once w seen (OnTask id a) m
@@ -71,6 +71,7 @@ command_at_once w seen (Modify id edits) m = on_board_at_once w seen (Modify id 
 command_at_once w seen (Depend id on) m = on_board_at_once w seen (Depend id on) m
 command_at_once w seen (Undepend id on) m = on_board_at_once w seen (Undepend id on) m
 command_at_once w seen (SetAhead ahead) m = record { world = w; answer = Err NoBoard }
+command_at_once w seen (Retitle title) m = record { world = w; answer = Err NoBoard }
 command_at_once w seen Sweep m = on_board_at_once w seen Sweep m
 command_at_once w seen (Import tasks) m = on_board_at_once w seen (Import tasks) m
 
@@ -78,8 +79,12 @@ command_at_once w seen (Import tasks) m = on_board_at_once w seen (Import tasks)
 abbrev pub seen_at_once : World → Seen → Command → ℕ → Outcome
 seen_at_once w seen (command.NewPerson name key) m = new_person w seen seen.caller name key
 seen_at_once w seen (command.NewBoard title) m = new_board w seen seen.caller title
+seen_at_once w seen (command.OwnKey old new) m = record { world = w; answer = Err UnknownCaller }
+seen_at_once w seen (command.SetKey name key) m =
+    record { world = w; answer = Err UnknownCaller }
 seen_at_once w seen (command.SetRole n name role) m =
     role_at_once w seen seen.caller seen.board role m
+seen_at_once w seen (command.Take n) m = record { world = w; answer = Err UnknownCaller }
 seen_at_once w seen (command.OnBoard n c) m = command_at_once w seen c m
 
 -- a person's command at a moment

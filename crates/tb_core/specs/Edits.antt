@@ -105,5 +105,6 @@ abbrev pub touched : ℕ → Task → Task
 touched m t = record t { status = settled_again m t; modified = Some m }
 
 -- the task with all the edits, changed at m even where there are none
+-- Rule: modify sets the moment modified, whatever it names. Tried by modify_values.
 abbrev pub modified : ℕ → List Edit → Task → Task
 modified m edits t = touched m (edited_by edits t)

@@ -4,9 +4,9 @@ use Rattle.tb_task.specs.declared.task.Task.{Task}
 use Rattle.tb_task.specs.Checks.{is_recurring}
 use Rattle.tb_board.specs.declared.board.Board.{Board}
 use Rattle.tb_board.specs.declared.change.Change.{Change}
-use Rattle.tb_board.specs.declared.change.Change.TheVariants.{PutTask, SetAhead}
+use Rattle.tb_board.specs.declared.change.Change.TheVariants.{PutTask, SetAhead, SetTitle}
 use Rattle.tb_board.specs.Board.{with_task}
-use Rattle.tb_board.specs.Changing.{with_ahead}
+use Rattle.tb_board.specs.Changing.{with_ahead, with_title}
 use Rattle.tb_board.specs.Tasks.{wakes}
 use Rattle.tb_sweep.specs.Quiet.{IsQuiet}
 use Rattle.tb_core.specs.declared.command.AnswerDetail.{AnswerDetail}
@@ -16,7 +16,7 @@ use Rattle.tb_core.specs.declared.effect.Effect.{Effect}
 use Rattle.tb_core.specs.declared.effect.Plan.{Plan}
 use Rattle.tb_core.specs.declared.effect.Plan.TheVariants as plan
 use Rattle.tb_core.specs.declared.effect.BoardChange.{BoardChange}
-use Rattle.tb_core.specs.declared.effect.BoardChange.TheVariants.{Set, Push, Stay, LookAhead}
+use Rattle.tb_core.specs.declared.effect.BoardChange.TheVariants.{Set, Push, Stay, LookAhead, Retitle}
 use Rattle.tb_core.specs.declared.judged.CommandFailure.{CommandFailure}
 use Rattle.tb_core.specs.declared.refusal.Refusal.{Refusal}
 use Rattle.tb_core.specs.Refusals.{Fails}
@@ -27,6 +27,7 @@ after b (Set place t) = record b { tasks = slice_set b.tasks place t }
 after b (Push t) = with_task b t
 after b Stay = b
 after b (LookAhead ahead) = with_ahead ahead b
+after b (Retitle title) = with_title title b
 
 -- a task that is changed stands on the board
 abbrev pub Fits : Board → BoardChange → Type 0
@@ -34,6 +35,7 @@ Fits b (Set place t) = place < length b.tasks
 Fits b (Push t) = Unit {0}
 Fits b Stay = Unit {0}
 Fits b (LookAhead ahead) = Unit {0}
+Fits b (Retitle title) = Unit {0}
 
 -- the changes by which it comes about
 abbrev pub changes_by : Board → BoardChange → List Change
@@ -41,6 +43,7 @@ changes_by b (Set place t) = PutTask b.number place t ∷ []
 changes_by b (Push t) = PutTask b.number (length b.tasks) t ∷ []
 changes_by b Stay = []
 changes_by b (LookAhead ahead) = SetAhead b.number ahead ∷ []
+changes_by b (Retitle title) = SetTitle b.number title ∷ []
 
 -- what a command makes of a board is what is expected
 abbrev pub GivesEffect : Board → Result Effect CommandFailure → Result (Board × AnswerDetail) Refusal → Type 0

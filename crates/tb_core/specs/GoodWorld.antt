@@ -30,6 +30,7 @@ abbrev pub HasOwner : World → Board → Type 0
 HasOwner w b = list_any (owns b.number) w.roles ≡ true
 
 -- a good world: distinct names, boards numbered from 1, each good and owned, roles of its own people and boards in order
+-- Rule: no two people have one name. Refused as NameTaken. Tried by people_and_roles.
 pub record IsGoodWorld (w : World) : Type 0 where
   pub apart : IsDistinct bytes_eq (names w)
   pub people : length w.people ≤ most_people

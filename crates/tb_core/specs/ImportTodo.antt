@@ -48,6 +48,7 @@ first_bad at [] = None
 first_bad at (t ∷ ts) = bad_at at (line_fault t) (first_bad (at + 1) ts)
 
 -- the tasks whose identifier none has that was there before: on the board, or earlier in the list
+-- Rule: a line whose task is there adds nothing. Tried by equal_todo_lines.
 abbrev pub new_beside : List Task → List Task → List Task
 new_beside before [] = []
 new_beside before (t ∷ ts) = if list_any (has_id t.id) before then new_beside before ts

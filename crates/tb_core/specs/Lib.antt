@@ -15,6 +15,7 @@ pub mod GoodWorld
 pub mod ImportAgain
 pub mod ImportJson
 pub mod ImportTodo
+pub mod Keys
 pub mod Modify
 pub mod Notes
 pub mod Outcomes

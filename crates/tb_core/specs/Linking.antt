@@ -26,6 +26,7 @@ abbrev pub depends_on : ℕ → Task → Bool
 depends_on on t = list_any (λ id. id == on) t.depends
 
 -- the link goes to its place in the order, and a task that has it isn't changed
+-- Rule: a link that is there already changes nothing. Tried by no test.
 abbrev pub linked : ℕ → ℕ → Task → Task
 linked m on t = if depends_on on t then t
     else record t { depends = replace_key nat_cmp t.depends on; modified = Some m }
@@ -38,6 +39,7 @@ abbrev pub lacks_either : Board → ℕ → ℕ → Bool
 lacks_either b id on = not (is_on b id) || not (is_on b on)
 
 -- a link from the first to the second would close a walk: they are one, or the second depends on the first, directly or by other ones
+-- Rule: links form no cycle. Refused as Cycle. Tried by cycle.
 abbrev pub closes_walk : Board → ℕ → ℕ → Bool
 closes_walk b id on = (id == on) || leads_on b on id
 
@@ -52,6 +54,7 @@ link_refusals b id on last =
 abbrev pub depend_refusals : Board → ℕ → ℕ → List (Option Refusal)
 depend_refusals b id on = link_refusals b id on (where_holds Cycle (closes_walk b id on))
 
+-- Rule: undepend takes a link of the task. Refused as NoLink. Tried by links_and_notes_removed.
 abbrev pub undepend_refusals : Board → ℕ → ℕ → List (Option Refusal)
 undepend_refusals b id on =
     link_refusals b id on

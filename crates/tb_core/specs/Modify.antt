@@ -19,6 +19,7 @@ use Rattle.tb_task.specs.declared.task.Task.{Task}
 use Rattle.tb_task.specs.Checks.{fault_of}
 
 -- only a template's step can be named
+-- Rule: modify gives no other task a step. Refused as BadTask. Tried by template_fixed.
 abbrev pub is_misplaced : List Edit → Task → Bool
 is_misplaced edits t = names (codes "recur") edits && not (is_template t)
 
@@ -28,6 +29,7 @@ modify_fault m edits t = if is_misplaced edits t then Some BadPair
     else fault_of (modified m edits t)
 
 -- a template's due date and step stay
+-- Rule: a template's due date and step stay. Refused as TemplateFixed. Tried by template_fixed.
 abbrev pub is_fixed : List Edit → Task → Bool
 is_fixed edits t = is_template t && (names (codes "due") edits || names (codes "recur") edits)
 

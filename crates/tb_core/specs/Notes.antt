@@ -10,6 +10,7 @@ use Rattle.tb_task.specs.declared.checks.Field.TheVariants.{EmptyDescription, Ba
 use Rattle.tb_task.specs.Checks.{is_bad_text, is_empty}
 
 -- an annotation without text, or with a bad one
+-- Rule: a note is a text, and isn't empty. Refused as BadTask. Tried by note_and_link_bodies.
 abbrev pub note_fault : List ℕ → Option Field
 note_fault text = if is_empty text then Some EmptyDescription else if is_bad_text text
     then Some BadText else None
@@ -21,6 +22,7 @@ abbrev pub has_note : List ℕ → Task → Bool
 has_note text t = list_any (says text) t.annotations
 
 -- the annotation goes last
+-- Rule: a new note goes last. Tried by links_and_notes_removed.
 abbrev pub annotated : ℕ → List ℕ → Task → Task
 annotated m text t =
     record t {
@@ -29,6 +31,7 @@ annotated m text t =
     }
 
 -- without the first annotation that says this
+-- Rule: of equal notes the first is removed. Tried by links_and_notes_removed.
 abbrev pub denotated : ℕ → List ℕ → Task → Task
 denotated m text t =
     record t { annotations = remove_key (says text) t.annotations; modified = Some m }

@@ -9,6 +9,7 @@ is_owners None = false
 is_owners (Some role) = is_owner role
 
 -- the board's only owner would be none any more
+-- Rule: a board keeps an owner. Refused as LastOwner. Tried by people_and_roles.
 abbrev pub leaves_none : Option SeenPerson → Option Role → ℕ → Bool
 leaves_none None role owners = false
 leaves_none (Some p) role owners = is_owners p.role && (not (is_owners role) && nat_le owners 1)

@@ -1,7 +1,7 @@
 -- New people and new boards.
 use Rattle.std.specs.Prelude.{ℕ, ◌+◌, ◌==◌, not, List, [], ◌∷◌, ◌++◌, Option, Some, None, is_some, Err, nat_le}
 use Rattle.tb_board.specs.declared.change.Change.TheVariants.{AddPerson, AddBoard, SetRole}
-use Rattle.tb_core.specs.declared.command.Answer.TheVariants.{NewPerson, NewBoard}
+use Rattle.tb_core.specs.declared.command.Answer.TheVariants.{OfPerson, NewBoard}
 use Rattle.tb_core.specs.declared.deciding.Decision.{Decision}
 use Rattle.tb_core.specs.declared.look.Seen.{Seen}
 use Rattle.tb_core.specs.declared.refusal.Refusal.{Refusal}
@@ -14,6 +14,7 @@ use Rattle.tb_board.specs.Roles.{set_role}
 use Rattle.tb_task.specs.Limits.{most_boards, most_people}
 
 -- the first person alone lets others in
+-- Rule: the first person alone adds people. Refused as NotAllowed. Tried by people_and_roles.
 abbrev pub person_refusals : Seen → ℕ → List (Option Refusal)
 person_refusals seen caller =
     where_holds NotAllowed (not (caller == 1))
@@ -22,17 +23,19 @@ person_refusals seen caller =
     ∷ []
 
 abbrev pub with_person : World → List ℕ → List ℕ → World
-with_person w name key = record w { people = w.people ++ record { name = name; key = key } ∷ [] }
+with_person w name key =
+    record w { people = w.people ++ record { name = name; key = Some key } ∷ [] }
 
 abbrev pub new_person : World → Seen → Option ℕ → List ℕ → List ℕ → Outcome
 new_person w seen None name key = record { world = w; answer = Err UnknownCaller }
 new_person w seen (Some caller) name key =
-    given (least (person_refusals seen caller)) w (with_person w name key) (NewPerson name)
+    given (least (person_refusals seen caller)) w (with_person w name key) (OfPerson name)
 
 abbrev pub board_refusals : Seen → List (Option Refusal)
 board_refusals seen = where_holds Full (nat_le most_boards seen.boards) ∷ []
 
 -- the next number, and the caller owns the board
+-- Rule: who makes a board owns it. Tried by me_and_people.
 abbrev pub with_new_board : World → ℕ → ℕ → List ℕ → World
 with_new_board w number caller title = record w {
   boards = w.boards
@@ -50,7 +53,7 @@ new_board w seen (Some caller) title =
 abbrev pub person_decision : Seen → Option ℕ → List ℕ → List ℕ → Decision
 person_decision seen None name key = record { changes = []; answer = Err UnknownCaller }
 person_decision seen (Some caller) name key =
-    decision_of (least (person_refusals seen caller)) (AddPerson name key ∷ []) (NewPerson name)
+    decision_of (least (person_refusals seen caller)) (AddPerson name key ∷ []) (OfPerson name)
 
 abbrev pub board_decision : Seen → Option ℕ → List ℕ → Decision
 board_decision seen None title = record { changes = []; answer = Err UnknownCaller }

@@ -18,6 +18,7 @@ bad_task None = None
 bad_task (Some fault) = Some (BadTask fault)
 
 -- the first that holds: a command's refusals stand in order of their numbers
+-- Rule: of several refusals the one with the least number is answered. Tried by full_board.
 abbrev pub least : List (Option Refusal) → Option Refusal
 least [] = None
 least (None ∷ rs) = least rs

@@ -2,7 +2,7 @@
 use Rattle.std.specs.Prelude.{◌≡◌, ◌⊎◌, ℕ, List, [], ◌∷◌, ◌++◌, Option, Some}
 use Rattle.std.specs.List.{AllByRecursion}
 use Rattle.tb_board.specs.declared.change.Change.{Change}
-use Rattle.tb_board.specs.declared.change.Change.TheVariants.{AddPerson, AddBoard, SetRole}
+use Rattle.tb_board.specs.declared.change.Change.TheVariants.{AddPerson, SetKey, AddBoard, SetRole}
 use Rattle.tb_board.specs.declared.world.Role.{Role}
 use Rattle.tb_board.specs.declared.world.Role.TheVariants.{Owner}
 use Rattle.tb_board.specs.Changing.{IsOn}
@@ -34,6 +34,12 @@ pub record LetIn (cs : List Change) : Type 0 where
   pub key : List ℕ
   pub are : cs ≡ AddPerson name key ∷ []
 
+-- a person has another key, or none
+pub record GiveKey (cs : List Change) : Type 0 where
+  pub name : List ℕ
+  pub key : Option (List ℕ)
+  pub are : cs ≡ SetKey name key ∷ []
+
 -- the changes are of one board or of one person
 abbrev pub AreOfOne : List Change → Type 0
-AreOfOne cs = AreOnOneBoard cs ⊎ (EndInRole cs ⊎ (BeginBoard cs ⊎ LetIn cs))
+AreOfOne cs = AreOnOneBoard cs ⊎ (EndInRole cs ⊎ (BeginBoard cs ⊎ (LetIn cs ⊎ GiveKey cs)))

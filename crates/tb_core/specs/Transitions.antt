@@ -12,6 +12,7 @@ abbrev pub deleted : ℕ → Task → Task
 deleted m t = record t { status = Deleted; end = Some m; start = None; modified = Some m }
 
 -- a template recurs again, and another task is settled
+-- Rule: a template that is reopened recurs again. Tried by no test.
 abbrev pub reopened_status : ℕ → Task → Status
 reopened_status m t = if is_template t then Recurring else settled t.wait m
 

@@ -17,7 +17,7 @@ pub fn allows(role: Role, command: &BoardCommand) -> bool
         | BoardCommand::Undepend { .. }
         | BoardCommand::Import(_)
         | BoardCommand::Sweep => may_change(role),
-        BoardCommand::SetAhead { .. } => is_owner_role(role),
+        BoardCommand::SetAhead { .. } | BoardCommand::Retitle { .. } => is_owner_role(role),
     }
 }
 

@@ -19,11 +19,25 @@ pub enum Command {
     NewBoard {
         title: Title,
     },
+    /// Changes the caller's own key.
+    OwnKey {
+        old: Key,
+        new: Key,
+    },
+    /// Gives another person a key, or takes it, so that nobody is known as that person.
+    SetKey {
+        name: Name,
+        key: Option<Key>,
+    },
     /// Gives a person a role on a board, or takes it.
     SetRole {
         board: u32,
         name: Name,
         role: Option<Role>,
+    },
+    /// Makes the first person an owner of a board.
+    Take {
+        board: u32,
     },
     /// Changes a board and its tasks.
     OnBoard {
@@ -64,6 +78,10 @@ pub enum BoardCommand {
     SetAhead {
         ahead: Ahead,
     },
+    /// Gives the board another title.
+    Retitle {
+        title: Title,
+    },
     /// Lets the board come up to the moment.
     Sweep,
     /// Adds many tasks, but those that are known.
@@ -85,8 +103,13 @@ impl Command {
         ensures { result ≡ board_of self.now }
     {
         match self {
-            Command::SetRole { board, .. } | Command::OnBoard { board, .. } => Some(*board),
-            Command::NewPerson { .. } | Command::NewBoard { .. } => None,
+            Command::SetRole { board, .. }
+            | Command::Take { board }
+            | Command::OnBoard { board, .. } => Some(*board),
+            Command::NewPerson { .. }
+            | Command::NewBoard { .. }
+            | Command::OwnKey { .. }
+            | Command::SetKey { .. } => None,
         }
     }
 
@@ -95,8 +118,13 @@ impl Command {
         ensures { option_map (λ name. name.now) result ≡ other_of self.now }
     {
         match self {
-            Command::NewPerson { name, .. } | Command::SetRole { name, .. } => Some(name),
-            Command::NewBoard { .. } | Command::OnBoard { .. } => None,
+            Command::NewPerson { name, .. }
+            | Command::SetKey { name, .. }
+            | Command::SetRole { name, .. } => Some(name),
+            Command::NewBoard { .. }
+            | Command::OwnKey { .. }
+            | Command::Take { .. }
+            | Command::OnBoard { .. } => None,
         }
     }
 }
@@ -105,7 +133,8 @@ impl Command {
 #[derive(Debug, Drop)]
 pub enum Answer {
     OnBoard(BoardAnswer),
-    NewPerson { name: Name },
+    /// The name of the person who is new or whose key was set.
+    OfPerson { name: Name },
     /// The number of the new board.
     NewBoard { board: u32 },
 }

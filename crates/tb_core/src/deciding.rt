@@ -1,5 +1,5 @@
 ghost use Rattle.std.specs.Prelude.{◌≡◌, ℕ, [], List, IfErr, IfOk, IfSome, Ok, Err, MatchOption};
-ghost use Rattle.tb_core.specs.Apply.{apply, judged, judged_tasks, on_board, outcome, role_given, seen_of, IsDecision};
+ghost use Rattle.tb_core.specs.Apply.{apply, judged, judged_tasks, on_board, outcome, role_given, seen_of, taken, IsDecision};
 ghost use Rattle.tb_board.specs.Changing.{Follows, IsDraft};
 ghost use Rattle.tb_core.specs.Effect.{GivesPlan, PlanFits, planned};
 ghost use Rattle.tb_core.specs.Refusals.{Fails, Gives};
@@ -18,6 +18,7 @@ use crate::giving::{is_last_owner, role_decision};
 use crate::import_json::import_json;
 use crate::import_todo::import_todo;
 use crate::judged::{CommandFailure, Judged};
+use crate::keys::{decide_key, decide_own_key};
 use crate::linking::{depend, undepend};
 use crate::look::Seen;
 use crate::modify::modify;
@@ -27,7 +28,7 @@ use std::alloc::{AllocError, Global};
 use tb_board::{Board, Change, Draft, Role, wake_draft};
 use tb_sweep::{Swept, is_quiet, sweep_draft};
 use tb_task::Moment;
-use tb_values::Items;
+use tb_values::{Duplicate, Items};
 
 /// What becomes of a command: how the world changes, and the answer. A refusal has no changes.
 #[derive(Drop)]
@@ -78,7 +79,10 @@ pub fn decide(
     match command {
         Command::NewPerson { name, key } => decide_person(alloc, seen, name, key),
         Command::NewBoard { title } => decide_board(alloc, seen, title),
+        Command::OwnKey { old, new } => decide_own_key(alloc, &seen.own, old, new),
+        Command::SetKey { name, key } => decide_key(alloc, seen, name, key),
         Command::SetRole { role, .. } => decide_role(alloc, seen, *role, at),
+        Command::Take { .. } => decide_take(alloc, seen, at),
         Command::OnBoard { board, command } => decide_on_board(alloc, seen, *board, command, at),
     }
 }
@@ -141,6 +145,25 @@ fn decide_role(
         return Ok(refused(alloc, Refusal::LastOwner));
     }
     role_decision(alloc, found.board.get(), other.number, role, at)
+}
+
+fn decide_take(alloc: Global, seen: &Seen, at: Moment) -> Result<Decision, AllocError>
+    ensures decided { IfOk result
+        (λ d. (w : World) (name : List ℕ) (n : ℕ) → seen.now ≡ seen_of w name (Commands.Take n)
+        → IsDecision w d (taken w seen.now.caller seen.now.board at)) }
+    ensures unchanged { IfOk result (λ d. IfErr d.answer (λ refusal. d.changes ≡ [])) }
+    ensures shape { IfOk result (λ d. AreOfOne d.changes) }
+{
+    let Some(caller) = seen.caller else {
+        return Ok(refused(alloc, Refusal::UnknownCaller));
+    };
+    let Some(found) = &seen.board else {
+        return Ok(refused(alloc, Refusal::NoBoard));
+    };
+    if caller != 1 {
+        return Ok(refused(alloc, Refusal::NotAllowed));
+    }
+    role_decision(alloc, found.board.get(), caller, Some(Role::Owner), at)
 }
 
 /// A refusal has no changes.
@@ -293,6 +316,12 @@ fn plan<'c>(
         BoardCommand::Undepend { id, on } => planned(undepend(board, *id, *on, at)),
         BoardCommand::SetAhead { ahead } => Ok(Plan::Effect(Effect {
             change: BoardChange::LookAhead { ahead: *ahead },
+            detail: AnswerDetail::Swept,
+        })),
+        BoardCommand::Retitle { title } => Ok(Plan::Effect(Effect {
+            change: BoardChange::Retitle {
+                title: title.duplicate()?,
+            },
             detail: AnswerDetail::Swept,
         })),
         BoardCommand::Sweep => Ok(Plan::Effect(Effect {

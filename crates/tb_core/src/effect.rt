@@ -1,13 +1,13 @@
 ghost use Rattle.std.specs.Prelude.{◌≡◌, ◌∷◌, [], IfOk, IsTrue, slice_set};
 ghost use Rattle.tb_board.specs.Changing.{Follows};
-ghost use Rattle.tb_board.specs.declared.change.Change.TheVariants.{PutTask, SetAhead};
+ghost use Rattle.tb_board.specs.declared.change.Change.TheVariants.{PutTask, SetAhead, SetTitle};
 ghost use Rattle.tb_core.specs.Effect.{after, Fits, IsStill, KeepsQuiet, changes_by};
 ghost use Rattle.tb_sweep.specs.Quiet.{IsQuiet};
 
 use crate::command::{AnswerDetail, Import};
 use crate::judged::Judged;
 use std::alloc::{AllocError, Global};
-use tb_board::{Ahead, Board, Change, Draft, has_waited};
+use tb_board::{Ahead, Board, Change, Draft, Title, has_waited};
 use tb_task::{Moment, Task, is_recurring_status};
 use tb_values::{Items, Shared};
 
@@ -22,6 +22,8 @@ pub enum BoardChange {
     Stay,
     /// All stay, and the board looks so many instances ahead.
     LookAhead { ahead: Ahead },
+    /// All stay, and the board has this title.
+    Retitle { title: Title },
 }
 
 /// What an accepted command makes of a board, of which it changes one task at most.
@@ -65,6 +67,7 @@ impl BoardChange {
             BoardChange::Push { task } => draft.push(alloc, task),
             BoardChange::Stay => Ok(draft),
             BoardChange::LookAhead { ahead } => draft.set_ahead(ahead),
+            BoardChange::Retitle { title } => draft.set_title(&title),
         }
     }
 
@@ -77,6 +80,7 @@ impl BoardChange {
             BoardChange::Push { task } => one_change(alloc, board.number, board.tasks.len(), task),
             BoardChange::Stay => Ok(Items::new(alloc)),
             BoardChange::LookAhead { ahead } => ahead_change(alloc, board.number, ahead),
+            BoardChange::Retitle { title } => title_change(alloc, board.number, title),
         }
     }
 
@@ -88,7 +92,7 @@ impl BoardChange {
             BoardChange::Set { place, task } => keeps_quiet_at(board, *place, task, at),
             BoardChange::Push { task } => is_still(task, at),
             BoardChange::Stay => true,
-            BoardChange::LookAhead { .. } => false,
+            BoardChange::LookAhead { .. } | BoardChange::Retitle { .. } => false,
         }
     }
 }
@@ -112,6 +116,14 @@ fn ahead_change(alloc: Global, board: u32, ahead: Ahead) -> Result<Items<Change>
 {
     let mut changes = Items::new(alloc);
     changes.push(Change::SetAhead { board, ahead })?;
+    Ok(changes)
+}
+
+fn title_change(alloc: Global, board: u32, title: Title) -> Result<Items<Change>, AllocError>
+    ensures { IfOk result (λ changes. changes ≡ SetTitle board title ∷ []) }
+{
+    let mut changes = Items::new(alloc);
+    changes.push(Change::SetTitle { board, title })?;
     Ok(changes)
 }
 

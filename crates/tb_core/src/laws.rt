@@ -3,16 +3,21 @@
 ghost use Rattle.tb_core.specs.AheadOne.{AheadOne};
 ghost use Rattle.tb_core.specs.Cycles.{AreCyclesRefused};
 ghost use Rattle.tb_core.specs.ImportAgain.{ImportTodoAgain};
-ghost use Rattle.tb_core.specs.GoodLaws.{AlwaysExtends, KeepsGood, KeepsPeople, OpensGood};
+ghost use Rattle.tb_core.specs.GoodLaws.{AlwaysExtends, KeepsCaller, KeepsGood, KeepsKeys, OpensGood};
 
 /// Each command leaves a good world good.
 pub fn keeps_good()
     ensures { KeepsGood }
 {}
 
-/// Each command leaves the people who are known, with their keys.
-pub fn keeps_people()
-    ensures { KeepsPeople }
+/// Who is known stays known, with the same key, until a key is set.
+pub fn keeps_keys()
+    ensures { KeepsKeys }
+{}
+
+/// A caller who is known keeps the key, or changes it by the command.
+pub fn keeps_caller()
+    ensures { KeepsCaller }
 {}
 
 /// Each command leaves people, boards and the identifiers of tasks at their places, and what is new goes last.
@@ -35,7 +40,7 @@ pub fn import_again()
     ensures { ImportTodoAgain }
 {}
 
-/// While each board looks one ahead and nobody is a reader, commands have the answers and the boards that they had before boards could look ahead.
+/// While each board looks one ahead and nobody is a reader, the first commands have the answers and the boards that they had before boards could look ahead.
 pub fn ahead_one()
     ensures { AheadOne }
 {}

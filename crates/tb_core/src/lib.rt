@@ -15,6 +15,7 @@ mod giving;
 mod import_json;
 mod import_todo;
 mod judged;
+mod keys;
 pub mod laws;
 mod linking;
 mod look;

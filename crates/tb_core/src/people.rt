@@ -38,7 +38,7 @@ pub fn decide_person(
         name: name.duplicate()?,
         key: key.duplicate()?,
     })?;
-    let answer = Answer::NewPerson {
+    let answer = Answer::OfPerson {
         name: name.duplicate()?,
     };
     Ok(Decision {

@@ -27,6 +27,8 @@ pub enum Refusal {
     NoPerson,
     LastOwner,
     NameTaken,
+    /// The key that is to be changed is another.
+    KeyDiffers,
 }
 
 impl Refusal {
@@ -50,6 +52,7 @@ impl Refusal {
             Refusal::NoPerson => 13,
             Refusal::LastOwner => 14,
             Refusal::NameTaken => 15,
+            Refusal::KeyDiffers => 16,
         }
     }
 
@@ -70,7 +73,8 @@ impl Refusal {
             | Refusal::Cycle
             | Refusal::Full
             | Refusal::LastOwner
-            | Refusal::NameTaken => 409,
+            | Refusal::NameTaken
+            | Refusal::KeyDiffers => 409,
         }
     }
 }

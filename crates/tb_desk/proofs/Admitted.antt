@@ -10,8 +10,8 @@ use Rattle.tb_board.specs.declared.world.RoleOn.{RoleOn}
 use Rattle.tb_board.specs.declared.world.World.{World}
 use Rattle.tb_board.specs.Board.{is_on}
 use Rattle.tb_board.specs.Tasks.{has_id}
-use Rattle.tb_board.specs.World.{find_board, has_number, is_role_of, key_of, number_of, role_of}
-use Rattle.tb_calls.specs.Call.{State, has_key, unknown_caller}
+use Rattle.tb_board.specs.World.{find_board, has_key, has_number, is_role_of, key_of, number_of, role_of}
+use Rattle.tb_calls.specs.Call.{State, unknown_caller}
 use Rattle.tb_calls.specs.declared.view.View.{View}
 use Rattle.tb_calls.specs.declared.view.View.TheVariants.{Export, Listing, One, People, Todo}
 use Rattle.tb_calls.specs.Roles.{people_for, people_on, role_on, where_some}
@@ -19,7 +19,7 @@ use Rattle.tb_core.specs.Apply.{board_for, seen_with}
 use Rattle.tb_core.specs.GoodWorld.{IsGoodWorld, IsRoleIn, numbers}
 use Rattle.tb_core.specs.declared.look.SeenBoard.{SeenBoard}
 use Rattle.tb_core.specs.declared.refusal.Refusal.{Refusal}
-use Rattle.tb_core.specs.declared.refusal.Refusal.TheVariants.{UnknownCaller, IdReused, NoBoard, NotAllowed, NoTask, WrongStatus, UuidTaken, BadTask, BadTaskAt, TemplateFixed, NoLink, Cycle, Full, NoPerson, LastOwner, NameTaken}
+use Rattle.tb_core.specs.declared.refusal.Refusal.TheVariants.{UnknownCaller, IdReused, NoBoard, NotAllowed, NoTask, WrongStatus, UuidTaken, BadTask, BadTaskAt, TemplateFixed, NoLink, Cycle, Full, NoPerson, LastOwner, NameTaken, KeyDiffers}
 use Rattle.tb_reply.specs.Reply.{reply_of}
 use Rattle.tb_reply.specs.declared.reply.Reply.{Reply}
 use Rattle.tb_reply.specs.declared.roles.PersonRole.{PersonRole}
@@ -50,6 +50,7 @@ refused Full = refl
 refused NoPerson = refl
 refused LastOwner = refl
 refused NameTaken = refl
+refused KeyDiffers = refl
 
 pub admission_of : (shown : Result (List ℕ) Refusal) → admission (view_reply shown) ≡ option_map (λ r. reply_of (Err r)) (refusal_in shown)
 unfolding view_reply

@@ -1,21 +1,24 @@
 -- Decided changes may be committed, and with their reply they are the state after the call.
-use Rattle.std.proofs.Common.{◌≡◌, ℕ, Bool, true, false, List, Option, Some, None, refl, sym, ap, ◌∙◌, subst, rules}
-use Rattle.std.specs.Prelude.{IsSome}
+use Rattle.std.proofs.Common.{◌≡◌, ℕ, ◌+◌, true, false, true≢false, List, Option, Some, None, MatchOption, option_map, option_and_then, position, refl, sym, ap, ◌∙◌, subst, rules}
+use Rattle.std.specs.Prelude.{IsSome, is_some}
 use Rattle.std.specs.FinMap.{insert}
 use Rattle.tb_board.specs.declared.change.Change.{Change}
 use Rattle.tb_core.specs.declared.deciding.Decision.{Decision}
+use Rattle.tb_board.specs.declared.world.Person.{Person}
 use Rattle.tb_board.specs.declared.world.World.{World}
 use Rattle.tb_core.specs.Apply.{IsDecision, apply}
 use Rattle.tb_board.specs.Changing.{changed}
 use Rattle.tb_board.specs.Extends.{Extends}
 use Rattle.tb_core.specs.GoodWorld.{IsGoodWorld}
 use Rattle.tb_core.specs.Shapes.{AreOfOne}
-use Rattle.tb_board.specs.World.{key_of}
+use Rattle.tb_board.specs.First.{IsFirst, IsNone}
+use Rattle.tb_board.specs.World.{has_key, has_name, key_of, number_of}
+use Rattle.tb_board.proofs.Places.{place}
 use Rattle.tb_core.proofs.Extending.{extends}
 use Rattle.tb_core.proofs.Stays.{stays_good}
 use Rattle.tb_calls.specs.declared.call.Call.{Call}
 use Rattle.tb_reply.specs.declared.reply.Reply.{Reply}
-use Rattle.tb_calls.specs.Call.{State, after_call, has_key, is_known, name_of, outcome}
+use Rattle.tb_calls.specs.Call.{State, after_call, is_known, name_of, outcome}
 use Rattle.tb_reply.specs.Reply.{reply_of}
 use Rattle.tb_calls.specs.Keep.{IsNew, MayCommit, with_reply}
 
@@ -23,9 +26,18 @@ someone : (key : Option (List ℕ)) (shown : List ℕ) → has_key key shown ≡
 someone None shown h = absurd (cc)
 someone (Some k) shown h = search rules
 
--- a known caller is there
+-- a known caller has a key
 pub known_is_some : (s : State) (c : Call) → is_known s c ≡ true → IsSome (key_of s.world c.member)
 known_is_some s c h = someone _ c.key h
+
+-- who has a key is there
+is_there : (w : World) (name : List ℕ) → IsSome (key_of w name) → IsSome (number_of w name)
+is_there w name known = by (position (has_name name) w.people) refl (place (has_name name) w.people)
+  where
+    by : (o : Option ℕ) → position (has_name name) w.people ≡ o → MatchOption o (IsNone (has_name name) w.people) (IsFirst (has_name name) w.people)
+        → IsSome (option_map (λ at. at + 1) o)
+    by (Some at) e first = refl
+    by None e none = absurd (true≢false (sym known ∙ ap (λ found. is_some (option_and_then (λ (p : Person). p.key) found)) none.found))
 
 -- the decision is that of the call in the state
 abbrev pub IsMade : State → Call → Decision → Type 0
@@ -41,7 +53,7 @@ pub may_commit : (s : State) (c : Call) (d : Decision) (changes : List Change) �
 may_commit s c d changes same shape good new made =
     let later = sym (ap (changed s.world) same ∙ made.world) in
     record {
-      known = known_is_some s c new.known;
+      known = is_there s.world c.member (known_is_some s c new.known);
       new = new.new;
       good = subst IsGoodWorld later (stays_good s.world c.member c.command c.moment good);
       extends = subst (Extends s.world) later (extends s.world c.member c.command c.moment);

@@ -1,5 +1,6 @@
 pub mod Admitted
 pub mod Commits
+pub mod Keys
 pub mod Lists
 pub mod Moves
 pub mod Repeats

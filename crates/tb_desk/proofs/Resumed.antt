@@ -1,18 +1,19 @@
 -- Sessions that send a list again lead where the list leads.
-use Rattle.std.proofs.Common.{◌≡◌, ℕ, zero, suc, ◌+◌, ◌<◌, true, false, eqb, if◌then◌else◌, List, [], ◌∷◌, ◌++◌, length, take, take-take, Option, Some, refl, sym, ap, ap₂, ◌∙◌, subst, inl, inr, ⊎_elim, arith, add-one, eq-eqb}
+use Rattle.std.proofs.Common.{◌≡◌, ℕ, zero, suc, ◌+◌, ◌<◌, ◌≤◌, nat_le, Bool, true, false, true≢false, ◌&&◌, ◌||◌, eqb, if◌then◌else◌, List, [], ◌∷◌, ◌++◌, length, take, take-take, Option, Some, refl, sym, ap, ap₂, ◌∙◌, subst, inl, inr, arith, add-one, eq-eqb}
 use Rattle.std.specs.Prelude.{slice_get}
-use Rattle.std.specs.List.{filter_map, cons_option}
+use Rattle.std.specs.List.{cons_option}
 use Rattle.std.specs.Option.{option_map}
 use Rattle.std.proofs.lemmas.Slice.Eq.{bytes_eq-Decides}
 use Rattle.std.proofs.lemmas.Bool.Decides.{nat_tests}
+use Rattle.tb_board.specs.World.{has_key}
 use Rattle.tb_calls.specs.declared.call.Call.{Call}
 use Rattle.tb_reply.specs.declared.reply.Reply.{Reply}
 use Rattle.tb_calls.specs.declared.call.KeptReply.{KeptReply}
-use Rattle.tb_calls.specs.Call.{State, id_reused, is_known, kept_for, once, plain, replies_after, replies_to, reply, told_in}
-use Rattle.tb_desk.specs.Sessions.{IsAgain, Sending, Sent, WasKnown, calls_of, next_after, replies_at, replies_of, reply_at, stands}
+use Rattle.tb_calls.specs.Call.{State, id_reused, is_heard, is_known, kept_for, once, plain, replies_after, replies_to, reply, told_in, unknown_caller}
+use Rattle.tb_desk.specs.Sessions.{IsAgain, IsCopy, Sending, Sent, calls_of, comes_at_once, is_key_at, next_after, replies_at, replies_of, reply_at, stands, told_when}
 use Rattle.tb_desk.specs.Resuming.{ComeInOrder, ComesAgain, Resume, SessionsJoin, SessionsResume, ToldIsKept, led_to, sessions_of, standing, told}
 use Rattle.tb_desk.proofs.Runs.{after_all, after_all-append}
-use Rattle.tb_desk.proofs.Repeats.{Holds, again, again-holds, first_told, holds-all, told_kept}
+use Rattle.tb_desk.proofs.Repeats.{Holds, again, copy-holds, first_told, holds-all, told_kept, unheard_told}
 
 pub joined : SessionsJoin
 joined s [] = refl
@@ -52,15 +53,19 @@ still_kept s calls n h c less at known =
     let rest = split_front calls n h c less at in
     let later : after_first s calls h ≡ after_all (after_all (after_first s calls n) (c ∷ [])) rest.0 =
     ap (after_all s) rest.1 ∙ after_all-append s (take n calls) (c ∷ rest.0) ∙ after_all-append (after_first s calls n) (c ∷ []) rest.0 in
-    (f.0, (subst (λ t. Holds t c f.0) (sym later) (holds-all (after_all (after_first s calls n) (c ∷ [])) c rest.0 f.0 f.1.0), f.1.1))
+    (f.kept, (subst (λ t. Holds t c f.kept) (sym later) (holds-all (after_all (after_first s calls n) (c ∷ [])) c rest.0 f.kept f.holds), f.told))
 
--- a call that comes again later
-copied : (s : State) (calls : List Call) (n h : ℕ) (c d : Call) → IsAgain c d → n < h → slice_get calls n ≡ Some c → is_known (after_first s calls n) c ≡ true
-    → (told_in (after_first s calls h) d ≡ reply s (take n calls) c) × (after_all (after_first s calls h) (d ∷ []) ≡ after_first s calls h)
+-- a reply, where the call is heard
+abbrev if_heard : Bool → Reply → Reply
+if_heard heard told = if heard then told else unknown_caller
+
+-- a copy that comes later
+copied : (s : State) (calls : List Call) (n h : ℕ) (c d : Call) → IsCopy c d → n < h → slice_get calls n ≡ Some c → is_known (after_first s calls n) c ≡ true
+    → (told_in (after_first s calls h) d ≡ if_heard (is_heard (after_first s calls h) d) (reply s (take n calls) c)) × (after_all (after_first s calls h) (d ∷ []) ≡ after_first s calls h)
 copied s calls n h c d same less at known =
     let k = still_kept s calls n h c less at known in
-    let r = again-holds _ c d k.0 same k.1.0 in
-    (r.0 ∙ sym k.1.1, r.1)
+    let r = copy-holds _ c d k.0 same k.1.0 in
+    (r.0 ∙ ap (if_heard (is_heard (after_first s calls h) d)) (sym k.1.1), r.1)
 
 -- a call that comes again before any other call of the list
 copied_at_once : (s : State) (calls : List Call) (n h : ℕ) (c d : Call) → IsAgain c d → n + 1 ≡ h → slice_get calls n ≡ Some c
@@ -81,22 +86,52 @@ one_value o x y p q = cc
 pub told_is_kept : ToldIsKept
 told_is_kept s calls n c kept at known is same =
     let k = still_kept s calls n (length calls) c (within calls n c at) at (known c at) in
-    let last : kept_for (plain s (once s calls)) c ≡ Some k.0 = subst (λ cs. kept_for (after_all s cs) c ≡ Some k.0) (take_whole calls) k.1.0.kept in
+    let last : kept_for (plain s (once s calls)) c ≡ Some k.0 = subst (λ cs. kept_for (after_all s cs) c ≡ Some k.0) (take_whole calls) k.1.0 in
     k.1.1 ∙ ap (λ v. told_kept v c) (one_value _ k.0 kept last is)
     ∙ ap (λ b. if b then kept.reply else id_reused) ((bytes_eq-Decides kept.content c.content).1 same)
 
--- a call that comes again is told what the call of the list was, and changes nothing
-past_call : (s : State) (calls : List Call) (next : ℕ) (x : Sent) → (a : ComesAgain s calls next x)
-    → (told_in (after_first s calls next) x.call ≡ reply s (take x.number calls) a.first) × (after_all (after_first s calls next) (x.call ∷ []) ≡ after_first s calls next)
-past_call s calls next x a =
-    ⊎_elim
-    (λ (at_once : x.number + 1 ≡ next). copied_at_once s calls x.number next a.first x.call a.again at_once a.is_first)
-    (λ (known : WasKnown s calls x.number). copied s calls x.number next a.first x.call a.again a.before a.is_first (known a.first a.is_first))
-    a.known
+-- ---- what a call is told when it comes
 
--- a call that is in the list has a reply there
-filter_map-some : {A B : Type 0} (f : A → Option B) (x : A) (xs : List A) (y : B) → f x ≡ Some y → filter_map f (x ∷ xs) ≡ y ∷ filter_map f xs
-filter_map-some f x xs y e = ap (λ o. cons_option o (filter_map f xs)) e
+both_true : (a b : Bool) → (a && b) ≡ true → (a ≡ true) × (b ≡ true)
+both_true true b e = (refl, e)
+both_true false b e = absurd (true≢false (sym e))
+
+up_to : (n m : ℕ) → nat_le n m ≡ true → n ≤ m
+up_to n m e = grind (arith, nat_tests)
+
+-- the key of the call of the list
+pub its_key : (calls : List Call) (n : ℕ) (c : Call) (key : List ℕ) → slice_get calls n ≡ Some c → is_key_at calls n key ≡ true → key ≡ c.key
+its_key calls n c key at is =
+    sym ((bytes_eq-Decides c.key key).0 (ap (λ o. has_key (option_map (λ (d : Call). d.key) o) key) (sym at) ∙ is))
+
+-- a call that isn't heard is told the same either way
+either_way : (once heard : Bool) (told : Reply) → (heard ≡ false → told ≡ unknown_caller) → told ≡ (if once || heard then told else unknown_caller)
+either_way true heard told unheard = refl
+either_way false true told unheard = refl
+either_way false false told unheard = unheard refl
+
+first_call : (s : State) (calls : List Call) (next : ℕ) (x : Sent)
+    → told_in (after_first s calls next) x.call ≡ told_when s calls next x (told_in (after_first s calls next) x.call)
+first_call s calls next x =
+    either_way (comes_at_once calls next x) (is_heard (after_first s calls next) x.call) (told_in (after_first s calls next) x.call) (unheard_told (after_first s calls next) x.call)
+
+-- a copy is told what the call of the list was, at once or where it is heard, and changes nothing
+past_call : (s : State) (calls : List Call) (next : ℕ) (x : Sent) → (a : ComesAgain s calls next x)
+    → (told_in (after_first s calls next) x.call ≡ told_when s calls next x (reply s (take x.number calls) a.first)) × (after_all (after_first s calls next) (x.call ∷ []) ≡ after_first s calls next)
+past_call s calls next x a = by (comes_at_once calls next x) refl
+  where
+    by : (b : Bool) → comes_at_once calls next x ≡ b
+        → (told_in (after_first s calls next) x.call ≡ told_when s calls next x (reply s (take x.number calls) a.first)) × (after_all (after_first s calls next) (x.call ∷ []) ≡ after_first s calls next)
+    by true is =
+        let both = both_true (nat_le next (x.number + 1)) (is_key_at calls x.number x.call.key) is in
+        let low : next ≤ x.number + 1 = up_to next (x.number + 1) both.0 in
+        let near : x.number + 1 ≡ next = omega (arith, low, a.before) in
+        let same : IsAgain a.first x.call = record { copy = a.copy; key = its_key calls x.number a.first x.call.key a.is_first both.1 } in
+        let r = copied_at_once s calls x.number next a.first x.call same near a.is_first in
+        (r.0 ∙ sym (ap (λ b. if_heard (b || is_heard (after_first s calls next) x.call) (reply s (take x.number calls) a.first)) is), r.1)
+    by false is =
+        let r = copied s calls x.number next a.first x.call a.copy a.before a.is_first (a.known is a.first a.is_first) in
+        (r.0 ∙ sym (ap (λ b. if_heard (b || is_heard (after_first s calls next) x.call) (reply s (take x.number calls) a.first)) is), r.1)
 
 -- replies that follow calls are replies in the state after these
 replies_after-state : (s : State) (before cs : List Call) → replies_after s before cs ≡ replies_to (after_all s before) cs
@@ -109,14 +144,16 @@ replies_after-state s before (c ∷ cs) =
 
 -- what is told of calls that come in order, and where they lead
 abbrev Walked : State → List Call → ℕ → State → List Sent → Type 0
-Walked s calls next t sent = (replies_to t (calls_of sent) ≡ replies_of s calls sent) × (after_all t (calls_of sent) ≡ after_first s calls (next_after next sent))
+Walked s calls next t sent = (replies_to t (calls_of sent) ≡ replies_of s calls next sent) × (after_all t (calls_of sent) ≡ after_first s calls (next_after next sent))
 
 walk_on : (s : State) (calls : List Call) (next later : ℕ) (t u : State) (x : Sent) (xs : List Sent) (r : Reply) → reply_at s calls x.number ≡ Some r
-    → told_in t x.call ≡ r → after_all t (x.call ∷ []) ≡ u → next_after next (x ∷ xs) ≡ next_after later xs → Walked s calls later u xs → Walked s calls next t (x ∷ xs)
+    → told_in t x.call ≡ told_when s calls next x r → after_all t (x.call ∷ []) ≡ u → next_after next (x ∷ []) ≡ later → Walked s calls later u xs → Walked s calls next t (x ∷ xs)
 walk_on s calls next later t u x xs r there answer led goes rest = (
-  ap (λ rs. told_in t x.call ∷ rs) (replies_after-state t (x.call ∷ []) (calls_of xs) ∙ ap (λ v. replies_to v (calls_of xs)) led ∙ rest.0)
-      ∙ sym (filter_map-some (λ (y : Sent). reply_at s calls y.number) x xs (told_in t x.call) (there ∙ ap Some (sym answer))),
-  after_all-append t (x.call ∷ []) (calls_of xs) ∙ ap (λ v. after_all v (calls_of xs)) led ∙ rest.1 ∙ ap (after_first s calls) (sym goes),
+  ap (λ rs. told_in t x.call ∷ rs)
+      (replies_after-state t (x.call ∷ []) (calls_of xs) ∙ ap (λ v. replies_to v (calls_of xs)) led ∙ rest.0 ∙ ap (λ n. replies_of s calls n xs) (sym goes))
+      ∙ sym (ap (λ o. cons_option (option_map (told_when s calls next x) o) (replies_of s calls (next_after next (x ∷ [])) xs)) there
+      ∙ ap (λ q. q ∷ replies_of s calls (next_after next (x ∷ [])) xs) (sym answer)),
+  after_all-append t (x.call ∷ []) (calls_of xs) ∙ ap (λ v. after_all v (calls_of xs)) led ∙ rest.1 ∙ ap (λ n. after_first s calls (next_after n xs)) (sym goes),
 )
 
 there_at : (s : State) (calls : List Call) (n : ℕ) (c : Call) → slice_get calls n ≡ Some c → reply_at s calls n ≡ Some (reply s (take n calls) c)
@@ -136,9 +173,9 @@ walk s calls next [] come = (refl, refl)
 walk s calls next (x ∷ xs) (inl (same, at, come)) =
     walk_on s calls next (next + 1) (after_first s calls next) (after_first s calls (next + 1)) x xs (reply s (take next calls) x.call)
     (ap (reply_at s calls) same ∙ there_at s calls next x.call at)
-    refl
+    (first_call s calls next x)
     (sym (after_next s calls next x.call at))
-    (is_next x next xs same)
+    (is_next x next [] same)
     (walk s calls (next + 1) xs come)
 walk s calls next (x ∷ xs) (inr (a, come)) =
     let past = past_call s calls next x a in
@@ -146,7 +183,7 @@ walk s calls next (x ∷ xs) (inr (a, come)) =
     (there_at s calls x.number a.first a.is_first)
     past.0
     past.1
-    (is_past x next xs a.before)
+    (is_past x next [] a.before)
     (walk s calls next xs come)
 
 -- a front of calls that come in order comes in order
@@ -169,7 +206,7 @@ take-replies s before [] (suc k) = refl
 take-replies s before (c ∷ cs) (suc k) = ap (λ rs. reply s before c ∷ rs) (take-replies s (before ++ c ∷ []) cs k)
 
 resumed_from : (s : State) (calls : List Call) (next : ℕ) (t : State) (xs : List Sending) → Resume s calls next xs → t ≡ after_first s calls next
-    → (led_to t (sessions_of xs) ≡ plain s (once s calls)) × (told t (sessions_of xs) ≡ replies_at s calls xs)
+    → (led_to t (sessions_of xs) ≡ plain s (once s calls)) × (told t (sessions_of xs) ≡ replies_at s calls next xs)
 resumed_from s calls next t [] done is = (is ∙ ap (after_first s calls) done ∙ ap (after_all s) (take_whole calls), refl)
 resumed_from s calls next t (x ∷ xs) (few, come, more) is =
     let answered = subst (ComeInOrder s calls next) (take-take x.answered x.stood x.sent few) (come_front s calls next (stands x) x.answered come) in

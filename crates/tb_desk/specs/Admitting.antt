@@ -16,5 +16,6 @@ refusal_without None = Some NoBoard
 refusal_without (Some role) = None
 
 -- the reply to a view, where it is refused
+-- Rule: a view is refused before a byte of it is written. Tried by export_rows.
 abbrev pub admission : Reply → Option Reply
 admission reply = if reply.number == 0 then None else Some reply

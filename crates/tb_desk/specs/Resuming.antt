@@ -1,10 +1,10 @@
 -- Sessions that send a list, each from where the one before it stopped: where they lead, and what they are told.
-use Rattle.std.specs.Prelude.{◌≡◌, ◌⊎◌, ℕ, ◌+◌, ◌<◌, ◌≤◌, List, [], ◌∷◌, ◌++◌, Some, length, take, slice_get}
+use Rattle.std.specs.Prelude.{◌≡◌, ◌⊎◌, ℕ, ◌+◌, ◌<◌, ◌≤◌, false, List, [], ◌∷◌, ◌++◌, Some, length, take, slice_get}
 use Rattle.tb_calls.specs.declared.call.Call.{Call}
 use Rattle.tb_reply.specs.declared.reply.Reply.{Reply}
 use Rattle.tb_calls.specs.declared.call.KeptReply.{KeptReply}
 use Rattle.tb_calls.specs.Call.{State, kept_for, plain, once, reply, replies_to}
-use Rattle.tb_desk.specs.Sessions.{IsAgain, Sent, calls_of, Sending, stands, replies_at, WasKnown, next_after}
+use Rattle.tb_desk.specs.Sessions.{IsCopy, Sent, Sending, WasKnown, calls_of, comes_at_once, next_after, replies_at, stands}
 
 -- The calls sent until a stop, how many were answered, and how many stand.
 pub record Session : Type 0 where
@@ -35,16 +35,16 @@ abbrev pub sessions_of : List Sending → List Session
 sessions_of [] = []
 sessions_of (x ∷ xs) = session_of x ∷ sessions_of xs
 
--- A call of the list before this number comes again: its caller was known when it came first, or no other call of the list came since.
+-- A copy of a call of the list before this number comes: at once and with the same key, or the call's caller was known when it came.
 pub record ComesAgain (s : State) (calls : List Call) (next : ℕ) (x : Sent) : Type 0 where
   pub first : Call
   pub before : x.number < next
   pub is_first : slice_get calls x.number ≡ Some first
-  pub again : IsAgain first x.call
-  pub known : (x.number + 1 ≡ next) ⊎ WasKnown s calls x.number
+  pub copy : IsCopy first x.call
+  pub known : comes_at_once calls next x ≡ false → WasKnown s calls x.number
 
--- From the call of this number on, the calls of the list come in order and as they are. In between or behind, calls that came before
--- come again.
+-- From the call of this number on, the calls of the list come in order and as they are. In between or behind, copies of calls that came
+-- before come.
 abbrev pub ComeInOrder : State → List Call → ℕ → List Sent → Type 0
 ComeInOrder s calls next [] = Unit {0}
 ComeInOrder s calls next (x ∷ xs) =
@@ -63,12 +63,12 @@ abbrev pub SessionsJoin : Type 0
 SessionsJoin = (s : State) (xs : List Session) → led_to s xs ≡ plain s (once s (standing xs))
 
 -- Sessions that send a list, in which calls may come again at any moment, lead to the state of the list handled once; and each answer is
--- the reply to that call of the list after the calls before it. The list is of all calls, whoever sends them over whichever connection,
--- so that other people's calls may come between a call and its coming again.
+-- the reply to that call of the list after the calls before it, but for a copy that isn't heard when it comes. The list is of all calls,
+-- whoever sends them over whichever connection, so that other people's calls may come between a call and its coming again.
 abbrev pub SessionsResume : Type 0
 SessionsResume = (s : State) (calls : List Call) (xs : List Sending) → Resume s calls 0 xs
     → (led_to s (sessions_of xs) ≡ plain s (once s calls))
-    × (told s (sessions_of xs) ≡ replies_at s calls xs)
+    × (told s (sessions_of xs) ≡ replies_at s calls 0 xs)
 
 -- What a call was told whose caller was known is the reply that is kept in the end, where its content is the one kept.
 abbrev pub ToldIsKept : Type 0

@@ -10,7 +10,7 @@ use Rattle.tb_core.specs.declared.refusal.Refusal.{Refusal}
 use Rattle.tb_core.specs.declared.refusal.Refusal.TheVariants.{NoBoard, NoTask}
 use Rattle.tb_core.specs.Apply.{board_for}
 use Rattle.tb_board.specs.Tasks.{has_id}
-use Rattle.tb_board.specs.World.{key_of, number_of}
+use Rattle.tb_board.specs.World.{has_key, key_of, number_of}
 use Rattle.tb_report.specs.Lists.{listing}
 use Rattle.tb_report.specs.Showing.{shown, shown_task}
 use Rattle.tb_todotxt.specs.FileTexts.{file_text}
@@ -19,7 +19,7 @@ use Rattle.tb_reply.specs.declared.roles.PersonRole.{PersonRole}
 use Rattle.tb_reply.specs.Roles.{me_text, people_text}
 use Rattle.tb_calls.specs.declared.view.View.{View}
 use Rattle.tb_calls.specs.declared.view.View.TheVariants.{Export, Listing, Me, One, People, Todo}
-use Rattle.tb_calls.specs.Call.{State, has_key, unknown_caller}
+use Rattle.tb_calls.specs.Call.{State, unknown_caller}
 use Rattle.tb_calls.specs.Roles.{boards_of, people_for}
 use Rattle.tb_reply.specs.Reply.{reply_of}
 
@@ -33,6 +33,7 @@ one_text b None m = Err NoTask
 one_text b (Some t) m = Ok (shown_text (shown_task b m t))
 
 -- what one looks at on a board; a board that isn't there, or on which the person has no role, isn't shown
+-- Rule: a view asks for any role on the board. Refused as NoBoard. Tried by me_and_people.
 abbrev pub seen_on : Option SeenBoard → (Board → Result (List ℕ) Refusal) → Result (List ℕ) Refusal
 seen_on None shows = Err NoBoard
 seen_on (Some seen) shows = shows seen.board

@@ -1,9 +1,9 @@
 //! Whether a view is accepted, over any keeper.
 ghost use Rattle.std.specs.Prelude.{◌≡◌, ℕ, IfOk, IsErrOf, IsSome, false, find, true};
 ghost use Rattle.tb_board.specs.Tasks.{has_id};
-ghost use Rattle.tb_board.specs.World.{key_of, number_of};
+ghost use Rattle.tb_board.specs.World.{has_key, key_of, number_of};
 ghost use Rattle.tb_calls.specs.declared.fault.KeepFault.TheVariants.{Store};
-ghost use Rattle.tb_calls.specs.Call.{State, has_key};
+ghost use Rattle.tb_calls.specs.Call.{State};
 ghost use Rattle.tb_calls.specs.Keep.{IsStill, is_store};
 ghost use Rattle.tb_calls.specs.Roles.{role_on};
 ghost use Rattle.tb_desk.specs.Admitting.{admission, refusal_in, refusal_without};

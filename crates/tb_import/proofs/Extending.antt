@@ -14,7 +14,7 @@ extends-after : (b : Board) (is : List Incoming) → ExtendsBoard b (board_after
 extends-after b is =
     let new = new_tasks b is in
     let start = with_masks b new in
-    subst (ExtendsBoard b) (sym (shape b new start new)) (board-append b _ (entered_tasks b new start.gone new) refl refl refl)
+    subst (ExtendsBoard b) (sym (shape b new start new)) (board-append b _ (entered_tasks b new start.gone new) refl refl)
 
 unless-refused : (b : Board) (is : List Incoming) (o : Option ImportRefusal) → IfOk (unless_refused o (board_after b is) (counts_after b is)) (λ after. ExtendsBoard b after.0)
 unless-refused b is None = extends-after b is

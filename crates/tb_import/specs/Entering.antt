@@ -44,6 +44,7 @@ abbrev pub is_gone : List Gone → ℕ → ℕ → Bool
 is_gone gs id k = list_any (is_gone_at id k) gs
 
 -- what came as parent and as place is a gone place of a template
+-- Rule: an instance takes a gone place of its template. Tried by place_is_taken_once.
 abbrev pub is_taken : Board → List Incoming → List Gone → Option ℕ → Option ℕ → Bool
 is_taken b new gs None imask = false
 is_taken b new gs (Some id) None = false
@@ -63,10 +64,12 @@ abbrev pub left_by : Board → List Incoming → List Gone → Incoming → List
 left_by b new gs i = if takes b new gs i then without_taken gs i.raw_parent i.raw_imask else gs
 
 -- it came as an instance, and is none
+-- Rule: an instance without such a place becomes a plain task. Tried by orphan.
 abbrev pub is_orphan : Bool → Incoming → Bool
 is_orphan taking i = is_linked i && not taking
 
 -- the tasks on which it depends, of those that are on the board or new
+-- Rule: links to tasks that aren't there are left out. Tried by orphan_and_lost_link.
 abbrev pub kept_depends : Board → List Incoming → List ℕ → List ℕ
 kept_depends b new ids = filter (is_there b new) ids
 

@@ -19,5 +19,6 @@ found_new b found (i ∷ is) = if is_there b found i.task.id then found_new b fo
     else found_new b (found ++ i ∷ []) is
 
 -- the tasks that are neither on the board nor earlier in the list
+-- Rule: a task that is there already stays as it is. Tried by import_that_comes_twice.
 abbrev pub new_tasks : Board → List Incoming → List Incoming
 new_tasks b is = found_new b [] is

@@ -60,6 +60,7 @@ least (None ∷ rs) = least rs
 least (Some r ∷ rs) = Some r
 
 -- in order of their numbers
+-- Rule: one bad task refuses the whole import. Refused as BadTask. Tried by import_bad_task.
 abbrev pub import_refusals : Board → List Incoming → List (Option ImportRefusal)
 import_refusals b is = bad_task 0 is ∷ where_holds Cycle (is_cyclic (board_after b is))
     ∷ where_holds Full (is_too_full (board_after b is)) ∷ []

@@ -15,6 +15,7 @@ use Rattle.tb_json.specs.declared.fault.JsonFault.TheVariants.{BadField}
 use Rattle.tb_task.specs.Limits.{longest_text}
 
 -- null and the empty text mean that an attribute is absent
+-- Rule: null and the empty text are absence. Tried by tasks_read.
 abbrev pub unless_blank : Data → Option Data
 unless_blank null = None
 unless_blank (boolean b) = Some (boolean b)

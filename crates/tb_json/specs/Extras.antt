@@ -10,6 +10,7 @@ use Rattle.tb_task.specs.declared.extra.ExtraValue.{ExtraValue}
 use Rattle.tb_task.specs.declared.extra.ExtraValue.TheVariants.{Text, Whole, Truth, Null}
 
 -- what the value of an extra attribute says
+-- Rule: an extra is a text, a 64-bit number, a truth value or null. Tried by json_attributes.
 abbrev pub value_form : Data → Option ExtraValue
 value_form null = Some Null
 value_form (boolean b) = Some (Truth b)

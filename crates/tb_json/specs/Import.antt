@@ -50,6 +50,7 @@ name_of (BadField name) = name
 name_of NoMemory = []
 
 -- an import's task has its identifier
+-- Rule: each task of a JSON import has a uuid. Refused as BadBody. Tried by imported_texts.
 abbrev pub if_named : ℕ → Incoming → Result Incoming ImportFault
 if_named at i = if i.named then Ok i else Err (BadTask at (codes "uuid"))
 

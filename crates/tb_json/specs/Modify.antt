@@ -52,6 +52,7 @@ removable_form name d =
     else (if is_moment_name name then moment_setting d
     else (if bytes_eq name (codes "priority") then priority_setting d else tags_setting d))
 
+-- Rule: null removes these attributes alone. Refused as BadBody. Tried by bad_edits.
 abbrev pub is_removable : List ℕ → Bool
 is_removable name =
     list_any (bytes_eq name)

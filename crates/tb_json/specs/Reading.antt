@@ -26,6 +26,7 @@ is_closed Completed = true
 is_closed Deleted = true
 
 -- a task with a step and no parent is a template
+-- Rule: without a status a task is pending, or recurring. Tried by tasks_read.
 abbrev pub default_status : Fields → Status
 default_status f = if is_some f.second.recur && not (is_some f.second.parent) then Recurring
     else Pending
@@ -137,6 +138,7 @@ settled m i =
     }
 
 -- the rules, one after another
+-- Rule: what doesn't go together is left out and counted. Tried by tasks_read.
 unfoldable pub incoming_of : ℕ → Fields → Incoming
 incoming_of m f =
     settled m (with_fit_end m (with_fit_mask (with_fit_recur (with_fit_link (drafted m f)))))

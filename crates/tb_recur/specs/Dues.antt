@@ -17,6 +17,7 @@ abbrev pub if_moment : ℕ → Option ℕ
 if_moment m = if nat_le m 253402300799 then Some m else None
 
 -- k steps after a moment, at the same time of day
+-- Rule: the due dates are counted from the template's own. Tried by recurrences.
 unfoldable pub due : ℕ → Step → ℕ → Option ℕ
 due m step k = if_moment (day_after (m / 86400) step k * 86400 + m % 86400)
 

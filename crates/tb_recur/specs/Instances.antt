@@ -50,6 +50,7 @@ abbrev pub delay_of : Task → ℕ → ℕ
 delay_of t k = seconds_between t.due (due_of t k)
 
 -- instance k of t under this identifier, made at m
+-- Rule: an instance copies its template as it stands at the sweep. Tried by recurrences.
 unfoldable pub instance : Task → ℕ → ℕ → ℕ → Task
 instance t k id m =
     record t {

@@ -11,6 +11,7 @@ pub record IsClamped (months day : ℕ) (d : Date) : Type 0 where
   pub day_in : d.day ≡ min day (days_in_month (pos (months / 12)) (months % 12 + 1))
 
 -- the date n months after another, on that day of the month, or on its last where the month is shorter
+-- Rule: in a shorter month the last day is due. Tried by rent_month_end.
 abbrev pub months_later : CivilDate → ℕ → CivilDate
 months_later d n =
     let months = d.year * 12 + (d.month - 1) + n in

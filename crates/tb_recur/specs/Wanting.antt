@@ -4,6 +4,7 @@ use Rattle.tb_recur.specs.declared.plan.Plan.{Plan}
 use Rattle.tb_recur.specs.Dues.{due, IsStep}
 
 -- not after the last one wanted, where there is a last
+-- Rule: no instance is due after the template's until. Tried by recurrences.
 abbrev pub is_by : ℕ → Option ℕ → Bool
 is_by x None = true
 is_by x (Some until) = nat_le x until

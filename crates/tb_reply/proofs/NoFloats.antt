@@ -3,7 +3,7 @@ use Rattle.std.proofs.Common.{◌≡◌, ℕ, List, false, refl}
 use Rattle.serde_json.specs.Written.{has_float}
 use Rattle.tb_task.specs.TaskId.{id_text}
 use Rattle.tb_core.specs.declared.command.Answer.{Answer}
-use Rattle.tb_core.specs.declared.command.Answer.TheVariants.{OnBoard, NewPerson, NewBoard}
+use Rattle.tb_core.specs.declared.command.Answer.TheVariants.{OnBoard, OfPerson, NewBoard}
 use Rattle.tb_core.specs.declared.command.BoardAnswer.{BoardAnswer}
 use Rattle.tb_import.specs.declared.imported.ImportCounts.{ImportCounts}
 use Rattle.tb_core.specs.declared.command.AnswerDetail.{AnswerDetail}
@@ -39,5 +39,5 @@ detail_without_float a Swept = swept_without_float a
 
 pub answer_without_float : (a : Answer) → has_float (answer_body a) ≡ false
 answer_without_float (OnBoard a) = detail_without_float a a.detail
-answer_without_float (NewPerson name) = refl
+answer_without_float (OfPerson name) = refl
 answer_without_float (NewBoard n) = refl

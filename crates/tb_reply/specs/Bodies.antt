@@ -6,13 +6,13 @@ use Rattle.tb_task.specs.declared.checks.Field.{Field}
 use Rattle.tb_task.specs.declared.checks.Field.TheVariants.{EmptyDescription, BadTag, BadText, BadPair}
 use Rattle.tb_core.specs.Refusal.{number_of}
 use Rattle.tb_core.specs.declared.command.Answer.{Answer}
-use Rattle.tb_core.specs.declared.command.Answer.TheVariants.{OnBoard, NewPerson, NewBoard}
+use Rattle.tb_core.specs.declared.command.Answer.TheVariants.{OnBoard, OfPerson, NewBoard}
 use Rattle.tb_core.specs.declared.command.BoardAnswer.{BoardAnswer}
 use Rattle.tb_import.specs.declared.imported.ImportCounts.{ImportCounts}
 use Rattle.tb_core.specs.declared.command.AnswerDetail.{AnswerDetail}
 use Rattle.tb_core.specs.declared.command.AnswerDetail.TheVariants.{Added, Changed, Imported, TodoImported, Swept}
 use Rattle.tb_core.specs.declared.refusal.Refusal.{Refusal}
-use Rattle.tb_core.specs.declared.refusal.Refusal.TheVariants.{UnknownCaller, IdReused, NoBoard, NotAllowed, NoTask, WrongStatus, UuidTaken, BadTask, BadTaskAt, TemplateFixed, NoLink, Cycle, Full, NoPerson, LastOwner, NameTaken}
+use Rattle.tb_core.specs.declared.refusal.Refusal.TheVariants.{UnknownCaller, IdReused, NoBoard, NotAllowed, NoTask, WrongStatus, UuidTaken, BadTask, BadTaskAt, TemplateFixed, NoLink, Cycle, Full, NoPerson, LastOwner, NameTaken, KeyDiffers}
 
 abbrev pub refusal_name : Refusal → List ℕ
 refusal_name UnknownCaller = codes "UnknownCaller"
@@ -31,6 +31,7 @@ refusal_name Full = codes "Full"
 refusal_name NoPerson = codes "NoPerson"
 refusal_name LastOwner = codes "LastOwner"
 refusal_name NameTaken = codes "NameTaken"
+refusal_name KeyDiffers = codes "KeyDiffers"
 
 abbrev pub field_name : Field → List ℕ
 field_name EmptyDescription = codes "EmptyDescription"
@@ -56,6 +57,7 @@ refused_field Full = None
 refused_field NoPerson = None
 refused_field LastOwner = None
 refused_field NameTaken = None
+refused_field KeyDiffers = None
 
 -- which task of a list it is, counted from 0, where that is why
 abbrev pub refused_place : Refusal → Option ℕ
@@ -75,6 +77,7 @@ refused_place Full = None
 refused_place NoPerson = None
 refused_place LastOwner = None
 refused_place NameTaken = None
+refused_place KeyDiffers = None
 
 -- the members in front of which a field stands, if there is one
 abbrev pub with_field : Option (List ℕ) → Members → Data
@@ -149,5 +152,5 @@ board_body n = object (member (codes "board") (number (unsigned n)) no_members)
 
 abbrev pub answer_body : Answer → Data
 answer_body (OnBoard a) = detail_body a a.detail
-answer_body (NewPerson name) = person_body name
+answer_body (OfPerson name) = person_body name
 answer_body (NewBoard n) = board_body n

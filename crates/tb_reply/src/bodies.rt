@@ -31,7 +31,7 @@ pub(crate) fn body_of_answer(alloc: Global, answer: &Answer) -> Result<Value, Al
 {
     match answer {
         Answer::OnBoard(answer) => body_on_board(alloc, answer, &answer.detail),
-        Answer::NewPerson { name } => body_of_person(alloc, name),
+        Answer::OfPerson { name } => body_of_person(alloc, name),
         Answer::NewBoard { board } => body_of_board(alloc, *board),
     }
 }
@@ -174,6 +174,7 @@ fn name_of_refusal(refusal: Refusal) -> &'static str
         Refusal::NoPerson => "NoPerson",
         Refusal::LastOwner => "LastOwner",
         Refusal::NameTaken => "NameTaken",
+        Refusal::KeyDiffers => "KeyDiffers",
     }
 }
 

@@ -13,6 +13,7 @@ use Rattle.tb_report.specs.Row.{row_text, shown_text}
 use Rattle.tb_report.specs.Urgencies.{is_waiting_now, urgency_of}
 
 -- pending and waiting tasks are listed
+-- Rule: the listing has pending and waiting tasks. Tried by cycle.
 abbrev pub is_listed : Status → Bool
 is_listed Pending = true
 is_listed Waiting = true

@@ -9,6 +9,7 @@ abbrev pub Rank : Type 0
 Rank = Reverse ℤ × ℕ
 
 -- the greater urgency goes first, then the lower place
+-- Rule: the listing falls by urgency, then goes by place. Tried by cycle.
 abbrev pub rank_order : Rank → Rank → Ordering
 rank_order a b = ordering_then (int_cmp b.0.0 a.0.0) (nat_cmp a.1 b.1)
 

@@ -20,6 +20,7 @@ abbrev pub shown_awake : Board → List Shown
 shown_awake b = map (shown_on b) b.tasks
 
 -- every task of the woken board, in order of entry
+-- Rule: a view wakes what it shows, and writes nothing. Tried by waiting_until.
 abbrev pub shown : Board → ℕ → List Shown
 shown b m = shown_awake (wake b m)
 

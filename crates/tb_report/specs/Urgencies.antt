@@ -87,6 +87,7 @@ urgency_awake b m place t =
     urgency_of (is_marked (blocked b) place) (is_marked (blocking b) place) m t
 
 -- that of the task of the woken board at a place, counted from 1
+-- Rule: urgency is cut after three decimals, and not term by term. Tried by urgencies.
 abbrev pub urgency_at : Board → ℕ → ℕ → Option ℤ
 urgency_at b m place =
     option_map (urgency_awake (wake b m) m (place - 1)) (slice_get (wake b m).tasks (place - 1))

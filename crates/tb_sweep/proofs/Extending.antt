@@ -17,7 +17,7 @@ extends-instances m t k zero b = board-refl b
 extends-instances m t k (suc n) b =
     let made = instance t k (free_id b) m in
     let one = with_task b made in
-    board-trans b one (with_instances m t (k + 1) n one) (board-append b one (made ∷ []) refl refl refl) (extends-instances m t (k + 1) n one)
+    board-trans b one (with_instances m t (k + 1) n one) (board-append b one (made ∷ []) refl refl) (extends-instances m t (k + 1) n one)
 
 extends-grown : (m : ℕ) (b : Board) (t : Task) → ExtendsBoard b (grown m b t)
 extends-grown m b t =

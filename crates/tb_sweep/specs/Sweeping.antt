@@ -21,17 +21,20 @@ abbrev pub need_of : Task → ℕ → ℕ → ℕ
 need_of t ahead m = planned_need (plan_of t) ahead m
 
 -- how many instances a template gets: those it needs beyond its count, but so many at once at most and no more than there is room for
+-- Rule: a sweep fills a board at most. Tried by full_board_has_no_room_for_instances.
 abbrev pub batch : ℕ → Board → Task → ℕ
 batch m b t = min (min most_at_once (most_tasks - length b.tasks))
     (need_of t b.ahead m - count b t.id)
 
 -- the instances from k on, so many, one after the other, each under the least free number
+-- Rule: instances go last, under the least free numbers. Tried by instances_of_a_template.
 abbrev pub with_instances : ℕ → Task → ℕ → ℕ → Board → Board
 with_instances m t k zero b = b
 with_instances m t k (suc more) b =
     with_instances m t (k + 1) more (with_task b (instance t k (free_id b) m))
 
 -- a template that recurs gets its instances
+-- Rule: a deleted template gets no more instances. Tried by no test.
 abbrev pub grown : ℕ → Board → Task → Board
 grown m b t = if is_recurring t.status then with_instances m t (count b t.id) (batch m b t) b else b
 

@@ -2,6 +2,7 @@
 use Rattle.std.specs.Prelude.{ℕ, Bool, List, [], ◌∷◌, bytes_eq, codes}
 use Rattle.std.specs.List.{list_any}
 
+-- Rule: these names are attributes, and any other is an extra. Tried by edits.
 abbrev pub attribute_names : List (List ℕ)
 attribute_names =
     codes "annotations" ∷ codes "depends" ∷ codes "description" ∷ codes "due" ∷ codes "end"

@@ -23,6 +23,7 @@ abbrev pub is_empty : List ℕ → Bool
 is_empty [] = true
 is_empty (c ∷ cs) = false
 
+-- Rule: a tag isn't empty and has no blank. Refused as BadTask. Tried by tasks.
 unfoldable pub is_bad_tag : List ℕ → Bool
 is_bad_tag tag = is_empty tag || list_any is_blank tag
 
@@ -63,10 +64,12 @@ is_step None = false
 is_step (Some text) = is_some (step_of text)
 
 -- a recurring task lacks its due date or a step that can be read
+-- Rule: a template has a due date and a valid step. Refused as BadTask. Tried by unreadable_step.
 unfoldable pub has_bad_recurrence : Task → Bool
 has_bad_recurrence t = is_recurring t.status && not (is_some t.due && is_step t.recur)
 
 -- a parent goes with a place in the parent's mask
+-- Rule: a task has a parent and a place, or neither. Refused as BadTask. Tried by tasks.
 abbrev pub has_half_link : Task → Bool
 has_half_link t = not (beq (is_some t.parent) (is_some t.imask))
 
@@ -82,6 +85,7 @@ refused None = Ok tt
 refused (Some fault) = Err fault
 
 -- the first fault that the task has
+-- Rule: descriptions come first, then tags, texts, pairs. Refused as BadTask. Tried by tasks.
 unfoldable pub fault_of : Task → Option Field
 fault_of t =
     if is_empty t.description then Some EmptyDescription

@@ -72,6 +72,7 @@ unfoldable pub row_step : (ℕ → Step) → List ℕ → List ℕ → List ℕ 
 row_step step short long s = option_map step (row_number short long s)
 
 -- the step that a text writes: the first row of the table that has it
+-- Rule: a step is a word, or 1 to 999 with a unit. Refused as BadTask. Tried by steps.
 unfoldable pub step_of : List ℕ → Option Step
 step_of s =
     first_of_two (word_step s) (first_of_two (calendar_word_step s)

@@ -12,6 +12,7 @@ use Rattle.tb_todotxt.specs.declared.fault.FileFault.TheVariants.{TooMany, Memor
 use Rattle.tb_task.specs.Limits.{most_items}
 
 -- The lines that aren't skipped, which are those of spaces and tabs alone. A carriage return before a line feed isn't the line's.
+-- Rule: blank lines are skipped and not counted. Tried by blank_lines.
 abbrev pub kept_lines : List ℕ → List (List ℕ)
 kept_lines text = filter (λ line. not (is_blank line)) (lines text)
 

@@ -28,6 +28,7 @@ end_of true day m = Some (start_or day m)
 end_of false day m = None
 
 -- A is high, B is medium, C is low; the other letters say nothing
+-- Rule: (A), (B), (C) are H, M, L, and other letters are lost. Tried by todo_tasks.
 abbrev pub priority_of : Option ℕ → Option Priority
 priority_of None = None
 priority_of (Some letter) =
@@ -42,6 +43,7 @@ filled_or [] body = body
 filled_or (b ∷ bs) body = b ∷ bs
 
 -- the name of a line in its board's space: the line, a line feed, and how many equal lines came before it
+-- Rule: equal lines of one import are tasks of their own. Tried by equal_todo_lines.
 abbrev pub line_id : LineParts → ℕ → ℕ → ℕ
 line_id l board occurrence = named_id (made board 0) (spell l ++ 10 ∷ decimal occurrence)
 

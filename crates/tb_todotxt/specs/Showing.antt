@@ -50,6 +50,7 @@ parts_of done t = record {
   body = body_of t;
 }
 
+-- Rule: pending, waiting and completed tasks have lines. Tried by todo_out.
 abbrev pub line_for_status : Status → Task → Option LineParts
 line_for_status Pending t = Some (parts_of false t)
 line_for_status Waiting t = Some (parts_of false t)

@@ -61,6 +61,7 @@ abbrev pub with_plain : BodyWords → List ℕ → BodyWords
 with_plain b word = record b { description = joined b.description word }
 
 -- each tag is taken, and of a project, a due date and an identifier the first; the other words are the description's
+-- Rule: of several due: words the first counts. Tried by todo_tasks.
 abbrev pub with_kind : BodyWords → List ℕ → Kind → BodyWords
 with_kind b word Project = if is_some b.project then with_plain b word
     else record b { project = Some (drop 1 word) }
