@@ -12,6 +12,7 @@ abbrev pub masks_of : List TaskRow → List (Option (List ℕ))
 masks_of rows = map (λ (row : TaskRow). row.mask) rows
 
 -- the board has this row, and this for how far ahead it looks, its tasks in order of place these masks, and it has these links and these instances, in any order
+-- Rule: check compares the rows of each board with its tasks. Tried by audit_finds.
 pub record AreAsStored (b : Board) (row : BoardRow) (horizon : Option HorizonRow)
     (tasks : List TaskRow) (links : List LinkRow) (instances : List InstanceRow) : Type 0 where
   pub row_is : row ≡ board_row b

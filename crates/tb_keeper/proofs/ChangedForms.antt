@@ -6,11 +6,12 @@ use Rattle.tb_task.specs.declared.task.Task.{Task}
 use Rattle.tb_task.specs.declared.extra.Extra.{Extra}
 use Rattle.tb_task.specs.Ranges.{IsNamedExtra}
 use Rattle.tb_task.specs.Storable.{IsStorable, IsStorableExtra}
-use Rattle.tb_board.specs.declared.board.Board.{Board}
 use Rattle.tb_board.specs.declared.change.Change.{Change}
-use Rattle.tb_board.specs.declared.change.Change.TheVariants.{PutTask, AddPerson, AddBoard, SetRole, SetGone, TakeGone, SetAhead}
+use Rattle.tb_board.specs.declared.change.Change.TheVariants.{PutTask, AddPerson, SetKey, AddBoard, SetTitle, SetRole, SetGone, TakeGone, SetAhead}
 use Rattle.tb_board.specs.declared.world.World.{World}
-use Rattle.tb_board.specs.Changing.{changed, changed_by, change_board, put, with_ahead, with_gone, with_task_at, without_gone}
+use Rattle.tb_board.specs.Changing.{changed, changed_by, put, with_ahead, with_gone, with_key, with_task_at, with_title, without_gone}
+use Rattle.tb_board.specs.First.{change_first}
+use Rattle.tb_board.specs.World.{has_name, has_number}
 use Rattle.tb_reopen.specs.Forms.{HasBoardForm, HasForm, HasMark, HasPersonForm, HasTaskForm}
 use Rattle.tb_keeper.specs.Forms.{HasChangeForm}
 
@@ -50,38 +51,46 @@ all_put ts place t all form = elim (nat_lt place (length ts)) as (λ b. AllByRec
   | false ↦ all_pushed HasTaskForm ts t all form
 ]
 
-one_changed : (n : ℕ) (f : Board → Board) → ((b : Board) → HasBoardForm b → HasBoardForm (f b)) → (bs : List Board) → AllByRecursion HasBoardForm bs → AllByRecursion HasBoardForm (change_board n f bs)
-one_changed n f keeps [] all = tt
-one_changed n f keeps (b ∷ bs) all = elim (Rattle.tb_board.specs.World.has_number n b) as (λ c. AllByRecursion HasBoardForm (cond c (f b ∷ bs) (b ∷ change_board n f bs))) [
-  | true ↦ (keeps b all.0, all.1)
-  | false ↦ (all.0, one_changed n f keeps bs all.1)
+one_changed : {X : Type 0} (P : X → Type 0) (test : X → Bool) (f : X → X) → ((x : X) → P x → P (f x)) → (xs : List X) → AllByRecursion P xs → AllByRecursion P (change_first test f xs)
+one_changed P test f keeps [] all = tt
+one_changed P test f keeps (x ∷ xs) all = elim (test x) as (λ c. AllByRecursion P (cond c (f x ∷ xs) (x ∷ change_first test f xs))) [
+  | true ↦ (keeps x all.0, all.1)
+  | false ↦ (all.0, one_changed P test f keeps xs all.1)
 ]
 
 change_kept : (w : World) (c : Change) → HasForm w → HasChangeForm c → HasForm (changed_by w c)
 change_kept w (PutTask n place t) form has = record {
   people = form.people;
-  boards = one_changed n (with_task_at place t) (λ b own. record { title = own.title; tasks = all_put b.tasks place t own.tasks has; gone = own.gone; ahead = own.ahead }) w.boards form.boards;
+  boards = one_changed HasBoardForm (has_number n) (with_task_at place t) (λ b own. record { title = own.title; tasks = all_put b.tasks place t own.tasks has; gone = own.gone; ahead = own.ahead }) w.boards form.boards;
 }
 change_kept w (AddPerson name key) form has = record {
   people = all_pushed HasPersonForm w.people _ form.people (record { name = has.0; key = has.1 });
+  boards = form.boards;
+}
+change_kept w (SetKey name key) form has = record {
+  people = one_changed HasPersonForm (has_name name) (with_key key) (λ p own. record { name = own.name; key = has }) w.people form.people;
   boards = form.boards;
 }
 change_kept w (AddBoard n title) form has = record {
   people = form.people;
   boards = all_pushed HasBoardForm w.boards _ form.boards (record { title = has; tasks = tt; gone = tt; ahead = refl });
 }
+change_kept w (SetTitle n title) form has = record {
+  people = form.people;
+  boards = one_changed HasBoardForm (has_number n) (with_title title) (λ b own. record { title = has; tasks = own.tasks; gone = own.gone; ahead = own.ahead }) w.boards form.boards;
+}
 change_kept w (SetRole n person role) form has = record { people = form.people; boards = form.boards }
 change_kept w (SetGone n g) form has = record {
   people = form.people;
-  boards = one_changed n (with_gone g) (λ b own. record { title = own.title; tasks = own.tasks; gone = all_pushed HasMark b.gone g own.gone has; ahead = own.ahead }) w.boards form.boards;
+  boards = one_changed HasBoardForm (has_number n) (with_gone g) (λ b own. record { title = own.title; tasks = own.tasks; gone = all_pushed HasMark b.gone g own.gone has; ahead = own.ahead }) w.boards form.boards;
 }
 change_kept w (TakeGone n id k) form has = record {
   people = form.people;
-  boards = one_changed n (without_gone id k) (λ b own. record { title = own.title; tasks = own.tasks; gone = all_left HasMark _ b.gone own.gone; ahead = own.ahead }) w.boards form.boards;
+  boards = one_changed HasBoardForm (has_number n) (without_gone id k) (λ b own. record { title = own.title; tasks = own.tasks; gone = all_left HasMark _ b.gone own.gone; ahead = own.ahead }) w.boards form.boards;
 }
 change_kept w (SetAhead n ahead) form has = record {
   people = form.people;
-  boards = one_changed n (with_ahead ahead) (λ b own. record { title = own.title; tasks = own.tasks; gone = own.gone; ahead = has }) w.boards form.boards;
+  boards = one_changed HasBoardForm (has_number n) (with_ahead ahead) (λ b own. record { title = own.title; tasks = own.tasks; gone = own.gone; ahead = has }) w.boards form.boards;
 }
 
 pub changes_kept : (w : World) (cs : List Change) → HasForm w → AllByRecursion HasChangeForm cs → HasForm (changed w cs)

@@ -76,7 +76,7 @@ module _ (s : State) (changes : List Change) (call : Call) (reply : Reply) (rows
   rows_written =
       let later = changed s.world changes in
       let effect = follow.tables (with_kept kept content) (with_one s kept content of_s.same.tables) in
-      let rest = with_reply_rows s.world later may.extends.more may.extends.people s.kept (name_of call) (kept_of call reply) of_s.people may.known may.new content.kept of_s.same.kept in
+      let rest = with_reply_rows s.world later may.extends.people s.kept (name_of call) (kept_of call reply) of_s.people may.known may.new content.kept of_s.same.kept in
       let all : List KeptRow = map (kept_row later) (entries (insert s.kept (name_of call) (kept_of call reply))) in
       let kept_rows = subst (λ (k : KeptRow). IsPermutation (k ∷ content.kept) all) (sym row) rest in
       let same : IsSameContent (written rows kept content) (state_rows (with_reply s changes call reply)) = record { tables = of_state s changes call reply (written rows kept content) effect; kept = subst (λ (l : List KeptRow). IsPermutation l all) (sym (follow.kept (with_kept kept content))) kept_rows } in
@@ -84,7 +84,7 @@ module _ (s : State) (changes : List Change) (call : Call) (reply : Reply) (rows
         apart = of_s.apart;
         good = may.good;
         form = form;
-        people = with_reply_known s.world later may.extends.more may.extends.people s.kept (name_of call) (kept_of call reply) of_s.people may.known may.new;
+        people = with_reply_known s.world later may.extends.people s.kept (name_of call) (kept_of call reply) of_s.people may.known may.new;
         same = same;
       }
 

@@ -6,10 +6,11 @@ use Rattle.std.proofs.lemmas.List.Sums.{sum_by-append, sum_by-cons}
 use Rattle.std.proofs.lemmas.List.{take_all, take_more}
 use Rattle.tb_board.specs.declared.board.Board.{Board}
 use Rattle.tb_board.specs.declared.change.Change.{Change}
-use Rattle.tb_board.specs.declared.change.Change.TheVariants.{PutTask, AddPerson, AddBoard, SetRole, SetGone, TakeGone, SetAhead}
+use Rattle.tb_board.specs.declared.change.Change.TheVariants.{PutTask, AddPerson, SetKey, AddBoard, SetTitle, SetRole, SetGone, TakeGone, SetAhead}
 use Rattle.tb_board.specs.declared.world.World.{World}
-use Rattle.tb_board.specs.Changing.{changed, changed_by, with_ahead, with_gone, with_task_at, without_gone}
+use Rattle.tb_board.specs.Changing.{changed, changed_by, with_ahead, with_gone, with_key, with_task_at, with_title, without_gone}
 use Rattle.tb_board.specs.First.{change_first}
+use Rattle.tb_board.specs.World.{has_name}
 use Rattle.tb_cache.specs.BoardCache.{AreOf}
 use Rattle.tb_core.specs.GoodWorld.{IsGoodWorld}
 use Rattle.tb_keeper.specs.Counts.{is_new_board, is_new_person, one_if}
@@ -55,7 +56,9 @@ people_by : (w : World) (c : Change) → length (changed_by w c).people ≡ leng
 unfolding is_new_person
 people_by w (PutTask n place t) = omega arith
 people_by w (AddPerson name key) = length-append w.people _
+people_by w (SetKey name key) = let same = length-change (has_name name) (with_key key) w.people in omega (arith, same)
 people_by w (AddBoard n title) = omega arith
+people_by w (SetTitle n title) = omega arith
 people_by w (SetRole n person role) = omega arith
 people_by w (SetGone n g) = omega arith
 people_by w (TakeGone n id k) = omega arith
@@ -65,7 +68,9 @@ boards_by : (w : World) (c : Change) → length (changed_by w c).boards ≡ leng
 unfolding is_new_board
 boards_by w (PutTask n place t) = let same = length-change (λ (b : Board). b.number == n) (with_task_at place t) w.boards in omega (arith, same)
 boards_by w (AddPerson name key) = omega arith
+boards_by w (SetKey name key) = omega arith
 boards_by w (AddBoard n title) = length-append w.boards _
+boards_by w (SetTitle n title) = let same = length-change (λ (b : Board). b.number == n) (with_title title) w.boards in omega (arith, same)
 boards_by w (SetRole n person role) = omega arith
 boards_by w (SetGone n g) = let same = length-change (λ (b : Board). b.number == n) (with_gone g) w.boards in omega (arith, same)
 boards_by w (TakeGone n id k) = let same = length-change (λ (b : Board). b.number == n) (without_gone id k) w.boards in omega (arith, same)

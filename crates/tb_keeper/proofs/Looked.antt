@@ -1,25 +1,31 @@
 -- What is looked up is what a command looks at.
-use Rattle.std.proofs.Common.{◌≡◌, ◌∙◌, inl, inr, ℕ, true, true≢false, List, [], ◌∷◌, Option, Some, None, Ordering, nat_eq, option_map, unwrap_or, refl, sym, ap, subst}
-use Rattle.std.specs.Prelude.{IfSome, IsSome, is_some}
+use Rattle.std.proofs.Common.{◌≡◌, ◌∙◌, ◌==◌, inl, inr, if◌then◌else◌, ℕ, Bool, true, false, true≢false, List, [], ◌∷◌, Option, Some, None, Ordering, nat_eq, option_map, unwrap_or, refl, sym, ap, subst}
+use Rattle.std.specs.Prelude.{IfSome, IsSome, is_some, slice_get, find as found_among}
 use Rattle.std.specs.List.{AllByRecursion}
 use Rattle.std.specs.Map.{lookup}
+use Rattle.std.specs.Option.{option_and_then}
 use Rattle.std.specs.FinMap.{entries, find, get, get-entries}
 use Rattle.std.specs.Ordering.{eq_by_cmp, is_eq}
 use Rattle.std.specs.declared.cmp.Ordering.TheVariants.{Less, Equal, Greater}
 use Rattle.std.proofs.lemmas.Bool.{cases_Bool, eqb-true}
 use Rattle.std.proofs.lemmas.Map.Views.{Contains-from_lookup}
+use Rattle.std.proofs.lemmas.Slice.Eq.{bytes_eq-Decides}
 use Rattle.sqlite.specs.State.{State as Database}
 use Rattle.tb_board.specs.declared.board.Board.{Board}
+use Rattle.tb_board.specs.declared.world.Person.{Person}
 use Rattle.tb_board.specs.declared.world.Role.{Role}
+use Rattle.tb_board.specs.declared.world.Role.TheVariants.{Owner}
 use Rattle.tb_board.specs.declared.world.World.{World}
-use Rattle.tb_board.specs.World.{find_board, key_of, number_of, role_of}
+use Rattle.tb_board.specs.World.{find_board, has_name, key_of, number_of, role_of}
 use Rattle.tb_board.proofs.Worlds.{number_found}
 use Rattle.tb_cache.specs.BoardCache.{AreOf}
 use Rattle.tb_calls.specs.declared.call.KeptReply.{KeptReply}
 use Rattle.tb_calls.specs.Call.{CallName, State, name_cmp}
+use Rattle.tb_calls.specs.Roles.{person_at}
 use Rattle.tb_calls.proofs.Names.{names_exact}
-use Rattle.tb_core.specs.Apply.{board_for, board_of, owners_for, person_for, seen_of, seen_with}
+use Rattle.tb_core.specs.Apply.{board_for, board_of, board_seen, board_taken, owners_for, person_for, seen_of, seen_with}
 use Rattle.tb_core.specs.declared.command.Command.{Command}
+use Rattle.tb_core.specs.declared.command.Command.TheVariants.{NewPerson, NewBoard, OwnKey, SetKey, SetRole, Take, OnBoard}
 use Rattle.tb_core.specs.declared.look.Seen.{Seen}
 use Rattle.tb_core.specs.declared.look.SeenPerson.{SeenPerson}
 use Rattle.tb_core.specs.declared.look.SeenBoard.{SeenBoard}
@@ -30,23 +36,42 @@ use Rattle.tb_lookup.specs.Roles.{AreRolesFound, role_for}
 use Rattle.tb_stored.specs.Stored.{IsKnown, IsStored}
 use Rattle.tb_keeper.specs.declared.looking.Glance.{Glance}
 use Rattle.tb_keeper.specs.declared.looking.Parties.{Parties}
-use Rattle.tb_keeper.specs.Looking.{caller_role, AreParties, IsGlance, IsGlanceAt, IsSeenAtHand}
+use Rattle.tb_keeper.specs.Looking.{board_at, caller_role, takes, AreParties, IsGlance, IsGlanceAt, IsSeenAtHand}
 use Rattle.tb_keeper.specs.Holds.{IsAtHand}
 
 -- ---- people
 
 module _ (w : World) (name : List ℕ) (found : Option StoredPerson) where
-  pub person_key : (p : StoredPerson) → found ≡ Some p → IsPersonFound w name found → Some p.key ≡ key_of w name
-  person_key p is are = sym (subst (IsPersonFound w name) is are).1
+  pub person_own : (p : StoredPerson) → found ≡ Some p → IsPersonFound w name found → Some (record { name = name; key = p.key }) ≡ found_among (has_name name) w.people
+  person_own p is are = sym (subst (IsPersonFound w name) is are).1
+
+  pub person_key : (p : StoredPerson) → found ≡ Some p → IsPersonFound w name found → p.key ≡ key_of w name
+  person_key p is are = ap (option_and_then (λ (own : Person). own.key)) (person_own p is are)
 
   pub person_number : (p : StoredPerson) → found ≡ Some p → IsPersonFound w name found → Some p.number ≡ number_of w name
   person_number p is are = sym (subst (IsPersonFound w name) is are).0
 
+  pub nobody_own : found ≡ None → IsPersonFound w name found → None ≡ found_among (has_name name) w.people
+  nobody_own is are = sym (subst (IsPersonFound w name) is are).1
+
   pub nobody_key : found ≡ None → IsPersonFound w name found → None ≡ key_of w name
-  nobody_key is are = sym (subst (IsPersonFound w name) is are).1
+  nobody_key is are = ap (option_and_then (λ (own : Person). own.key)) (nobody_own is are)
 
   pub nobody_number : found ≡ None → IsPersonFound w name found → None ≡ number_of w name
   nobody_number is are = sym (subst (IsPersonFound w name) is are).0
+
+-- ---- the first person
+
+-- whoever has the first person's name and comes first is the first person
+first_named : (name : List ℕ) (people : List Person) → option_map (λ (p : Person). p.name) (slice_get people 0) ≡ Some name → found_among (has_name name) people ≡ slice_get people 0
+first_named name [] is = refl
+first_named name (p ∷ people) is =
+    let same : p.name ≡ name = cc in
+    rw ((bytes_eq-Decides p.name name).1 same) refl
+
+pub first_found : (w : World) (name : List ℕ) (found : Option Person) (p : Person) → found ≡ Some p → option_map (λ (p : Person). p.name) (person_at w 1) ≡ Some name → found ≡ found_among (has_name name) w.people
+    → person_at w 1 ≡ Some p
+first_found w name found p is named among = sym (first_named name w.people named) ∙ (sym among ∙ is)
 
 -- ---- kept replies
 
@@ -55,23 +80,23 @@ equal_of Less h = absurd (cc)
 equal_of Equal h = refl
 equal_of Greater h = absurd (cc)
 
-not_known : (o : Option (List ℕ)) → o ≡ None → IsSome o → ⊥
+not_known : (o : Option ℕ) → o ≡ None → IsSome o → ⊥
 not_known o none some = true≢false (sym some ∙ ap is_some none)
 
-module _ (w : World) (name : List ℕ) (id : ℕ) (none : key_of w name ≡ None) where
+module _ (w : World) (name : List ℕ) (id : ℕ) (none : number_of w name ≡ None) where
   none_under : (es : List (CallName × KeptReply)) → AllByRecursion (IsKnown w) es → find name_cmp (name, id) es ≡ None
   none_under [] known = refl
   none_under (e ∷ es) known =
       elim (cases_Bool (eq_by_cmp name_cmp (name, id) e.0)) [
         | inl same ↦
             let is : (name, id) ≡ e.0 = names_exact (name, id) e.0 (equal_of (name_cmp (name, id) e.0) same) in
-            let nobody : key_of w e.0.0 ≡ None = ap (λ (q : CallName). key_of w q.0) (sym is) ∙ none in
+            let nobody : number_of w e.0.0 ≡ None = ap (λ (q : CallName). number_of w q.0) (sym is) ∙ none in
             absurd (not_known _ nobody known.0)
         | inr other ↦ rw other (none_under es known.1)
       ]
 
 -- nothing is kept for a name that nobody has
-pub nothing_kept : (s : State) (d : Database) (name : List ℕ) (id : ℕ) → IsStored s d → key_of s.world name ≡ None → None ≡ get s.kept (name, id)
+pub nothing_kept : (s : State) (d : Database) (name : List ℕ) (id : ℕ) → IsStored s d → number_of s.world name ≡ None → None ≡ get s.kept (name, id)
 nothing_kept s d name id stored none =
     sym (get-entries s.kept (name, id) ∙ none_under s.world name id none (entries s.kept) stored.rows.people)
 
@@ -107,9 +132,11 @@ own_number w n (Some b) is = ap (find_board w) (number_found n w.boards b (sym i
 
 -- ---- what a command looks at
 
-board_seen : (w : World) (n : ℕ) (caller : Option ℕ) (role : Option Role) → role ≡ role_of w n (unwrap_or caller 0) → seen_with (caller_role caller role) (find_board w n) ≡ board_for w caller (Some n)
-board_seen w n None role is = refl
-board_seen w n (Some caller) role is = ap (λ o. seen_with o (find_board w n)) is
+role_seen : (w : World) (n : ℕ) (taken : Bool) (caller : Option ℕ) (role : Option Role) → role ≡ role_of w n (unwrap_or caller 0) → seen_with (caller_role taken caller role) (find_board w n) ≡ board_at w taken caller n
+role_seen w n true None role is = refl
+role_seen w n true (Some caller) role is = ap (λ o. seen_with (if caller == 1 then Some Owner else o) (find_board w n)) is
+role_seen w n false None role is = refl
+role_seen w n false (Some caller) role is = ap (λ o. seen_with o (find_board w n)) is
 
 abbrev person_with : Option Role → ℕ → SeenPerson
 person_with role n = record { number = n; role = role }
@@ -122,46 +149,69 @@ person_off : (w : World) (other : Option ℕ) → option_map (person_with None) 
 person_off w None = refl
 person_off w (Some other) = refl
 
-board_off : (w : World) (caller : Option ℕ) → None ≡ board_for w caller None
-board_off w None = refl
-board_off w (Some caller) = refl
+no_board : (w : World) (caller : Option ℕ) → None ≡ board_for w caller None
+no_board w None = refl
+no_board w (Some caller) = refl
+
+-- a command that names no board sees none
+board_off : (w : World) (caller : Option ℕ) (c : Command) → board_of c ≡ None → None ≡ board_seen w caller c
+board_off w caller (NewPerson name key) off = no_board w caller
+board_off w caller (NewBoard title) off = no_board w caller
+board_off w caller (OwnKey old new) off = no_board w caller
+board_off w caller (SetKey name key) off = no_board w caller
+board_off w caller (SetRole n name role) off = absurd (cc)
+board_off w caller (Take n) off = absurd (cc)
+board_off w caller (OnBoard n c) off = absurd (cc)
+
+-- the others see the one that they name
+board_on : (w : World) (caller : Option ℕ) (c : Command) (n : ℕ) → board_of c ≡ Some n → board_at w (takes c) caller n ≡ board_seen w caller c
+board_on w caller (NewPerson name key) n on = absurd (cc)
+board_on w caller (NewBoard title) n on = absurd (cc)
+board_on w caller (OwnKey old new) n on = absurd (cc)
+board_on w caller (SetKey name key) n on = absurd (cc)
+board_on w caller (SetRole m name role) n on = let same : n ≡ m = cc in ap (λ k. board_for w caller (Some k)) same
+board_on w caller (Take m) n on = let same : n ≡ m = cc in ap (board_taken w caller) same
+board_on w caller (OnBoard m c) n on = let same : n ≡ m = cc in ap (λ k. board_for w caller (Some k)) same
 
 -- the glance at a board
-pub glance_at : (w : World) (n : ℕ) (parties : Parties) (caller : ℕ) (roles : RolesFound) (role : Option Role) (seen : Option SeenBoard) (other : Option SeenPerson) → caller ≡ unwrap_or parties.caller 0
-    → AreRolesFound w n caller parties.other roles → role ≡ caller_role parties.caller roles.caller → seen ≡ seen_with role (find_board w n) → other ≡ option_map (person_with roles.other) parties.other
-    → IsGlanceAt w n parties (record { caller = parties.caller; board = seen; other = other; owners = roles.owners })
-glance_at w n parties caller roles role seen other caller_is found role_is seen_is other_is = record {
+pub glance_at : (w : World) (n : ℕ) (taken : Bool) (parties : Parties) (caller : ℕ) (roles : RolesFound) (role : Option Role) (seen : Option SeenBoard) (other : Option SeenPerson) → caller ≡ unwrap_or parties.caller 0
+    → AreRolesFound w n caller parties.other roles → role ≡ caller_role taken parties.caller roles.caller → seen ≡ seen_with role (find_board w n) → other ≡ option_map (person_with roles.other) parties.other
+    → IsGlanceAt w n taken parties (record { caller = parties.caller; own = parties.own; board = seen; other = other; owners = roles.owners })
+glance_at w n taken parties caller roles role seen other caller_is found role_is seen_is other_is = record {
   caller_is = refl;
-  board_is = seen_is ∙ ap (λ o. seen_with o (find_board w n)) role_is ∙ board_seen w n parties.caller roles.caller (found.caller_is ∙ ap (role_of w n) caller_is);
+  own_is = refl;
+  board_is = seen_is ∙ ap (λ o. seen_with o (find_board w n)) role_is ∙ role_seen w n taken parties.caller roles.caller (found.caller_is ∙ ap (role_of w n) caller_is);
   other_is = other_is ∙ person_seen w n parties.other roles.other found.other_is;
   owners_are = found.owners_are;
 }
 
 -- where a command names a board
-pub glance_on : (w : World) (name : List ℕ) (c : Command) (parties : Parties) (glance : Glance) (n : ℕ) → board_of c ≡ Some n → AreParties w name c parties → IsGlanceAt w n parties glance → IsGlance w name c glance
+pub glance_on : (w : World) (name : List ℕ) (c : Command) (parties : Parties) (glance : Glance) (n : ℕ) → board_of c ≡ Some n → AreParties w name c parties → IsGlanceAt w n (takes c) parties glance → IsGlance w name c glance
 glance_on w name c parties glance n on are at = record {
   caller_is = at.caller_is ∙ are.caller_is;
-  board_is = at.board_is ∙ (λ i. board_for w (are.caller_is i) (sym on i));
+  own_is = at.own_is ∙ are.own_is;
+  board_is = at.board_is ∙ ap (λ o. board_at w (takes c) o n) are.caller_is ∙ board_on w (number_of w name) c n on;
   other_is = at.other_is ∙ (λ i. person_for w (sym on i) (are.other_is i));
   owners_are = at.owners_are ∙ ap (owners_for w) (sym on);
 }
 
 -- and where it names none
 pub glance_off : (w : World) (name : List ℕ) (c : Command) (parties : Parties) (other : Option SeenPerson) → board_of c ≡ None → AreParties w name c parties → other ≡ option_map (person_with None) parties.other
-    → IsGlance w name c (record { caller = parties.caller; board = None; other = other; owners = 0 })
+    → IsGlance w name c (record { caller = parties.caller; own = parties.own; board = None; other = other; owners = 0 })
 glance_off w name c parties other off are other_is = record {
   caller_is = are.caller_is;
-  board_is = board_off w (number_of w name) ∙ ap (board_for w (number_of w name)) (sym off);
+  own_is = are.own_is;
+  board_is = board_off w (number_of w name) c off;
   other_is = other_is ∙ person_off w parties.other ∙ (λ i. person_for w (sym off i) (are.other_is i));
   owners_are = ap (owners_for w) (sym off);
 }
 
 -- with how many people and boards there are it is all that a command looks at
 pub all_seen : (w : World) (name : List ℕ) (c : Command) (glance : Glance) (people boards : ℕ) (cached : List (ℕ × Board)) (seen : Seen)
-    → seen ≡ record { caller = glance.caller; board = glance.board; other = glance.other; owners = glance.owners; people = people; boards = boards } → IsAtHand people boards cached w → IsGlance w name c glance → seen ≡ seen_of w name c
+    → seen ≡ record { caller = glance.caller; own = glance.own; board = glance.board; other = glance.other; owners = glance.owners; people = people; boards = boards } → IsAtHand people boards cached w → IsGlance w name c glance → seen ≡ seen_of w name c
 all_seen w name c glance people boards cached seen is hand at = is ∙ same
   where
-    same : record { caller = glance.caller; board = glance.board; other = glance.other; owners = glance.owners; people = people; boards = boards } ≡ seen_of w name c
+    same : record { caller = glance.caller; own = glance.own; board = glance.board; other = glance.other; owners = glance.owners; people = people; boards = boards } ≡ seen_of w name c
     same = λ i.
-        let now : Seen = record { caller = at.caller_is i; board = at.board_is i; other = at.other_is i; owners = at.owners_are i; people = hand.people_are i; boards = hand.boards_are i } in
+        let now : Seen = record { caller = at.caller_is i; own = at.own_is i; board = at.board_is i; other = at.other_is i; owners = at.owners_are i; people = hand.people_are i; boards = hand.boards_are i } in
         now

@@ -1,13 +1,14 @@
 //! What the types of the values in changes keep of them, told by functions that look.
 
-ghost use Rattle.std.specs.Prelude.{◌≡◌, true};
+ghost use Rattle.std.specs.Prelude.{◌≡◌, IfSome, true};
 ghost use Rattle.std.specs.List.{AllByRecursion};
 ghost use Rattle.tb_board.specs.Ahead.{is_ahead};
+ghost use Rattle.tb_board.specs.Names.{is_key};
 ghost use Rattle.tb_task.specs.Mask.{is_mark};
 ghost use Rattle.tb_keeper.specs.Forms.{HasChangeForm};
 ghost use Rattle.tb_reopen.specs.Forms.{HasTaskForm};
 
-use tb_board::{Ahead, Change};
+use tb_board::{Ahead, Change, Key};
 use tb_task::{Mark, Task, check};
 
 /// Whether names, keys, titles, tasks and marks have their forms. Those of a good world do.
@@ -32,7 +33,11 @@ fn has_form(change: &Change) -> bool
             key.has_form();
             true
         }
-        Change::AddBoard { title, .. } => {
+        Change::SetKey { key, .. } => {
+            has_key_form(key);
+            true
+        }
+        Change::AddBoard { title, .. } | Change::SetTitle { title, .. } => {
             title.has_form();
             true
         }
@@ -45,6 +50,14 @@ fn has_form(change: &Change) -> bool
             true
         }
         Change::SetRole { .. } | Change::TakeGone { .. } => true,
+    }
+}
+
+fn has_key_form(key: &Option<Key>)
+    ensures { IfSome key.now (λ k. is_key k ≡ true) }
+{
+    if let Some(key) = key {
+        key.has_form();
     }
 }
 

@@ -12,6 +12,7 @@ mod committing;
 mod creating;
 mod export_fault;
 mod exporting;
+mod first_person;
 pub mod first_version;
 mod forms;
 mod lending;

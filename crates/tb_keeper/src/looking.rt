@@ -1,30 +1,33 @@
 //! What is looked up for a call.
 
-ghost use Rattle.std.specs.Prelude.{◌≡◌, ℕ, IfOk, Some, false};
+ghost use Rattle.std.specs.Prelude.{◌≡◌, ℕ, IfOk, Some, false, find};
 ghost use Rattle.std.specs.FinMap.{get};
 ghost use Rattle.std.specs.Option.{option_map};
 ghost use Rattle.sqlite.specs.Held.{state};
-ghost use Rattle.tb_board.specs.World.{find_board, key_of, number_of};
+ghost use Rattle.tb_board.specs.World.{find_board, has_name, key_of, number_of};
 ghost use Rattle.tb_cache.specs.BoardCache.{AreOf};
-ghost use Rattle.tb_core.specs.Apply.{board_of, number_for, other_of, seen_with};
+ghost use Rattle.tb_calls.specs.Roles.{person_at};
+ghost use Rattle.tb_core.specs.Apply.{board_of, number_for, other_of, own_for, seen_with};
 ghost use Rattle.tb_sql.specs.Opening.{IsAsBefore};
 ghost use Rattle.tb_stored.specs.Reopening.{OfState};
-ghost use Rattle.tb_keeper.specs.Looking.{AreParties, IsGlance, IsGlanceAt, IsSeenAtHand, caller_role};
+ghost use Rattle.tb_keeper.specs.Looking.{AreParties, IsGlance, IsGlanceAt, IsSeenAtHand, caller_role, takes};
 
 use crate::at_hand::board_at;
 use sqlite::{Alter, Connection};
 use std::alloc::Global;
-use tb_board::{Key, Name, Role};
+use tb_board::{Key, Name, Person, Role};
 use tb_cache::BoardCache;
 use tb_calls::KeptReply;
 use tb_core::{Command, Seen, SeenBoard, SeenPerson};
 use tb_lookup::people::stored_person;
+use tb_lookup::people_on::stored_name;
 use tb_lookup::replies::stored_reply;
 use tb_lookup::roles::roles_found;
 use tb_sql::store::StoreFault;
 use tb_task::TaskId;
+use tb_values::Duplicate;
 
-/// The key of the person of a name.
+/// The key of the person of a name, who may have none.
 pub(crate) fn find_key<S: Alter>(
     alloc: Global,
     conn: &mut Connection<S>,
@@ -40,8 +43,29 @@ pub(crate) fn find_key<S: Alter>(
         return Err(StoreFault::Store); // Never: each call ends its transaction.
     }
     match stored_person(alloc, conn, name)? {
-        Some(person) => Ok(Some(person.key)),
+        Some(person) => Ok(person.key),
         None => Ok(None),
+    }
+}
+
+/// The first person.
+pub(crate) fn find_first<S: Alter>(
+    alloc: Global,
+    conn: &mut Connection<S>,
+) -> Result<Person, StoreFault>
+    ensures idle { conn.old.in_transaction ≡ false → conn.new.in_transaction ≡ false }
+    ensures found { IfOk result
+        (λ person. OfState (state S.Store conn.old) (state S.Store conn.new)
+        (λ s. person_at s.world 1 ≡ Some person)) }
+    ensures same { IsAsBefore (state S.Store conn.old) (state S.Store conn.new) }
+{
+    if !conn.is_autocommit() {
+        return Err(StoreFault::Store);
+    }
+    let name = stored_name(alloc, conn, 1)?;
+    match find_person(alloc, conn, &name)? {
+        Some(person) => Ok(person),
+        None => Err(StoreFault::Store), // Never: somebody has the name that was read.
     }
 }
 
@@ -71,6 +95,7 @@ pub(crate) fn find_reply<S: Alter>(
 #[derive(Drop)]
 pub(crate) struct Glance {
     pub caller: Option<usize>,
+    pub own: Option<Person>,
     pub board: Option<SeenBoard>,
     pub other: Option<SeenPerson>,
     pub owners: usize,
@@ -82,6 +107,7 @@ impl Glance {
         ensures { result
             ≡ record {
               caller = self.caller;
+              own = self.own;
               board = self.board;
               other = self.other;
               owners = self.owners;
@@ -91,12 +117,14 @@ impl Glance {
     {
         let Glance {
             caller,
+            own,
             board,
             other,
             owners,
         } = self;
         Seen {
             caller,
+            own,
             board,
             other,
             owners,
@@ -106,14 +134,16 @@ impl Glance {
     }
 }
 
-/// The numbers of the caller and of the other person whom a command names.
-#[derive(Clone, Copy)]
+/// The caller's number, the caller where the command is about that person's own key, and the number of the other person whom a command
+/// names.
+#[derive(Drop)]
 pub(crate) struct Parties {
     pub caller: Option<usize>,
+    pub own: Option<Person>,
     pub other: Option<usize>,
 }
 
-/// What the command of a person looks at. A board that isn't there or on which the caller has no role is never read.
+/// What the command of a person looks at. A board that isn't there, or that the caller neither takes nor has a role on, is never read.
 pub(crate) fn look_up<S: Alter>(
     alloc: Global,
     conn: &mut Connection<S>,
@@ -135,9 +165,10 @@ pub(crate) fn look_up<S: Alter>(
     }
     let parties = find_parties(alloc, conn, name, command)?;
     match command.board() {
-        Some(board) => glance_at(alloc, conn, cache, board, parties),
+        Some(board) => glance_at(alloc, conn, cache, board, takes(command), parties),
         None => Ok(Glance {
             caller: parties.caller,
+            own: parties.own,
             board: None,
             other: seen_person(parties.other, None),
             owners: 0,
@@ -159,8 +190,56 @@ fn find_parties<S: Alter>(
     ensures same { IsAsBefore (state S.Store conn.old) (state S.Store conn.new) }
 {
     let caller = find_number(alloc, conn, name)?;
+    let own = find_own(alloc, conn, name, command)?;
     let other = find_other(alloc, conn, command)?;
-    Ok(Parties { caller, other })
+    Ok(Parties { caller, own, other })
+}
+
+/// The caller, where the command is about that person's own key.
+fn find_own<S: Alter>(
+    alloc: Global,
+    conn: &mut Connection<S>,
+    name: &Name,
+    command: &Command,
+) -> Result<Option<Person>, StoreFault>
+    requires { conn.old.in_transaction ≡ false }
+    ensures idle { conn.new.in_transaction ≡ false }
+    ensures found { IfOk result (λ own. OfState (state S.Store conn.old) (state S.Store conn.new)
+        (λ s. own ≡ own_for s.world name.now command.now)) }
+    ensures same { IsAsBefore (state S.Store conn.old) (state S.Store conn.new) }
+{
+    match command {
+        Command::OwnKey { .. } => find_person(alloc, conn, name),
+        Command::NewPerson { .. }
+        | Command::NewBoard { .. }
+        | Command::SetKey { .. }
+        | Command::SetRole { .. }
+        | Command::Take { .. }
+        | Command::OnBoard { .. } => Ok(None),
+    }
+}
+
+fn find_person<S: Alter>(
+    alloc: Global,
+    conn: &mut Connection<S>,
+    name: &Name,
+) -> Result<Option<Person>, StoreFault>
+    requires { conn.old.in_transaction ≡ false }
+    ensures idle { conn.new.in_transaction ≡ false }
+    ensures found { IfOk result (λ person. OfState (state S.Store conn.old) (state S.Store conn.new)
+        (λ s. person ≡ find (has_name name.now) s.world.people)) }
+    ensures same { IsAsBefore (state S.Store conn.old) (state S.Store conn.new) }
+{
+    let Some(person) = stored_person(alloc, conn, name)? else {
+        return Ok(None);
+    };
+    match name.duplicate() {
+        Ok(name) => Ok(Some(Person {
+            name,
+            key: person.key,
+        })),
+        Err(_) => Err(StoreFault::Memory),
+    }
 }
 
 fn find_other<S: Alter>(
@@ -197,18 +276,26 @@ fn find_number<S: Alter>(
     }
 }
 
+/// Whether the command takes a board.
+fn takes(command: &Command) -> bool
+    ensures { result ≡ takes command.now }
+{
+    matches!(command, Command::Take { .. })
+}
+
 /// What is seen of a board.
 fn glance_at<S: Alter>(
     alloc: Global,
     conn: &mut Connection<S>,
     cache: &mut BoardCache,
     board: u32,
+    takes: bool,
     parties: Parties,
 ) -> Result<Glance, StoreFault>
     requires { conn.old.in_transaction ≡ false }
     ensures idle { conn.new.in_transaction ≡ false }
     ensures found { IfOk result (λ glance. OfState (state S.Store conn.old) (state S.Store conn.new)
-        (λ s. AreOf s.world cache.old.entries → IsGlanceAt s.world board parties glance)) }
+        (λ s. AreOf s.world cache.old.entries → IsGlanceAt s.world board takes parties glance)) }
     ensures at_hand { IfOk result (λ glance. IsSeenAtHand cache.new.entries board glance.board) }
     ensures cached { OfState (state S.Store conn.old) (state S.Store conn.new)
         (λ s. AreOf s.world cache.old.entries → AreOf s.world cache.new.entries) }
@@ -216,17 +303,18 @@ fn glance_at<S: Alter>(
 {
     let caller = parties.caller.unwrap_or(0); // Nobody has this number.
     let roles = roles_found(alloc, conn, board, caller, parties.other)?;
-    let role = role_of_caller(parties.caller, roles.caller);
+    let role = role_of_caller(takes, parties.caller, roles.caller);
     let seen = see_board(alloc, conn, cache, board, role)?;
     Ok(Glance {
         caller: parties.caller,
+        own: parties.own,
         board: seen,
         other: seen_person(parties.other, roles.other),
         owners: roles.owners,
     })
 }
 
-/// The board of a number, where the caller has a role on it.
+/// The board of a number, where the caller sees it in a role.
 fn see_board<S: Alter>(
     alloc: Global,
     conn: &mut Connection<S>,
@@ -253,10 +341,12 @@ fn see_board<S: Alter>(
     }
 }
 
-fn role_of_caller(caller: Option<usize>, role: Option<Role>) -> Option<Role>
-    ensures { result ≡ caller_role caller role }
+/// The role in which the caller sees a board. The first person sees one that it takes as an owner does.
+fn role_of_caller(takes: bool, caller: Option<usize>, role: Option<Role>) -> Option<Role>
+    ensures { result ≡ caller_role takes caller role }
 {
     match caller {
+        Some(number) if takes && number == 1 => Some(Role::Owner),
         Some(_) => role,
         None => None,
     }

@@ -1,21 +1,24 @@
 -- The row of a name tells the person of that name.
-use Rattle.std.proofs.Common.{◌≡◌, ◌∙◌, ◌⊎◌, inl, inr, ◌+◌, ◌<◌, ℕ, true, false, not, true≢false, List, [], ◌∷◌, map, filter, find, length, Option, Some, None, refl, sym, ap, arith, IsPermutation}
+use Rattle.std.proofs.Common.{◌≡◌, ◌∙◌, ◌⊎◌, inl, inr, ◌+◌, ◌<◌, ℕ, true, false, not, true≢false, List, [], ◌∷◌, map, filter, find, length, Option, Some, None, Result, Ok, refl, sym, ap, arith, IsPermutation}
 use Rattle.std.specs.Prelude.{nat_lt}
 use Rattle.std.specs.List.{prefix_len, position_or_len, AllByRecursion, IsDistinct}
-use Rattle.std.specs.Option.{option_map}
 use Rattle.std.specs.Str.{bytes_eq}
 use Rattle.std.proofs.lemmas.Bool.{cases_Bool}
 use Rattle.std.proofs.lemmas.Bool.Decides.{nat_tests}
 use Rattle.std.proofs.lemmas.Slice.Eq.{bytes_eq-Decides}
 use Rattle.tb_board.specs.declared.world.Person.{Person}
 use Rattle.tb_board.specs.declared.world.World.{World}
-use Rattle.tb_board.specs.World.{has_name, key_of, number_of}
-use Rattle.tb_board.specs.Names.{is_key, read_key}
-use Rattle.tb_rows.specs.Rows.{person_row, rows_from}
+use Rattle.tb_board.specs.World.{has_name, number_of}
+use Rattle.tb_rows.specs.Rows.{person_row, rows_from, secret_of}
 use Rattle.tb_sql.specs.Changes.{is_named}
 use Rattle.tb_sql_tables.specs.Found.{IsOneOf}
 use Rattle.tb_sql_tables.specs.declared.rows.PersonRow.{PersonRow}
+use Rattle.tb_reopen.specs.declared.fault.ReopenFault.{ReopenFault}
+use Rattle.tb_reopen.specs.Forms.{HasPersonForm}
+use Rattle.tb_reopen.specs.Reading.{secret_in}
 use Rattle.tb_reopen.proofs.OneOf.{none_found, one_found}
+use Rattle.tb_reopen.proofs.ReadPeople.{secret_read}
+use Rattle.tb_lookup.specs.People.{IsPersonFound}
 
 -- the rows of people who are numbered from there
 abbrev pub rows : ℕ → List Person → List PersonRow
@@ -28,9 +31,6 @@ names people = map (λ (p : Person). p.name) people
 abbrev ahead : List ℕ → List Person → ℕ
 ahead name people = prefix_len (λ p. not (has_name name p)) people
 
-abbrev key_in : List ℕ → List Person → Option (List ℕ)
-key_in name people = option_map (λ (p : Person). p.key) (find (has_name name) people)
-
 none_named : (name first : List ℕ) (n : ℕ) (people : List Person) → bytes_eq first name ≡ true → AllByRecursion (λ y. bytes_eq first y ≡ false) (names people) → filter (is_named name) (rows n people) ≡ []
 none_named name first n [] same apart = refl
 none_named name first n (p ∷ people) same apart =
@@ -42,19 +42,23 @@ none_named name first n (p ∷ people) same apart =
 record IsNobody (name : List ℕ) (n : ℕ) (people : List Person) : Type 0 where
   none : filter (is_named name) (rows n people) ≡ []
   behind : ahead name people ≡ length people
-  key : key_in name people ≡ None
+  nobody : find (has_name name) people ≡ None
 
 record IsSomebody (name : List ℕ) (n : ℕ) (people : List Person) : Type 0 where
   row : PersonRow
   one : filter (is_named name) (rows n people) ≡ row ∷ []
   number : row.id ≡ n + ahead name people
   within : ahead name people < length people
-  key : key_in name people ≡ Some row.secret
+  person : Person
+  found : find (has_name name) people ≡ Some person
+  called : person.name ≡ name
+  secret : row.secret ≡ secret_of person.key
+  form : HasPersonForm person
 
-named : (name : List ℕ) (n : ℕ) (people : List Person) → IsDistinct bytes_eq (names people) → IsNobody name n people ⊎ IsSomebody name n people
+named : (name : List ℕ) (n : ℕ) (people : List Person) → IsDistinct bytes_eq (names people) → AllByRecursion HasPersonForm people → IsNobody name n people ⊎ IsSomebody name n people
 unfolding IsDistinct
-named name n [] apart = inl (record { none = refl; behind = refl; key = refl })
-named name n (p ∷ people) apart =
+named name n [] apart forms = inl (record { none = refl; behind = refl; nobody = refl })
+named name n (p ∷ people) apart forms =
     elim (cases_Bool (bytes_eq p.name name)) [
       | inl here ↦
           inr (record {
@@ -62,17 +66,25 @@ named name n (p ∷ people) apart =
             one = rw here (ap (λ l. person_row n p ∷ l) (none_named name p.name (n + 1) people here apart.0));
             number = rw here (omega arith);
             within = rw here (omega arith);
-            key = rw here refl;
+            person = p;
+            found = rw here refl;
+            called = (bytes_eq-Decides p.name name).0 here;
+            secret = refl;
+            form = forms.0;
           })
-      | inr other ↦ elim (named name (n + 1) people apart.1) [
-        | inl none ↦ inl (record { none = rw other none.none; behind = rw other (let is = none.behind in omega (arith, is)); key = rw other none.key })
+      | inr other ↦ elim (named name (n + 1) people apart.1 forms.1) [
+        | inl none ↦ inl (record { none = rw other none.none; behind = rw other (let is = none.behind in omega (arith, is)); nobody = rw other none.nobody })
         | inr some ↦
             inr (record {
               row = some.row;
               one = rw other some.one;
               number = rw other (let is = some.number in omega (arith, is));
               within = rw other (let is = some.within in omega (arith, is));
-              key = rw other some.key;
+              person = some.person;
+              found = rw other some.found;
+              called = some.called;
+              secret = some.secret;
+              form = some.form;
             })
       ]
     ]
@@ -88,29 +100,51 @@ number_some name w within =
     let turned : position_or_len (has_name name) w.people + 1 ≡ 1 + ahead name w.people = omega arith in
     rw here (ap Some turned)
 
-module _ (w : World) (apart : IsDistinct bytes_eq (names w.people)) (people : List PersonRow) (same : IsPermutation people (rows 1 w.people)) (name : List ℕ) where
+-- the person whose row this is has the name
+pub record HasRow (w : World) (name : List ℕ) (row : PersonRow) : Type 0 where
+  pub number : number_of w name ≡ Some row.id
+  pub person : Person
+  pub found : find (has_name name) w.people ≡ Some person
+  pub called : person.name ≡ name
+  pub secret : row.secret ≡ secret_of person.key
+  pub form : HasPersonForm person
+
+module _ (w : World) (apart : IsDistinct bytes_eq (names w.people)) (forms : AllByRecursion HasPersonForm w.people) (people : List PersonRow) (same : IsPermutation people (rows 1 w.people)) (name : List ℕ) where
   -- where no row is found there is no such person
-  pub nobody : IsOneOf (filter (is_named name) people) None → (number_of w name ≡ None) × (key_of w name ≡ None)
-  nobody found = elim (named name 1 w.people apart) [
-    | inl none ↦ (number_none name w none.behind, none.key)
+  pub nobody : IsOneOf (filter (is_named name) people) None → IsPersonFound w name None
+  nobody found = elim (named name 1 w.people apart forms) [
+    | inl none ↦ (number_none name w none.behind, none.nobody)
     | inr some ↦ let is = one_found (is_named name) people (rows 1 w.people) same None some.row some.one found in absurd (cc)
   ]
 
-  -- a row that is found has the person's number and key
-  pub somebody : (row : PersonRow) → IsOneOf (filter (is_named name) people) (Some row) → (number_of w name ≡ Some row.id) × (key_of w name ≡ Some row.secret)
-  somebody row found = elim (named name 1 w.people apart) [
+  -- a row that is found is the person's
+  pub somebody : (row : PersonRow) → IsOneOf (filter (is_named name) people) (Some row) → HasRow w name row
+  somebody row found = elim (named name 1 w.people apart forms) [
     | inl none ↦ let is = none_found (is_named name) people (rows 1 w.people) same (Some row) none.none found in absurd (cc)
     | inr some ↦
         let is : row ≡ some.row = same_Some row some.row (one_found (is_named name) people (rows 1 w.people) same (Some row) some.row some.one found) in
-        (number_some name w some.within ∙ ap Some (sym some.number) ∙ ap (λ (r : PersonRow). Some r.id) (sym is), some.key ∙ ap (λ (r : PersonRow). Some r.secret) (sym is))
+        record {
+          number = number_some name w some.within ∙ ap Some (sym some.number) ∙ ap (λ (r : PersonRow). Some r.id) (sym is);
+          person = some.person;
+          found = some.found;
+          called = some.called;
+          secret = ap (λ (r : PersonRow). r.secret) is ∙ some.secret;
+          form = some.form;
+        }
   ]
     where
       same_Some : (a b : PersonRow) → Some a ≡ Some b → a ≡ b
       same_Some a b h = cc
 
--- what is read of a key is the key
-pub read_is : (text key : List ℕ) → Some key ≡ read_key text → key ≡ text
-read_is text key read = elim (cases_Bool (is_key text)) [
-  | inl formed ↦ let is : Some key ≡ Some text = read ∙ rw formed refl in cc
-  | inr other ↦ let is : Some key ≡ None = read ∙ rw other refl in absurd (cc)
-]
+-- what is read of the secret in that row is the person's key, or that there is none
+pub person_found : (w : World) (name : List ℕ) (row : PersonRow) (key : Option (List ℕ)) → HasRow w name row → secret_in row.secret ≡ Ok key → IsPersonFound w name (Some (record { number = row.id; key = key }))
+person_found w name row key has read = (has.number, has.found ∙ ap Some same)
+  where
+    same_Ok : (a b : Option (List ℕ)) → ◌≡◌ {A = Result (Option (List ℕ)) ReopenFault} (Ok a) (Ok b) → a ≡ b
+    same_Ok a b h = cc
+
+    own : has.person.key ≡ key
+    own = same_Ok _ _ (sym (secret_read has.person.key has.form.key) ∙ ap secret_in (sym has.secret) ∙ read)
+
+    same : has.person ≡ record { name = name; key = key }
+    same = λ i. record { name = has.called i; key = own i }

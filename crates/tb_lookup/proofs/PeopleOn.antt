@@ -8,13 +8,15 @@ use Rattle.sqlite.specs.State.{State as Database}
 use Rattle.tb_board.specs.declared.world.Person.{Person}
 use Rattle.tb_board.specs.declared.world.RoleOn.{RoleOn}
 use Rattle.tb_board.specs.Names.{is_name, read_name}
-use Rattle.tb_calls.specs.Roles.{person_role, with_name}
+use Rattle.tb_board.specs.declared.world.World.{World}
+use Rattle.tb_calls.specs.Roles.{person_at, with_name}
 use Rattle.tb_reply.specs.declared.roles.PersonRole.{PersonRole}
 use Rattle.tb_rows.specs.Rows.{person_row}
 use Rattle.tb_sql.specs.Changes.{is_person}
 use Rattle.tb_sql_tables.specs.declared.rows.PersonRow.{PersonRow}
 use Rattle.tb_sql_tables.specs.Found.{IsOneOf}
 use Rattle.tb_stored.specs.Reopening.{OfContent, OfState}
+use Rattle.tb_lookup.specs.Named.{IsNameAt, IsNamed}
 use Rattle.tb_lookup.proofs.NamedPeople.{rows}
 use Rattle.tb_lookup.proofs.NumberedPeople.{none_before}
 use Rattle.tb_reopen.proofs.OneOf.{none_found, one_found}
@@ -62,24 +64,33 @@ name_is text name read = elim (cases_Bool (is_name text)) [
 abbrev pub named : RoleOn → List ℕ → PersonRole
 named r name = record { name = name; role = r.role }
 
-pub name_stored : (old new : Database) (r : RoleOn) (row : PersonRow) (name : List ℕ) → OfContent old new (λ c. IsOneOf (filter (is_person r.person) c.people) (Some row)) → Some name ≡ read_name row.name
-    → OfState old new (λ s. person_role s.world r ≡ Some (named r name))
-name_stored old new r row name found read clean s stored =
-    elim (cases_Bool (r.person == 0)) [
-      | inl none ↦
-          let never = none_found (is_person r.person) stored.content.people (rows 1 s.world.people) stored.rows.same.tables.people (Some row) (none_before r.person 1 s.world.people (omega (arith, eqb-true r.person 0 none))) is in
-          absurd (cc)
-      | inr some ↦
-          let above : 1 ≤ r.person = omega (arith, eqb-false r.person 0 some) in
-          let there = person_found s.world.people stored.content.people stored.rows.same.tables.people r.person row above is in
-          rw some (go (slice_get s.world.people (r.person - 1)) there)
-    ]
+pub name_stored : (old new : Database) (number : ℕ) (row : PersonRow) (name : List ℕ) → OfContent old new (λ c. IsOneOf (filter (is_person number) c.people) (Some row)) → Some name ≡ read_name row.name
+    → OfState old new (λ s. IsNameAt s.world number name)
+name_stored old new number row name found read clean s stored =
+    record {
+      is = elim (cases_Bool (number == 0)) [
+        | inl none ↦
+            let never = none_found (is_person number) stored.content.people (rows 1 s.world.people) stored.rows.same.tables.people (Some row) (none_before number 1 s.world.people (omega (arith, eqb-true number 0 none))) is in
+            absurd (cc)
+        | inr some ↦
+            let above : 1 ≤ number = omega (arith, eqb-false number 0 some) in
+            let there = person_found s.world.people stored.content.people stored.rows.same.tables.people number row above is in
+            rw some (go (slice_get s.world.people (number - 1)) there)
+      ];
+    }
   where
-    is : IsOneOf (filter (is_person r.person) stored.content.people) (Some row)
+    is : IsOneOf (filter (is_person number) stored.content.people) (Some row)
     is = found clean stored.content stored.stands
 
-    go : (p : Option Person) → option_map (person_row r.person) p ≡ Some row → option_map (with_name r) p ≡ Some (named r name)
+    go : (p : Option Person) → option_map (person_row number) p ≡ Some row → option_map (λ (p : Person). p.name) p ≡ Some name
     go None at = absurd (cc)
     go (Some p) at =
-        let row_is : person_row r.person p ≡ row = cc in
-        ap (λ (t : List ℕ). Some (named r t)) (ap (λ (x : PersonRow). x.name) row_is ∙ sym (name_is row.name name read))
+        let row_is : person_row number p ≡ row = cc in
+        ap (λ (t : List ℕ). Some t) (ap (λ (x : PersonRow). x.name) row_is ∙ sym (name_is row.name name read))
+
+named_by : (r : RoleOn) (name : List ℕ) (p : Option Person) → option_map (λ (p : Person). p.name) p ≡ Some name → option_map (with_name r) p ≡ Some (named r name)
+named_by r name None at = absurd (cc)
+named_by r name (Some p) at = let is : p.name ≡ name = cc in ap (λ (t : List ℕ). Some (named r t)) is
+
+pub role_named : (w : World) (r : RoleOn) (name : List ℕ) → IsNameAt w r.person name → IsNamed w r (named r name)
+role_named w r name at = record { is = named_by r name (person_at w r.person) at.is }

@@ -12,17 +12,19 @@ use crate::halves::{ABOVE_MOST, middle_of};
 use sqlite::{Alter, Connection};
 use std::alloc::Global;
 use tb_board::{Key, Name};
+use tb_reopen::read_secret;
 use tb_sql::store::StoreFault;
 use tb_stored::by_key::{has_person_at, person_row_named};
+use tb_stored::faults::fault_of;
 
-/// A person, by the number under which the tables name them, counted from 1.
+/// A person, by the number under which the tables name them, counted from 1. The person may have no key.
 #[derive(Drop)]
 pub struct StoredPerson {
     pub number: usize,
-    pub key: Key,
+    pub key: Option<Key>,
 }
 
-/// The person of a name, if there is one. A key that no person has is a failure of the store.
+/// The person of a name, if there is one. The empty secret is no key, and any other that no person has is a failure of the store.
 pub fn stored_person<S: Alter>(
     alloc: Global,
     conn: &mut Connection<S>,
@@ -37,13 +39,12 @@ pub fn stored_person<S: Alter>(
     let Some(row) = person_row_named(conn, name.as_str())? else {
         return Ok(None);
     };
-    match Key::read(alloc, row.secret.as_str()) {
-        Ok(Some(key)) => Ok(Some(StoredPerson {
+    match read_secret(alloc, &row.secret) {
+        Ok(key) => Ok(Some(StoredPerson {
             number: row.id as usize,
             key,
         })),
-        Ok(None) => Err(StoreFault::Store),
-        Err(_) => Err(StoreFault::Memory),
+        Err(fault) => Err(fault_of(fault)),
     }
 }
 

@@ -6,7 +6,7 @@ ghost use Rattle.sqlite.specs.Held.{state};
 ghost use Rattle.tb_calls.specs.Roles.{is_on, people_on, person_role as person_role_in};
 ghost use Rattle.tb_sql.specs.Opening.{IsAsBefore};
 ghost use Rattle.tb_stored.specs.Reopening.{OfState};
-ghost use Rattle.tb_lookup.specs.Named.{IsNamed};
+ghost use Rattle.tb_lookup.specs.Named.{IsNameAt, IsNamed};
 
 use crate::gathering::put;
 use sqlite::{Alter, Connection};
@@ -74,7 +74,8 @@ fn with_names<S: Alter>(
     Ok(people)
 }
 
-/// A role, with the name of its person. That there is no such person, or that it has no name, is a failure of the store.
+/// A role, with the name of its person.
+#[tactic(auto, using(crate::proofs::PeopleOn::role_named))]
 fn person_role<S: Alter>(
     alloc: Global,
     conn: &mut Connection<S>,
@@ -86,17 +87,33 @@ fn person_role<S: Alter>(
         (λ s. IsNamed s.world role.now person)) }
     ensures same { IsAsBefore (state S.Store conn.old) (state S.Store conn.new) }
 {
-    let Ok(number) = u32::try_from(role.person) else {
+    let name = stored_name(alloc, conn, role.person)?;
+    Ok(PersonRole {
+        name,
+        role: role.role,
+    })
+}
+
+/// The name of the person of a number. That there is no such person, or that it has no name, is a failure of the store.
+pub fn stored_name<S: Alter>(
+    alloc: Global,
+    conn: &mut Connection<S>,
+    number: usize,
+) -> Result<Name, StoreFault>
+    requires { conn.old.in_transaction ≡ false }
+    ensures idle { conn.new.in_transaction ≡ false }
+    ensures found { IfOk result (λ name. OfState (state S.Store conn.old) (state S.Store conn.new)
+        (λ s. IsNameAt s.world number name)) }
+    ensures same { IsAsBefore (state S.Store conn.old) (state S.Store conn.new) }
+{
+    let Ok(number) = u32::try_from(number) else {
         return Err(StoreFault::Store);
     };
     let Some(row) = person_row_at(conn, number)? else {
         return Err(StoreFault::Store);
     };
     match Name::read(alloc, row.name.as_str()) {
-        Ok(Some(name)) => Ok(PersonRole {
-            name,
-            role: role.role,
-        }),
+        Ok(Some(name)) => Ok(name),
         Ok(None) => Err(StoreFault::Store),
         Err(_) => Err(StoreFault::Memory),
     }

@@ -1,5 +1,5 @@
 -- What the types of a world's values keep of them.
-use Rattle.std.specs.Prelude.{◌≡◌, true}
+use Rattle.std.specs.Prelude.{◌≡◌, true, IfSome}
 use Rattle.std.specs.List.{AllByRecursion}
 use Rattle.std.specs.List.Sorted.{IsStrictlySortedBy}
 use Rattle.tb_task.specs.Extra.{by_name}
@@ -32,7 +32,7 @@ pub record HasBoardForm (b : Board) : Type 0 where
 
 pub record HasPersonForm (p : Person) : Type 0 where
   pub name : is_name p.name ≡ true
-  pub key : is_key p.key ≡ true
+  pub key : IfSome p.key (λ key. is_key key ≡ true)
 
 pub record HasForm (w : World) : Type 0 where
   pub people : AllByRecursion HasPersonForm w.people

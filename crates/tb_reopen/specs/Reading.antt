@@ -1,5 +1,5 @@
 -- The world that rows stand for. Rows that no world has stand for none.
-use Rattle.std.specs.Prelude.{ℕ, ◌+◌, ◌-◌, ◌==◌, Bool, List, [], ◌∷◌, ◌++◌, Result, Ok, Err, if◌then◌else◌, Option, Some, None, length, filter, slice_get}
+use Rattle.std.specs.Prelude.{ℕ, ◌+◌, ◌-◌, ◌==◌, Bool, List, [], ◌∷◌, ◌++◌, Result, Ok, Err, if◌then◌else◌, Option, Some, None, option_map, length, filter, slice_get}
 use Rattle.tb_values.specs.Outcome.{◌>>=◌}
 use Rattle.tb_task.specs.Mask.{mark_in}
 use Rattle.tb_task.specs.declared.task.Task.{Task}
@@ -29,10 +29,16 @@ use Rattle.tb_reopen.specs.declared.fault.ReopenFault.TheVariants.{NotRows}
 
 -- ---- people, who are numbered in order from 1
 
+-- the key of a stored secret: the empty text is no key, and any other text that is no key is a fault
+-- Rule: the empty secret is no key. Tried by rows.
+abbrev pub secret_in : List ℕ → Result (Option (List ℕ)) ReopenFault
+secret_in [] = Ok None
+secret_in (c ∷ cs) = readable (option_map Some (read_key (c ∷ cs)))
+
 abbrev pub person_of : PersonRow → Result Person ReopenFault
 person_of row = do
   name ← readable (read_name row.name)
-  key ← readable (read_key row.secret)
+  key ← secret_in row.secret
   Ok (record { name = name; key = key })
 
 abbrev pub person_at : ℕ → PersonRow → Result Person ReopenFault

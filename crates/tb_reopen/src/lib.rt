@@ -14,5 +14,5 @@ mod tasks;
 
 pub use boards::read_board;
 pub use fault::ReopenFault;
-pub use people::read_people;
+pub use people::{read_people, read_secret};
 pub use roles::add_roles;

@@ -2,13 +2,24 @@
 
 ghost use Rattle.std.specs.Prelude.{[]};
 ghost use Rattle.tb_reopen.specs.Outcome.{Reads};
-ghost use Rattle.tb_reopen.specs.Reading.{person_at, people_in};
+ghost use Rattle.tb_reopen.specs.Reading.{person_at, people_in, secret_in};
 
 use crate::fault::ReopenFault;
 use std::alloc::Global;
 use tb_board::{Key, Name, Person};
 use tb_sql_tables::rows::PersonRow;
-use tb_values::Items;
+use tb_values::{Items, Text};
+
+/// The key that is stored as this text, where the empty text is none.
+pub fn read_secret(alloc: Global, secret: &Text) -> Result<Option<Key>, ReopenFault>
+    ensures { Reads result (secret_in secret.now) }
+{
+    if secret.is_empty() {
+        return Ok(None);
+    }
+    let key = Key::read(alloc, secret.as_str())?.ok_or(ReopenFault::NotRows)?;
+    Ok(Some(key))
+}
 
 /// The person of a row, who has this number.
 fn read_person(alloc: Global, number: usize, row: &PersonRow) -> Result<Person, ReopenFault>
@@ -18,7 +29,7 @@ fn read_person(alloc: Global, number: usize, row: &PersonRow) -> Result<Person, 
         return Err(ReopenFault::NotRows);
     }
     let name = Name::read(alloc, row.name.as_str())?.ok_or(ReopenFault::NotRows)?;
-    let key = Key::read(alloc, row.secret.as_str())?.ok_or(ReopenFault::NotRows)?;
+    let key = read_secret(alloc, &row.secret)?;
     Ok(Person { name, key })
 }
 

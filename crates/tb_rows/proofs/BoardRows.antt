@@ -1,5 +1,5 @@
 -- The rows of a board before and after changes, table by table.
-use Rattle.std.proofs.Common.{◌≡◌, ℕ, zero, suc, ◌+◌, ◌<◌, ◌≤◌, ◌==◌, false, List, [], ◌∷◌, ◌++◌, Option, Some, None, map, flat_map, length, nat_lt, refl, sym, ◌∙◌, ap, arith, inl, inr}
+use Rattle.std.proofs.Common.{◌≡◌, ℕ, zero, suc, ◌+◌, ◌<◌, ◌≤◌, ◌==◌, true, false, cond, List, [], ◌∷◌, ◌++◌, Option, Some, None, map, flat_map, length, nat_lt, refl, sym, ◌∙◌, ap, arith, inl, inr}
 use Rattle.std.specs.List.{AllByRecursion, list_any}
 use Rattle.std.proofs.lemmas.Bool.{cases_Bool, eq-eqb, ne_eqb, ltb-false}
 use Rattle.std.proofs.lemmas.List.{append-nil, length-append, nil_from_length}
@@ -8,8 +8,9 @@ use Rattle.tb_task.specs.declared.task.Task.{Task}
 use Rattle.tb_task.specs.TaskId.{made}
 use Rattle.tb_board.specs.declared.board.Board.{Board}
 use Rattle.tb_board.specs.declared.change.Change.{Change}
-use Rattle.tb_board.specs.declared.change.Change.TheVariants.{PutTask, AddPerson as NewPerson, AddBoard as NewBoard, SetRole, SetGone, TakeGone, SetAhead}
+use Rattle.tb_board.specs.declared.change.Change.TheVariants.{PutTask, AddPerson as NewPerson, SetKey, AddBoard as NewBoard, SetTitle as NewTitle, SetRole, SetGone, TakeGone, SetAhead}
 use Rattle.tb_board.specs.declared.gone.Gone.{Gone}
+use Rattle.tb_board.specs.Changing.{with_ahead, with_gone, with_task_at, without_gone}
 use Rattle.tb_board.specs.Tasks.{ids, place_in}
 use Rattle.tb_board.specs.Numbers.{first_free, free}
 use Rattle.tb_board.proofs.Goodness.{on-same}
@@ -21,19 +22,19 @@ use Rattle.tb_sql_tables.specs.declared.rows.InstanceRow.{InstanceRow}
 use Rattle.tb_sql_tables.specs.declared.rows.GoneRow.{GoneRow}
 use Rattle.tb_sql_tables.specs.declared.rows.HorizonRow.{HorizonRow}
 use Rattle.tb_sql.specs.declared.changes.RowChange.{RowChange}
-use Rattle.tb_sql.specs.declared.changes.RowChange.TheVariants.{AddBoard, SetLow, AddTask, SetText, SetMask, AddLink, RemoveLinks, AddInstance, AddGone, RemoveGone, AddHorizon, SetHorizon}
+use Rattle.tb_sql.specs.declared.changes.RowChange.TheVariants.{AddBoard, SetTitle, SetLow, AddTask, SetText, SetMask, AddLink, RemoveLinks, AddInstance, AddGone, RemoveGone, AddHorizon, SetHorizon}
 use Rattle.tb_sql.specs.Changes.{is_board}
 use Rattle.tb_board.specs.Extends.{ExtendsBoard, ExtendsTask, IsFrontOf}
 use Rattle.tb_rows.specs.Rows.{board_row, board_gone, horizon_row, board_instances, board_links, board_tasks, gone_row, instance_rows, instance_rows_of, link_row, link_rows, rows_from, task_row}
-use Rattle.tb_rows.specs.Steps.{ahead_changes, gone_added, gone_changes, gone_removed, is_among, is_of_board, kept_board, later_board, low_changes, new_mask, new_task, put_task, sets_ahead, task_changes, put_place, changed_templates}
+use Rattle.tb_rows.specs.Steps.{ahead_changes, gone_added, gone_changes, gone_removed, is_among, is_of_board, kept_board, later_board, low_changes, new_mask, new_task, put_task, sets_ahead, sets_title, task_changes, title_changes, put_place, changed_templates}
 use Rattle.tb_rows.proofs.WholeWorlds.{board_changes, new_board}
 use Rattle.tb_rows.proofs.Evolving.{change_on, replay}
 use Rattle.tb_rows.proofs.GoneRows.{IsGoneElsewhere}
 use Rattle.tb_rows.proofs.Places.{AreAt, IsBefore, IsElsewhere, Matches, turns_places}
 use Rattle.tb_rows.proofs.Staying.{ids-length, ids_front}
 use Rattle.tb_rows.proofs.TaskRows.{instance_kept, instance_new, IsKept, link_kept, link_new, new_there, task_kept, task_new}
-use Rattle.tb_rows.proofs.Tables.{board_by, gone_by, instance_by, instances_unordered, link_by, links_unordered, task_by, tasks_unordered, turns_added}
-use Rattle.tb_rows.proofs.Turning.{first_changed, inert-append, inert-flat_map, inert-if, inert-map, inert-rows_from, inert_next, inert_none, inert_then_turns, IsInert, Turns, turns_narrow, turns_none, turns_then_inert}
+use Rattle.tb_rows.proofs.Tables.{board_by, boards_unordered, gone_by, instance_by, instances_unordered, link_by, links_unordered, task_by, tasks_unordered, turns_added}
+use Rattle.tb_rows.proofs.Turning.{first_changed, inert-append, inert-flat_map, inert-if, inert-map, inert-rows_from, inert_next, inert_none, inert_then_turns, IsInert, Turns, turns_narrow, turns_none, turns_then_inert, turns_twice}
 
 -- ---- tables that changes of tasks leave
 
@@ -50,6 +51,12 @@ pub record LeavesTasks {R : Type 0} (by : RowChange → List R → List R) : Typ
 pub record LeavesGone {R : Type 0} (by : RowChange → List R → List R) : Type 0 where
   pub added : (r : GoneRow) (rows : List R) → by (AddGone r) rows ≡ rows
   pub removed : (n t k : ℕ) (rows : List R) → by (RemoveGone n t k) rows ≡ rows
+
+-- changes of the rows of boards leave the table
+pub record LeavesBoards {R : Type 0} (by : RowChange → List R → List R) : Type 0 where
+  pub added : (r : BoardRow) (rows : List R) → by (AddBoard r) rows ≡ rows
+  pub title : (n : ℕ) (title : List ℕ) (rows : List R) → by (SetTitle n title) rows ≡ rows
+  pub low : (n low : ℕ) (rows : List R) → by (SetLow n low) rows ≡ rows
 
 -- changes of how far ahead boards look leave the table
 pub record LeavesHorizon {R : Type 0} (by : RowChange → List R → List R) : Type 0 where
@@ -87,7 +94,9 @@ inert-gone_removed by leaves b k (Some p) = inert_next by _ [] (leaves.removed b
 inert-gone_changes : {R : Type 0} (by : RowChange → List R → List R) → LeavesGone by → (b : Board) (c : Change) → IsInert by (gone_changes b c)
 inert-gone_changes by leaves b (PutTask m place t) = inert_none by
 inert-gone_changes by leaves b (NewPerson name key) = inert_none by
+inert-gone_changes by leaves b (SetKey name key) = inert_none by
 inert-gone_changes by leaves b (NewBoard m title) = inert_none by
+inert-gone_changes by leaves b (NewTitle m title) = inert_none by
 inert-gone_changes by leaves b (SetRole m person role) = inert_none by
 inert-gone_changes by leaves b (SetAhead m ahead) = inert_none by
 inert-gone_changes by leaves b (SetGone m g) =
@@ -98,35 +107,39 @@ inert-gone_changes by leaves b (TakeGone m id k) =
 pub inert-gone : {R : Type 0} (by : RowChange → List R → List R) → LeavesGone by → (b : Board) (cs : List Change) → IsInert by (flat_map (gone_changes b) cs)
 inert-gone by leaves b cs = inert-flat_map by (gone_changes b) (inert-gone_changes by leaves b) cs
 
-pub inert-low : {R : Type 0} (by : RowChange → List R → List R) → ((n low : ℕ) (rows : List R) → by (SetLow n low) rows ≡ rows) → (old : ℕ) (b : Board) → IsInert by (low_changes old b)
-inert-low by leaves old b = inert-if by (nat_lt old (length b.tasks)) (SetLow b.number (free b) ∷ []) [] (inert_next by _ [] (leaves b.number (free b)) (inert_none by)) (inert_none by)
+pub inert-title : {R : Type 0} (by : RowChange → List R → List R) → LeavesBoards by → (b : Board) (cs : List Change) → IsInert by (title_changes b cs)
+inert-title by leaves b cs = inert-if by (list_any (sets_title b.number) cs) (SetTitle b.number b.title ∷ []) [] (inert_next by _ [] (leaves.title b.number b.title) (inert_none by)) (inert_none by)
+
+pub inert-low : {R : Type 0} (by : RowChange → List R → List R) → LeavesBoards by → (old : ℕ) (b : Board) → IsInert by (low_changes old b)
+inert-low by leaves old b = inert-if by (nat_lt old (length b.tasks)) (SetLow b.number (free b) ∷ []) [] (inert_next by _ [] (leaves.low b.number (free b)) (inert_none by)) (inert_none by)
 
 inert-ahead : {R : Type 0} (by : RowChange → List R → List R) → LeavesHorizon by → (b : Board) (cs : List Change) → IsInert by (ahead_changes b cs)
 inert-ahead by leaves b cs = inert-if by (list_any (sets_ahead b.number) cs) (SetHorizon b.number b.ahead ∷ []) [] (inert_next by _ [] (leaves.set b.number b.ahead) (inert_none by)) (inert_none by)
 
-pub inert-later : {R : Type 0} (by : RowChange → List R → List R) → ((n low : ℕ) (rows : List R) → by (SetLow n low) rows ≡ rows) → LeavesHorizon by → LeavesTasks by → LeavesGone by
+pub inert-later : {R : Type 0} (by : RowChange → List R → List R) → LeavesBoards by → LeavesHorizon by → LeavesTasks by → LeavesGone by
     → (old : ℕ) (b : Board) (cs : List Change) → IsInert by (later_board old b cs)
-inert-later by low ahead tasks gone old b cs =
+inert-later by boards ahead tasks gone old b cs =
     let put = flat_map (put_place b.number) cs in
     let templates = changed_templates b old put cs in
-    inert-append by (low_changes old b) _ (inert-low by low old b)
+    inert-append by (title_changes b cs) _ (inert-title by boards b cs)
+    (inert-append by (low_changes old b) _ (inert-low by boards old b)
     (inert-append by (ahead_changes b cs) _ (inert-ahead by ahead b cs)
-    (inert-append by (rows_from (task_changes b old put templates) 0 b.tasks) (flat_map (gone_changes b) cs) (inert-tasks by tasks b old put templates) (inert-gone by gone b cs)))
+    (inert-append by (rows_from (task_changes b old put templates) 0 b.tasks) (flat_map (gone_changes b) cs) (inert-tasks by tasks b old put templates) (inert-gone by gone b cs))))
 
 -- a table of people or roles is left by all changes of boards
-pub inert-boards : {R : Type 0} (by : RowChange → List R → List R) → ((n low : ℕ) (rows : List R) → by (SetLow n low) rows ≡ rows) → ((r : BoardRow) (rows : List R) → by (AddBoard r) rows ≡ rows)
-    → LeavesHorizon by → LeavesTasks by → LeavesGone by → (cs : List Change) (ws bs : List Board) → IsInert by (board_changes cs ws bs)
-inert-boards by low board ahead tasks gone cs [] [] = inert_none by
-inert-boards by low board ahead tasks gone cs (a ∷ ws) [] = inert_none by
-inert-boards by low board ahead tasks gone cs [] (b ∷ bs) =
+pub inert-boards : {R : Type 0} (by : RowChange → List R → List R) → LeavesBoards by → LeavesHorizon by → LeavesTasks by → LeavesGone by
+    → (cs : List Change) (ws bs : List Board) → IsInert by (board_changes cs ws bs)
+inert-boards by boards ahead tasks gone cs [] [] = inert_none by
+inert-boards by boards ahead tasks gone cs (a ∷ ws) [] = inert_none by
+inert-boards by boards ahead tasks gone cs [] (b ∷ bs) =
     inert-append by (new_board b) (board_changes cs [] bs)
-    (inert_next by (AddBoard (board_row b)) _ (board (board_row b)) (inert_next by (AddHorizon (horizon_row b)) _ (ahead.added (horizon_row b))
+    (inert_next by (AddBoard (board_row b)) _ (boards.added (board_row b)) (inert_next by (AddHorizon (horizon_row b)) _ (ahead.added (horizon_row b))
     (inert-append by (rows_from (λ i t. new_task b (i + 1) t) 0 b.tasks) (map AddGone (board_gone b)) (inert-new_tasks by tasks b) (inert-map by AddGone gone.added (board_gone b)))))
-    (inert-boards by low board ahead tasks gone cs [] bs)
-inert-boards by low board ahead tasks gone cs (a ∷ ws) (b ∷ bs) =
+    (inert-boards by boards ahead tasks gone cs [] bs)
+inert-boards by boards ahead tasks gone cs (a ∷ ws) (b ∷ bs) =
     inert-append by (kept_board (length a.tasks) b cs) (board_changes cs ws bs)
-    (inert-if by (list_any (is_of_board b.number) cs) (later_board (length a.tasks) b cs) [] (inert-later by low ahead tasks gone (length a.tasks) b cs) (inert_none by))
-    (inert-boards by low board ahead tasks gone cs ws bs)
+    (inert-if by (list_any (is_of_board b.number) cs) (later_board (length a.tasks) b cs) [] (inert-later by boards ahead tasks gone (length a.tasks) b cs) (inert_none by))
+    (inert-boards by boards ahead tasks gone cs ws bs)
 
 -- ---- the table of boards
 
@@ -147,23 +160,62 @@ free_same a b number front few =
     let size : length b.tasks ≡ length a.tasks = sym (ids-length b.tasks) ∙ ap length same ∙ ids-length a.tasks in
     first_free-same a b 1 (length b.tasks) number same ∙ ap (first_free a 1) size
 
-low_set : (a b : Board) (rest : List BoardRow) → ExtendsBoard a b → AllByRecursion (IsBoardElsewhere b.number) rest
-    → board_by (SetLow b.number (free b)) (board_row a ∷ rest) ≡ board_row b ∷ rest
-low_set a b rest ext apart =
-    first_changed (is_board b.number) (λ (board : BoardRow). let changed : BoardRow = record board { low = free b } in changed) (board_row a) (board_row b) rest
-    (eq-eqb a.number b.number (sym ext.number)) (rw (ext.number, ext.title) refl) (all_weaker _ _ (λ (r : BoardRow) off. ne_eqb r.id b.number off) rest apart)
-
 same_board_row : {n m : ℕ} {title other : List ℕ} {low least : ℕ} → n ≡ m → title ≡ other → low ≡ least
     → let first : BoardRow = record { id = n; title = title; low = low } in let second : BoardRow = record { id = m; title = other; low = least } in first ≡ second
 same_board_row numbers titles lows = rw (numbers, titles, lows) refl
 
-low_turns : (a b : Board) → ExtendsBoard a b → Turns board_by (IsBoardElsewhere b.number) (low_changes (length a.tasks) b) (board_row a ∷ []) (board_row b ∷ [])
+-- other changes leave the title
+title_stays : (n : ℕ) (cs : List Change) (a : Board) → list_any (sets_title n) cs ≡ false → (replay n cs a).title ≡ a.title
+title_stays n [] a none = refl
+title_stays n (c ∷ cs) a none =
+    let parts = or_false (sets_title n c) (list_any (sets_title n) cs) none in
+    title_stays n cs (change_on n c a) parts.1 ∙ one n c a parts.0
+  where
+    one : (n : ℕ) (c : Change) (a : Board) → sets_title n c ≡ false → (change_on n c a).title ≡ a.title
+    one n (PutTask m place t) a none = elim (n == m) as (λ q. (cond q (with_task_at place t a) a).title ≡ a.title) [ true ↦ refl | false ↦ refl ]
+    one n (NewPerson name key) a none = refl
+    one n (SetKey name key) a none = refl
+    one n (NewBoard m title) a none = refl
+    one n (NewTitle m title) a none = rw none refl
+    one n (SetRole m person role) a none = refl
+    one n (SetGone m g) a none = elim (n == m) as (λ q. (cond q (with_gone g a) a).title ≡ a.title) [ true ↦ refl | false ↦ refl ]
+    one n (TakeGone m id k) a none = elim (n == m) as (λ q. (cond q (without_gone id k a) a).title ≡ a.title) [ true ↦ refl | false ↦ refl ]
+    one n (SetAhead m ahead) a none = elim (n == m) as (λ q. (cond q (with_ahead ahead a) a).title ≡ a.title) [ true ↦ refl | false ↦ refl ]
+
+-- the row of the first board with the title of the second
+abbrev titled_row : Board → Board → BoardRow
+titled_row a b = record { id = a.number; title = b.title; low = free a }
+
+title_set : (a b : Board) (rest : List BoardRow) → b.number ≡ a.number → AllByRecursion (IsBoardElsewhere b.number) rest
+    → board_by (SetTitle b.number b.title) (board_row a ∷ rest) ≡ titled_row a b ∷ rest
+title_set a b rest number apart =
+    first_changed (is_board b.number) (λ (board : BoardRow). let changed : BoardRow = record board { title = b.title } in changed) (board_row a) (titled_row a b) rest
+    (eq-eqb a.number b.number (sym number)) refl (all_weaker _ _ (λ (r : BoardRow) off. ne_eqb r.id b.number off) rest apart)
+
+title_turns : (a b : Board) (cs : List Change) → b.number ≡ a.number → b ≡ replay b.number cs a
+    → Turns board_by (IsBoardElsewhere b.number) (title_changes b cs) (board_row a ∷ []) (titled_row a b ∷ [])
+title_turns a b cs number made =
+    elim (cases_Bool (list_any (sets_title b.number) cs)) [
+      | inl set ↦ rw set (record { turned = λ rest apart. IsPermutation-same _ _ (title_set a b rest number apart) })
+      | inr none ↦
+          let same : b.title ≡ a.title = ap (λ (x : Board). x.title) made ∙ title_stays b.number cs a none in
+          let row : board_row a ≡ titled_row a b = same_board_row refl (sym same) refl in
+          rw (none, row) (turns_none board_by _ [] (titled_row a b ∷ []) (inert_none board_by))
+    ]
+
+low_set : (a b : Board) (rest : List BoardRow) → ExtendsBoard a b → AllByRecursion (IsBoardElsewhere b.number) rest
+    → board_by (SetLow b.number (free b)) (titled_row a b ∷ rest) ≡ board_row b ∷ rest
+low_set a b rest ext apart =
+    first_changed (is_board b.number) (λ (board : BoardRow). let changed : BoardRow = record board { low = free b } in changed) (titled_row a b) (board_row b) rest
+    (eq-eqb a.number b.number (sym ext.number)) (rw ext.number refl) (all_weaker _ _ (λ (r : BoardRow) off. ne_eqb r.id b.number off) rest apart)
+
+low_turns : (a b : Board) → ExtendsBoard a b → Turns board_by (IsBoardElsewhere b.number) (low_changes (length a.tasks) b) (titled_row a b ∷ []) (board_row b ∷ [])
 low_turns a b ext =
     elim (cases_Bool (nat_lt (length a.tasks) (length b.tasks))) [
       | inl grown ↦ rw grown (record { turned = λ rest apart. IsPermutation-same _ _ (low_set a b rest ext apart) })
       | inr same ↦
           let low = free_same a b ext.number ext.tasks (ltb-false (length a.tasks) (length b.tasks) same) in
-          let row : board_row a ≡ board_row b = same_board_row (sym ext.number) (sym ext.title) (sym low) in
+          let row : titled_row a b ≡ board_row b = same_board_row (sym ext.number) refl (sym low) in
           rw (same, row) (turns_none board_by _ [] (board_row b ∷ []) (inert_none board_by))
     ]
 
@@ -177,14 +229,16 @@ boards_leave_horizon = record { added = λ r rows. refl; set = λ n ahead rows. 
 boards_leave_gone : LeavesGone board_by
 boards_leave_gone = record { added = λ r rows. refl; removed = λ n t k rows. refl }
 
-pub board_later : (a b : Board) (cs : List Change) → ExtendsBoard a b → Turns board_by (IsBoardElsewhere b.number) (later_board (length a.tasks) b cs) (board_row a ∷ []) (board_row b ∷ [])
-board_later a b cs ext =
+pub board_later : (a b : Board) (cs : List Change) → ExtendsBoard a b → b ≡ replay b.number cs a → Turns board_by (IsBoardElsewhere b.number) (later_board (length a.tasks) b cs) (board_row a ∷ []) (board_row b ∷ [])
+board_later a b cs ext made =
     let old = length a.tasks in
     let put = flat_map (put_place b.number) cs in
     let templates = changed_templates b old put cs in
-    turns_then_inert board_by _ (low_changes old b) (ahead_changes b cs ++ (rows_from (task_changes b old put templates) 0 b.tasks ++ flat_map (gone_changes b) cs)) (board_row a ∷ []) (board_row b ∷ []) (low_turns a b ext)
+    let others = ahead_changes b cs ++ (rows_from (task_changes b old put templates) 0 b.tasks ++ flat_map (gone_changes b) cs) in
+    turns_twice board_by boards_unordered _ (title_changes b cs) (low_changes old b ++ others) (board_row a ∷ []) (titled_row a b ∷ []) (board_row b ∷ []) (title_turns a b cs ext.number made)
+    (turns_then_inert board_by _ (low_changes old b) others (titled_row a b ∷ []) (board_row b ∷ []) (low_turns a b ext)
     (inert-append board_by (ahead_changes b cs) _ (inert-ahead board_by boards_leave_horizon b cs)
-    (inert-append board_by (rows_from (task_changes b old put templates) 0 b.tasks) (flat_map (gone_changes b) cs) (inert-tasks board_by boards_leave_tasks b old put templates) (inert-gone board_by boards_leave_gone b cs)))
+    (inert-append board_by (rows_from (task_changes b old put templates) 0 b.tasks) (flat_map (gone_changes b) cs) (inert-tasks board_by boards_leave_tasks b old put templates) (inert-gone board_by boards_leave_gone b cs))))
 
 pub board_new : (b : Board) → Turns board_by (IsBoardElsewhere b.number) (new_board b) [] (board_row b ∷ [])
 board_new b =
@@ -221,15 +275,16 @@ instance_at a n number p t = go t.parent t.imask
     go (Some id) None = tt
     go (Some id) (Some k) = ((number, refl), tt)
 
-later_table : {R : Type 0} (by : RowChange → List R → List R) (IsApart : R → Type 0) → ((n low : ℕ) (rows : List R) → by (SetLow n low) rows ≡ rows) → LeavesHorizon by → LeavesGone by
+later_table : {R : Type 0} (by : RowChange → List R → List R) (IsApart : R → Type 0) → LeavesBoards by → LeavesHorizon by → LeavesGone by
     → (old : ℕ) (b : Board) (cs : List Change) (before after : List R)
     → Turns by IsApart (rows_from (task_changes b old (flat_map (put_place b.number) cs) (changed_templates b old (flat_map (put_place b.number) cs) cs)) 0 b.tasks) before after
     → Turns by IsApart (later_board old b cs) before after
-later_table by IsApart low ahead gone old b cs before after turn =
-    inert_then_turns by IsApart (low_changes old b) _ before after (inert-low by low old b)
+later_table by IsApart boards ahead gone old b cs before after turn =
+    inert_then_turns by IsApart (title_changes b cs) _ before after (inert-title by boards b cs)
+    (inert_then_turns by IsApart (low_changes old b) _ before after (inert-low by boards old b)
     (inert_then_turns by IsApart (ahead_changes b cs) _ before after (inert-ahead by ahead b cs)
     (turns_then_inert by IsApart (rows_from (task_changes b old (flat_map (put_place b.number) cs) (changed_templates b old (flat_map (put_place b.number) cs) cs)) 0 b.tasks) (flat_map (gone_changes b) cs)
-    before after turn (inert-gone by gone b cs)))
+    before after turn (inert-gone by gone b cs))))
 
 new_table : {R : Type 0} (by : RowChange → List R → List R) (IsApart : R → Type 0) → ((r : BoardRow) (rows : List R) → by (AddBoard r) rows ≡ rows) → ((r : HorizonRow) (rows : List R) → by (AddHorizon r) rows ≡ rows) → ((r : GoneRow) (rows : List R) → by (AddGone r) rows ≡ rows)
     → (b : Board) (after : List R) → Turns by IsApart (rows_from (λ i t. new_task b (i + 1) t) 0 b.tasks) [] after → Turns by IsApart (new_board b) [] after
@@ -249,7 +304,7 @@ tasks_later a b cs number kept =
     let old = length a.tasks in
     let put = flat_map (put_place b.number) cs in
     let templates = changed_templates b old put cs in
-    later_table task_by _ (λ n low rows. refl) (record { added = λ r rows. refl; set = λ n ahead rows. refl }) (record { added = λ r rows. refl; removed = λ n t k rows. refl }) old b cs (board_tasks a) (board_tasks b)
+    later_table task_by _ (record { added = λ r rows. refl; title = λ n title rows. refl; low = λ n low rows. refl }) (record { added = λ r rows. refl; set = λ n ahead rows. refl }) (record { added = λ r rows. refl; removed = λ n t k rows. refl }) old b cs (board_tasks a) (board_tasks b)
     (turns_narrow task_by (IsBefore (λ (r : TaskRow). r.board) (λ (r : TaskRow). r.place) b.number (0 + 1)) _ _ _ _ (λ r off on at. off on)
     (turns_places task_by tasks_unordered (λ (r : TaskRow). r.board) (λ (r : TaskRow). r.place) b.number 0 (task_changes b old put templates) (λ p s. task_row a p s ∷ []) (λ p t. task_row b p t ∷ [])
     (task_at a b.number (sym number)) (task_at b b.number refl) a.tasks b.tasks
@@ -271,7 +326,7 @@ links_later a b cs number kept =
     let old = length a.tasks in
     let put = flat_map (put_place b.number) cs in
     let templates = changed_templates b old put cs in
-    later_table link_by _ (λ n low rows. refl) (record { added = λ r rows. refl; set = λ n ahead rows. refl }) (record { added = λ r rows. refl; removed = λ n t k rows. refl }) old b cs (board_links a) (board_links b)
+    later_table link_by _ (record { added = λ r rows. refl; title = λ n title rows. refl; low = λ n low rows. refl }) (record { added = λ r rows. refl; set = λ n ahead rows. refl }) (record { added = λ r rows. refl; removed = λ n t k rows. refl }) old b cs (board_links a) (board_links b)
     (turns_narrow link_by (IsBefore (λ (r : LinkRow). r.board) (λ (r : LinkRow). r.place) b.number (0 + 1)) _ _ _ _ (λ r off on at. off on)
     (turns_places link_by links_unordered (λ (r : LinkRow). r.board) (λ (r : LinkRow). r.place) b.number 0 (task_changes b old put templates) (link_rows a) (link_rows b)
     (link_at a b.number (sym number)) (link_at b b.number refl) a.tasks b.tasks
@@ -293,7 +348,7 @@ instances_later a b cs number kept =
     let old = length a.tasks in
     let put = flat_map (put_place b.number) cs in
     let templates = changed_templates b old put cs in
-    later_table instance_by _ (λ n low rows. refl) (record { added = λ r rows. refl; set = λ n ahead rows. refl }) (record { added = λ r rows. refl; removed = λ n t k rows. refl }) old b cs (board_instances a) (board_instances b)
+    later_table instance_by _ (record { added = λ r rows. refl; title = λ n title rows. refl; low = λ n low rows. refl }) (record { added = λ r rows. refl; set = λ n ahead rows. refl }) (record { added = λ r rows. refl; removed = λ n t k rows. refl }) old b cs (board_instances a) (board_instances b)
     (turns_narrow instance_by (IsBefore (λ (r : InstanceRow). r.board) (λ (r : InstanceRow). r.place) b.number (0 + 1)) _ _ _ _ (λ r off on at. off on)
     (turns_places instance_by instances_unordered (λ (r : InstanceRow). r.board) (λ (r : InstanceRow). r.place) b.number 0 (task_changes b old put templates) (instance_rows a) (instance_rows b)
     (instance_at a b.number (sym number)) (instance_at b b.number refl) a.tasks b.tasks
@@ -319,9 +374,11 @@ pub gone_later : (old : ℕ) (b : Board) (cs : List Change) (before : List GoneR
 gone_later old b cs before turn =
     let put = flat_map (put_place b.number) cs in
     let templates = changed_templates b old put cs in
-    inert_then_turns gone_by _ (low_changes old b) _ before (board_gone b) (inert-low gone_by (λ n low rows. refl) old b)
+    let boards : LeavesBoards gone_by = record { added = λ r rows. refl; title = λ n title rows. refl; low = λ n low rows. refl } in
+    inert_then_turns gone_by _ (title_changes b cs) _ before (board_gone b) (inert-title gone_by boards b cs)
+    (inert_then_turns gone_by _ (low_changes old b) _ before (board_gone b) (inert-low gone_by boards old b)
     (inert_then_turns gone_by _ (ahead_changes b cs) _ before (board_gone b) (inert-ahead gone_by (record { added = λ r rows. refl; set = λ n ahead rows. refl }) b cs)
-    (inert_then_turns gone_by _ (rows_from (task_changes b old put templates) 0 b.tasks) (flat_map (gone_changes b) cs) before (board_gone b) (inert-tasks gone_by gone_leaves_tasks b old put templates) turn))
+    (inert_then_turns gone_by _ (rows_from (task_changes b old put templates) 0 b.tasks) (flat_map (gone_changes b) cs) before (board_gone b) (inert-tasks gone_by gone_leaves_tasks b old put templates) turn)))
 
 pub gone_new : (b : Board) → Turns gone_by (IsGoneElsewhere b.number) (new_board b) [] (board_gone b)
 gone_new b =
@@ -341,7 +398,9 @@ untouched n (c ∷ cs) a none =
     one : (n : ℕ) (c : Change) (a : Board) → is_of_board n c ≡ false → change_on n c a ≡ a
     one n (PutTask m place t) a none = rw none refl
     one n (NewPerson name key) a none = refl
+    one n (SetKey name key) a none = refl
     one n (NewBoard m title) a none = refl
+    one n (NewTitle m title) a none = rw none refl
     one n (SetRole m person role) a none = refl
     one n (SetGone m g) a none = rw none refl
     one n (TakeGone m id k) a none = rw none refl

@@ -6,9 +6,9 @@ use Rattle.std.proofs.lemmas.List.{map-id, length-map}
 use Rattle.sqlite_trees.proofs.ListLemmas.{all_weaker}
 use Rattle.tb_board.specs.declared.board.Board.{Board}
 use Rattle.tb_board.specs.declared.change.Change.{Change}
-use Rattle.tb_board.specs.declared.change.Change.TheVariants.{PutTask, AddPerson as NewPerson, AddBoard as NewBoard, SetRole, SetGone, TakeGone, SetAhead}
+use Rattle.tb_board.specs.declared.change.Change.TheVariants.{PutTask, AddPerson as NewPerson, SetKey, AddBoard as NewBoard, SetTitle as NewTitle, SetRole, SetGone, TakeGone, SetAhead}
 use Rattle.tb_board.specs.declared.world.World.{World}
-use Rattle.tb_board.specs.Changing.{change_board, changed, changed_by, with_ahead, with_gone, with_task_at, without_gone}
+use Rattle.tb_board.specs.Changing.{change_board, changed, changed_by, with_ahead, with_gone, with_task_at, with_title, without_gone}
 use Rattle.tb_board.specs.World.{has_number}
 use Rattle.tb_board.specs.Extends.{IsFrontOf}
 use Rattle.tb_rows.proofs.Turning.{unchanged}
@@ -17,7 +17,9 @@ use Rattle.tb_rows.proofs.Turning.{unchanged}
 abbrev pub change_on : ℕ → Change → Board → Board
 change_on n (PutTask m place t) b = if n == m then with_task_at place t b else b
 change_on n (NewPerson name key) b = b
+change_on n (SetKey name key) b = b
 change_on n (NewBoard m title) b = b
+change_on n (NewTitle m title) b = if n == m then with_title title b else b
 change_on n (SetRole m person role) b = b
 change_on n (SetGone m g) b = if n == m then with_gone g b else b
 change_on n (TakeGone m id k) b = if n == m then without_gone id k b else b
@@ -38,7 +40,9 @@ either_number false a b same = refl
 number_stays : (n : ℕ) (c : Change) (b : Board) → (change_on n c b).number ≡ b.number
 number_stays n (PutTask m place t) b = either_number (n == m) (with_task_at place t b) b refl
 number_stays n (NewPerson name key) b = refl
+number_stays n (SetKey name key) b = refl
 number_stays n (NewBoard m title) b = refl
+number_stays n (NewTitle m title) b = either_number (n == m) (with_title title b) b refl
 number_stays n (SetRole m person role) b = refl
 number_stays n (SetGone m g) b = either_number (n == m) (with_gone g b) b refl
 number_stays n (TakeGone m id k) b = either_number (n == m) (without_gone id k b) b refl
@@ -72,9 +76,12 @@ one_step : (w : World) (c : Change) (k : ℕ) (front more : List Board) → w.bo
 one_step w (PutTask m place t) k front more is numbered =
     let there = changed_front m (with_task_at place t) k front more numbered in (there.0, ap (change_board m (with_task_at place t)) is ∙ there.1)
 one_step w (NewPerson name key) k front more is numbered = (more, is ∙ ap (λ l. l ++ more) (sym (map-id front)))
+one_step w (SetKey name key) k front more is numbered = (more, is ∙ ap (λ l. l ++ more) (sym (map-id front)))
 one_step w (NewBoard m title) k front more is numbered =
     let last = record { number = m; title = title; tasks = []; gone = []; ahead = 1 } ∷ [] in
     (more ++ last, ap (λ l. l ++ last) is ∙ append_assoc front more last ∙ ap (λ l. l ++ (more ++ last)) (sym (map-id front)))
+one_step w (NewTitle m title) k front more is numbered =
+    let there = changed_front m (with_title title) k front more numbered in (there.0, ap (change_board m (with_title title)) is ∙ there.1)
 one_step w (SetRole m person role) k front more is numbered = (more, is ∙ ap (λ l. l ++ more) (sym (map-id front)))
 one_step w (SetGone m g) k front more is numbered =
     let there = changed_front m (with_gone g) k front more numbered in (there.0, ap (change_board m (with_gone g)) is ∙ there.1)

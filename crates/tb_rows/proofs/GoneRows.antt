@@ -9,7 +9,7 @@ use Rattle.std.proofs.lemmas.List.Sorted.{IsPermutation-sym, IsPermutation-middl
 use Rattle.sqlite_trees.proofs.ListLemmas.{all_weaker, filter_all, IsPermutation-same}
 use Rattle.tb_board.specs.declared.board.Board.{Board}
 use Rattle.tb_board.specs.declared.change.Change.{Change}
-use Rattle.tb_board.specs.declared.change.Change.TheVariants.{PutTask, AddPerson as NewPerson, AddBoard as NewBoard, SetRole, SetGone, TakeGone, SetAhead}
+use Rattle.tb_board.specs.declared.change.Change.TheVariants.{PutTask, AddPerson as NewPerson, SetKey, AddBoard as NewBoard, SetTitle as NewTitle, SetRole, SetGone, TakeGone, SetAhead}
 use Rattle.tb_board.specs.declared.gone.Gone.{Gone}
 use Rattle.tb_task.specs.declared.task.Task.{Task}
 use Rattle.tb_board.specs.Tasks.{has_id, ids, place_in}
@@ -132,7 +132,13 @@ one_change : (b x : Board) (c : Change) → Turns gone_by (IsGoneElsewhere b.num
 one_change b x (PutTask m place t) =
     rw (← unshown b.number b (shown_rows b x.gone) (b.number == m) x (with_task_at place t x) refl refl) (turns_none gone_by _ [] (shown_rows b x.gone) (inert_none gone_by))
 one_change b x (NewPerson name key) = turns_none gone_by _ [] (shown_rows b x.gone) (inert_none gone_by)
+one_change b x (SetKey name key) = turns_none gone_by _ [] (shown_rows b x.gone) (inert_none gone_by)
 one_change b x (NewBoard m title) = turns_none gone_by _ [] (shown_rows b x.gone) (inert_none gone_by)
+one_change b x (NewTitle m title) =
+    elim (cases_Bool (b.number == m)) [
+      | inl here ↦ rw here (turns_none gone_by _ [] (shown_rows b x.gone) (inert_none gone_by))
+      | inr other ↦ rw other (turns_none gone_by _ [] (shown_rows b x.gone) (inert_none gone_by))
+    ]
 one_change b x (SetRole m person role) = turns_none gone_by _ [] (shown_rows b x.gone) (inert_none gone_by)
 one_change b x (SetGone m g) =
     elim (cases_Bool (b.number == m)) [

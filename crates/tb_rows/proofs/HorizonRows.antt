@@ -5,15 +5,15 @@ use Rattle.std.proofs.lemmas.Bool.{cases_Bool, eq-eqb, ne_eqb}
 use Rattle.sqlite_trees.proofs.ListLemmas.{all_weaker, IsPermutation-same}
 use Rattle.tb_board.specs.declared.board.Board.{Board}
 use Rattle.tb_board.specs.declared.change.Change.{Change}
-use Rattle.tb_board.specs.declared.change.Change.TheVariants.{PutTask, AddPerson as NewPerson, AddBoard as NewBoard, SetRole, SetGone, TakeGone, SetAhead}
-use Rattle.tb_board.specs.Changing.{with_gone, with_task_at, without_gone}
+use Rattle.tb_board.specs.declared.change.Change.TheVariants.{PutTask, AddPerson as NewPerson, SetKey, AddBoard as NewBoard, SetTitle as NewTitle, SetRole, SetGone, TakeGone, SetAhead}
+use Rattle.tb_board.specs.Changing.{with_gone, with_task_at, with_title, without_gone}
 use Rattle.tb_board.proofs.Relinking.{or_false}
 use Rattle.tb_sql_tables.specs.declared.rows.HorizonRow.{HorizonRow}
 use Rattle.tb_sql.specs.declared.changes.RowChange.TheVariants.{AddBoard, AddGone, AddHorizon, SetHorizon}
 use Rattle.tb_sql.specs.Changes.{is_horizon}
 use Rattle.tb_rows.specs.Rows.{board_gone, board_row, horizon_row, rows_from}
-use Rattle.tb_rows.specs.Steps.{ahead_changes, changed_templates, gone_changes, later_board, low_changes, new_task, put_place, sets_ahead, task_changes}
-use Rattle.tb_rows.proofs.BoardRows.{inert-gone, inert-low, inert-new_tasks, inert-tasks, LeavesGone, LeavesTasks}
+use Rattle.tb_rows.specs.Steps.{ahead_changes, changed_templates, gone_changes, later_board, low_changes, new_task, put_place, sets_ahead, task_changes, title_changes}
+use Rattle.tb_rows.proofs.BoardRows.{inert-gone, inert-low, inert-new_tasks, inert-tasks, inert-title, LeavesBoards, LeavesGone, LeavesTasks}
 use Rattle.tb_rows.proofs.Evolving.{change_on, replay}
 use Rattle.tb_rows.proofs.Places.{IsElsewhere}
 use Rattle.tb_rows.proofs.Tables.{horizon_by, turns_added}
@@ -33,7 +33,9 @@ ahead_stays n (c ∷ cs) a none =
     one : (n : ℕ) (c : Change) (a : Board) → sets_ahead n c ≡ false → (change_on n c a).ahead ≡ a.ahead
     one n (PutTask m place t) a none = elim (n == m) as (λ q. (cond q (with_task_at place t a) a).ahead ≡ a.ahead) [ true ↦ refl | false ↦ refl ]
     one n (NewPerson name key) a none = refl
+    one n (SetKey name key) a none = refl
     one n (NewBoard m title) a none = refl
+    one n (NewTitle m title) a none = elim (n == m) as (λ q. (cond q (with_title title a) a).ahead ≡ a.ahead) [ true ↦ refl | false ↦ refl ]
     one n (SetRole m person role) a none = refl
     one n (SetGone m g) a none = elim (n == m) as (λ q. (cond q (with_gone g a) a).ahead ≡ a.ahead) [ true ↦ refl | false ↦ refl ]
     one n (TakeGone m id k) a none = elim (n == m) as (λ q. (cond q (without_gone id k a) a).ahead ≡ a.ahead) [ true ↦ refl | false ↦ refl ]
@@ -59,6 +61,9 @@ ahead_turns a b cs number made =
           rw (none, row) (turns_none horizon_by _ [] (horizon_row b ∷ []) (inert_none horizon_by))
     ]
 
+leaves_boards : LeavesBoards horizon_by
+leaves_boards = record { added = λ r rows. refl; title = λ n title rows. refl; low = λ n low rows. refl }
+
 leaves_tasks : LeavesTasks horizon_by
 leaves_tasks =
     record { task = λ r rows. refl; text = λ n p body mask rows. refl; mask = λ n p mask rows. refl; link = λ r rows. refl; links = λ n p rows. refl; instance = λ r rows. refl }
@@ -72,9 +77,10 @@ horizon_later a b cs number made =
     let old = length a.tasks in
     let put = flat_map (put_place b.number) cs in
     let templates = changed_templates b old put cs in
-    inert_then_turns horizon_by _ (low_changes old b) _ (horizon_row a ∷ []) (horizon_row b ∷ []) (inert-low horizon_by (λ n low rows. refl) old b)
+    inert_then_turns horizon_by _ (title_changes b cs) _ (horizon_row a ∷ []) (horizon_row b ∷ []) (inert-title horizon_by leaves_boards b cs)
+    (inert_then_turns horizon_by _ (low_changes old b) _ (horizon_row a ∷ []) (horizon_row b ∷ []) (inert-low horizon_by leaves_boards old b)
     (turns_then_inert horizon_by _ (ahead_changes b cs) (rows_from (task_changes b old put templates) 0 b.tasks ++ flat_map (gone_changes b) cs) (horizon_row a ∷ []) (horizon_row b ∷ []) (ahead_turns a b cs number made)
-    (inert-append horizon_by (rows_from (task_changes b old put templates) 0 b.tasks) (flat_map (gone_changes b) cs) (inert-tasks horizon_by leaves_tasks b old put templates) (inert-gone horizon_by leaves_gone b cs)))
+    (inert-append horizon_by (rows_from (task_changes b old put templates) 0 b.tasks) (flat_map (gone_changes b) cs) (inert-tasks horizon_by leaves_tasks b old put templates) (inert-gone horizon_by leaves_gone b cs))))
 
 pub horizon_new : (b : Board) → Turns horizon_by (IsHorizonElsewhere b.number) (new_board b) [] (horizon_row b ∷ [])
 horizon_new b =

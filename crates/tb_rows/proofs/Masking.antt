@@ -5,10 +5,10 @@ use Rattle.std.proofs.lemmas.Bool.{cases_Bool, eq-eqb, eqb-true, and_parts}
 use Rattle.tb_task.specs.declared.task.Task.{Task}
 use Rattle.tb_board.specs.declared.board.Board.{Board}
 use Rattle.tb_board.specs.declared.change.Change.{Change}
-use Rattle.tb_board.specs.declared.change.Change.TheVariants.{PutTask, AddPerson as NewPerson, AddBoard as NewBoard, SetRole, SetGone, TakeGone, SetAhead}
+use Rattle.tb_board.specs.declared.change.Change.TheVariants.{PutTask, AddPerson as NewPerson, SetKey, AddBoard as NewBoard, SetTitle as NewTitle, SetRole, SetGone, TakeGone, SetAhead}
 use Rattle.tb_board.specs.declared.gone.Gone.{Gone}
 use Rattle.tb_board.specs.Tasks.{ids, place_in as place_among}
-use Rattle.tb_board.specs.Changing.{with_ahead, with_task_at, without_place}
+use Rattle.tb_board.specs.Changing.{with_ahead, with_task_at, with_title, without_place}
 use Rattle.tb_board.specs.InstancePlaces.{instance_places, is_id, place_in}
 use Rattle.tb_board.specs.Templates.{count, gone_places, is_gone_at, is_instance_at, mark_at, mark_here, mask}
 use Rattle.tb_rows.specs.Rows.{rows_from}
@@ -52,7 +52,9 @@ same_instance id i k (a ∷ ws) (b ∷ bs) h =
 abbrev pub LeavesGone : ℕ → ℕ → Change → Type 0
 LeavesGone n id (PutTask m place t) = Unit {0}
 LeavesGone n id (NewPerson name key) = Unit {0}
+LeavesGone n id (SetKey name key) = Unit {0}
 LeavesGone n id (NewBoard m title) = Unit {0}
+LeavesGone n id (NewTitle m title) = Unit {0}
 LeavesGone n id (SetRole m person role) = Unit {0}
 LeavesGone n id (SetGone m g) = (n == m) ≡ true → (g.template == id) ≡ false
 LeavesGone n id (TakeGone m x k) = (n == m) ≡ true → (x == id) ≡ false
@@ -107,7 +109,13 @@ gone_same id a b same = record { places = ap (gone_places id) same; at = λ k. a
 one_gone : (n id : ℕ) (c : Change) (a : Board) → LeavesGone n id c → HasSameGone id a (change_on n c a)
 one_gone n id (PutTask m place t) a leaves = gone_same id a _ (elim (n == m) as (λ q. (cond q (with_task_at place t a) a).gone ≡ a.gone) [ true ↦ refl | false ↦ refl ])
 one_gone n id (NewPerson name key) a leaves = gone_same id a a refl
+one_gone n id (SetKey name key) a leaves = gone_same id a a refl
 one_gone n id (NewBoard m title) a leaves = gone_same id a a refl
+one_gone n id (NewTitle m title) a leaves =
+    elim (cases_Bool (n == m)) [
+      | inl here ↦ rw here (gone_same id a (with_title title a) refl)
+      | inr other ↦ rw other (gone_same id a a refl)
+    ]
 one_gone n id (SetRole m person role) a leaves = gone_same id a a refl
 one_gone n id (SetGone m g) a leaves =
     elim (cases_Bool (n == m)) [
@@ -196,7 +204,9 @@ gone_out b id i (c ∷ cs) at out =
     one : (b : Board) (id i : ℕ) (c : Change) → place_among (ids b.tasks) id ≡ Some i → is_among (gone_template b c) i ≡ false → LeavesGone b.number id c
     one b id i (PutTask m place t) at out = tt
     one b id i (NewPerson name key) at out = tt
+    one b id i (SetKey name key) at out = tt
     one b id i (NewBoard m title) at out = tt
+    one b id i (NewTitle m title) at out = tt
     one b id i (SetRole m person role) at out = tt
     one b id i (SetGone m g) at out = λ here. other_template b id i g.template at (rw here at out)
     one b id i (TakeGone m x k) at out = λ here. other_template b id i x at (rw here at out)

@@ -1,12 +1,11 @@
 -- The changes of rows by a part are those of the whole worlds.
-use Rattle.std.proofs.Common.{◌≡◌, ◌==◌, ◌+◌, ◌<◌, ◌≤◌, nat_lt, ℕ, true, false, cond, List, [], ◌∷◌, ◌++◌, Option, Some, None, find, flat_map, length, refl, sym, ap, ◌∙◌, subst, inl, inr, arith}
+use Rattle.std.proofs.Common.{◌≡◌, ◌==◌, ◌+◌, ◌<◌, ℕ, true, false, List, [], ◌∷◌, ◌++◌, Option, Some, None, find, flat_map, length, refl, sym, ap, ◌∙◌, subst, inl, inr, arith}
 use Rattle.std.specs.List.{AllByRecursion, list_any, range_with_len}
-use Rattle.std.proofs.lemmas.Bool.{cases_Bool, eqb-true, le-leb, le-ltb, ne_eqb}
+use Rattle.std.proofs.lemmas.Bool.{cases_Bool, eqb-true, le-leb, ne_eqb}
 use Rattle.std.proofs.lemmas.List.{append-nil}
 use Rattle.tb_board.specs.declared.board.Board.{Board}
 use Rattle.tb_board.specs.declared.change.Change.{Change}
-use Rattle.tb_board.specs.declared.change.Change.TheVariants.{PutTask, AddPerson as NewPerson, AddBoard as NewBoard, SetRole, SetGone, TakeGone, SetAhead}
-use Rattle.tb_board.specs.declared.world.Person.{Person}
+use Rattle.tb_board.specs.declared.change.Change.TheVariants.{PutTask, AddPerson as NewPerson, SetKey, AddBoard as NewBoard, SetTitle as NewTitle, SetRole, SetGone, TakeGone, SetAhead}
 use Rattle.tb_board.specs.declared.world.Role.{Role}
 use Rattle.tb_board.specs.declared.world.Role.TheVariants.{Owner}
 use Rattle.tb_board.specs.declared.world.World.{World}
@@ -16,15 +15,14 @@ use Rattle.tb_board.specs.World.{find_board, has_number, empty_board}
 use Rattle.tb_board.proofs.Worlds.{changed-append, changed-one}
 use Rattle.tb_core.specs.GoodWorld.{numbers, IsGoodWorld}
 use Rattle.tb_core.specs.Shapes.{AreOfOne}
-use Rattle.tb_sql.specs.declared.changes.RowChange.TheVariants.{AddPerson, AddBoard, AddHorizon}
+use Rattle.tb_sql.specs.declared.changes.RowChange.TheVariants.{AddPerson, SetSecret, AddBoard, AddHorizon}
 use Rattle.tb_rows.specs.declared.part.BoardPart.{BoardPart}
 use Rattle.tb_rows.specs.Part.{board_in, board_of, is_small_part, part_board, part_of, part_of_board, role_set, rows_of_part, single_changes, touched_board, IsPartOf}
-use Rattle.tb_rows.specs.Rows.{board_row, horizon_row, person_row, rows_from}
+use Rattle.tb_rows.specs.Rows.{board_row, horizon_row, person_row, secret_of}
 use Rattle.tb_rows.specs.Small.{has_few_tasks}
 use Rattle.tb_rows.specs.Steps.{is_of_board, kept_board, Leads}
-use Rattle.tb_rows.proofs.WholeWorlds.{board_changes, is_role_change, new_board, person_changes, role_changes, world_changes}
+use Rattle.tb_rows.proofs.WholeWorlds.{board_changes, is_role_change, new_board, people_changes, person_changes, role_changes, world_changes}
 use Rattle.tb_rows.proofs.Leading.{leads}
-use Rattle.tb_rows.proofs.PeopleAndRoles.{old_people, rows_from-append}
 use Rattle.tb_rows.proofs.RolesSet.{last_role, role_in, role_in_set, SetNoRole}
 
 -- ---- changes of one board
@@ -42,7 +40,9 @@ not_of m n (SetGone k g) on apart = rw on apart
 not_of m n (TakeGone k id place) on apart = rw on apart
 not_of m n (SetAhead k ahead) on apart = rw on apart
 not_of m n (NewPerson name key) on apart = absurd on
+not_of m n (SetKey name key) on apart = absurd on
 not_of m n (NewBoard k title) on apart = absurd on
+not_of m n (NewTitle k title) on apart = rw on apart
 not_of m n (SetRole k person role) on apart = absurd on
 
 one_named : (n : ℕ) (cs : List Change) → AllByRecursion (IsOn n) cs → NameOnly n cs
@@ -59,7 +59,9 @@ is_board_of n (SetGone k g) on = ap Some on
 is_board_of n (TakeGone k id place) on = ap Some on
 is_board_of n (SetAhead k ahead) on = ap Some on
 is_board_of n (NewPerson name key) on = absurd on
+is_board_of n (SetKey name key) on = absurd on
 is_board_of n (NewBoard k title) on = absurd on
+is_board_of n (NewTitle k title) on = ap Some on
 is_board_of n (SetRole k person role) on = absurd on
 
 no_role : (n : ℕ) (c : Change) → IsOn n c → is_role_change c ≡ false
@@ -68,7 +70,9 @@ no_role n (SetGone k g) on = refl
 no_role n (TakeGone k id place) on = refl
 no_role n (SetAhead k ahead) on = refl
 no_role n (NewPerson name key) on = absurd on
+no_role n (SetKey name key) on = absurd on
 no_role n (NewBoard k title) on = absurd on
+no_role n (NewTitle k title) on = refl
 no_role n (SetRole k person role) on = absurd on
 
 no_roles : (n : ℕ) (cs : List Change) → AllByRecursion (IsOn n) cs → SetNoRole cs
@@ -85,8 +89,27 @@ not_single people n (SetGone k g) on = refl
 not_single people n (TakeGone k id place) on = refl
 not_single people n (SetAhead k ahead) on = refl
 not_single people n (NewPerson name key) on = absurd on
+not_single people n (SetKey name key) on = absurd on
 not_single people n (NewBoard k title) on = absurd on
+not_single people n (NewTitle k title) on = refl
 not_single people n (SetRole k person role) on = absurd on
+
+not_person : (people n : ℕ) (c : Change) → IsOn n c → person_changes people c ≡ []
+not_person people n (PutTask k place t) on = refl
+not_person people n (NewTitle k title) on = refl
+not_person people n (SetGone k g) on = refl
+not_person people n (TakeGone k id place) on = refl
+not_person people n (SetAhead k ahead) on = refl
+not_person people n (NewPerson name key) on = absurd on
+not_person people n (SetKey name key) on = absurd on
+not_person people n (NewBoard k title) on = absurd on
+not_person people n (SetRole k person role) on = absurd on
+
+-- nor do they change people, where what follows them doesn't
+no_people : (n : ℕ) (own more : List Change) (w : World) → AllByRecursion (IsOn n) own → ((v : World) → people_changes v more ≡ []) → people_changes w (own ++ more) ≡ []
+no_people n [] more w on none = none w
+no_people n (c ∷ own) more w on none =
+    ap (λ l. l ++ people_changes (changed_by w c) (own ++ more)) (not_person (length w.people) n c on.0) ∙ no_people n own more (changed_by w c) on.1 none
 
 -- such changes give no rows by themselves, whatever follows them
 own_singles : (people n : ℕ) (own more : List Change) → AllByRecursion (IsOn n) own → flat_map (single_changes people) (own ++ more) ≡ flat_map (single_changes people) more
@@ -219,7 +242,7 @@ module _ (w : World) (cs : List Change) (n : ℕ) (touches : Touches w cs n) whe
           let is_good = good_at touches.made w.boards b (subst (AllByRecursion IsGood) touches.boards good.good) found in
           ap has_few_tasks (sym (touches.agrees b)) ∙ le-leb (length (touches.made b).tasks) 10000 is_good.few
 
--- ---- the four shapes
+-- ---- the five shapes
 
 all_three : {A : Type 0} (people boards roles part singles : List A) → people ≡ [] → boards ≡ part → roles ≡ singles → people ++ (boards ++ roles) ≡ part ++ singles
 all_three people boards roles part singles none same given = ap (λ l. l ++ (boards ++ roles)) none ∙ ap (λ l. l ++ roles) same ∙ ap (λ l. part ++ l) given
@@ -229,15 +252,15 @@ record IsRight (w : World) (cs : List Change) : Type 0 where
   rows : world_changes w (changed w cs) cs ≡ rows_of_part (length w.people) (part_of w cs) cs
   small : is_small_part (part_of w cs) ≡ true
 
-same_people : (w v : World) → v.people ≡ w.people → rows_from (person_changes (length w.people)) 0 v.people ≡ []
-same_people w v same = ap (rows_from (person_changes (length w.people)) 0) same ∙ old_people (length w.people) 0 w.people (omega arith)
+same_people : (w : World) (n : ℕ) (cs : List Change) → AllByRecursion (IsOn n) cs → people_changes w cs ≡ []
+same_people w n cs on = ap (people_changes w) (sym (append-nil cs)) ∙ no_people n cs [] w on (λ v. refl)
 
 no_changes_of_roles : (n : ℕ) (cs : List Change) (v : World) → AllByRecursion (IsOn n) cs → role_changes cs v.roles ≡ []
 no_changes_of_roles n cs v on = rw (no_role_rows n cs on) refl
 
 one_board : (w : World) (n : ℕ) (cs : List Change) → AllByRecursion (IsOn n) cs → IsGoodWorld w → IsGoodWorld (changed w cs) → IsRight w cs
 one_board w n [] on good later =
-    record { rows = all_three _ _ _ [] [] (same_people w w refl) (silent_boards [] w.boards (λ m. refl)) refl; small = refl }
+    record { rows = all_three _ _ _ [] [] refl (silent_boards [] w.boards (λ m. refl)) refl; small = refl }
 one_board w n (c ∷ cs) on good later =
     let all = c ∷ cs in
     let v = changed w all in
@@ -245,7 +268,7 @@ one_board w n (c ∷ cs) on good later =
     let singles : role_changes all v.roles ≡ flat_map (single_changes (length w.people)) all =
     no_changes_of_roles n all v on ∙ sym (ap (flat_map (single_changes (length w.people))) (sym (append-nil all)) ∙ own_singles (length w.people) n all [] on) in
     record {
-      rows = all_three _ _ _ _ _ (same_people w v (ap (λ (u : World). u.people) (changed-one w n all on))) (touched_rows w all n touches good) singles;
+      rows = all_three _ _ _ _ _ (same_people w n all on) (touched_rows w all n touches good) singles;
       small = touched_small w all n touches later;
     }
 
@@ -261,12 +284,12 @@ module _ (w : World) (n q : ℕ) (role : Option Role) where
 
   ends_in_role : (own : List Change) → AllByRecursion (IsOn n) own → IsGoodWorld w → IsGoodWorld (changed w (own ++ SetRole n q role ∷ [])) → IsRight w (own ++ SetRole n q role ∷ [])
   ends_in_role [] on good later =
-      record { rows = all_three _ _ _ [] _ (same_people w (changed w (SetRole n q role ∷ [])) refl) (silent_boards (SetRole n q role ∷ []) w.boards (λ m. refl)) (with_role [] on good later); small = refl }
+      record { rows = all_three _ _ _ [] _ refl (silent_boards (SetRole n q role ∷ []) w.boards (λ m. refl)) (with_role [] on good later); small = refl }
   ends_in_role (c ∷ own) on good later =
       let all = c ∷ own ++ SetRole n q role ∷ [] in
       let touches = role_touched w n q role c own on in
       record {
-        rows = all_three _ _ _ _ _ (same_people w (changed w all) (ap (λ (u : World). u.people) (changed-role w n q role (c ∷ own) on))) (touched_rows w all n touches good)
+        rows = all_three _ _ _ _ _ (no_people n (c ∷ own) (SetRole n q role ∷ []) w on (λ v. refl)) (touched_rows w all n touches good)
             (with_role (c ∷ own) on good later);
         small = touched_small w all n touches later;
       }
@@ -279,25 +302,21 @@ begins_board w n title q good later =
     let roles : role_changes cs v.roles ≡ role_set n q (Some Owner) =
     last_role (NewBoard n title ∷ []) n q (Some Owner) v.roles (refl, tt) later.ordered (role_in_set n q (Some Owner) w.roles good.ordered) in
     record {
-      rows = all_three _ _ _ (AddBoard (board_row (empty_board n title)) ∷ AddHorizon (horizon_row (empty_board n title)) ∷ []) _ (same_people w v refl) (begun_board cs w.boards (empty_board n title) (λ m. refl)) (roles ∙ sym (append-nil (role_set n q (Some Owner))));
+      rows = all_three _ _ _ (AddBoard (board_row (empty_board n title)) ∷ AddHorizon (horizon_row (empty_board n title)) ∷ []) _ refl (begun_board cs w.boards (empty_board n title) (λ m. refl)) (roles ∙ sym (append-nil (role_set n q (Some Owner))));
       small = refl;
     }
 
-new_person : (ps : List Person) (p : Person) → rows_from (person_changes (length ps)) 0 (ps ++ p ∷ []) ≡ AddPerson (person_row (length ps + 1) p) ∷ []
-new_person ps p =
-    let place : 0 + length ps ≡ length ps = omega arith in
-    let out : nat_lt (length ps) (length ps) ≡ false = le-ltb (length ps) (length ps) (omega arith) in
-    rows_from-append (person_changes (length ps)) 0 ps (p ∷ [])
-    ∙ ap (λ l. l ++ rows_from (person_changes (length ps)) (0 + length ps) (p ∷ [])) (old_people (length ps) 0 ps (omega arith))
-    ∙ ap (λ k. person_changes (length ps) k p ++ []) place
-    ∙ ap (λ b. cond b [] (AddPerson (person_row (length ps + 1) p) ∷ []) ++ []) out
-
 lets_in : (w : World) (name key : List ℕ) → IsRight w (NewPerson name key ∷ [])
 lets_in w name key =
-    let cs = NewPerson name key ∷ [] in
     record {
-      rows = ap (λ l. l ++ (board_changes cs w.boards w.boards ++ [])) (new_person w.people (record { name = name; key = key }))
-          ∙ ap (λ l. AddPerson (person_row (length w.people + 1) (record { name = name; key = key })) ∷ l ++ []) (silent_boards cs w.boards (λ m. refl));
+      rows = ap (λ l. AddPerson (person_row (length w.people + 1) (record { name = name; key = Some key })) ∷ l ++ []) (silent_boards (NewPerson name key ∷ []) w.boards (λ m. refl));
+      small = refl;
+    }
+
+gives_key : (w : World) (name : List ℕ) (key : Option (List ℕ)) → IsRight w (SetKey name key ∷ [])
+gives_key w name key =
+    record {
+      rows = ap (λ l. SetSecret name (secret_of key) ∷ l ++ []) (silent_boards (SetKey name key ∷ []) w.boards (λ m. refl));
       small = refl;
     }
 
@@ -307,7 +326,8 @@ of_shape w cs (inr (inl ends)) good later =
     subst (IsRight w) (sym ends.are) (ends_in_role w ends.board ends.person ends.role ends.own ends.are_on good (subst (λ ds. IsGoodWorld (changed w ds)) ends.are later))
 of_shape w cs (inr (inr (inl begins))) good later =
     subst (IsRight w) (sym begins.are) (begins_board w begins.board begins.title begins.person good (subst (λ ds. IsGoodWorld (changed w ds)) begins.are later))
-of_shape w cs (inr (inr (inr lets))) good later = subst (IsRight w) (sym lets.are) (lets_in w lets.name lets.key)
+of_shape w cs (inr (inr (inr (inl lets)))) good later = subst (IsRight w) (sym lets.are) (lets_in w lets.name lets.key)
+of_shape w cs (inr (inr (inr (inr gives)))) good later = subst (IsRight w) (sym gives.are) (gives_key w gives.name gives.key)
 
 -- ---- what the part gives
 

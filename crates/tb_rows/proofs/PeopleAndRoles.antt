@@ -1,18 +1,19 @@
 -- The rows of people and roles before and after changes.
-use Rattle.std.proofs.Common.{◌≡◌, ℕ, suc, ◌+◌, ◌<◌, ◌≤◌, ◌^◌, ◌==◌, nat_lt, Bool, true, false, not, ◌&&◌, ◌||◌, cond, List, [], ◌∷◌, ◌++◌, Option, Some, None, map, filter, flat_map, length, refl, sym, ◌∙◌, ap, subst, arith, inl, inr, IsPermutation}
-use Rattle.std.specs.List.{AllByRecursion, list_any}
+use Rattle.std.proofs.Common.{◌≡◌, ℕ, suc, ◌+◌, ◌<◌, ◌≤◌, ◌^◌, ◌==◌, nat_lt, Bool, true, false, true≢false, not, ◌⊎◌, bytes_eq, ◌&&◌, ◌||◌, cond, if◌then◌else◌, List, [], ◌∷◌, ◌++◌, Option, Some, None, map, filter, flat_map, length, refl, sym, ◌∙◌, ap, subst, arith, inl, inr, IsPermutation}
+use Rattle.std.specs.List.{AllByRecursion, IsDistinct, list_any}
 use Rattle.std.specs.Set.{remove_key}
-use Rattle.std.proofs.lemmas.Bool.{cases_Bool, eq-eqb, eqb-true, ne_eqb, lt-ltb, le-ltb, ltb-false, and_parts}
+use Rattle.std.proofs.lemmas.Bool.{cases_Bool, eq-eqb, eqb-true, ne_eqb, lt-ltb, ltb-false, and_parts}
 use Rattle.std.proofs.lemmas.List.{append_assoc, map-append}
-use Rattle.std.proofs.lemmas.List.Sorted.{IsPermutation-refl, IsPermutation-sym, IsPermutation-trans, IsPermutation-append_left, IsPermutation-append_comm, IsPermutation-filter_both, IsPermutation-map, IsPermutation-middle}
+use Rattle.std.proofs.lemmas.Slice.Eq.{bytes_eq-Decides}
+use Rattle.std.proofs.lemmas.List.Sorted.{IsPermutation-refl, IsPermutation-sym, IsPermutation-trans, IsPermutation-cons, IsPermutation-append_comm, IsPermutation-filter_both, IsPermutation-map, IsPermutation-middle}
 use Rattle.sqlite_trees.proofs.ListLemmas.{all-filter, all_weaker, filter-map, filter_all, filter_same}
 use Rattle.tb_board.specs.declared.change.Change.{Change}
-use Rattle.tb_board.specs.declared.change.Change.TheVariants.{PutTask, AddPerson as NewPerson, AddBoard as NewBoard, SetRole, SetGone, TakeGone, SetAhead}
+use Rattle.tb_board.specs.declared.change.Change.TheVariants.{PutTask, AddPerson as NewPerson, SetKey, AddBoard as NewBoard, SetTitle as NewTitle, SetRole, SetGone, TakeGone, SetAhead}
 use Rattle.tb_board.specs.declared.world.Person.{Person}
 use Rattle.tb_board.specs.declared.world.Role.{Role}
 use Rattle.tb_board.specs.declared.world.RoleOn.{RoleOn}
 use Rattle.tb_board.specs.declared.world.World.{World}
-use Rattle.tb_board.specs.Changing.{changed, changed_by}
+use Rattle.tb_board.specs.Changing.{changed, changed_by, set_key, with_key}
 use Rattle.tb_board.specs.First.{change_first}
 use Rattle.tb_board.specs.Roles.{comes_before, set_role, with_new_role}
 use Rattle.tb_board.specs.World.{is_role_of}
@@ -20,14 +21,17 @@ use Rattle.tb_board.proofs.Relinking.{or_false}
 use Rattle.tb_sql_tables.specs.declared.rows.PersonRow.{PersonRow}
 use Rattle.tb_sql_tables.specs.declared.rows.RoleRow.{RoleRow}
 use Rattle.tb_sql.specs.declared.changes.RowChange.{RowChange}
-use Rattle.tb_sql.specs.declared.changes.RowChange.TheVariants.{AddPerson, AddRole, RemoveRole}
-use Rattle.tb_sql.specs.Changes.{is_role}
-use Rattle.tb_rows.specs.Rows.{person_row, role_row, rows_from}
-use Rattle.tb_rows.proofs.WholeWorlds.{is_set, is_role_change, person_changes, role_added, role_changes, role_removed, sets_role}
+use Rattle.tb_sql.specs.declared.changes.RowChange.TheVariants.{AddPerson, SetSecret, AddRole, RemoveRole}
+use Rattle.tb_sql.specs.Changes.{is_named, is_role}
+use Rattle.tb_rows.specs.Rows.{person_row, role_row, rows_from, secret_of}
+use Rattle.tb_rows.proofs.WholeWorlds.{is_set, is_role_change, people_changes, person_changes, role_added, role_changes, role_removed, sets_role}
 use Rattle.tb_rows.proofs.Tables.{person_by, role_by, roles_unordered}
-use Rattle.tb_rows.proofs.Turning.{all_by, all_by-append, all-moved, inert-append, inert-flat_map, inert-if, inert-rows_from, inert_next, inert_none, IsInert}
+use Rattle.tb_rows.proofs.Turning.{all_by, all_by-append, all-moved, inert-append, inert-flat_map, inert-if, inert_next, inert_none, unchanged, IsInert}
 
 -- ---- people
+
+abbrev names : List Person → List (List ℕ)
+names ps = map (λ (p : Person). p.name) ps
 
 pub rows_from-append : {A B : Type 0} (f : ℕ → A → List B) (n : ℕ) (xs ys : List A) → rows_from f n (xs ++ ys) ≡ rows_from f n xs ++ rows_from f (n + length xs) ys
 rows_from-append f n [] ys = let same : n ≡ n + 0 = omega arith in ap (λ m. rows_from f m ys) same
@@ -36,35 +40,97 @@ rows_from-append f n (x ∷ xs) ys =
     ap (λ l. f n x ++ l) (rows_from-append f (n + 1) xs ys ∙ ap (λ m. rows_from f (n + 1) xs ++ rows_from f m ys) next)
     ∙ sym (append_assoc (f n x) (rows_from f (n + 1) xs) (rows_from f (n + suc (length xs)) ys))
 
-pub old_people : (old n : ℕ) (ps : List Person) → n + length ps ≤ old → rows_from (person_changes old) n ps ≡ []
-old_people old n [] within = refl
-old_people old n (p ∷ ps) within = rw (lt-ltb n old (omega (arith, within)), old_people old (n + 1) ps (omega (arith, within))) refl
+abbrev people_rows : ℕ → List Person → List PersonRow
+people_rows n ps = rows_from (λ m p. person_row m p ∷ []) n ps
 
-new_people : (old n : ℕ) (ps : List Person) (rows : List PersonRow) → old ≤ n
-    → IsPermutation (all_by person_by (rows_from (person_changes old) n ps) rows) (rows_from (λ m p. person_row m p ∷ []) (n + 1) ps ++ rows)
-new_people old n [] rows past = IsPermutation-refl rows
-new_people old n (p ∷ ps) rows past =
-    rw (le-ltb n old past)
-    (IsPermutation-trans _ _ _ (new_people old (n + 1) ps (person_row (n + 1) p ∷ rows) (omega (arith, past)))
-    (IsPermutation-middle (rows_from (λ m p. person_row m p ∷ []) (n + 1 + 1) ps) (person_row (n + 1) p) rows))
+-- a person who goes last has the next number
+row_added : (ps : List Person) (p : Person) (rows : List PersonRow) → IsPermutation rows (people_rows 1 ps) → IsPermutation (person_row (length ps + 1) p ∷ rows) (people_rows 1 (ps ++ p ∷ []))
+row_added ps p rows same =
+    let number : 1 + length ps ≡ length ps + 1 = omega arith in
+    let table : people_rows 1 (ps ++ p ∷ []) ≡ people_rows 1 ps ++ person_row (length ps + 1) p ∷ [] =
+    rows_from-append (λ m (q : Person). person_row m q ∷ []) 1 ps (p ∷ []) ∙ ap (λ m. people_rows 1 ps ++ person_row m p ∷ []) number in
+    rw table
+    (IsPermutation-trans _ _ _ (IsPermutation-cons (person_row (length ps + 1) p) rows (people_rows 1 ps) same) (IsPermutation-append_comm (person_row (length ps + 1) p ∷ []) (people_rows 1 ps)))
 
-pub people_turn : (ps more : List Person) (rows : List PersonRow) → IsPermutation rows (rows_from (λ n p. person_row n p ∷ []) 1 ps)
-    → IsPermutation (all_by person_by (rows_from (person_changes (length ps)) 0 (ps ++ more)) rows) (rows_from (λ n p. person_row n p ∷ []) 1 (ps ++ more))
-people_turn ps more rows same =
-    let first : rows_from (person_changes (length ps)) 0 ps ≡ [] = old_people (length ps) 0 ps (omega arith) in
-    let steps : rows_from (person_changes (length ps)) 0 (ps ++ more) ≡ rows_from (person_changes (length ps)) (0 + length ps) more =
-    rows_from-append (person_changes (length ps)) 0 ps more ∙ ap (λ l. l ++ rows_from (person_changes (length ps)) (0 + length ps) more) first in
-    let next : 0 + length ps + 1 ≡ 1 + length ps = omega arith in
-    let table = rows_from-append (λ n (p : Person). person_row n p ∷ []) 1 ps more in
-    let new = rows_from (λ n (p : Person). person_row n p ∷ []) (1 + length ps) more in
-    rw (steps, table)
-    (IsPermutation-trans _ _ _ (subst (λ m. IsPermutation (all_by person_by (rows_from (person_changes (length ps)) (0 + length ps) more) rows) (rows_from (λ n p. person_row n p ∷ []) m more ++ rows)) next
-    (new_people (length ps) (0 + length ps) more rows (omega arith)))
-    (IsPermutation-trans _ _ _ (IsPermutation-append_comm new rows) (IsPermutation-append_left new rows _ same)))
+-- the rows of people whose names are apart from this one
+unnamed : (name first : List ℕ) (n : ℕ) (ps : List Person) → bytes_eq first name ≡ true → AllByRecursion (λ other. bytes_eq first other ≡ false) (names ps)
+    → AllByRecursion (λ r. is_named name r ≡ false) (people_rows n ps)
+unnamed name first n [] same apart = tt
+unnamed name first n (p ∷ ps) same apart = (one (cases_Bool (bytes_eq p.name name)), unnamed name first (n + 1) ps same apart.1)
+  where
+    one : (bytes_eq p.name name ≡ true) ⊎ (bytes_eq p.name name ≡ false) → bytes_eq p.name name ≡ false
+    one (inl here) = absurd (true≢false (sym ((bytes_eq-Decides first p.name).1 ((bytes_eq-Decides first name).0 same ∙ sym ((bytes_eq-Decides p.name name).0 here))) ∙ apart.0))
+    one (inr other) = other
 
-pub inert-people : {R : Type 0} (by : RowChange → List R → List R) → ((r : PersonRow) (rows : List R) → by (AddPerson r) rows ≡ rows) → (old : ℕ) (ps : List Person) → IsInert by (rows_from (person_changes old) 0 ps)
-inert-people by leaves old ps =
-    inert-rows_from by (person_changes old) (λ n p. inert-if by (nat_lt n old) [] (AddPerson (person_row (n + 1) p) ∷ []) (inert_none by) (inert_next by _ [] (leaves (person_row (n + 1) p)) (inert_none by))) 0 ps
+-- of people with distinct names the one of this name has another key
+row_set : (name : List ℕ) (key : Option (List ℕ)) (n : ℕ) (ps : List Person) → IsDistinct bytes_eq (names ps)
+    → map (λ (r : PersonRow). if is_named name r then (let changed : PersonRow = record r { secret = secret_of key } in changed) else r) (people_rows n ps) ≡ people_rows n (set_key name key ps)
+unfolding IsDistinct
+row_set name key n [] distinct = refl
+row_set name key n (p ∷ ps) distinct =
+    elim (cases_Bool (bytes_eq p.name name)) [
+      | inl here ↦ rw here
+          (ap (λ l. person_row n (with_key key p) ∷ l)
+          (unchanged (is_named name) (λ (r : PersonRow). let changed : PersonRow = record r { secret = secret_of key } in changed) (people_rows (n + 1) ps) (unnamed name p.name (n + 1) ps here distinct.0)))
+      | inr other ↦ rw other (ap (λ l. person_row n p ∷ l) (row_set name key (n + 1) ps distinct.1))
+    ]
+
+names_set : (name : List ℕ) (key : Option (List ℕ)) (ps : List Person) → names (set_key name key ps) ≡ names ps
+names_set name key [] = refl
+names_set name key (p ∷ ps) =
+    elim (cases_Bool (bytes_eq p.name name)) [
+      | inl here ↦ rw here refl
+      | inr other ↦ rw other (ap (λ l. p.name ∷ l) (names_set name key ps))
+    ]
+
+all_front : {A : Type 0} (P : A → Type 0) (xs more : List A) → AllByRecursion P (xs ++ more) → AllByRecursion P xs
+all_front P [] more all = tt
+all_front P (x ∷ xs) more all = (all.0, all_front P xs more all.1)
+
+distinct_front : (xs more : List (List ℕ)) → IsDistinct bytes_eq (xs ++ more) → IsDistinct bytes_eq xs
+unfolding IsDistinct
+distinct_front [] more distinct = tt
+distinct_front (x ∷ xs) more distinct = (all_front (λ y. bytes_eq x y ≡ false) xs more distinct.0, distinct_front xs more distinct.1)
+
+-- people who have distinct names had them before
+distinct_before : (w : World) (c : Change) → IsDistinct bytes_eq (names (changed_by w c).people) → IsDistinct bytes_eq (names w.people)
+distinct_before w (NewPerson name key) distinct =
+    distinct_front (names w.people) (name ∷ []) (subst (IsDistinct bytes_eq) (map-append (λ (p : Person). p.name) w.people (record { name = name; key = Some key } ∷ [])) distinct)
+distinct_before w (SetKey name key) distinct = subst (IsDistinct bytes_eq) (names_set name key w.people) distinct
+distinct_before w _ distinct = distinct
+
+distinct_first : (cs : List Change) (w : World) → IsDistinct bytes_eq (names (changed w cs).people) → IsDistinct bytes_eq (names w.people)
+distinct_first [] w distinct = distinct
+distinct_first (c ∷ cs) w distinct = distinct_before w c (distinct_first cs (changed_by w c) distinct)
+
+person_turn : (w : World) (c : Change) (rows : List PersonRow) → IsDistinct bytes_eq (names (changed_by w c).people) → IsPermutation rows (people_rows 1 w.people)
+    → IsPermutation (all_by person_by (person_changes (length w.people) c) rows) (people_rows 1 (changed_by w c).people)
+person_turn w (NewPerson name key) rows distinct same = row_added w.people (record { name = name; key = Some key }) rows same
+person_turn w (SetKey name key) rows distinct same =
+    subst (IsPermutation (person_by (SetSecret name (secret_of key)) rows)) (row_set name key 1 w.people (distinct_before w (SetKey name key) distinct)) (IsPermutation-map _ rows (people_rows 1 w.people) same)
+person_turn w _ rows distinct same = same
+
+pub people_turn : (cs : List Change) (w : World) (rows : List PersonRow) → IsDistinct bytes_eq (names (changed w cs).people) → IsPermutation rows (people_rows 1 w.people)
+    → IsPermutation (all_by person_by (people_changes w cs) rows) (people_rows 1 (changed w cs).people)
+people_turn [] w rows distinct same = same
+people_turn (c ∷ cs) w rows distinct same =
+    rw (all_by-append person_by (person_changes (length w.people) c) (people_changes (changed_by w c) cs) rows)
+    (people_turn cs (changed_by w c) (all_by person_by (person_changes (length w.people) c) rows) distinct (person_turn w c rows (distinct_first cs (changed_by w c) distinct) same))
+
+-- changes of people leave the table
+pub record LeavesPeople {R : Type 0} (by : RowChange → List R → List R) : Type 0 where
+  pub added : (r : PersonRow) (rows : List R) → by (AddPerson r) rows ≡ rows
+  pub set : (name secret : List ℕ) (rows : List R) → by (SetSecret name secret) rows ≡ rows
+
+pub inert-people : {R : Type 0} (by : RowChange → List R → List R) → LeavesPeople by → (w : World) (cs : List Change) → IsInert by (people_changes w cs)
+inert-people by leaves w [] = inert_none by
+inert-people by leaves w (c ∷ cs) =
+    inert-append by (person_changes (length w.people) c) (people_changes (changed_by w c) cs) (one c) (inert-people by leaves (changed_by w c) cs)
+  where
+    one : (c : Change) → IsInert by (person_changes (length w.people) c)
+    one (NewPerson name key) = inert_next by _ [] (leaves.added (person_row (length w.people + 1) (record { name = name; key = Some key }))) (inert_none by)
+    one (SetKey name key) = inert_next by _ [] (leaves.set name (secret_of key)) (inert_none by)
+    one _ = inert_none by
 
 -- ---- roles that the changes don't set
 
@@ -121,7 +187,9 @@ roles_left all (c ∷ cs) w among = roles_left all cs (changed_by w c) among.1 �
         → filter (is_left all) (changed_by w c).roles ≡ filter (is_left all) w.roles
     one all w (PutTask m place t) among = refl
     one all w (NewPerson name key) among = refl
+    one all w (SetKey name key) among = refl
     one all w (NewBoard m title) among = refl
+    one all w (NewTitle m title) among = refl
     one all w (SetRole m q role) among = set_left all m q role w.roles (among m q (rw (eq-eqb m m refl, eq-eqb q q refl) refl))
     one all w (SetGone m g) among = refl
     one all w (TakeGone m id k) among = refl
@@ -180,7 +248,9 @@ removed_first : (c : Change) (cs : List Change) (rows : List RoleRow) → Remove
     → all_by role_by (flat_map role_removed cs) (all_by role_by (role_removed c) rows) ≡ filter (is_left_row (c ∷ cs)) rows
 removed_first (PutTask m place t) cs rows later fit = removes_none (PutTask m place t) cs rows later fit (all_weaker _ _ (λ r h. refl) rows fit)
 removed_first (NewPerson name key) cs rows later fit = removes_none (NewPerson name key) cs rows later fit (all_weaker _ _ (λ r h. refl) rows fit)
+removed_first (SetKey name key) cs rows later fit = removes_none (SetKey name key) cs rows later fit (all_weaker _ _ (λ r h. refl) rows fit)
 removed_first (NewBoard m title) cs rows later fit = removes_none (NewBoard m title) cs rows later fit (all_weaker _ _ (λ r h. refl) rows fit)
+removed_first (NewTitle m title) cs rows later fit = removes_none (NewTitle m title) cs rows later fit (all_weaker _ _ (λ r h. refl) rows fit)
 removed_first (SetGone m g) cs rows later fit = removes_none (SetGone m g) cs rows later fit (all_weaker _ _ (λ r h. refl) rows fit)
 removed_first (TakeGone m id k) cs rows later fit = removes_none (TakeGone m id k) cs rows later fit (all_weaker _ _ (λ r h. refl) rows fit)
 removed_first (SetAhead m ahead) cs rows later fit = removes_none (SetAhead m ahead) cs rows later fit (all_weaker _ _ (λ r h. refl) rows fit)
@@ -221,7 +291,9 @@ no_role_change (c ∷ cs) w none =
     one : (w : World) (c : Change) → is_role_change c ≡ false → (changed_by w c).roles ≡ w.roles
     one w (PutTask m place t) none = refl
     one w (NewPerson name key) none = refl
+    one w (SetKey name key) none = refl
     one w (NewBoard m title) none = refl
+    one w (NewTitle m title) none = refl
     one w (SetRole m q role) none = let no : true ≡ false = none in absurd (cc)
     one w (SetGone m g) none = refl
     one w (TakeGone m id k) none = refl
@@ -253,7 +325,9 @@ inert-roles by removes adds cs rs =
     removed : (c : Change) → IsInert by (role_removed c)
     removed (PutTask m place t) = inert_none by
     removed (NewPerson name key) = inert_none by
+    removed (SetKey name key) = inert_none by
     removed (NewBoard m title) = inert_none by
+    removed (NewTitle m title) = inert_none by
     removed (SetRole m q role) = inert-if by (nat_lt q (2 ^ 32)) (RemoveRole m q ∷ []) [] (inert_next by _ [] (removes m q) (inert_none by)) (inert_none by)
     removed (SetGone m g) = inert_none by
     removed (TakeGone m id k) = inert_none by

@@ -9,7 +9,7 @@ use Rattle.std.proofs.lemmas.Bool.{cases_Bool, eq-eqb, eqb-true, and_parts}
 use Rattle.std.proofs.lemmas.List.{append-nil}
 use Rattle.std.proofs.Math.Bool.{or-false}
 use Rattle.tb_board.specs.declared.change.Change.{Change}
-use Rattle.tb_board.specs.declared.change.Change.TheVariants.{PutTask, AddPerson as NewPerson, AddBoard as NewBoard, SetRole, SetGone, TakeGone, SetAhead}
+use Rattle.tb_board.specs.declared.change.Change.TheVariants.{PutTask, AddPerson as NewPerson, SetKey, AddBoard as NewBoard, SetTitle as NewTitle, SetRole, SetGone, TakeGone, SetAhead}
 use Rattle.tb_board.specs.declared.world.Role.{Role}
 use Rattle.tb_board.specs.declared.world.RoleOn.{RoleOn}
 use Rattle.tb_board.specs.First.{change_first}
@@ -135,7 +135,9 @@ SetNoRole cs = AllByRecursion (λ c. is_role_change c ≡ false) cs
 sets_none : (board person : ℕ) (c : Change) → is_role_change c ≡ false → sets_role board person c ≡ false
 sets_none board person (PutTask m place t) none = refl
 sets_none board person (NewPerson name key) none = refl
+sets_none board person (SetKey name key) none = refl
 sets_none board person (NewBoard m title) none = refl
+sets_none board person (NewTitle m title) none = refl
 sets_none board person (SetRole m q role) none = absurd (true≢false none)
 sets_none board person (SetGone m g) none = refl
 sets_none board person (TakeGone m id k) none = refl
@@ -144,7 +146,9 @@ sets_none board person (SetAhead m ahead) none = refl
 removes_none : (c : Change) → is_role_change c ≡ false → role_removed c ≡ []
 removes_none (PutTask m place t) none = refl
 removes_none (NewPerson name key) none = refl
+removes_none (SetKey name key) none = refl
 removes_none (NewBoard m title) none = refl
+removes_none (NewTitle m title) none = refl
 removes_none (SetRole m q role) none = absurd (true≢false none)
 removes_none (SetGone m g) none = refl
 removes_none (TakeGone m id k) none = refl

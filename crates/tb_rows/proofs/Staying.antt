@@ -9,10 +9,10 @@ use Rattle.sqlite_trees.proofs.ListLemmas.{all-get_or}
 use Rattle.tb_task.specs.declared.task.Task.{Task}
 use Rattle.tb_board.specs.declared.board.Board.{Board}
 use Rattle.tb_board.specs.declared.change.Change.{Change}
-use Rattle.tb_board.specs.declared.change.Change.TheVariants.{PutTask, AddPerson as NewPerson, AddBoard as NewBoard, SetRole, SetGone, TakeGone, SetAhead}
+use Rattle.tb_board.specs.declared.change.Change.TheVariants.{PutTask, AddPerson as NewPerson, SetKey, AddBoard as NewBoard, SetTitle as NewTitle, SetRole, SetGone, TakeGone, SetAhead}
 use Rattle.tb_board.specs.Board.{lacks_depends}
 use Rattle.tb_board.specs.Tasks.{has_id, ids, place_in}
-use Rattle.tb_board.specs.Changing.{put, with_ahead, with_gone, without_gone}
+use Rattle.tb_board.specs.Changing.{put, with_ahead, with_gone, with_title, without_gone}
 use Rattle.tb_board.specs.Instances.{has_template, is_template_with}
 use Rattle.tb_board.proofs.Fresh.{on_ids}
 use Rattle.tb_board.proofs.Relinking.{or_false}
@@ -81,7 +81,9 @@ longer n (PutTask m place t) a =
       | inr other ↦ rw other (omega arith)
     ]
 longer n (NewPerson name key) a = omega arith
+longer n (SetKey name key) a = omega arith
 longer n (NewBoard m title) a = omega arith
+longer n (NewTitle m title) a = elim (n == m) as (λ q. length a.tasks ≤ length (cond q (with_title title a) a).tasks) [ true ↦ omega arith | false ↦ omega arith ]
 longer n (SetRole m person role) a = omega arith
 longer n (SetGone m g) a = elim (n == m) as (λ q. length a.tasks ≤ length (cond q (with_gone g a) a).tasks) [ true ↦ omega arith | false ↦ omega arith ]
 longer n (TakeGone m id k) a = elim (n == m) as (λ q. length a.tasks ≤ length (cond q (without_gone id k a) a).tasks) [ true ↦ omega arith | false ↦ omega arith ]
@@ -94,7 +96,9 @@ one_stays n (PutTask m place t) a i d within out =
       | inr other ↦ rw other refl
     ]
 one_stays n (NewPerson name key) a i d within out = refl
+one_stays n (SetKey name key) a i d within out = refl
 one_stays n (NewBoard m title) a i d within out = refl
+one_stays n (NewTitle m title) a i d within out = elim (n == m) as (λ q. get_or (cond q (with_title title a) a).tasks i d ≡ get_or a.tasks i d) [ true ↦ refl | false ↦ refl ]
 one_stays n (SetRole m person role) a i d within out = refl
 one_stays n (SetGone m g) a i d within out = elim (n == m) as (λ q. get_or (cond q (with_gone g a) a).tasks i d ≡ get_or a.tasks i d) [ true ↦ refl | false ↦ refl ]
 one_stays n (TakeGone m id k) a i d within out = elim (n == m) as (λ q. get_or (cond q (without_gone id k a) a).tasks i d ≡ get_or a.tasks i d) [ true ↦ refl | false ↦ refl ]

@@ -12,7 +12,7 @@ use Rattle.tb_sql_tables.specs.declared.rows.InstanceRow.{InstanceRow}
 use Rattle.tb_sql_tables.specs.declared.rows.GoneRow.{GoneRow}
 use Rattle.tb_sql_tables.specs.declared.rows.HorizonRow.{HorizonRow}
 use Rattle.tb_sql.specs.declared.changes.RowChange.{RowChange}
-use Rattle.tb_sql.specs.declared.changes.RowChange.TheVariants.{AddPerson, AddBoard, SetLow, AddRole, RemoveRole, AddTask, SetText, SetMask, AddLink, RemoveLinks, AddInstance, AddGone, RemoveGone, AddHorizon, SetHorizon}
+use Rattle.tb_sql.specs.declared.changes.RowChange.TheVariants.{AddPerson, SetSecret, AddBoard, SetTitle, SetLow, AddRole, RemoveRole, AddTask, SetText, SetMask, AddLink, RemoveLinks, AddInstance, AddGone, RemoveGone, AddHorizon, SetHorizon}
 use Rattle.tb_sql.specs.Writing.{changed_by, changed_by_all}
 use Rattle.tb_rows.proofs.Turning.{all_by, IsUnordered, Turns}
 
@@ -121,6 +121,7 @@ people_unordered = record { moved = go }
   where
     go : (x : RowChange) (rows other : List PersonRow) → IsPermutation rows other → IsPermutation (person_by x rows) (person_by x other)
     go (AddPerson r) rows other same = IsPermutation-cons r rows other same
+    go (SetSecret name secret) rows other same = IsPermutation-map _ rows other same
     go _ rows other same = same
 
 pub boards_unordered : IsUnordered board_by
@@ -128,6 +129,7 @@ boards_unordered = record { moved = go }
   where
     go : (x : RowChange) (rows other : List BoardRow) → IsPermutation rows other → IsPermutation (board_by x rows) (board_by x other)
     go (AddBoard r) rows other same = IsPermutation-cons r rows other same
+    go (SetTitle id title) rows other same = IsPermutation-map _ rows other same
     go (SetLow id low) rows other same = IsPermutation-map _ rows other same
     go _ rows other same = same
 

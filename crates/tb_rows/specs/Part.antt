@@ -3,7 +3,7 @@ use Rattle.std.specs.Prelude.{◌≡◌, ◌≤◌, ℕ, ◌+◌, ◌^◌, Bool,
 use Rattle.std.specs.List.{flat_map}
 use Rattle.tb_board.specs.declared.board.Board.{Board}
 use Rattle.tb_board.specs.declared.change.Change.{Change}
-use Rattle.tb_board.specs.declared.change.Change.TheVariants.{PutTask, AddPerson as NewPerson, AddBoard as NewBoard, SetRole, SetGone, TakeGone, SetAhead}
+use Rattle.tb_board.specs.declared.change.Change.TheVariants.{PutTask, AddPerson as NewPerson, SetKey, AddBoard as NewBoard, SetTitle as NewTitle, SetRole, SetGone, TakeGone, SetAhead}
 use Rattle.tb_board.specs.declared.world.Role.{Role}
 use Rattle.tb_board.specs.declared.world.World.{World}
 use Rattle.tb_board.specs.Changing.{changed, replayed}
@@ -12,20 +12,22 @@ use Rattle.tb_board.specs.World.{find_board, empty_board}
 use Rattle.tb_core.specs.GoodWorld.{IsGoodWorld}
 use Rattle.tb_core.specs.Shapes.{AreOfOne}
 use Rattle.tb_sql.specs.declared.changes.RowChange.{RowChange}
-use Rattle.tb_sql.specs.declared.changes.RowChange.TheVariants.{AddPerson, AddBoard, AddRole, RemoveRole, AddHorizon}
+use Rattle.tb_sql.specs.declared.changes.RowChange.TheVariants.{AddPerson, SetSecret, AddBoard, AddRole, RemoveRole, AddHorizon}
 use Rattle.tb_rows.specs.declared.part.BoardPart.{BoardPart}
-use Rattle.tb_rows.specs.Rows.{board_row, horizon_row, person_row, role_row}
+use Rattle.tb_rows.specs.Rows.{board_row, horizon_row, person_row, role_row, secret_of}
 use Rattle.tb_rows.specs.Small.{has_few_tasks}
 use Rattle.tb_rows.specs.Steps.{kept_board, Leads}
 use Rattle.tb_task.specs.Limits.{most_people}
 
 -- ---- the part
 
--- the board whose tasks, gone places or view ahead a change changes
+-- the board whose title, tasks, gone places or view ahead a change changes
 abbrev pub board_of : Change → Option ℕ
 board_of (PutTask m place t) = Some m
 board_of (NewPerson name key) = None
+board_of (SetKey name key) = None
 board_of (NewBoard m title) = None
+board_of (NewTitle m title) = Some m
 board_of (SetRole m person role) = None
 board_of (SetGone m g) = Some m
 board_of (TakeGone m id k) = Some m
@@ -85,9 +87,11 @@ role_set m q role = if nat_lt q (2 ^ 32) then RemoveRole m q ∷ role_given m q 
 abbrev pub single_changes : ℕ → Change → List RowChange
 single_changes people (PutTask m place t) = []
 single_changes people (NewPerson name key) =
-    AddPerson (person_row (people + 1) (record { name = name; key = key })) ∷ []
+    AddPerson (person_row (people + 1) (record { name = name; key = Some key })) ∷ []
+single_changes people (SetKey name key) = SetSecret name (secret_of key) ∷ []
 single_changes people (NewBoard m title) =
     AddBoard (board_row (empty_board m title)) ∷ AddHorizon (horizon_row (empty_board m title)) ∷ []
+single_changes people (NewTitle m title) = []
 single_changes people (SetRole m q role) = role_set m q role
 single_changes people (SetGone m g) = []
 single_changes people (TakeGone m id k) = []

@@ -41,8 +41,13 @@ place_of ts id = from_one (place_in (ids ts) id)
 
 -- ---- one row of each table
 
+-- the key, and the empty text where there is none
+abbrev pub secret_of : Option (List ℕ) → List ℕ
+secret_of None = []
+secret_of (Some key) = key
+
 abbrev pub person_row : ℕ → Person → PersonRow
-person_row n p = record { id = n; name = p.name; secret = p.key }
+person_row n p = record { id = n; name = p.name; secret = secret_of p.key }
 
 abbrev pub board_row : Board → BoardRow
 board_row b = record { id = b.number; title = b.title; low = free b }

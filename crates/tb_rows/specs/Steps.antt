@@ -5,7 +5,7 @@ use Rattle.tb_task.specs.declared.task.Task.{Task}
 use Rattle.tb_json.specs.Stored.{stored_text}
 use Rattle.tb_board.specs.declared.board.Board.{Board}
 use Rattle.tb_board.specs.declared.change.Change.{Change}
-use Rattle.tb_board.specs.declared.change.Change.TheVariants.{PutTask, AddPerson as NewPerson, AddBoard as NewBoard, SetRole, SetGone, TakeGone, SetAhead}
+use Rattle.tb_board.specs.declared.change.Change.TheVariants.{PutTask, AddPerson as NewPerson, SetKey, AddBoard as NewBoard, SetTitle as NewTitle, SetRole, SetGone, TakeGone, SetAhead}
 use Rattle.tb_board.specs.declared.gone.Gone.{Gone}
 use Rattle.tb_board.specs.declared.world.World.{World}
 use Rattle.tb_board.specs.Tasks.{ids, place_in}
@@ -13,7 +13,7 @@ use Rattle.tb_board.specs.Links.{with_place}
 use Rattle.tb_board.specs.Numbers.{free}
 use Rattle.tb_sql_tables.specs.Content.{Content}
 use Rattle.tb_sql.specs.declared.changes.RowChange.{RowChange}
-use Rattle.tb_sql.specs.declared.changes.RowChange.TheVariants.{SetLow, AddTask, SetText, SetMask, AddLink, RemoveLinks, AddInstance, AddGone, RemoveGone, SetHorizon}
+use Rattle.tb_sql.specs.declared.changes.RowChange.TheVariants.{SetTitle, SetLow, AddTask, SetText, SetMask, AddLink, RemoveLinks, AddInstance, AddGone, RemoveGone, SetHorizon}
 use Rattle.tb_sql.specs.Writing.{changed_by_all}
 use Rattle.tb_rows.specs.Rows.{rows_from, mask_cell, task_row, link_rows, instance_rows, gone_row, world_rows, HaveSameRows}
 
@@ -23,7 +23,9 @@ use Rattle.tb_rows.specs.Rows.{rows_from, mask_cell, task_row, link_rows, instan
 abbrev pub put_place : ℕ → Change → List ℕ
 put_place n (PutTask m place t) = if n == m then place ∷ [] else []
 put_place n (NewPerson name key) = []
+put_place n (SetKey name key) = []
 put_place n (NewBoard m title) = []
+put_place n (NewTitle m title) = []
 put_place n (SetRole m person role) = []
 put_place n (SetGone m g) = []
 put_place n (TakeGone m id k) = []
@@ -36,7 +38,9 @@ is_among places place = list_any (λ p. p == place) places
 abbrev pub is_of_board : ℕ → Change → Bool
 is_of_board n (PutTask m place t) = n == m
 is_of_board n (NewPerson name key) = false
+is_of_board n (SetKey name key) = false
 is_of_board n (NewBoard m title) = false
+is_of_board n (NewTitle m title) = n == m
 is_of_board n (SetRole m person role) = false
 is_of_board n (SetGone m g) = n == m
 is_of_board n (TakeGone m id k) = n == m
@@ -50,7 +54,9 @@ template_place b (Some id) = with_place (place_in (ids b.tasks) id) []
 abbrev pub gone_template : Board → Change → List ℕ
 gone_template b (PutTask m place t) = []
 gone_template b (NewPerson name key) = []
+gone_template b (SetKey name key) = []
 gone_template b (NewBoard m title) = []
+gone_template b (NewTitle m title) = []
 gone_template b (SetRole m person role) = []
 gone_template b (SetGone m g) = if b.number == m then template_place b (Some g.template) else []
 gone_template b (TakeGone m id k) = if b.number == m then template_place b (Some id) else []
@@ -104,7 +110,9 @@ gone_removed b k (Some place) = RemoveGone b.number (place + 1) k ∷ []
 abbrev pub gone_changes : Board → Change → List RowChange
 gone_changes b (PutTask m place t) = []
 gone_changes b (NewPerson name key) = []
+gone_changes b (SetKey name key) = []
 gone_changes b (NewBoard m title) = []
+gone_changes b (NewTitle m title) = []
 gone_changes b (SetRole m person role) = []
 gone_changes b (SetGone m g) = if b.number == m
     then gone_added b g (place_in (ids b.tasks) g.template) else []
@@ -112,11 +120,29 @@ gone_changes b (TakeGone m id k) = if b.number == m
     then gone_removed b k (place_in (ids b.tasks) id) else []
 gone_changes b (SetAhead m ahead) = []
 
+-- whether a change sets the title of board n
+abbrev pub sets_title : ℕ → Change → Bool
+sets_title n (PutTask m place t) = false
+sets_title n (NewPerson name key) = false
+sets_title n (SetKey name key) = false
+sets_title n (NewBoard m title) = false
+sets_title n (NewTitle m title) = n == m
+sets_title n (SetRole m person role) = false
+sets_title n (SetGone m g) = false
+sets_title n (TakeGone m id k) = false
+sets_title n (SetAhead m ahead) = false
+
+abbrev pub title_changes : Board → List Change → List RowChange
+title_changes b cs = if list_any (sets_title b.number) cs
+    then SetTitle b.number b.title ∷ [] else []
+
 -- whether a change sets how far ahead board n looks
 abbrev pub sets_ahead : ℕ → Change → Bool
 sets_ahead n (PutTask m place t) = false
 sets_ahead n (NewPerson name key) = false
+sets_ahead n (SetKey name key) = false
 sets_ahead n (NewBoard m title) = false
+sets_ahead n (NewTitle m title) = false
 sets_ahead n (SetRole m person role) = false
 sets_ahead n (SetGone m g) = false
 sets_ahead n (TakeGone m id k) = false
@@ -133,10 +159,11 @@ low_changes old b = if nat_lt old (length b.tasks) then SetLow b.number (free b)
 abbrev pub later_board : ℕ → Board → List Change → List RowChange
 later_board old b cs =
     let put = flat_map (put_place b.number) cs in
-    low_changes old b
+    title_changes b cs
+    ++ (low_changes old b
     ++ (ahead_changes b cs
     ++ (rows_from (task_changes b old put (changed_templates b old put cs)) 0 b.tasks
-    ++ flat_map (gone_changes b) cs))
+    ++ flat_map (gone_changes b) cs)))
 
 abbrev pub kept_board : ℕ → Board → List Change → List RowChange
 kept_board old b cs = if list_any (is_of_board b.number) cs then later_board old b cs else []

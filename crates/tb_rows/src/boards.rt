@@ -4,7 +4,7 @@ ghost use Rattle.std.specs.Prelude.{◌≡◌, ◌≤◌, ◌++◌, IfOk, OnOk, 
 ghost use Rattle.std.specs.List.{flat_map, list_any};
 ghost use Rattle.tb_board.specs.World.{empty_board};
 ghost use Rattle.tb_rows.specs.Rows.{board_row};
-ghost use Rattle.tb_rows.specs.Steps.{ahead_changes, changed_templates, kept_board, later_board, low_changes, put_place, sets_ahead};
+ghost use Rattle.tb_rows.specs.Steps.{ahead_changes, changed_templates, kept_board, later_board, low_changes, put_place, sets_ahead, sets_title, title_changes};
 ghost use Rattle.tb_rows.specs.TaskPlaces.{AreFor};
 ghost use Rattle.tb_task.specs.Limits.{most_tasks};
 
@@ -47,6 +47,7 @@ fn push_later_board(
 {
     let places = TaskPlaces::for_changes(alloc, board, changes)?;
     let concerned = concerned_tasks(alloc, board, &places, old, changes)?;
+    push_title(alloc, rows, board, changes)?;
     push_low(alloc, rows, old, board)?;
     push_ahead(rows, board, changes)?;
     push_tasks(alloc, rows, board, &places, &concerned)?;
@@ -78,6 +79,40 @@ fn concerned_tasks(
         put,
         templates,
     })
+}
+
+/// The title of a board, if the changes set it.
+fn push_title(
+    alloc: Global,
+    rows: &mut Items<RowChange>,
+    board: &Board,
+    changes: &[Change],
+) -> Result<(), AllocError>
+    ensures { OnOk result (rows.new ≡ rows.old ++ title_changes board.now changes.now) }
+{
+    if set_title(changes, board.number) {
+        rows.push(RowChange::SetTitle {
+            board: board.number,
+            title: Text::from_str(alloc, board.title.as_str())?,
+        })?;
+    }
+    Ok(())
+}
+
+/// Whether one of the changes sets the title of a board.
+fn set_title(changes: &[Change], board: u32) -> bool
+    ensures { result ≡ list_any (sets_title board) changes.now }
+{
+    changes.iter().any(|change| sets_title(change, board))
+}
+
+fn sets_title(change: &Change, board: u32) -> bool
+    ensures { result ≡ sets_title board change.now }
+{
+    match change {
+        Change::SetTitle { board: number, .. } => board == *number,
+        _ => false,
+    }
 }
 
 /// The least free number of a board that had so many tasks, if it has more now.

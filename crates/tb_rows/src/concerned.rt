@@ -124,6 +124,7 @@ fn is_of_board(change: &Change, board: u32) -> bool
 {
     match change {
         Change::PutTask { board: number, .. } => board == *number,
+        Change::SetTitle { board: number, .. } => board == *number,
         Change::SetGone { board: number, .. } => board == *number,
         Change::TakeGone { board: number, .. } => board == *number,
         Change::SetAhead { board: number, .. } => board == *number,

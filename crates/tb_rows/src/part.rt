@@ -10,7 +10,7 @@ ghost use Rattle.tb_rows.specs.Steps.{Leads};
 ghost use Rattle.tb_task.specs.Limits.{most_people};
 
 use crate::boards::{empty_board_row, first_horizon, push_kept_board};
-use crate::people::person_row;
+use crate::people::{person_row, secret_change};
 use crate::quick::quick_rows;
 use crate::roles::push_role;
 use std::alloc::{AllocError, Global};
@@ -26,13 +26,14 @@ pub struct BoardPart {
     pub later: Board,
 }
 
-/// The board whose tasks, gone places or view ahead the first of a decision's changes changes: the one that a store has
-/// to look up for `part_changes`.
+/// The board whose title, tasks, gone places or view ahead the first of a decision's changes changes: the one that a
+/// store has to look up for `part_changes`.
 pub fn touched_board(changes: &[Change]) -> Option<u32>
     ensures { result ≡ touched_board changes.now }
 {
     match changes.first()? {
         Change::PutTask { board, .. } => Some(*board),
+        Change::SetTitle { board, .. } => Some(*board),
         Change::SetGone { board, .. } => Some(*board),
         Change::TakeGone { board, .. } => Some(*board),
         Change::SetAhead { board, .. } => Some(*board),
@@ -176,6 +177,11 @@ fn push_single(
         Change::AddPerson { name, key } => {
             let person = person_row(alloc, people, name, key)?;
             rows.push(RowChange::AddPerson(person))?;
+            Ok(())
+        }
+        Change::SetKey { name, key } => {
+            let change = secret_change(alloc, name, key)?;
+            rows.push(change)?;
             Ok(())
         }
         Change::AddBoard { number, title } => {

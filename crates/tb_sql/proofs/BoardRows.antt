@@ -37,7 +37,7 @@ use Rattle.tb_sql_tables.proofs.KeyTests.{equal, equal_numbers}
 use Rattle.tb_sql_tables.proofs.Queries.{query_of, program_of, output_at}
 use Rattle.tb_sql_tables.proofs.SqlTests.{and_true}
 use Rattle.tb_sql_tables.proofs.Statements.{Means, Asks, row_inserted}
-use Rattle.tb_sql.specs.Changes.{with_board, with_low, is_board, IsBoardBefore}
+use Rattle.tb_sql.specs.Changes.{with_board, with_low, with_title, is_board, IsBoardBefore}
 
 -- ---- a row goes in
 
@@ -89,6 +89,31 @@ update_low old new id low ran = record {
       let same = each (λ (board : BoardRow). and_true _ ∙ equal_numbers board.id id) content.boards in
       let effect = keyed_updated board_row (is_board id) content.boards 2 board_plain refl refl update_text by_id old new is.schema params ran same is.rows.tables.boards replaced set updates
       (λ r. refl) (λ board. rw (cast_null, cast_integer (pos board.id), cast_integer (pos low)) refl) in
+      boards_changed content _ old.now new.now effect.1 is effect.0;
+}
+
+-- ---- the title of a board
+
+abbrev pub title_text : List ℕ
+title_text = codes "UPDATE board SET title = ?2 WHERE id = ?1"
+
+-- the rowid of the row that goes, and then the row that stands in its place
+abbrev renamed : List Term
+renamed = col 1 0 ∷ col 1 0 ∷ lit Null ∷ col 0 1 ∷ col 1 3 ∷ []
+
+renames : Means title_text (Update 2 (program_of (query_of board_tree by_id renamed [])))
+unfolding understood everything
+renames = record { is = refl; bare = (refl, refl) }
+
+pub update_title : (old new : State) (id : ℕ) (title : List ℕ) → Ran title_text (Int (pos id) ∷ Text title ∷ []) old new → Changes (with_title id title) old new
+update_title old new id title ran = record {
+  shown = ran.1.1;
+  content = λ content is.
+      let params = Int (pos id) ∷ Text title ∷ [] in
+      let set = λ (board : BoardRow). let changed : BoardRow = record board { title = title } in changed in
+      let same = each (λ (board : BoardRow). and_true _ ∙ equal_numbers board.id id) content.boards in
+      let effect = keyed_updated board_row (is_board id) content.boards 2 board_plain refl refl title_text by_id old new is.schema params ran same is.rows.tables.boards renamed set renames
+      (λ r. refl) (λ board. rw (cast_null, cast_integer (pos board.id), cast_integer (pos board.low)) refl) in
       boards_changed content _ old.now new.now effect.1 is effect.0;
 }
 

@@ -13,7 +13,7 @@ use Rattle.sqlite_value.specs.Order.{Row}
 use Rattle.sqlite_value.proofs.OrderLemmas.{value_cmp-Int}
 use Rattle.sqlite_sql.specs.Query.{Output, output_cmp}
 use Rattle.sqlite_sql.specs.Term.{Term, lit, col}
-use Rattle.sqlite_schema.specs.declared.command.Command.TheVariants.{Insert}
+use Rattle.sqlite_schema.specs.declared.command.Command.TheVariants.{Insert, Update}
 use Rattle.sqlite_schema.specs.declared.command.Source.TheVariants.{Values}
 use Rattle.sqlite_tied.specs.Compute.{everything}
 use Rattle.sqlite.specs.Listing.{understood}
@@ -27,17 +27,17 @@ use Rattle.tb_sql_tables.specs.Statements.{Changes, Finds, Ran}
 use Rattle.tb_sql_tables.specs.Failing.{IsExcused}
 use Rattle.tb_sql_tables.specs.Found.{AreFound, IsOneOf}
 use Rattle.tb_sql_tables.proofs.Contents.{people_changed}
-use Rattle.tb_sql_tables.proofs.Effects.{each, all_left, keyed_shown, found, found_any, found_one}
+use Rattle.tb_sql_tables.proofs.Effects.{each, all_left, keyed_updated, keyed_shown, found, found_any, found_one}
 use Rattle.tb_sql_tables.proofs.Failing.{Suits, fails_so}
 use Rattle.tb_sql_tables.proofs.Inserts.{cast_integer, cast_null}
 use Rattle.tb_sql_tables.proofs.Inside.{shown_open}
 use Rattle.tb_sql_tables.proofs.Keyed.{keyed_put}
 use Rattle.tb_sql_tables.proofs.Looking.{looks_on}
 use Rattle.tb_sql_tables.proofs.KeyTests.{equal, equal_numbers, equal_texts}
-use Rattle.tb_sql_tables.proofs.Queries.{query_of, output_at}
+use Rattle.tb_sql_tables.proofs.Queries.{query_of, program_of, output_at}
 use Rattle.tb_sql_tables.proofs.SqlTests.{and_true}
 use Rattle.tb_sql_tables.proofs.Statements.{Means, Asks, row_inserted}
-use Rattle.tb_sql.specs.Changes.{with_person, is_named, is_person, IsPersonBefore}
+use Rattle.tb_sql.specs.Changes.{with_person, with_secret, is_named, is_person, IsPersonBefore}
 
 -- ---- a row goes in
 
@@ -62,6 +62,34 @@ insert_person old new row ran = record {
       let effect = row_inserted 1 person_plain refl refl insert_text old new is.schema (row_params row) ran.0 terms 4 (person_row row) inserts refl ran.1 in
       people_changed content (row ∷ content.people) old.now new.now effect.1 is
       (keyed_put store_schema old.now.trees new.now.trees person_table (person_row row) (pos row.id) cells _ (rw (cast_null, cast_integer (pos row.id)) refl) effect.0 is.rows.tables.people);
+}
+
+-- ---- the secret of a person
+
+abbrev pub secret_text : List ℕ
+secret_text = codes "UPDATE person SET secret = ?2 WHERE name = ?1"
+
+abbrev by_name : List Term
+by_name = equal 2 0 ∷ []
+
+-- the rowid of the row that goes, and then the row that stands in its place
+abbrev replaced : List Term
+replaced = col 1 0 ∷ col 1 0 ∷ lit Null ∷ col 1 2 ∷ col 0 1 ∷ []
+
+updates : Means secret_text (Update 1 (program_of (query_of person_tree by_name replaced [])))
+unfolding understood everything
+updates = record { is = refl; bare = (refl, refl) }
+
+pub update_secret : (old new : State) (name secret : List ℕ) → Ran secret_text (Text name ∷ Text secret ∷ []) old new → Changes (with_secret name secret) old new
+update_secret old new name secret ran = record {
+  shown = ran.1.1;
+  content = λ content is.
+      let params = Text name ∷ Text secret ∷ [] in
+      let set = λ (person : PersonRow). let changed : PersonRow = record person { secret = secret } in changed in
+      let same = each (λ (person : PersonRow). and_true _ ∙ equal_texts person.name name) content.people in
+      let effect = keyed_updated person_row (is_named name) content.people 1 person_plain refl refl secret_text by_name old new is.schema params ran same is.rows.tables.people replaced set updates
+      (λ r. refl) (λ person. rw (cast_null, cast_integer (pos person.id)) refl) in
+      people_changed content _ old.now new.now effect.1 is effect.0;
 }
 
 -- ---- queries
@@ -102,9 +130,6 @@ select_people old new rows shown = record {
 
 abbrev pub find_text : List ℕ
 find_text = codes "SELECT id, name, secret FROM person WHERE name = ?1"
-
-abbrev by_name : List Term
-by_name = equal 2 0 ∷ []
 
 asks_one : Asks find_text person_tree by_name shown_terms []
 unfolding understood everything

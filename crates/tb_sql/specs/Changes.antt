@@ -86,6 +86,26 @@ without_gone board template imask content =
 
 -- ---- rows that change
 
+-- the person of this name has this secret
+abbrev pub with_secret : List ℕ → List ℕ → Content → Content
+with_secret name secret content =
+    record content {
+      people = map
+          (λ (person : PersonRow). if is_named name person
+          then (let changed : PersonRow = record person { secret = secret } in changed)
+          else person) content.people;
+    }
+
+-- the board of this number has this title
+abbrev pub with_title : ℕ → List ℕ → Content → Content
+with_title id title content =
+    record content {
+      boards = map
+          (λ (board : BoardRow). if is_board id board
+          then (let changed : BoardRow = record board { title = title } in changed) else board)
+          content.boards;
+    }
+
 -- the board of this number has this least free number
 abbrev pub with_low : ℕ → ℕ → Content → Content
 with_low id low content =

@@ -19,6 +19,7 @@ abbrev pub horizon_changes : List BoardRow → List RowChange
 horizon_changes boards = map (λ board. AddHorizon (first_horizon board)) boards
 
 -- the same rows, and that of each board
+-- Rule: a file of version 1 becomes one of version 2. Tried by migrated.
 abbrev pub migrated : Content → Content
 migrated content = record content { horizon = map first_horizon content.boards }
 

@@ -168,6 +168,7 @@ version_of number = if number == 2 then Ok Second
     else (if number == 1 then Ok First else Err WrongVersion)
 
 -- what the rows of the first table say: one row names a store and its version
+-- Rule: one row has kind and version. Refused as NotOurs or WrongVersion. Tried by strange_files.
 abbrev pub judged : List MetaRow → Result Version OpenFault
 judged [] = Err NotOurs
 judged (meta ∷ []) = if bytes_eq meta.kind (codes "taskboard") then version_of meta.version

@@ -3,12 +3,14 @@ use Rattle.std.specs.Prelude.{List, fold}
 use Rattle.tb_sql_tables.specs.declared.rows.KeptRow.{KeptRow}
 use Rattle.tb_sql_tables.specs.Content.{Content, nothing}
 use Rattle.tb_sql.specs.declared.changes.RowChange.{RowChange}
-use Rattle.tb_sql.specs.declared.changes.RowChange.TheVariants.{AddPerson, AddBoard, SetLow, AddRole, RemoveRole, AddTask, SetText, SetMask, AddLink, RemoveLinks, AddInstance, AddGone, RemoveGone, AddHorizon, SetHorizon}
-use Rattle.tb_sql.specs.Changes.{with_person, with_board, with_low, with_role, without_role, with_task, with_text, with_mask, with_link, without_links, with_instance, with_gone, without_gone, with_kept, with_horizon, with_ahead}
+use Rattle.tb_sql.specs.declared.changes.RowChange.TheVariants.{AddPerson, SetSecret, AddBoard, SetTitle, SetLow, AddRole, RemoveRole, AddTask, SetText, SetMask, AddLink, RemoveLinks, AddInstance, AddGone, RemoveGone, AddHorizon, SetHorizon}
+use Rattle.tb_sql.specs.Changes.{with_person, with_secret, with_board, with_title, with_low, with_role, without_role, with_task, with_text, with_mask, with_link, without_links, with_instance, with_gone, without_gone, with_kept, with_horizon, with_ahead}
 
 abbrev pub changed_by : RowChange → Content → Content
 changed_by (AddPerson person) = with_person person
+changed_by (SetSecret name secret) = with_secret name secret
 changed_by (AddBoard board) = with_board board
+changed_by (SetTitle board title) = with_title board title
 changed_by (SetLow board low) = with_low board low
 changed_by (AddRole role) = with_role role
 changed_by (RemoveRole board person) = without_role board person
@@ -28,6 +30,7 @@ abbrev pub changed_by_all : List RowChange → Content → Content
 changed_by_all changes content = fold (λ c change. changed_by change c) content changes
 
 -- the reply is kept, and the changes are made
+-- Rule: a call's changes and its reply are one transaction. Tried by stopped_at_each_write.
 abbrev pub written : List RowChange → KeptRow → Content → Content
 written changes kept content = changed_by_all changes (with_kept kept content)
 

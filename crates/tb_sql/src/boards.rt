@@ -7,7 +7,7 @@ ghost use Rattle.sqlite.specs.State.{HasCleanDisk, KeepsCommit, Survives};
 ghost use Rattle.tb_sql_tables.specs.Statements.{Changes, Finds};
 ghost use Rattle.tb_sql_tables.specs.Failing.{IsExcused};
 ghost use Rattle.tb_sql_tables.specs.Found.{AreFound, IsOneOf};
-ghost use Rattle.tb_sql.specs.Changes.{with_board, with_low, is_board, IsBoardBefore};
+ghost use Rattle.tb_sql.specs.Changes.{with_board, with_low, with_title, is_board, IsBoardBefore};
 
 use sqlite::{Alter, Error, Transaction, params};
 use tb_sql_tables::read::{read_all, read_first};
@@ -55,6 +55,31 @@ pub fn update_low<S: Alter>(tx: &mut Transaction<'_, S>, id: u32, low: u32) -> R
         tx,
         "UPDATE board SET low = ?2 WHERE id = ?1",
         params![id, low],
+    )
+}
+
+/// Sets the title of a board, if there is one of this number.
+pub fn update_title<S: Alter>(
+    tx: &mut Transaction<'_, S>,
+    id: u32,
+    title: &str,
+) -> Result<(), Error>
+    ensures same_reference { tx.new.conn.ghost_name ≡ tx.old.conn.ghost_name }
+    ensures put { HasCleanDisk (state S.Store tx.new.conn.now)
+        → IsTrue (state S.Store tx.old.conn.now).in_transaction
+        → OnOk result (Changes (with_title id title.now) (state S.Store tx.old.conn.now)
+        (state S.Store tx.new.conn.now)) }
+    ensures kept { HasCleanDisk (state S.Store tx.new.conn.now)
+        → IsTrue (state S.Store tx.old.conn.now).in_transaction
+        → OnErr result (KeepsCommit (state S.Store tx.old.conn.now)
+        (state S.Store tx.new.conn.now)) }
+    ensures survives { Survives (state S.Store tx.old.conn.now)
+        (state S.Store tx.new.conn.now) (λ _. ⊥) }
+{
+    run(
+        tx,
+        "UPDATE board SET title = ?2 WHERE id = ?1",
+        params![id, title],
     )
 }
 

@@ -6,12 +6,12 @@ ghost use Rattle.sqlite.specs.State.{HasCleanDisk, KeepsCommit, Survives};
 ghost use Rattle.tb_sql_tables.specs.Statements.{Changes};
 ghost use Rattle.tb_sql.specs.Writing.{changed_by, changed_by_all};
 
-use crate::boards::{insert_board, update_low};
+use crate::boards::{insert_board, update_low, update_title};
 use crate::gone::{delete_gone, insert_gone};
 use crate::horizons::{insert_horizon, update_horizon};
 use crate::instances::insert_instance;
 use crate::links::{delete_links, insert_link};
-use crate::people::insert_person;
+use crate::people::{insert_person, update_secret};
 use crate::roles::{delete_role, insert_role};
 use crate::tasks::{insert_task, update_mask, update_text};
 use sqlite::{Alter, Error, Transaction};
@@ -24,7 +24,15 @@ use tb_values::Text;
 #[derive(Drop)]
 pub enum RowChange {
     AddPerson(PersonRow),
+    SetSecret {
+        name: Text,
+        secret: Text,
+    },
     AddBoard(BoardRow),
+    SetTitle {
+        board: u32,
+        title: Text,
+    },
     SetLow {
         board: u32,
         low: u32,
@@ -81,7 +89,11 @@ pub fn apply_change<S: Alter>(tx: &mut Transaction<'_, S>, change: &RowChange) -
 {
     match change {
         RowChange::AddPerson(person) => insert_person(tx, person),
+        RowChange::SetSecret { name, secret } => {
+            update_secret(tx, name.as_str(), secret.as_str())
+        }
         RowChange::AddBoard(board) => insert_board(tx, board),
+        RowChange::SetTitle { board, title } => update_title(tx, *board, title.as_str()),
         RowChange::SetLow { board, low } => update_low(tx, *board, *low),
         RowChange::AddRole(role) => insert_role(tx, role),
         RowChange::RemoveRole { board, person } => delete_role(tx, *board, *person),

@@ -7,7 +7,7 @@ ghost use Rattle.sqlite.specs.State.{HasCleanDisk, KeepsCommit, Survives};
 ghost use Rattle.tb_sql_tables.specs.Statements.{Changes, Finds};
 ghost use Rattle.tb_sql_tables.specs.Failing.{IsExcused};
 ghost use Rattle.tb_sql_tables.specs.Found.{AreFound, IsOneOf};
-ghost use Rattle.tb_sql.specs.Changes.{with_person, is_named, is_person, IsPersonBefore};
+ghost use Rattle.tb_sql.specs.Changes.{with_person, with_secret, is_named, is_person, IsPersonBefore};
 
 use sqlite::{Alter, Error, Transaction, params};
 use tb_sql_tables::read::{read_all, read_first};
@@ -35,6 +35,31 @@ pub fn insert_person<S: Alter>(tx: &mut Transaction<'_, S>, person: &PersonRow) 
         tx,
         "INSERT INTO person (id, name, secret) VALUES (?1, ?2, ?3)",
         params![person.id, name, secret],
+    )
+}
+
+/// Sets the secret of the person of a name, if there is one.
+pub fn update_secret<S: Alter>(
+    tx: &mut Transaction<'_, S>,
+    name: &str,
+    secret: &str,
+) -> Result<(), Error>
+    ensures same_reference { tx.new.conn.ghost_name ≡ tx.old.conn.ghost_name }
+    ensures put { HasCleanDisk (state S.Store tx.new.conn.now)
+        → IsTrue (state S.Store tx.old.conn.now).in_transaction
+        → OnOk result (Changes (with_secret name.now secret.now) (state S.Store tx.old.conn.now)
+        (state S.Store tx.new.conn.now)) }
+    ensures kept { HasCleanDisk (state S.Store tx.new.conn.now)
+        → IsTrue (state S.Store tx.old.conn.now).in_transaction
+        → OnErr result (KeepsCommit (state S.Store tx.old.conn.now)
+        (state S.Store tx.new.conn.now)) }
+    ensures survives { Survives (state S.Store tx.old.conn.now)
+        (state S.Store tx.new.conn.now) (λ _. ⊥) }
+{
+    run(
+        tx,
+        "UPDATE person SET secret = ?2 WHERE name = ?1",
+        params![name, secret],
     )
 }
 

@@ -327,6 +327,7 @@ horizon_table = table_of horizon_plain
 
 -- ---- the schema after each of the texts; the last is that of a store, and the last but one that of a store of the first version
 
+-- Rule: init takes an empty database alone. Refused as NotEmpty. Tried by strange_files.
 abbrev pub no_schema : Schema
 no_schema = record { tables = []; indexes = []; views = [] }
 

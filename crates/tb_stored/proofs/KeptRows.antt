@@ -1,5 +1,5 @@
 -- The rows of the kept replies of a state.
-use Rattle.std.proofs.Common.{◌≡◌, List, [], ◌∷◌, ◌++◌, map, None, refl, ap₂, subst, IsPermutation}
+use Rattle.std.proofs.Common.{◌≡◌, List, [], ◌∷◌, map, None, refl, ap₂, subst, IsPermutation}
 use Rattle.std.specs.Prelude.{IsSome, ◌-◌, List}
 use Rattle.std.specs.List.{AllByRecursion}
 use Rattle.std.specs.FinMap.{FinMap, entries, get, insert}
@@ -7,7 +7,8 @@ use Rattle.std.proofs.lemmas.List.Sorted.{IsPermutation-cons, IsPermutation-map,
 use Rattle.std.proofs.lemmas.List.Elements.{All-from_recursion, recursion_from_All}
 use Rattle.tb_board.specs.declared.world.Person.{Person}
 use Rattle.tb_board.specs.declared.world.World.{World}
-use Rattle.tb_board.specs.World.{key_of}
+use Rattle.tb_board.specs.Extends.{ExtendsPerson, IsFrontOf}
+use Rattle.tb_board.specs.World.{number_of}
 use Rattle.tb_calls.specs.declared.call.KeptReply.{KeptReply}
 use Rattle.tb_calls.specs.Call.{CallName, name_cmp}
 use Rattle.tb_calls.proofs.Names.{names_exact, names_total}
@@ -39,11 +40,11 @@ pub same_replies : (w : World) (m n : FinMap name_cmp KeptReply) → AllByRecurs
 same_replies w m n known_m known_n same =
     same_entries name_cmp names_total names_exact m n (subst (IsPermutation (entries m)) (all_back w (entries n) known_n) (entries_of_rows w (entries m) _ known_m (IsPermutation-sym _ _ same)))
 
-module _ (w later : World) (more : List Person) (behind : later.people ≡ w.people ++ more) where
-  -- a row stays where people come in behind
+module _ (w later : World) (front : IsFrontOf ExtendsPerson w.people later.people) where
+  -- a row stays where all people keep their names and places
   row_stays : (e : CallName × KeptReply) → IsKnown w e → kept_row later e ≡ kept_row w e
   row_stays e known = λ i.
-      let row : KeptRow = record { person = number_stays w later more e.0.0 behind known i; id = e.0.1; content = e.1.content; number = e.1.reply.number; status = e.1.reply.status; body = e.1.reply.body } in
+      let row : KeptRow = record { person = number_stays w later e.0.0 front known i; id = e.0.1; content = e.1.content; number = e.1.reply.number; status = e.1.reply.status; body = e.1.reply.body } in
       row
 
   rows_stay : (es : List (CallName × KeptReply)) → AllByRecursion (IsKnown w) es → map (kept_row later) es ≡ map (kept_row w) es
@@ -52,13 +53,13 @@ module _ (w later : World) (more : List Person) (behind : later.people ≡ w.peo
 
   all_stay_known : (es : List (CallName × KeptReply)) → AllByRecursion (IsKnown w) es → AllByRecursion (IsKnown later) es
   all_stay_known [] known = tt
-  all_stay_known (e ∷ es) known = (known_stays w later more e.0.0 behind known.0, all_stay_known es known.1)
+  all_stay_known (e ∷ es) known = (known_stays w later e.0.0 front known.0, all_stay_known es known.1)
 
-  module _ (m : FinMap name_cmp KeptReply) (name : CallName) (kept : KeptReply) (known : AllByRecursion (IsKnown w) (entries m)) (caller : IsSome (key_of w name.0)) (new : get m name ≡ None) where
+  module _ (m : FinMap name_cmp KeptReply) (name : CallName) (kept : KeptReply) (known : AllByRecursion (IsKnown w) (entries m)) (caller : IsSome (number_of w name.0)) (new : get m name ≡ None) where
     -- each name is still that of a person
     pub with_reply_known : AllByRecursion (IsKnown later) (entries (insert m name kept))
     with_reply_known =
-        let all : AllByRecursion (IsKnown later) ((name, kept) ∷ entries m) = (known_stays w later more name.0 behind caller, all_stay_known (entries m) known) in
+        let all : AllByRecursion (IsKnown later) ((name, kept) ∷ entries m) = (known_stays w later name.0 front caller, all_stay_known (entries m) known) in
         recursion_from_All (IsKnown later) _ (All-permutation (IsKnown later) ((name, kept) ∷ entries m) _ (insert_permutes name_cmp names_total m name kept new) (All-from_recursion (IsKnown later) ((name, kept) ∷ entries m) all))
 
     -- one row more

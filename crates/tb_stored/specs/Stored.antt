@@ -7,7 +7,7 @@ use Rattle.sqlite_trees.specs.Tree.{Trees}
 use Rattle.sqlite.specs.State.{HasCleanDisk, State as Database}
 use Rattle.tb_board.specs.declared.board.Board.{Board}
 use Rattle.tb_board.specs.declared.world.World.{World}
-use Rattle.tb_board.specs.World.{key_of, number_of}
+use Rattle.tb_board.specs.World.{number_of}
 use Rattle.tb_core.specs.GoodWorld.{IsGoodWorld}
 use Rattle.tb_calls.specs.declared.call.KeptReply.{KeptReply}
 use Rattle.tb_calls.specs.Call.{CallName, State}
@@ -43,7 +43,7 @@ state_rows s = record (world_rows s.world) { kept = map (kept_row s.world) (entr
 
 -- the entry is kept for a person of the world
 abbrev pub IsKnown : World → CallName × KeptReply → Type 0
-IsKnown w e = IsSome (key_of w e.0.0)
+IsKnown w e = IsSome (number_of w e.0.0)
 
 abbrev pub AreOfPeople : State → Type 0
 AreOfPeople s = AllByRecursion (IsKnown s.world) (entries s.kept)

@@ -5,12 +5,12 @@ use Rattle.sqlite.specs.Held.{state}
 use Rattle.tb_lookup.specs.Replies.{IsReplyFound}
 use Rattle.tb_stored.specs.Reopening.{OfState}
 use Rattle.tb_stored.proofs.Standing.{stored_again}
-use Rattle.tb_keeper.proofs.Looked.{nobody_key, nothing_kept, person_number}
+use Rattle.tb_keeper.proofs.Looked.{nobody_number, nothing_kept, person_number}
 use Rattle.tb_keeper.proofs.looking.find_reply.Goals as goal
 
 pub returns-in_default-clause-found : goal.returns-in_default-clause-found
 returns-in_default-clause-found g c clean s stored =
-    nothing_kept s (state g.S.Store c.args.conn.now) c.args.name.now c.args.id stored (sym (nobody_key s.world c.args.name.now c.in_ok-person.field-0 c.in_default.is (c.in_ok-person.ensures.found clean s stored)))
+    nothing_kept s (state g.S.Store c.args.conn.now) c.args.name.now c.args.id stored (sym (nobody_number s.world c.args.name.now c.in_ok-person.field-0 c.in_default.is (c.in_ok-person.ensures.found clean s stored)))
 
 pub returns-clause-found : goal.returns-clause-found
 returns-clause-found g c =

@@ -14,5 +14,5 @@ returns-clause-cached g c clean s stored are =
 pub returns-clause-found : goal.returns-clause-found
 returns-clause-found g c clean s stored are =
     let at_mid = stored_again s (state g.S.Store c.args.conn.now) (state g.S.Store c.roles_found.new.conn) stored c.in_ok-roles.ensures.same c.in_ok-roles.ensures.idle in
-    glance_at s.world c.args.board c.args.parties c.unwrap_or-caller.result c.in_ok-roles.roles c.role_of_caller-role.result c.in_ok-seen.seen c.seen_person.result c.unwrap_or-caller.ensures
+    glance_at s.world c.args.board c.args.takes c.args.parties c.unwrap_or-caller.result c.in_ok-roles.roles c.role_of_caller-role.result c.in_ok-seen.seen c.seen_person.result c.unwrap_or-caller.ensures
     (c.in_ok-roles.ensures.found (c.in_ok-seen.ensures.same.clean clean) s stored) c.role_of_caller-role.ensures (c.in_ok-seen.ensures.found clean s at_mid are) c.seen_person.ensures

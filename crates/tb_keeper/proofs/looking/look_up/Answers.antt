@@ -14,11 +14,11 @@ returns-in-Some-clause-found g c =
     let mid = state g.S.Store c.find_parties.new.conn in
     let new = state g.S.Store c.glance_at.new.conn in
     let on = sym c.board.ensures ∙ c.in-Some.is in
-    IfOk-weaker c.glance_at.result (λ glance. OfState mid new (λ s. AreOf s.world c.args.cache.now.entries → IsGlanceAt s.world c.in-Some.board c.in_ok-parties.parties glance))
+    IfOk-weaker c.glance_at.result (λ glance. OfState mid new (λ s. AreOf s.world c.args.cache.now.entries → IsGlanceAt s.world c.in-Some.board c.takes.result c.in_ok-parties.parties glance))
     (λ glance. OfState old new (λ s. AreOf s.world c.args.cache.now.entries → IsGlance s.world c.args.name.now c.args.command.now glance))
     (λ glance found clean s stored are.
     glance_on s.world c.args.name.now c.args.command.now c.in_ok-parties.parties glance c.in-Some.board on (c.in_ok-parties.ensures.found (c.glance_at.ensures.same.clean clean) s stored)
-    (found clean s (stored_again s old mid stored c.in_ok-parties.ensures.same c.in_ok-parties.ensures.idle) are))
+    (rw c.takes.ensures at (found clean s (stored_again s old mid stored c.in_ok-parties.ensures.same c.in_ok-parties.ensures.idle) are)))
     c.glance_at.ensures.found
 
 pub returns-in-Some-clause-cached : goal.returns-in-Some-clause-cached
