@@ -14,7 +14,7 @@ use Rattle.tb_core.specs.declared.command.BoardCommand.TheVariants as board_comm
 use Rattle.tb_core.specs.declared.command.Command.{Command}
 use Rattle.tb_core.specs.declared.command.Command.TheVariants as command
 use Rattle.tb_core.specs.declared.command.Import.TheVariants as imported
-use Rattle.tb_http.specs.Body.{has_members, person_in, title_in, role_in, ahead_in, description_in, link_in}
+use Rattle.tb_http.specs.Body.{has_members, person_in, own_key_in, key_in, title_in, role_in, ahead_in, description_in, link_in}
 use Rattle.tb_http.specs.declared.kind.BoardCall.{BoardCall}
 use Rattle.tb_http.specs.declared.kind.BoardCall.TheVariants as to_board
 use Rattle.tb_http.specs.declared.kind.TaskCall.{TaskCall}
@@ -55,6 +55,32 @@ new_board text = do
   heading ← or_whole (read_title title)
   Ok (command.NewBoard heading)
 
+abbrev pub own_key_named : List ℕ → List ℕ → Result Command BadBody
+own_key_named old key = do
+  before ← or_whole (read_key old)
+  secret ← or_whole (read_key key)
+  Ok (command.OwnKey before secret)
+
+abbrev pub own_key : List ℕ → Result Command BadBody
+own_key text = do
+  json ← json_in text
+  body ← or_whole (own_key_in json)
+  own_key_named body.0 body.1
+
+-- null takes the key
+abbrev pub key_or_none : Option (List ℕ) → Result (Option (List ℕ)) BadBody
+key_or_none None = Ok None
+key_or_none (Some text) = do
+  key ← or_whole (read_key text)
+  Ok (Some key)
+
+abbrev pub set_key : List ℕ → List ℕ → Result Command BadBody
+set_key name text = do
+  json ← json_in text
+  body ← or_whole (key_in json)
+  key ← key_or_none body
+  Ok (command.SetKey name key)
+
 -- a role's word is one of the three
 abbrev pub role_named : List ℕ → Role
 role_named word =
@@ -78,6 +104,9 @@ is_bare text = (length text == 0) || unwrap_or (option_map (has_members 0) (read
 abbrev pub bare : BoardCommand → List ℕ → Result BoardCommand BadBody
 bare command text = if is_bare text then Ok command else Err Whole
 
+abbrev pub take : ℕ → List ℕ → Result Command BadBody
+take board text = if is_bare text then Ok (command.Take board) else Err Whole
+
 -- ---- on a board
 
 abbrev pub add : List ℕ → ℕ → Result BoardCommand BadBody
@@ -91,6 +120,13 @@ set_ahead text = do
   number ← or_whole (ahead_in json)
   ahead ← or_whole (read_ahead number)
   Ok (board_command.SetAhead ahead)
+
+abbrev pub retitle : List ℕ → Result BoardCommand BadBody
+retitle text = do
+  json ← json_in text
+  title ← or_whole (title_in json)
+  heading ← or_whole (read_title title)
+  Ok (board_command.Retitle heading)
 
 abbrev pub import : List ℕ → ℕ → Result BoardCommand BadBody
 import text at = do
@@ -106,6 +142,7 @@ abbrev pub on_board : ℕ → BoardCall → List ℕ → ℕ → Result BoardCom
 on_board board to_board.Add text at = add text at
 on_board board to_board.Sweep text at = bare board_command.Sweep text
 on_board board to_board.Ahead text at = set_ahead text
+on_board board to_board.Title text at = retitle text
 on_board board to_board.Import text at = import text at
 on_board board to_board.ImportTodo text at = import_todo board text at
 
@@ -163,8 +200,11 @@ of_board board asked = do
 -- the command of a body that is this text, at a moment
 unfoldable pub command_of : CallTarget → List ℕ → ℕ → Result Command BadBody
 command_of target.People text at = new_person text
+command_of target.OwnKey text at = own_key text
+command_of (target.PersonKey name) text at = set_key name text
 command_of target.Boards text at = new_board text
 command_of (target.Roles board) text at = set_role board text
+command_of (target.Take board) text at = take board text
 command_of (target.Board board call) text at = of_board board (on_board board call text at)
 command_of (target.Task board id call) text at = of_board board (on_task id call text)
 

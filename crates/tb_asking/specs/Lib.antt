@@ -3,3 +3,4 @@ pub mod Bodies
 pub mod Rejection
 pub mod Command
 pub mod Asking
+pub mod Laws

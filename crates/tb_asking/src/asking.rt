@@ -40,11 +40,11 @@ pub fn ask(
 
 fn ask_for(
     alloc: Global,
-    resource: Resource,
+    resource: Resource<'_>,
     message: &Message,
     at: Moment,
 ) -> Result<Asked, CallFault>
-    ensures { Asks result (asked_at resource message.now at) }
+    ensures { Asks result (asked_at resource.entry message.now at) }
 {
     let view = match resource {
         Resource::Me => View::Me,
@@ -77,11 +77,11 @@ fn ask_view(alloc: Global, view: View, message: &Message) -> Result<Asked, Alloc
 
 fn ask_call(
     alloc: Global,
-    target: CallTarget,
+    target: CallTarget<'_>,
     message: &Message,
     at: Moment,
 ) -> Result<Asked, CallFault>
-    ensures { Asks result (asked_by target message.now at) }
+    ensures { Asks result (asked_by target.entry message.now at) }
 {
     let Some(id) = message.request_id() else {
         return Err(CallFault::Rejected(Rejection::NoId));

@@ -13,8 +13,8 @@ use std::alloc::{AllocError, Global};
 use tb_board::{Ahead, Key, Name, Role, Title};
 use tb_core::{Action, BoardCommand, Command, Import};
 use tb_http::{
-    BoardCall, CallTarget, TaskCall, is_empty_object, read_ahead, read_description, read_link,
-    read_person, read_role, read_title,
+    BoardCall, CallTarget, PersonName, TaskCall, is_empty_object, read_ahead, read_description,
+    read_key, read_link, read_own_key, read_person, read_role, read_title,
 };
 use tb_json::parse;
 use tb_task::{Moment, TaskId};
@@ -23,11 +23,11 @@ use tb_values::Text;
 /// The command of a body at a moment.
 pub(crate) fn read_command(
     alloc: Global,
-    target: CallTarget,
+    target: CallTarget<'_>,
     body: &[u8],
     at: Moment,
 ) -> Result<Command, BodyFault>
-    ensures { Reads result (commands.command_in target (text_in body.now) at) }
+    ensures { Reads result (commands.command_in target.entry (text_in body.now) at) }
 {
     match read_text(body) {
         Some(text) => command_of(alloc, target, text, at),
@@ -38,16 +38,19 @@ pub(crate) fn read_command(
 #[tactic(auto, unfolding(crate::specs::Command::command_of))]
 fn command_of(
     alloc: Global,
-    target: CallTarget,
+    target: CallTarget<'_>,
     text: &str,
     at: Moment,
 ) -> Result<Command, BodyFault>
-    ensures { Reads result (commands.command_of target text.now at) }
+    ensures { Reads result (commands.command_of target.entry text.now at) }
 {
     let (board, command) = match target {
         CallTarget::People => return new_person(alloc, text),
+        CallTarget::OwnKey => return own_key(alloc, text),
+        CallTarget::PersonKey(name) => return set_key(alloc, &name, text),
         CallTarget::Boards => return new_board(alloc, text),
         CallTarget::Roles(board) => return set_role(alloc, board, text),
+        CallTarget::Take(board) => return take(alloc, board, text),
         CallTarget::Board(board, call) => (board, on_board(alloc, board, call, text, at)?),
         CallTarget::Task(board, id, call) => (board, on_task(alloc, id, call, text)?),
     };
@@ -68,6 +71,7 @@ fn on_board(
         BoardCall::Add => add(alloc, text, at),
         BoardCall::Sweep => bare(alloc, BoardCommand::Sweep, text),
         BoardCall::Ahead => set_ahead(alloc, text),
+        BoardCall::Title => retitle(alloc, text),
         BoardCall::Import => import(alloc, text, at),
         BoardCall::ImportTodo => import_todo(alloc, board, text, at),
     }
@@ -153,6 +157,62 @@ fn person_named(alloc: Global, name: &str, key: &str) -> Result<Command, BodyFau
     Ok(Command::NewPerson { name, key })
 }
 
+fn own_key(alloc: Global, text: &str) -> Result<Command, BodyFault>
+    ensures { Reads result (commands.own_key text.now) }
+{
+    let value = read_json(alloc, text)?;
+    match read_own_key(&value) {
+        Some(body) => own_key_named(alloc, body.old, body.key),
+        None => Err(BodyFault::Refused(BadBody::Whole)),
+    }
+}
+
+fn own_key_named(alloc: Global, old: &str, key: &str) -> Result<Command, BodyFault>
+    ensures { Reads result (commands.own_key_named old.now key.now) }
+{
+    let Some(old) = Key::read(alloc, old)? else {
+        return Err(BodyFault::Refused(BadBody::Whole));
+    };
+    let Some(new) = Key::read(alloc, key)? else {
+        return Err(BodyFault::Refused(BadBody::Whole));
+    };
+    Ok(Command::OwnKey { old, new })
+}
+
+fn key_or_none(alloc: Global, key: Option<&str>) -> Result<Option<Key>, BodyFault>
+    ensures { Reads result (commands.key_or_none (option_map (λ text. text.now) key.entry)) }
+{
+    let Some(text) = key else {
+        return Ok(None);
+    };
+    match Key::read(alloc, text)? {
+        Some(key) => Ok(Some(key)),
+        None => Err(BodyFault::Refused(BadBody::Whole)),
+    }
+}
+
+fn set_key(alloc: Global, name: &PersonName<'_>, text: &str) -> Result<Command, BodyFault>
+    ensures { Reads result (commands.set_key name.now text.now) }
+{
+    let value = read_json(alloc, text)?;
+    let Some(body) = read_key(&value) else {
+        return Err(BodyFault::Refused(BadBody::Whole));
+    };
+    let key = key_or_none(alloc, body)?;
+    let name = name.name(alloc)?;
+    Ok(Command::SetKey { name, key })
+}
+
+fn take(alloc: Global, board: u32, text: &str) -> Result<Command, BodyFault>
+    ensures { Reads result (commands.take board text.now) }
+{
+    if is_bare(alloc, text)? {
+        Ok(Command::Take { board })
+    } else {
+        Err(BodyFault::Refused(BadBody::Whole))
+    }
+}
+
 fn new_board(alloc: Global, text: &str) -> Result<Command, BodyFault>
     ensures { Reads result (commands.new_board text.now) }
 {
@@ -218,6 +278,19 @@ fn set_ahead(alloc: Global, text: &str) -> Result<BoardCommand, BodyFault>
     };
     match Ahead::read(number) {
         Some(ahead) => Ok(BoardCommand::SetAhead { ahead }),
+        None => Err(BodyFault::Refused(BadBody::Whole)),
+    }
+}
+
+fn retitle(alloc: Global, text: &str) -> Result<BoardCommand, BodyFault>
+    ensures { Reads result (commands.retitle text.now) }
+{
+    let value = read_json(alloc, text)?;
+    let Some(title) = read_title(&value) else {
+        return Err(BodyFault::Refused(BadBody::Whole));
+    };
+    match Title::read(alloc, title)? {
+        Some(title) => Ok(BoardCommand::Retitle { title }),
         None => Err(BodyFault::Refused(BadBody::Whole)),
     }
 }

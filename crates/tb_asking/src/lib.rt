@@ -8,6 +8,7 @@ mod asking;
 mod bodies;
 mod body_fault;
 mod command;
+pub mod laws;
 mod rejection;
 
 pub use asked::{Asked, Sender};

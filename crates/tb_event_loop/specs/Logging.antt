@@ -18,6 +18,7 @@ abbrev pub escaped_byte : ℕ → List ℕ
 escaped_byte byte = if is_plain byte then byte ∷ []
     else 92 ∷ 120 ∷ hex_digit (byte / 16) ∷ hex_digit (byte % 16) ∷ []
 
+-- Rule: a logged text has visible ASCII alone. Tried by serve.sh.
 abbrev pub escaped : List ℕ → List ℕ
 escaped bytes = flat_map escaped_byte bytes
 

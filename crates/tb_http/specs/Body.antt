@@ -11,6 +11,7 @@ count_members no_members = 0
 count_members (member name d ms) = suc (count_members ms)
 
 -- an object of so many members, each of which has a name of its own
+-- Rule: a body has these members and no other. Refused as BadBody. Tried by person_bodies.
 abbrev pub has_members : ℕ → Data → Bool
 has_members count d = unwrap_or (option_map (λ ms. count_members ms == count) (as_object d)) false
 
@@ -33,7 +34,26 @@ abbrev pub person_in : Data → Option (List ℕ × List ℕ)
 person_in d = if has_members 2 d
     then both (text_at (codes "name") d) (text_at (codes "key") d) else None
 
--- the title of a new board
+-- the old and the new key of who sends it
+abbrev pub own_key_in : Data → Option (List ℕ × List ℕ)
+own_key_in d = if has_members 2 d
+    then both (text_at (codes "old") d) (text_at (codes "key") d) else None
+
+-- a key, or null for none
+abbrev pub key_or_null : Data → Option (Option (List ℕ))
+key_or_null null = Some None
+key_or_null (string key) = Some (Some key)
+key_or_null (boolean b) = None
+key_or_null (number n) = None
+key_or_null (array ds) = None
+key_or_null (object ms) = None
+
+-- the key that a person is given, or none
+-- Rule: null is no key, and a missing member is no body. Refused as BadBody. Tried by key_bodies.
+abbrev pub key_in : Data → Option (Option (List ℕ))
+key_in d = if has_members 1 d then option_and_then key_or_null (get (codes "key") d) else None
+
+-- the title of a board
 abbrev pub title_in : Data → Option (List ℕ)
 title_in d = if has_members 1 d then text_at (codes "title") d else None
 

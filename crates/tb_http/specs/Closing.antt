@@ -7,6 +7,7 @@ use Rattle.tb_http.specs.declared.message.Head.{Head}
 use Rattle.tb_http.specs.Message.{is_named}
 
 -- the most messages of a connection
+-- Rule: a connection carries 1,000 messages at most. Tried by hostile_j.
 abbrev pub message_limit : ℕ
 message_limit = 1000
 
@@ -36,5 +37,6 @@ names_close line =
     && list_any is_close (slice_split (λ byte. byte == 44) line.value)
 
 -- the sender closes the connection after this message
+-- Rule: HTTP/1.0 and Connection: close end a connection. Tried by closing.
 unfoldable pub asks_to_close : Head → Bool
 asks_to_close head = head.minor == 0 || list_any names_close head.fields

@@ -12,6 +12,7 @@ use Rattle.tb_http.specs.Message.{is_named, count_named}
 use Rattle.tb_task.specs.Limits.{longest_body}
 
 -- the most fields, and the longest body
+-- Rule: a head has 64 fields at most. Refused as HeadTooLong. Tried by hostile_b.
 abbrev pub field_limit : ℕ
 field_limit = 64
 
@@ -19,6 +20,7 @@ abbrev pub body_limit : ℕ
 body_limit = longest_body
 
 -- a Content-Length line, if it is one, has the number of the first
+-- Rule: two Content-Lengths say the same number. Refused as BadHead. Tried by lengths.
 unfoldable pub agrees : List ℕ → Field → Bool
 agrees first line =
     not (is_named (codes "content-length") line)
@@ -37,15 +39,18 @@ length_of first fields =
     else Ok (digits_value 10 first))
 
 -- the length by the first Content-Length line, if there is one: a POST has to have it
+-- Rule: a POST says how long its body is. Refused as NoLength. Tried by no_length.
 unfoldable pub declared_length : List ℕ → Option Field → List Field → Result ℕ WireFault
 declared_length method None fields = if bytes_eq method (codes "POST") then Err NoLength else Ok 0
 declared_length method (Some line) fields = length_of line.value fields
 
 -- one host at most, and in version 1.1 at least one
+-- Rule: HTTP/1.1 has one Host, HTTP/1.0 one at most. Refused as BadHead. Tried by hosts.
 unfoldable pub has_bad_hosts : ℕ → ℕ → Bool
 has_bad_hosts hosts minor = nat_lt 1 hosts || (hosts == 0 && minor == 1)
 
 -- how many bytes of body follow a head, or why the head is refused
+-- Rule: a message has no Transfer-Encoding. Refused as Coding. Tried by chunked_body.
 unfoldable pub body_length : Head → Result ℕ WireFault
 body_length head =
     if has_bad_hosts (count_named (codes "host") head.fields) head.minor then Err BadHead

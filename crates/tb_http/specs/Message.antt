@@ -26,10 +26,12 @@ message_from head body =
     record { method = head.method; target = head.target; fields = head.fields; body = body }
 
 -- what a call is known by, beside its identifier: its method, a space, its target, a line feed and its body
+-- Rule: of a resent message method, path and body are compared. Tried by identifier_used_again.
 abbrev pub content_of : Message → List ℕ
 content_of message = message.method ++ 32 ∷ message.target ++ 10 ∷ message.body
 
 -- the answer to the message is sent with its body
+-- Rule: HEAD is answered without a body. Tried by page.
 abbrev pub takes_body : Message → Bool
 takes_body message = not (bytes_eq message.method (codes "HEAD"))
 

@@ -4,10 +4,11 @@ use Rattle.std.specs.Option.{option_map, unwrap_or}
 use Rattle.std.specs.List.{slice_split, slice_get}
 use Rattle.std.specs.Str.{bytes_eq}
 use Rattle.tb_task.specs.TaskId.{read_id}
+use Rattle.tb_board.specs.Names.{read_name}
 use Rattle.tb_http.specs.declared.fault.WireFault.{WireFault}
 use Rattle.tb_http.specs.declared.fault.WireFault.TheVariants as wire
 use Rattle.tb_http.specs.declared.kind.Kind.{Kind}
-use Rattle.tb_http.specs.declared.kind.Kind.TheVariants.{Me, BoardView, Task, People, Boards, Roles, BoardCall, TaskCall}
+use Rattle.tb_http.specs.declared.kind.Kind.TheVariants.{Me, BoardView, Task, People, OwnKey, PersonKey, Boards, Roles, Take, BoardCall, TaskCall}
 use Rattle.tb_http.specs.declared.resource.CallTarget.TheVariants as target
 use Rattle.tb_http.specs.declared.resource.Resource.{Resource}
 use Rattle.tb_http.specs.declared.resource.Resource.TheVariants as resource
@@ -25,6 +26,10 @@ segment path slashes = unwrap_or (slice_get (slice_split (λ byte. byte == 47) p
 -- from 1 to 4294967295, with no zero in front
 unfoldable pub board_number : List ℕ → Option ℕ
 board_number text = number_to 4294967295 text
+
+-- `/people/{name}`
+abbrev pub person_in : List ℕ → Option (List ℕ)
+person_in path = read_name (segment path 2)
 
 -- `/boards/{b}`, then `/tasks/{uuid}`
 abbrev pub board_in : List ℕ → Option ℕ
@@ -45,8 +50,12 @@ resource_of Me path = Some resource.Me
 resource_of (BoardView view) path = option_map (λ board. resource.Board board view) (board_in path)
 resource_of Task path = of_task resource.Task (board_in path) (task_in path)
 resource_of People path = Some (resource.Call target.People)
+resource_of OwnKey path = Some (resource.Call target.OwnKey)
+resource_of PersonKey path =
+    option_map (λ name. resource.Call (target.PersonKey name)) (person_in path)
 resource_of Boards path = Some (resource.Call target.Boards)
 resource_of Roles path = option_map (λ board. resource.Call (target.Roles board)) (board_in path)
+resource_of Take path = option_map (λ board. resource.Call (target.Take board)) (board_in path)
 resource_of (BoardCall call) path =
     option_map (λ board. resource.Call (target.Board board call)) (board_in path)
 resource_of (TaskCall call) path =
@@ -83,5 +92,6 @@ allowed_by NoRoute = None
 allowed_by (NoMethod verb) = Some verb
 
 -- the resource that a method and a target ask for, or why they ask for none
+-- Rule: a path has one method. Refused as NoRoute or NoMethod. Tried by paths.
 abbrev pub resource_asked : List ℕ → List ℕ → Result Resource RouteFault
 resource_asked method target = on_route method target (kind_of target)

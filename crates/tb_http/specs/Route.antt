@@ -7,24 +7,32 @@ use Rattle.matchit.specs.Router.{RouteOf, route_from, nearest}
 use Rattle.matchit.specs.Order.{placed}
 use Rattle.matchit.specs.Seek.{first}
 use Rattle.matchit.specs.declared.error.InsertError.{InsertError}
-use Rattle.tb_http.specs.declared.kind.BoardCall.TheVariants.{Add, Sweep, Ahead, Import, ImportTodo}
+use Rattle.tb_http.specs.declared.kind.BoardCall.TheVariants.{Add, Sweep, Ahead, Title, Import, ImportTodo}
 use Rattle.tb_http.specs.declared.kind.BoardView.TheVariants.{List as ListTasks, Export, Todo, People as PeopleOn}
 use Rattle.tb_http.specs.declared.kind.Kind.{Kind}
-use Rattle.tb_http.specs.declared.kind.Kind.TheVariants.{Me, BoardView, Task, People, Boards, Roles, BoardCall, TaskCall}
+use Rattle.tb_http.specs.declared.kind.Kind.TheVariants.{Me, BoardView, Task, People, OwnKey, PersonKey, Boards, Roles, Take, BoardCall, TaskCall}
 use Rattle.tb_http.specs.declared.kind.TaskCall.TheVariants.{Done, Delete, Reopen, Start, Stop, Modify, Annotate, Denotate, Depend, Undepend}
 use Rattle.tb_http.specs.declared.route.Verb.{Verb}
 use Rattle.tb_http.specs.declared.route.Verb.TheVariants.{Get, Post}
 
--- the table: the form of the paths, and what they ask for; first those without a number
+-- the table: the form of the paths, and what they ask for; first those without the number of a board
 abbrev pub alone_routes : List (List ℕ × Kind)
-alone_routes = (codes "/people", People) ∷ (codes "/boards", Boards) ∷ (codes "/me", Me) ∷ []
+alone_routes =
+    (codes "/people", People)
+    ∷ (codes "/boards", Boards)
+    ∷ (codes "/me", Me)
+    ∷ (codes "/me/key", OwnKey)
+    ∷ (codes "/people/{name}/key", PersonKey)
+    ∷ []
 
 abbrev pub board_routes : List (List ℕ × Kind)
 board_routes =
     (codes "/boards/{b}/roles", Roles)
+    ∷ (codes "/boards/{b}/take", Take)
     ∷ (codes "/boards/{b}/tasks", BoardCall Add)
     ∷ (codes "/boards/{b}/sweep", BoardCall Sweep)
     ∷ (codes "/boards/{b}/ahead", BoardCall Ahead)
+    ∷ (codes "/boards/{b}/title", BoardCall Title)
     ∷ (codes "/boards/{b}/import", BoardCall Import)
     ∷ (codes "/boards/{b}/import-todo", BoardCall ImportTodo)
     ∷ (codes "/boards/{b}/list", BoardView ListTasks)
@@ -90,5 +98,6 @@ abbrev pub route_value : RouteOf Kind → Kind
 route_value row = row.value
 
 -- the kind of the route that the router finds for a path
+-- Rule: a target is compared whole and undecoded. Refused as NoRoute. Tried by no_route.
 abbrev pub kind_of : List ℕ → Option Kind
 kind_of path = option_map route_value (first route_rows path)

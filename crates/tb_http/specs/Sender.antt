@@ -20,5 +20,6 @@ member_of message = text_of (codes "x-member") message
 abbrev pub key_of : Message → Option (List ℕ)
 key_of message = text_of (codes "x-key") message
 
+-- Rule: a POST has an identifier. Refused as NoId. Tried by sender_fields.
 abbrev pub request_id_of : Message → Option ℕ
 request_id_of message = option_and_then read_id (text_of (codes "x-request-id") message)

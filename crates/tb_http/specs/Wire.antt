@@ -11,6 +11,7 @@ use Rattle.tb_http.specs.Framing.{body_length}
 use Rattle.tb_http.specs.Closing.{message_limit, asks_to_close}
 
 -- the longest head
+-- Rule: a head has 16,384 bytes at most. Refused as HeadTooLong. Tried by hostile_a.
 abbrev pub head_limit : ℕ
 head_limit = 16384
 

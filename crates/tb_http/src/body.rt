@@ -13,6 +13,13 @@ pub struct PersonBody<'a> {
     pub key: &'a str,
 }
 
+/// The sender's own keys: the one that is left, and the one that follows.
+#[derive(Clone, Copy, Debug, PartialEq, Eq)]
+pub struct OwnKeyBody<'a> {
+    pub old: &'a str,
+    pub key: &'a str,
+}
+
 /// Whose role is set, and the word of that role, `owner`, `member` or `reader`, or none.
 #[derive(Clone, Copy, Debug, PartialEq, Eq)]
 pub struct RoleBody<'a> {
@@ -58,7 +65,43 @@ pub fn read_person(value: &Value) -> Option<PersonBody<'_>>
     Some(PersonBody { name, key })
 }
 
-/// The title of a board that a body adds.
+/// The sender's own keys that a body names.
+pub fn read_own_key(value: &Value) -> Option<OwnKeyBody<'_>>
+    ensures { option_map (λ body. (body.old.now, body.key.now)) result
+        ≡ bodies.own_key_in (view value.now) }
+{
+    if !has_members(value, 2) {
+        return None;
+    }
+    let old = text_at(value, "old")?;
+    let key = text_at(value, "key")?;
+    Some(OwnKeyBody { old, key })
+}
+
+// A key, or null for none.
+fn key_or_null(value: &Value) -> Option<Option<&str>>
+    ensures { option_map (λ key. option_map (λ text. text.now) key) result
+        ≡ bodies.key_or_null (view value.now) }
+{
+    match value {
+        Value::Null => Some(None),
+        Value::String(key) => Some(Some(key.as_str())),
+        _ => None,
+    }
+}
+
+/// The key that a body gives a person, or none where it takes the key.
+pub fn read_key(value: &Value) -> Option<Option<&str>>
+    ensures { option_map (λ key. option_map (λ text. text.now) key) result
+        ≡ bodies.key_in (view value.now) }
+{
+    if !has_members(value, 1) {
+        return None;
+    }
+    key_or_null(value.get("key")?)
+}
+
+/// The title that a body gives a board.
 pub fn read_title(value: &Value) -> Option<&str>
     ensures { option_map (λ text. text.now) result ≡ bodies.title_in (view value.now) }
 {

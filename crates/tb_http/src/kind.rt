@@ -15,6 +15,7 @@ pub enum BoardCall {
     Add,
     Sweep,
     Ahead,
+    Title,
     Import,
     ImportTodo,
 }
@@ -43,10 +44,16 @@ pub enum Kind {
     Task,
     /// A new person.
     People,
+    /// The sender's own key.
+    OwnKey,
+    /// The key of a person.
+    PersonKey,
     /// A new board.
     Boards,
     /// A role on a board.
     Roles,
+    /// An owner's role for the sender.
+    Take,
     BoardCall(BoardCall),
     TaskCall(TaskCall),
 }

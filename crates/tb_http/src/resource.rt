@@ -5,28 +5,33 @@ ghost use Rattle.tb_http.specs.Resource as resources;
 
 use crate::fault::WireFault;
 use crate::kind::{BoardCall, BoardView, Kind, TaskCall};
+use crate::person_name::PersonName;
 use crate::route::{Routes, Verb};
 use http::Method;
 use tb_task::TaskId;
 use tb_values::read_number;
 
-/// What a call is made on: people, boards, the roles on a board, the board itself, or a task of it.
-#[derive(Clone, Copy, Debug, PartialEq, Eq)]
-pub enum CallTarget {
+/// What a call is made on: people, the key of the sender or of another person, boards, the roles on a board, the
+/// ownership of a board, the board itself, or a task of it.
+#[derive(Debug, Drop)]
+pub enum CallTarget<'a> {
     People,
+    OwnKey,
+    PersonKey(PersonName<'a>),
     Boards,
     Roles(u32),
+    Take(u32),
     Board(u32, BoardCall),
     Task(u32, TaskId, TaskCall),
 }
 
 /// What a path asks for: the boards of the sender, a view of a board or of a task, or a call.
-#[derive(Clone, Copy, Debug, PartialEq, Eq)]
-pub enum Resource {
+#[derive(Debug, Drop)]
+pub enum Resource<'a> {
     Me,
     Board(u32, BoardView),
     Task(u32, TaskId),
-    Call(CallTarget),
+    Call(CallTarget<'a>),
 }
 
 /// Why a request asks for no resource.
@@ -77,6 +82,12 @@ fn board_in(path: &str) -> Option<u32>
     read_number(segment(path, 2), u32::MAX)
 }
 
+fn person_in(path: &str) -> Option<PersonName<'_>>
+    ensures { result ≡ resources.person_in path.now }
+{
+    PersonName::read(segment(path, 2))
+}
+
 fn task_in(path: &str) -> Option<TaskId>
     ensures { result ≡ resources.task_in path.now }
 {
@@ -85,7 +96,7 @@ fn task_in(path: &str) -> Option<TaskId>
 
 // What a path of this kind asks for, if its parts can be read.
 #[tactic(auto, unfolding(crate::specs::Resource::resource_of))]
-fn resource_of(kind: Kind, path: &str) -> Option<Resource>
+fn resource_of(kind: Kind, path: &str) -> Option<Resource<'_>>
     ensures { result ≡ resources.resource_of kind path.now }
 {
     let target = match kind {
@@ -93,8 +104,11 @@ fn resource_of(kind: Kind, path: &str) -> Option<Resource>
         Kind::BoardView(view) => return Some(Resource::Board(board_in(path)?, view)),
         Kind::Task => return Some(Resource::Task(board_in(path)?, task_in(path)?)),
         Kind::People => CallTarget::People,
+        Kind::OwnKey => CallTarget::OwnKey,
+        Kind::PersonKey => CallTarget::PersonKey(person_in(path)?),
         Kind::Boards => CallTarget::Boards,
         Kind::Roles => CallTarget::Roles(board_in(path)?),
+        Kind::Take => CallTarget::Take(board_in(path)?),
         Kind::BoardCall(call) => CallTarget::Board(board_in(path)?, call),
         Kind::TaskCall(call) => CallTarget::Task(board_in(path)?, task_in(path)?, call),
     };
@@ -107,7 +121,7 @@ fn has_verb(method: &Method, verb: Verb) -> bool
     method.as_str() == verb.name()
 }
 
-impl Resource {
+impl Resource<'_> {
     /// The one method by which it is asked for.
     pub fn verb(&self) -> Verb
         ensures { result ≡ resources.verb_of self.now }
@@ -122,7 +136,7 @@ impl Resource {
 impl Routes {
     /// The resource that a method and a target ask for. A path whose parts can't be read has no route,
     /// whatever the method.
-    pub fn resource(&self, method: &Method, target: &str) -> Result<Resource, RouteFault>
+    pub fn resource<'a>(&self, method: &Method, target: &'a str) -> Result<Resource<'a>, RouteFault>
         ensures { result ≡ resources.resource_asked method.now target.now }
     {
         let Some(kind) = self.find(target) else {

@@ -45,7 +45,7 @@ fn add_call(to: &mut Router<Kind>, text: &str, call: TaskCall) -> Result<(), Ins
     add(to, text, Kind::TaskCall(call))
 }
 
-// The paths without a number.
+// The paths without the number of a board.
 fn add_alone(to: &mut Router<Kind>) -> Result<(), InsertError>
     requires { to.old ≡ [] }
     ensures rows { OnOk result (to.new ≡ routes.alone_rows) }
@@ -53,19 +53,23 @@ fn add_alone(to: &mut Router<Kind>) -> Result<(), InsertError>
 {
     add(to, "/people", Kind::People)?;
     add(to, "/boards", Kind::Boards)?;
-    add(to, "/me", Kind::Me)
+    add(to, "/me", Kind::Me)?;
+    add(to, "/me/key", Kind::OwnKey)?;
+    add(to, "/people/{name}/key", Kind::PersonKey)
 }
 
-// The paths with the number of a board, behind those without one.
+// The paths with the number of a board, after those without one.
 fn add_boards(to: &mut Router<Kind>) -> Result<(), InsertError>
     requires { to.old ≡ routes.alone_rows }
     ensures rows { OnOk result (to.new ≡ routes.board_rows) }
     ensures memory { IfErr result (λ fault. fault ≡ InsertError.OutOfMemory) }
 {
     add(to, "/boards/{b}/roles", Kind::Roles)?;
+    add(to, "/boards/{b}/take", Kind::Take)?;
     add(to, "/boards/{b}/tasks", Kind::BoardCall(BoardCall::Add))?;
     add(to, "/boards/{b}/sweep", Kind::BoardCall(BoardCall::Sweep))?;
     add(to, "/boards/{b}/ahead", Kind::BoardCall(BoardCall::Ahead))?;
+    add(to, "/boards/{b}/title", Kind::BoardCall(BoardCall::Title))?;
     add(to, "/boards/{b}/import", Kind::BoardCall(BoardCall::Import))?;
     add(
         to,

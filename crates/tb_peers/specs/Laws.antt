@@ -13,6 +13,7 @@ use Rattle.tb_turns.specs.Served.{AllAt, AllWell, IsSame, IsServed, handled, tak
 -- which they were handled. The messages of each connection are those that its bytes bring, none behind one that closes
 -- it. Each is answered as in the state that all calls before it, of whatever connection, led to; and what a connection
 -- was handed is a front of its answers, in their order. All this is said up to where another is opened in its place.
+-- Rule: answers go in the order of a connection's messages. Tried by two_messages.
 abbrev pub AnyTurns : Type 0
 AnyTurns =
     (site : Site) (s : State) (talks : ℕ → Talk) (ks : List (Step (Option ℕ) Timed)) (end : State)

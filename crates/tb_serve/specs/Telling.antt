@@ -71,6 +71,7 @@ told_by s at (Ok asked) = told_asked s at asked
 told_by s at (Err rejection) = told_rejection rejection
 
 -- what the boards tell a message that the clock gave a moment, or none
+-- Rule: without a clock nothing but the page is served. Refused as NoClock. Tried by no_clock.
 abbrev pub told_at : State → Message → Option ℕ → Response
 told_at s message None = told_fault wire.NoClock None (fault_body wire.NoClock)
 told_at s message (Some at) = told_by s at (asked_of message at)

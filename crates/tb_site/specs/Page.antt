@@ -22,6 +22,7 @@ is_name_byte c = (nat_le 97 c && nat_le c 122) || (nat_le 48 c && nat_le c 57) |
 abbrev pub has_ending : List ℕ → List ℕ → Bool
 has_ending name ending = ends_with nat_eq name ending
 
+-- Rule: a page has files of these endings alone. Tried by page.
 unfoldable pub media_by_ending : List ℕ → Option MediaType
 media_by_ending name =
     if has_ending name (codes ".html") then Some Html

@@ -42,6 +42,7 @@ if_free None free = None
 if_free (Some file) free = if free then Some file else None
 
 -- the file that a message is told: one of its target, where it reads and no route has its path
+-- Rule: a target opens no file; names of the page are compared. Refused as NoRoute. Tried by page.
 unfoldable pub file_for : Site → Message → Option SiteFile
 file_for site message = if_free (file_at site message.target) (is_free message)
 

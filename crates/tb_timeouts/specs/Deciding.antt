@@ -42,6 +42,7 @@ earlier_of (Some candidate) place (Some moment) =
 
 -- Of those between two messages the one that is so longest gives way. Where there is none, it is the one whose message was begun
 -- longest ago, if that is longer than it is spared.
+-- Rule: of 512 connections the longest idle one is closed first. Tried by crowd.sh.
 abbrev pub GivesWay : Limits → ℕ → List Stage → Option ℕ → Type 0
 GivesWay limits now stages (Some place) =
     ((since : ℕ) × IsEarliest idle_since stages place since)
@@ -53,6 +54,7 @@ GivesWay limits now stages None =
     → now ≤ begun + limits.spared)
 
 -- A message is read while there is room for bytes. Where there is none, the one that was begun first is read on.
+-- Rule: at 64 MiB only the message begun first is read. Tried by crowd.sh.
 abbrev pub MayRead : Limits → List Stage → ℕ → ℕ → Type 0
 MayRead limits stages place held =
     (option_map takes_bytes (slice_get stages place) ≡ Some true)

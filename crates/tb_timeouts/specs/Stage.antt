@@ -32,6 +32,7 @@ read_stage (Closing since reads) = Closing since (min (reads + 1) (2 ^ 32 - 1))
 read_stage stage = stage
 
 -- the moment at which the connection has stayed too long
+-- Rule: a connection that stays too long is closed. Tried by beside.sh.
 abbrev pub end_of : Limits → Stage → Option ℕ
 end_of limits Vacant = None
 end_of limits (Idle since) = Some (since + limits.idle)
