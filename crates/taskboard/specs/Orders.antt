@@ -10,12 +10,13 @@ use Rattle.tb_calls.specs.declared.keep.Keep.{Ghosts}
 use Rattle.tb_client.specs.Asking.{Event}
 use Rattle.tb_command_line.specs.Help.{help_text}
 use Rattle.tb_command_line.specs.declared.order.Order.{Order}
-use Rattle.tb_command_line.specs.declared.order.Order.TheVariants.{Init, Serve, Run, Import, ImportAll, View, Check, Send, Help, Version}
+use Rattle.tb_command_line.specs.declared.order.Order.TheVariants.{Init, Serve, Run, Import, ImportAll, View, Check, Key, Send, Help, Version}
 use Rattle.tb_command_line.specs.declared.order.SendOrder.{SendOrder}
 use Rattle.tb_files.specs.Check.{IsChecked}
-use Rattle.tb_files.specs.Faults.{is_of_checking, is_of_imports, is_of_views}
+use Rattle.tb_files.specs.Faults.{is_of_checking, is_of_imports, is_of_keys, is_of_views}
 use Rattle.tb_files.specs.Import.{IsImported, IsImportedInParts}
 use Rattle.tb_files.specs.Init.{IsMade}
+use Rattle.tb_files.specs.Key.{IsKeyGiven}
 use Rattle.tb_files.specs.View.{IsShown}
 use Rattle.tb_keeper.specs.declared.sql_keep.SqlKeep.{SqlKeep}
 use Rattle.tb_orders.specs.Faults.{is_of_making, is_of_scripts}
@@ -25,8 +26,8 @@ use Rattle.tb_program.specs.declared.fault.Fault.{Fault}
 use Rattle.tb_program.specs.declared.fault.Fault.TheVariants.{WriteFailed}
 use Rattle.tb_script.specs.Answering.{answer, first_state}
 use Rattle.tb_script.specs.Lines.{answers_from}
+use Rattle.tb_sending.specs.Changing.{Sends}
 use Rattle.tb_sending.specs.Faults.{is_of_sending}
-use Rattle.tb_sending.specs.Sending.{ComesTo}
 
 -- the answers to the lines of a script
 abbrev pub script_text : List ℕ → List ℕ
@@ -45,6 +46,7 @@ is_of_order (Import order) fault = is_of_imports fault
 is_of_order (ImportAll order) fault = is_of_imports fault
 is_of_order (View order) fault = is_of_views fault
 is_of_order (Check file) fault = is_of_checking fault
+is_of_order (Key order) fault = is_of_keys fault
 is_of_order (Send order) fault = is_of_sending fault
 is_of_order (Help topic) fault = is_of_telling fault
 is_of_order Version fault = is_of_telling fault
@@ -67,7 +69,7 @@ module _ {D L W : Type 0} {d : DiskGhosts D} (g : Ghosts (SqlKeep (FileStore D d
     pub ready : SendOrder
     pub old : L
     pub new : L
-    pub comes : ComesTo follows contents order ready old new before after ending
+    pub comes : Sends follows contents order ready old new before after ending
 
   -- with an input, and a writer before and after it
   abbrev pub IsDone : Order → Option (List ℕ) → W → W → Ending → Type 0
@@ -84,6 +86,8 @@ module _ {D L W : Type 0} {d : DiskGhosts D} (g : Ghosts (SqlKeep (FileStore D d
       IsShown g order (contents before) (contents after) ending
   IsDone (Check file) input before after ending =
       IsChecked g (contents before) (contents after) ending
+  IsDone (Key order) input before after ending =
+      IsKeyGiven g order input (contents before) (contents after) ending
   IsDone (Send order) input before after ending = IsSentOver order before after ending
   IsDone (Help topic) input before after ending =
       IsTold (contents before) (contents after) ending (help_text topic)

@@ -23,7 +23,8 @@ use tb_causes::{tell_cause, tell_words};
 use tb_client::Line;
 use tb_command_line::{Order, Topic};
 use tb_files::{
-    RealFile, check_file, import_into_file, import_parts_into_file, make_file, print_board,
+    RealFile, check_file, give_key_in_file, import_into_file, import_parts_into_file, make_file,
+    print_board,
 };
 use tb_keeper::SqlKeep;
 use tb_orders::{Ending, OrderFault, fault_of_script, print_fault, read_order, status_of};
@@ -95,6 +96,7 @@ fn carry_out<R: Read + Drop, W: Write>(
         Order::ImportAll(order) => import_parts_into_file(rt, order, reader, writer),
         Order::View(order) => Ok(print_board(rt, order, writer)?),
         Order::Check(file) => Ok(check_file(rt, file, writer)?),
+        Order::Key(order) => Ok(give_key_in_file(rt, order, reader, writer)?),
         Order::Send(order) => Ok(send_order(rt, order, writer)?),
         Order::Help(topic) => Ok(tell(writer, topic.text())?),
         Order::Version => Ok(tell(writer, VERSION)?),

@@ -5,7 +5,8 @@ use Rattle.tb_causes.specs.FileCause.{IsFileText}
 use Rattle.tb_causes.specs.Told.{Text}
 use Rattle.tb_causes.specs.Unanswered.{IsUnanswered}
 use Rattle.tb_causes.specs.WrongWord.{wrong_text}
-use Rattle.tb_causes.specs.declared.cause.TheConstants.{BAD, BAD_BODY, BAD_SEND, LOW_PORT, MEMORY, NOT_EMPTY, NOT_OURS, NO_ANSWER, NO_CLOCK, NO_KEY, NO_LISTEN, NO_PAGE, READ_FAILED, STORE, TAKEN_PORT, WRITE_FAILED, WRONG_VERSION}
+use Rattle.tb_causes.specs.declared.cause.TheConstants.{BAD, BAD_BODY, BAD_SEND, KEY_FILES, KEY_UNREAD, LOW_PORT, MEMORY, NOT_EMPTY, NOT_OURS, NO_ANSWER, NO_CLOCK, NO_KEY, NO_KEY_FILE, NO_LISTEN, NO_NEW_KEY, NO_PAGE, READ_FAILED, STORE, TAKEN_PORT, WRITE_FAILED, WRONG_VERSION}
+use Rattle.tb_client.specs.OwnKey.{is_own_key_alone}
 use Rattle.tb_command_line.specs.declared.order.Order.{Order}
 use Rattle.tb_command_line.specs.declared.order.Order.TheVariants as order
 use Rattle.tb_orders.specs.declared.order_fault.BadItem.{BadItem}
@@ -53,14 +54,31 @@ file_of (order.Import taken) = Some taken.file
 file_of (order.ImportAll taken) = Some taken.file
 file_of (order.View shown) = Some shown.file
 file_of (order.Check file) = Some file
+file_of (order.Key given) = Some given.file
 file_of (order.Send sent) = None
 file_of (order.Help topic) = None
 file_of order.Version = None
 
+-- of files that no order names: those of a key
+abbrev pub store_text : Order → Text
+store_text (order.Send sent) = KEY_FILES.now
+store_text _ = STORE.now
+
 -- of a file that is looked at again
-abbrev pub IsCauseOfStore : Option Text → Text → Type 0
-IsCauseOfStore None text = text ≡ STORE.now
-IsCauseOfStore (Some file) text = IsFileText text
+abbrev pub IsCauseOfStore : Option Text → Order → Text → Type 0
+IsCauseOfStore None order text = text ≡ store_text order
+IsCauseOfStore (Some file) order text = IsFileText text
+
+-- of a key that isn't where it is to be: one that is to change stands in a file, and a new one is on standard input
+abbrev pub key_text : Order → Text
+key_text (order.Send sent) = if is_own_key_alone sent.words then NO_KEY_FILE.now else NO_KEY.now
+key_text (order.Key given) = NO_NEW_KEY.now
+key_text _ = NO_KEY.now
+
+-- of what couldn't be printed: a key that was made is lost then
+abbrev pub written_text : Order → Text
+written_text (order.Key given) = KEY_UNREAD.now
+written_text _ = WRITE_FAILED.now
 
 abbrev pub IsCauseOfSilence : Order → Text → Type 0
 IsCauseOfSilence (order.Send sent) text = IsUnanswered sent text
@@ -73,11 +91,13 @@ IsCauseOfText item _ text = text ≡ BAD_BODY.now
 
 -- of a fault of an order, and the task at fault where a text is bad
 abbrev pub IsCause : Fault → Option BadItem → Order → Text → Type 0
-IsCause fault.Store item order text = IsCauseOfStore (file_of order) text
+IsCause fault.Store item order text = IsCauseOfStore (file_of order) order text
 IsCause fault.NoAnswer item order text = IsCauseOfSilence order text
 IsCause fault.BadBody item order text = IsCauseOfText item order text
 IsCause fault.NoListen item order text = text ≡ ports_text order
+IsCause fault.NoKey item order text = text ≡ key_text order
 IsCause fault.Bad item order text = text ≡ send_text order
+IsCause fault.WriteFailed item order text = text ≡ written_text order
 IsCause other item order text = text ≡ text_of other
 
 -- ---- of words that are no order

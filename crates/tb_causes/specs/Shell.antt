@@ -35,5 +35,6 @@ words_read within word (byte ∷ text) =
 words_read behind word (byte ∷ text) = words_read outside (word ++ byte ∷ []) text
 
 -- words that are quoted are read as they were
+-- Rule: a shell reads the words for resuming as they were. Tried by client.sh.
 abbrev pub AreReadAgain : Type 0
 AreReadAgain = (words : List Text) → words_read between [] (quoted_words words) ≡ Some words

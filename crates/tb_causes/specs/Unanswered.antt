@@ -1,8 +1,10 @@
 -- What is told where no answer came.
-use Rattle.std.specs.Prelude.{ℕ, ◌==◌, Bool, true, false, ◌&&◌, List, [], ◌∷◌, ◌++◌, codes, is_some, length, Option, Some, None, if◌then◌else◌}
+use Rattle.std.specs.Prelude.{ℕ, ◌==◌, Bool, true, false, not, ◌&&◌, ◌||◌, List, [], ◌∷◌, ◌++◌, codes, is_some, length, Option, Some, None, if◌then◌else◌}
 use Rattle.std.specs.List.{flat_map}
+use Rattle.std.specs.Str.{bytes_eq}
 use Rattle.tb_causes.specs.Told.{IsEither, Text}
-use Rattle.tb_causes.specs.declared.unanswered.TheConstants.{GO_ON, UNCHANGED}
+use Rattle.tb_causes.specs.declared.unanswered.TheConstants.{GO_ON, GO_ON_KEY, UNCHANGED}
+use Rattle.tb_client.specs.OwnKey.{is_own_key_alone}
 use Rattle.tb_client.specs.Request.{request_of}
 use Rattle.tb_client.specs.Places.{places_of}
 use Rattle.tb_client.specs.declared.request.Request.{Request}
@@ -35,16 +37,36 @@ quoted_word word = codes " '" ++ escaped word ++ codes "'"
 abbrev pub quoted_words : List Text → Text
 quoted_words words = flat_map quoted_word words
 
+-- what is shown in place of the words of a call that may be keys; `none` is no key
+abbrev pub shown_first : Text → Text → Text
+shown_first word first = if bytes_eq word (codes "own-key") then codes "OLD" else first
+
+abbrev pub shown_second : Text → Text → Text
+shown_second word second =
+    if bytes_eq word (codes "own-key") then codes "NEW"
+    else if (bytes_eq word (codes "key") || bytes_eq word (codes "person"))
+    && not (bytes_eq second (codes "none")) then codes "KEY" else second
+
+-- calls with keys have three words
+-- Rule: no key is printed with the words for resuming. Tried by client.sh.
+abbrev pub shown_words : List Text → List Text
+shown_words [] = []
+shown_words (word ∷ []) = word ∷ []
+shown_words (word ∷ first ∷ []) = word ∷ first ∷ []
+shown_words (word ∷ first ∷ second ∷ []) =
+    word ∷ shown_first word first ∷ shown_second word second ∷ []
+shown_words (word ∷ first ∷ second ∷ third ∷ words) = word ∷ first ∷ second ∷ third ∷ words
+
 abbrev pub id_words : Option ℕ → Text
 id_words None = []
 id_words (Some id) = codes " --id " ++ id_text id
 
--- `taskboard send --id UUID SERVER MEMBER KEY 'WORD' ..`
+-- `taskboard send --id UUID SERVER MEMBER KEY 'WORD' ..`, in which no key stands
 abbrev pub words_again : SendOrder → Text
 words_again order =
     codes "taskboard send" ++ (id_words order.id
     ++ (codes " " ++ (order.server
-    ++ (codes " " ++ (order.member ++ (codes " KEY" ++ quoted_words order.words))))))
+    ++ (codes " " ++ (order.member ++ (codes " KEY" ++ quoted_words (shown_words order.words)))))))
 
 -- ---- what is told
 
@@ -52,9 +74,22 @@ words_again order =
 abbrev pub going_on : SendOrder → Text
 going_on order = GO_ON.now ++ (codes "\n" ++ words_again order)
 
+-- `taskboard send SERVER MEMBER - own-key`, whose keys are in files
+abbrev pub change_again : SendOrder → Text
+change_again order =
+    codes "taskboard send " ++ (order.server
+    ++ (codes " " ++ (order.member ++ codes " - own-key")))
+
+-- of a change of the own key, how it goes on
+abbrev pub change_going_on : SendOrder → Text
+change_going_on order = GO_ON_KEY.now ++ (codes "\n" ++ change_again order)
+
 -- of a view that nothing was to change
 abbrev pub unanswered_text : SendOrder → Text
-unanswered_text order = if may_have_acted order.words then going_on order else UNCHANGED.now
+unanswered_text order =
+    if is_own_key_alone order.words then change_going_on order
+    else if may_have_acted order.words then going_on order
+    else UNCHANGED.now
 
 -- without memory to tell a view from a call, or for the words, that it is to go on
 abbrev pub IsUnanswered : SendOrder → Text → Type 0

@@ -3,8 +3,8 @@ use Rattle.std.specs.Prelude.{◌==◌, ◌||◌, Bool, true, false, not, List, 
 use Rattle.std.specs.List.{list_any}
 use Rattle.std.specs.Str.{bytes_eq}
 use Rattle.tb_causes.specs.declared.wrong_word.Form.{Form}
-use Rattle.tb_causes.specs.declared.wrong_word.Form.TheVariants.{File, Name, Key, Id, Board, Kind, Seconds, Server, SentKey}
-use Rattle.tb_causes.specs.declared.wrong_word.TheConstants.{CHECK_USAGE, IMPORT_USAGE, INIT_USAGE, NO_ORDER, RUN_USAGE, SEND_USAGE, SERVE_USAGE, VIEW_USAGE, WRONG_BOARD, WRONG_FILE, WRONG_ID, WRONG_KEY, WRONG_KIND, WRONG_NAME, WRONG_SECONDS, WRONG_SENT_KEY, WRONG_SERVER}
+use Rattle.tb_causes.specs.declared.wrong_word.Form.TheVariants.{File, Name, Key, Id, Board, Kind, Seconds, Server, Dash}
+use Rattle.tb_causes.specs.declared.wrong_word.TheConstants.{CHECK_USAGE, IMPORT_USAGE, INIT_USAGE, KEY_USAGE, NO_ORDER, RUN_USAGE, SEND_USAGE, SERVE_USAGE, VIEW_USAGE, WRONG_BOARD, WRONG_DASH, WRONG_FILE, WRONG_ID, WRONG_KEY, WRONG_KIND, WRONG_NAME, WRONG_SECONDS, WRONG_SERVER}
 use Rattle.tb_causes.specs.Told.{Text}
 use Rattle.tb_board.specs.Names.{read_key, read_name}
 use Rattle.tb_command_line.specs.Sending.{is_server, option_value, seconds_in}
@@ -17,13 +17,13 @@ use Rattle.tb_values.specs.Numerals.{number_to}
 abbrev pub is_of : Text → Form → Bool
 is_of word File = true
 is_of word Name = is_some (read_name word)
-is_of word Key = is_some (read_key word)
+is_of word Key = bytes_eq word (codes "-") || is_some (read_key word)
 is_of word Id = is_some (read_id word)
 is_of word Board = is_some (number_to 4294967295 word)
 is_of word Kind = bytes_eq word (codes "json") || bytes_eq word (codes "todo")
 is_of word Seconds = is_some (seconds_in word)
 is_of word Server = is_server word
-is_of word SentKey = bytes_eq word (codes "-") || is_some (read_key word)
+is_of word Dash = bytes_eq word (codes "-")
 
 abbrev pub form_text : Form → Text
 form_text File = WRONG_FILE.now
@@ -34,7 +34,7 @@ form_text Board = WRONG_BOARD.now
 form_text Kind = WRONG_KIND.now
 form_text Seconds = WRONG_SECONDS.now
 form_text Server = WRONG_SERVER.now
-form_text SentKey = WRONG_SENT_KEY.now
+form_text Dash = WRONG_DASH.now
 
 -- ---- words of forms
 
@@ -58,6 +58,11 @@ abbrev pub wrong_of_import : List Text → Text
 wrong_of_import words =
     wrong_of IMPORT_USAGE.now (others_of words) (File ∷ Name ∷ Key ∷ Id ∷ Board ∷ Kind ∷ [])
 
+-- of `key`, whose third word may be missing
+abbrev pub wrong_of_key : List Text → Text
+wrong_of_key words = if length words == 3 then wrong_of KEY_USAGE.now words (File ∷ Name ∷ Dash ∷ [])
+    else wrong_of KEY_USAGE.now words (File ∷ Name ∷ [])
+
 -- ---- options in front of words
 
 -- the word behind an option, where there is one, lacks the form
@@ -78,7 +83,7 @@ behind (first ∷ value ∷ rest) name =
 -- behind the options: a word at least stands behind those of forms
 abbrev pub wrong_of_sent : List Text → Text
 wrong_of_sent words = if nat_le (length words) 3 then SEND_USAGE.now
-    else first_wrong SEND_USAGE.now words (Server ∷ Name ∷ SentKey ∷ [])
+    else first_wrong SEND_USAGE.now words (Server ∷ Name ∷ Key ∷ [])
 
 abbrev pub wrong_of_send : List Text → Text
 wrong_of_send words =
@@ -97,6 +102,7 @@ order_text order rest =
     else if list_any (bytes_eq order) (codes "list" ∷ codes "export" ∷ codes "todo" ∷ [])
     then wrong_of VIEW_USAGE.now rest (File ∷ Name ∷ Key ∷ Board ∷ [])
     else if bytes_eq order (codes "check") then CHECK_USAGE.now
+    else if bytes_eq order (codes "key") then wrong_of_key rest
     else if bytes_eq order (codes "run") then RUN_USAGE.now
     else if bytes_eq order (codes "serve") then SERVE_USAGE.now
     else if bytes_eq order (codes "send") then wrong_of_send rest

@@ -2,7 +2,7 @@
 ghost use Rattle.std.specs.Prelude.{◌≡◌, IfErr, IfOk, List, OnErr, OnOk, drop, map, option_map};
 ghost use Rattle.std.specs.String.{string_bytes};
 ghost use Rattle.std.specs.Vec.Iter.{into_iter_items};
-ghost use Rattle.tb_causes.specs.Cause.{IsCause, IsCauseOfBadWords, IsCauseOfSilence, IsCauseOfStore, IsCauseOfText, IsCauseOfWords, file_of, port_text, ports_text, send_text, text_of, words_text};
+ghost use Rattle.tb_causes.specs.Cause.{IsCause, IsCauseOfBadWords, IsCauseOfSilence, IsCauseOfStore, IsCauseOfText, IsCauseOfWords, file_of, key_text, port_text, ports_text, send_text, store_text, text_of, words_text, written_text};
 ghost use Rattle.tb_causes.specs.Told.{AppendsFrontOfTold, AppendsTold, Text as TextValue, told_text};
 ghost use Rattle.tb_program.specs.declared.fault.Fault.TheVariants.{WriteFailed};
 
@@ -16,6 +16,7 @@ use std::alloc::{AllocError, Global};
 use std::env::{self, Args};
 use std::io;
 use std::io::Write;
+use tb_client::is_own_key_alone;
 use tb_command_line::Order;
 use tb_orders::{BadItem, OrderFault};
 use tb_program::{Fault, print_line};
@@ -40,6 +41,9 @@ const NO_CLOCK: &str = "The machine's clock gives no moment: set it, and try aga
 const NO_KEY: &str =
     "The key can't be read: set the environment TASKBOARD_KEY, or write it into ~/.config/taskboard/key, which you alone may read (chmod 600). A key has 8 to 64 visible ASCII characters.";
 
+const NO_KEY_FILE: &str =
+    "A key that is made needs the old one in ~/.config/taskboard/key, which you alone may read (chmod 600), and no TASKBOARD_KEY in the environment. Nothing was sent. Else name both keys: own-key OLD NEW.";
+
 const NO_LISTEN: &str = "The port can't be listened on.";
 
 const NO_PAGE: &str =
@@ -52,9 +56,12 @@ const NOT_OURS: &str =
     "The file is no file of boards: write its name right, or make another with `taskboard init`.";
 
 const READ_FAILED: &str =
-    "Standard input couldn't be read, or the machine gave no random bytes for an identifier.";
+    "Standard input couldn't be read, or the machine gave no random bytes for an identifier or a key.";
 
 const STORE: &str = "The file can't be used.";
+
+const KEY_FILES: &str =
+    "key, key.new or key.next in ~/.config/taskboard can't be read, written or renamed, or key.new is of another server or person, whom its second line names. No key was lost. End that change by `taskboard send SERVER MEMBER - own-key`, or remove key.new where it has no key that you need.";
 
 const WRITE_FAILED: &str =
     "Standard output couldn't be written: what was asked for may have been done. Send a call again under its identifier.";
@@ -64,6 +71,12 @@ const WRONG_VERSION: &str =
 
 const BAD_SEND: &str =
     "The words behind KEY are no call and no view, or a board or a task among them isn't one: `taskboard send --help` has their forms.";
+
+const NO_NEW_KEY: &str =
+    "The first line of standard input is no key: a key has 8 to 64 visible ASCII characters. Nothing was changed.";
+
+const KEY_UNREAD: &str =
+    "Standard output couldn't be written: the key may have been given, and nobody can read it. Give another with `taskboard key`.";
 
 const LOW_PORT: &str =
     "Ports below 1,024 are the system's, or another program has this one: take a higher one, as 8080.";
@@ -97,7 +110,9 @@ fn cause_of(rt: &HostRuntime, failed: &OrderFault, order: &Order) -> Told
         Fault::NoAnswer => told_of_silence(rt.alloc(), order),
         Fault::BadBody => told_of_text(rt.alloc(), &failed.item, order),
         Fault::NoListen => Told::Fixed(ports_text(order)),
+        Fault::NoKey => Told::Fixed(key_text(order)),
         Fault::Bad => Told::Fixed(send_text(order)),
+        Fault::WriteFailed => Told::Fixed(written_text(order)),
         fault => Told::Fixed(text_of(fault)),
     }
 }
@@ -126,11 +141,42 @@ fn text_of(fault: Fault) -> &'static str
 
 /// Why the file of an order can't be used.
 fn cause_of_store(rt: &HostRuntime, order: &Order) -> &'static str
-    ensures { IsCauseOfStore (file_of order.now) result.now }
+    ensures { IsCauseOfStore (file_of order.now) order.now result.now }
 {
     match file_of(order) {
         Some(file) => cause_of_file(rt, file.as_str()),
-        None => STORE,
+        None => store_text(order),
+    }
+}
+
+/// Of files that no order names: those of a key.
+fn store_text(order: &Order) -> &'static str
+    ensures { result.now ≡ store_text order.now }
+{
+    match order {
+        Order::Send(_) => KEY_FILES,
+        _ => STORE,
+    }
+}
+
+/// Of a key that isn't where it is to be: one that is to change stands in a file, and a new one is on standard input.
+fn key_text(order: &Order) -> &'static str
+    ensures { result.now ≡ key_text order.now }
+{
+    match order {
+        Order::Send(order) if is_own_key_alone(order.words.as_slice()) => NO_KEY_FILE,
+        Order::Key(_) => NO_NEW_KEY,
+        _ => NO_KEY,
+    }
+}
+
+/// Of what couldn't be printed: a key that was made is lost then.
+fn written_text(order: &Order) -> &'static str
+    ensures { result.now ≡ written_text order.now }
+{
+    match order {
+        Order::Key(_) => KEY_UNREAD,
+        _ => WRITE_FAILED,
     }
 }
 
@@ -144,6 +190,7 @@ fn file_of(order: &Order) -> Option<&Text>
         Order::Import(order) | Order::ImportAll(order) => Some(&order.file),
         Order::View(order) => Some(&order.file),
         Order::Check(file) => Some(file),
+        Order::Key(order) => Some(&order.file),
         Order::Run | Order::Send(_) | Order::Help(_) | Order::Version => None,
     }
 }

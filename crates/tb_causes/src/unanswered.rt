@@ -2,20 +2,23 @@
 ghost use Rattle.std.specs.Prelude.{◌≡◌, ◌++◌, IfOk, OnOk};
 ghost use Rattle.std.specs.String.{string_bytes};
 ghost use Rattle.tb_causes.specs.Told.{told_text};
-ghost use Rattle.tb_causes.specs.Unanswered.{IsUnanswered, escaped, going_on, has_body, id_words, may_have_acted, quoted_word, quoted_words, unanswered_text, words_again};
+ghost use Rattle.tb_causes.specs.Unanswered.{change_going_on, IsUnanswered, escaped, going_on, has_body, id_words, may_have_acted, quoted_word, quoted_words, shown_first, shown_second, shown_words, unanswered_text, words_again};
 
 use crate::told::Told;
 use std::alloc::{AllocError, Global};
-use tb_client::{Request, places_of, request_of};
+use tb_client::{Request, is_own_key_alone, places_of, request_of};
 use tb_command_line::SendOrder;
 use tb_task::TaskId;
-use tb_values::{Items, Text};
+use tb_values::{Duplicate, Items, Text};
 
 const UNCHANGED: &str =
     "No answer came in the time, and nothing was to change: look whether a server runs at ADDRESS:PORT, and ask again.";
 
 const GO_ON: &str =
     "No answer came, and the call may have acted. Go on with it under its identifier, with KEY as before: it acts once.";
+
+const GO_ON_KEY: &str =
+    "No answer came, and the key may have changed. Both keys are kept: the next order with - as KEY ends the change first, and so does";
 
 /// What is told where no answer came. Without memory it is told as a call, without the words to go on by.
 pub(crate) fn told_of_unanswered(alloc: Global, order: &SendOrder) -> Told
@@ -30,6 +33,9 @@ pub(crate) fn told_of_unanswered(alloc: Global, order: &SendOrder) -> Told
 fn told_of_sent(alloc: Global, order: &SendOrder) -> Result<Told, AllocError>
     ensures { IfOk result (λ told. told_text told ≡ unanswered_text order.now) }
 {
+    if is_own_key_alone(order.words.as_slice()) {
+        return Ok(Told::Made(change_going_on(alloc, order)?));
+    }
     if may_have_acted(alloc, order.words.as_slice())? {
         Ok(Told::Made(going_on(alloc, order)?))
     } else {
@@ -55,6 +61,20 @@ fn has_body(request: &Option<Request>) -> bool
     }
 }
 
+/// How a change of the own key goes on, whose keys are in files.
+fn change_going_on(alloc: Global, order: &SendOrder) -> Result<Text, AllocError>
+    ensures { IfOk result (λ text. text ≡ change_going_on order.now) }
+{
+    let server = order.server.as_str();
+    let member = order.member.as_str();
+    let mut text = String::new(alloc);
+    write!(
+        text,
+        "{GO_ON_KEY}\ntaskboard send {server} {member} - own-key"
+    )?;
+    Ok(Text::from_string(text))
+}
+
 /// That a call is to go on which got no answer, and by which words.
 fn going_on(alloc: Global, order: &SendOrder) -> Result<Text, AllocError>
     ensures { IfOk result (λ text. text ≡ going_on order.now) }
@@ -73,7 +93,8 @@ fn words_again(alloc: Global, order: &SendOrder) -> Result<Text, AllocError>
     let id = id.as_str();
     let server = order.server.as_str();
     let member = order.member.as_str();
-    let words = quoted_words(alloc, &order.words)?;
+    let words = shown_words(alloc, &order.words)?;
+    let words = quoted_words(alloc, &words)?;
     let words = words.as_str();
     let mut text = String::new(alloc);
     write!(text, "taskboard send{id} {server} {member} KEY{words}")?;
@@ -91,6 +112,42 @@ fn id_words(alloc: Global, id: Option<TaskId>) -> Result<Text, AllocError>
     let mut text = String::new(alloc);
     write!(text, " --id {id}")?;
     Ok(Text::from_string(text))
+}
+
+/// The words, with what names a key in place of each.
+fn shown_words(alloc: Global, words: &Items<Text>) -> Result<Items<Text>, AllocError>
+    ensures { IfOk result (λ shown. shown ≡ shown_words words.now) }
+{
+    match words.as_slice() {
+        [word, first, second] => {
+            let mut shown = Items::new(alloc);
+            shown.push(word.duplicate()?)?;
+            shown.push(Text::from_str(alloc, shown_first(word.as_str(), first.as_str()))?)?;
+            shown.push(Text::from_str(alloc, shown_second(word.as_str(), second.as_str()))?)?;
+            Ok(shown)
+        }
+        _ => words.duplicate(),
+    }
+}
+
+fn shown_first<'t>(word: &str, first: &'t str) -> &'t str
+    ensures { result.now ≡ shown_first word.now first.now }
+{
+    match word {
+        "own-key" => "OLD",
+        _ => first,
+    }
+}
+
+/// A key that is taken away is no key.
+fn shown_second<'t>(word: &str, second: &'t str) -> &'t str
+    ensures { result.now ≡ shown_second word.now second.now }
+{
+    match word {
+        "own-key" => "NEW",
+        "key" | "person" if second != "none" => "KEY",
+        _ => second,
+    }
 }
 
 fn quoted_words(alloc: Global, words: &Items<Text>) -> Result<Text, AllocError>

@@ -1,6 +1,6 @@
 //! Which word is wrong of words that are no order, and what it may be.
 ghost use Rattle.std.specs.Prelude.{◌≡◌, [], ◌∷◌, ◌++◌, IfOk, OnOk, map};
-ghost use Rattle.tb_causes.specs.WrongWord.{behind, first_wrong, form_text, is_of, is_wrong_option, order_text, others_of, wrong_of, wrong_of_import, wrong_of_send, wrong_of_sent, wrong_text};
+ghost use Rattle.tb_causes.specs.WrongWord.{behind, first_wrong, form_text, is_of, is_wrong_option, order_text, others_of, wrong_of, wrong_of_import, wrong_of_key, wrong_of_send, wrong_of_sent, wrong_text};
 
 use std::alloc::{AllocError, Global};
 use tb_board::{Key, Name};
@@ -13,14 +13,14 @@ use tb_values::read_number;
 enum Form {
     File,
     Name,
+    /// A key, or `-` where it is kept elsewhere.
     Key,
     Id,
     Board,
     Kind,
     Seconds,
     Server,
-    /// A key, or `-` where it is kept elsewhere.
-    SentKey,
+    Dash,
 }
 
 const INIT_FORMS: [Form; 3] = [Form::File, Form::Name, Form::Key];
@@ -36,7 +36,11 @@ const IMPORT_FORMS: [Form; 6] = [
     Form::Kind,
 ];
 
-const SEND_FORMS: [Form; 3] = [Form::Server, Form::Name, Form::SentKey];
+const SEND_FORMS: [Form; 3] = [Form::Server, Form::Name, Form::Key];
+
+const MADE_KEY_FORMS: [Form; 2] = [Form::File, Form::Name];
+
+const READ_KEY_FORMS: [Form; 3] = [Form::File, Form::Name, Form::Dash];
 
 const INIT_USAGE: &str = "`init` takes FILE NAME KEY.";
 
@@ -47,6 +51,9 @@ const IMPORT_USAGE: &str =
 
 const CHECK_USAGE: &str = "`check` takes FILE alone.";
 
+const KEY_USAGE: &str =
+    "`key` takes FILE NAME, and - where the new key is read from standard input.";
+
 const RUN_USAGE: &str = "`run` takes no words, and lines on standard input.";
 
 const SERVE_USAGE: &str =
@@ -56,13 +63,14 @@ const SEND_USAGE: &str =
     "`send` takes [--id UUID] [--for SECONDS] ADDRESS:PORT MEMBER KEY WORD ARGUMENTS...";
 
 const NO_ORDER: &str =
-    "The first word is no order: init, serve, send, import, list, export, todo, check or run. `taskboard --help` tells more.";
+    "The first word is no order: init, serve, send, import, list, export, todo, check, key or run. `taskboard --help` tells more.";
 
 const WRONG_FILE: &str = "The file is wrong.";
 
 const WRONG_NAME: &str = "The person's name is wrong: 1 to 32 bytes of a to z, 0 to 9, _ and -.";
 
-const WRONG_KEY: &str = "The key is wrong: 8 to 64 visible ASCII characters.";
+const WRONG_KEY: &str =
+    "The key is wrong: 8 to 64 visible ASCII characters, or - where it is kept elsewhere.";
 
 const WRONG_ID: &str = "The identifier is wrong: a uuid, as 00000000-0000-4000-8000-000000000001.";
 
@@ -75,8 +83,8 @@ const WRONG_SECONDS: &str = "The seconds of --for are wrong: a number from 1 to 
 const WRONG_SERVER: &str =
     "The server is wrong: an address, a colon and a port from 1 to 65535, as 127.0.0.1:8080.";
 
-const WRONG_SENT_KEY: &str =
-    "The key is wrong: 8 to 64 visible ASCII characters, or - where it is kept elsewhere.";
+const WRONG_DASH: &str =
+    "The word behind NAME is wrong: - reads the new key from standard input, and no word makes one.";
 
 /// What is wrong with the words behind the program's name.
 pub(crate) fn wrong_word(alloc: Global, words: &[&str]) -> Result<&'static str, AllocError>
@@ -99,6 +107,7 @@ fn wrong_of_order(alloc: Global, order: &str, rest: &[&str]) -> Result<&'static 
         "import" => wrong_of_import(alloc, rest),
         "list" | "export" | "todo" => wrong_of(alloc, VIEW_USAGE, rest, &VIEW_FORMS),
         "check" => Ok(CHECK_USAGE),
+        "key" => wrong_of_key(alloc, rest),
         "run" => Ok(RUN_USAGE),
         "serve" => Ok(SERVE_USAGE),
         "send" => wrong_of_send(alloc, rest),
@@ -113,6 +122,18 @@ fn wrong_of_import(alloc: Global, words: &[&str]) -> Result<&'static str, AllocE
 {
     let others = others_of(alloc, words)?;
     wrong_of(alloc, IMPORT_USAGE, others.as_slice(), &IMPORT_FORMS)
+}
+
+/// The first word of `key` that isn't of its form, or how they are to be. The third may be missing.
+fn wrong_of_key(alloc: Global, words: &[&str]) -> Result<&'static str, AllocError>
+    ensures { IfOk result
+        (λ text. text.now ≡ wrong_of_key (map (λ word. word.now) words.entry.now)) }
+{
+    if words.len() == READ_KEY_FORMS.len() {
+        wrong_of(alloc, KEY_USAGE, words, &READ_KEY_FORMS)
+    } else {
+        wrong_of(alloc, KEY_USAGE, words, &MADE_KEY_FORMS)
+    }
 }
 
 /// The words that aren't `--all`.
@@ -236,13 +257,13 @@ fn is_of(alloc: Global, word: &str, form: Form) -> Result<bool, AllocError>
     match form {
         Form::File => Ok(true),
         Form::Name => Ok(Name::read(alloc, word)?.is_some()),
-        Form::Key => Ok(Key::read(alloc, word)?.is_some()),
+        Form::Key => Ok(word == "-" || Key::read(alloc, word)?.is_some()),
         Form::Id => Ok(TaskId::read(word).is_some()),
         Form::Board => Ok(read_number(word, u32::MAX).is_some()),
         Form::Kind => Ok(word == "json" || word == "todo"),
         Form::Seconds => Ok(read_number(word, MOST_SECONDS).is_some()),
         Form::Server => Ok(is_server(word)),
-        Form::SentKey => Ok(word == "-" || Key::read(alloc, word)?.is_some()),
+        Form::Dash => Ok(word == "-"),
     }
 }
 
@@ -258,6 +279,6 @@ fn form_text(form: Form) -> &'static str
         Form::Kind => WRONG_KIND,
         Form::Seconds => WRONG_SECONDS,
         Form::Server => WRONG_SERVER,
-        Form::SentKey => WRONG_SENT_KEY,
+        Form::Dash => WRONG_DASH,
     }
 }

@@ -54,6 +54,7 @@ size_of fields =
     (values_named (codes "content-length") fields)
 
 -- the bytes are a whole answer, with nothing behind it
+-- Rule: part of an answer isn't printed. Refused as NoAnswer. Tried by client.sh.
 pub record IsWholeAnswer (bytes : List ℕ) (reply : Reply) : Type 0 where
   pub tree : ResponseHead
   pub reads : ReadsResponse bytes tree reply.body
@@ -62,5 +63,6 @@ pub record IsWholeAnswer (bytes : List ℕ) (reply : Reply) : Type 0 where
   pub status_is : reply.status ≡ status_code tree
 
 -- the server couldn't take the message, or a proxy couldn't reach the server
+-- Rule: send asks again after 500, 502, 503 and 504. Refused as NoAnswer. Tried by client.sh.
 abbrev pub asks_again : ℕ → Bool
 asks_again status = status == 500 || (status == 502 || (status == 503 || status == 504))

@@ -49,6 +49,10 @@ task_count word.Ahead size = 0
 task_count word.Person size = 0
 task_count word.Board size = 0
 task_count word.Role size = 0
+task_count word.OwnKey size = 0
+task_count word.Key size = 0
+task_count word.Take size = 0
+task_count word.Title size = 0
 task_count word.People size = 0
 task_count word.Me size = 0
 
@@ -117,6 +121,7 @@ abbrev pub tasks_in : List ℕ → Option (List BoardTask)
 tasks_in body = option_and_then board_tasks (option_and_then read (text_in body))
 
 -- the task of a place, from 1
+-- Rule: a place among send's words is a task, counted from 1. Refused as NoTask. Tried by clients.
 abbrev pub task_at : List BoardTask → ℕ → Option BoardTask
 task_at tasks place = slice_get tasks (pred place)
 

@@ -6,6 +6,7 @@ use Rattle.serde_json.specs.Written.{compact_text}
 use Rattle.tb_task.specs.TaskId.{id_text, read_id}
 use Rattle.tb_values.specs.Numerals.{number_to}
 use Rattle.tb_board.specs.Ahead.{read_ahead}
+use Rattle.tb_board.specs.Names.{is_name}
 use Rattle.tb_calls.specs.Word.{word_named}
 use Rattle.tb_calls.specs.declared.word.Word.{Word}
 use Rattle.tb_calls.specs.declared.word.Word.TheVariants as word
@@ -28,6 +29,11 @@ abbrev pub task_target : Text → Text → Text → Option Text
 task_target board uuid suffix =
     if is_some (number_to 4294967295 board) && is_some (read_id uuid)
     then Some (codes "/boards/" ++ (board ++ (codes "/tasks/" ++ (uuid ++ suffix)))) else None
+
+-- the path behind the key of a person
+abbrev pub key_target : Text → Option Text
+key_target name = if is_name name
+    then Some (codes "/people/" ++ (name ++ codes "/key")) else None
 
 -- ---- requests
 
@@ -78,10 +84,10 @@ lines_call (board ∷ lines) =
     option_map (call_at (lines_text lines)) (board_target board (codes "/import-todo"))
 lines_call [] = None
 
-abbrev pub sweep_call : List Text → Option Request
-sweep_call (board ∷ []) = option_map (call_at []) (board_target board (codes "/sweep"))
-sweep_call [] = None
-sweep_call (a ∷ b ∷ more) = None
+abbrev pub bare_call : Text → List Text → Option Request
+bare_call suffix (board ∷ []) = option_map (call_at []) (board_target board suffix)
+bare_call suffix [] = None
+bare_call suffix (a ∷ b ∷ more) = None
 
 abbrev pub task_call : Text → List Text → Option Request
 task_call suffix (board ∷ uuid ∷ []) = option_map (call_at []) (task_target board uuid suffix)
@@ -108,6 +114,15 @@ abbrev pub person_data : Text → Text → Data
 person_data name key =
     object (member (codes "key") (string key) (member (codes "name") (string name) no_members))
 
+abbrev pub own_key_data : Text → Text → Data
+own_key_data old key =
+    object (member (codes "key") (string key) (member (codes "old") (string old) no_members))
+
+-- `none` takes the key
+abbrev pub key_data : Text → Data
+key_data word = object (member (codes "key")
+    (if bytes_eq word (codes "none") then null else string word) no_members)
+
 abbrev pub title_data : Text → Data
 title_data title = object (member (codes "title") (string title) no_members)
 
@@ -131,10 +146,31 @@ person_call [] = None
 person_call (a ∷ []) = None
 person_call (a ∷ b ∷ c ∷ more) = None
 
+abbrev pub own_key_call : List Text → Option Request
+own_key_call (old ∷ key ∷ []) =
+    Some (call_at (compact_text (own_key_data old key)) (codes "/me/key"))
+own_key_call [] = None
+own_key_call (a ∷ []) = None
+own_key_call (a ∷ b ∷ c ∷ more) = None
+
+abbrev pub key_call : List Text → Option Request
+key_call (name ∷ word ∷ []) = option_map (call_at (compact_text (key_data word))) (key_target name)
+key_call [] = None
+key_call (a ∷ []) = None
+key_call (a ∷ b ∷ c ∷ more) = None
+
 abbrev pub title_call : List Text → Option Request
 title_call (title ∷ []) = Some (call_at (compact_text (title_data title)) (codes "/boards"))
 title_call [] = None
 title_call (a ∷ b ∷ more) = None
+
+-- gives a board another title
+abbrev pub retitle_call : List Text → Option Request
+retitle_call (board ∷ title ∷ []) =
+    option_map (call_at (compact_text (title_data title))) (board_target board (codes "/title"))
+retitle_call [] = None
+retitle_call (a ∷ []) = None
+retitle_call (a ∷ b ∷ c ∷ more) = None
 
 abbrev pub role_call : List Text → Option Request
 role_call (board ∷ name ∷ word ∷ []) =
@@ -179,10 +215,14 @@ request_for word.Denotate arguments = task_call_with note_body (codes "/denotate
 request_for word.Modify arguments = task_call_with (λ body. body) (codes "/modify") arguments
 request_for word.Depend arguments = task_call_with link_body (codes "/depend") arguments
 request_for word.Undepend arguments = task_call_with link_body (codes "/undepend") arguments
-request_for word.Sweep arguments = sweep_call arguments
+request_for word.Sweep arguments = bare_call (codes "/sweep") arguments
 request_for word.Person arguments = person_call arguments
 request_for word.Board arguments = title_call arguments
 request_for word.Role arguments = role_call arguments
+request_for word.OwnKey arguments = own_key_call arguments
+request_for word.Key arguments = key_call arguments
+request_for word.Take arguments = bare_call (codes "/take") arguments
+request_for word.Title arguments = retitle_call arguments
 request_for word.Ahead arguments = ahead_call arguments
 
 unfoldable pub request_named : Text → List Text → Option Request

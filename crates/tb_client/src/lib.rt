@@ -8,11 +8,13 @@ mod asking;
 mod given;
 mod line;
 mod message;
+mod own_key;
 mod places;
 mod request;
 
 pub use answer::{Reply, read_reply};
 pub use asking::{AskFault, Line, ask_until_answered};
 pub use message::{Sender, message_of};
+pub use own_key::{is_own_key_alone, own_key_words};
 pub use places::{BoardTask, export_of, named_words, places_of, read_tasks, task_at};
 pub use request::{Request, request_of};

@@ -73,6 +73,10 @@ fn task_count(word: Word, size: usize) -> usize
         | Word::Person
         | Word::Board
         | Word::Role
+        | Word::OwnKey
+        | Word::Key
+        | Word::Take
+        | Word::Title
         | Word::People
         | Word::Me => 0,
     }

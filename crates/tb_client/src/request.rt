@@ -2,12 +2,12 @@
 ghost use Rattle.std.specs.Prelude.{◌≡◌, ◌++◌, ◌∷◌, IfOk, codes, false, option_map};
 ghost use Rattle.serde_json.specs.View.{view};
 ghost use Rattle.serde_json.specs.Written.{compact_text, has_float};
-ghost use Rattle.tb_client.specs.Request.{add_call, ahead_call, ahead_data, ahead_request, board_call, board_target, board_view, call_at, lines_call, lines_text, link_body, link_data, me_view, note_body, note_data, person_call, person_data, request_for, request_named, request_of, role_call, role_data, sweep_call, task_call, task_call_with, task_target, task_view, title_call, title_data, view_at};
+ghost use Rattle.tb_client.specs.Request.{add_call, ahead_call, ahead_data, ahead_request, bare_call, board_call, board_target, board_view, call_at, key_call, key_data, key_target, lines_call, lines_text, link_body, link_data, me_view, note_body, note_data, own_key_call, own_key_data, person_call, person_data, request_for, request_named, request_of, retitle_call, role_call, role_data, task_call, task_call_with, task_target, task_view, title_call, title_data, view_at};
 
 use crate::line::add_body;
 use serde_json::{Value, json};
 use std::alloc::{AllocError, Global};
-use tb_board::Ahead;
+use tb_board::{Ahead, Name};
 use tb_calls::Word;
 use tb_task::TaskId;
 use tb_values::{Text, read_number};
@@ -67,10 +67,14 @@ fn request_for(alloc: Global, word: Word, arguments: &[Text]) -> Result<Option<R
         Word::Modify => modify_call(alloc, arguments),
         Word::Depend => link_call(alloc, "/depend", arguments),
         Word::Undepend => link_call(alloc, "/undepend", arguments),
-        Word::Sweep => sweep_call(alloc, arguments),
+        Word::Sweep => bare_call(alloc, "/sweep", arguments),
         Word::Person => person_call(alloc, arguments),
         Word::Board => title_call(alloc, arguments),
         Word::Role => role_call(alloc, arguments),
+        Word::OwnKey => own_key_call(alloc, arguments),
+        Word::Key => key_call(alloc, arguments),
+        Word::Take => bare_call(alloc, "/take", arguments),
+        Word::Title => retitle_call(alloc, arguments),
         Word::Ahead => ahead_call(alloc, arguments),
     }
 }
@@ -148,13 +152,13 @@ fn lines_call(alloc: Global, arguments: &[Text]) -> Result<Option<Request>, Allo
     Ok(call_at(target, body))
 }
 
-fn sweep_call(alloc: Global, arguments: &[Text]) -> Result<Option<Request>, AllocError>
-    ensures { IfOk result (λ found. found ≡ sweep_call arguments.now) }
+fn bare_call(alloc: Global, suffix: &str, arguments: &[Text]) -> Result<Option<Request>, AllocError>
+    ensures { IfOk result (λ found. found ≡ bare_call suffix.now arguments.now) }
 {
     let [board] = arguments else {
         return Ok(None);
     };
-    let target = board_target(alloc, board, "/sweep")?;
+    let target = board_target(alloc, board, suffix)?;
     Ok(call_at(target, Text::new(alloc)))
 }
 
@@ -215,6 +219,29 @@ fn person_call(alloc: Global, arguments: &[Text]) -> Result<Option<Request>, All
     Ok(call_at(Some(Text::from_str(alloc, "/people")?), body))
 }
 
+fn own_key_call(alloc: Global, arguments: &[Text]) -> Result<Option<Request>, AllocError>
+    ensures { IfOk result (λ found. found ≡ own_key_call arguments.now) }
+{
+    let [old, key] = arguments else {
+        return Ok(None);
+    };
+    let body = own_key_value(alloc, old.as_str(), key.as_str())?;
+    let body = body_text(alloc, &body)?;
+    Ok(call_at(Some(Text::from_str(alloc, "/me/key")?), body))
+}
+
+fn key_call(alloc: Global, arguments: &[Text]) -> Result<Option<Request>, AllocError>
+    ensures { IfOk result (λ found. found ≡ key_call arguments.now) }
+{
+    let [name, word] = arguments else {
+        return Ok(None);
+    };
+    let target = key_target(alloc, name)?;
+    let body = key_value(alloc, word.as_str())?;
+    let body = body_text(alloc, &body)?;
+    Ok(call_at(target, body))
+}
+
 fn title_call(alloc: Global, arguments: &[Text]) -> Result<Option<Request>, AllocError>
     ensures { IfOk result (λ found. found ≡ title_call arguments.now) }
 {
@@ -224,6 +251,18 @@ fn title_call(alloc: Global, arguments: &[Text]) -> Result<Option<Request>, Allo
     let body = title_value(alloc, title.as_str())?;
     let body = body_text(alloc, &body)?;
     Ok(call_at(Some(Text::from_str(alloc, "/boards")?), body))
+}
+
+fn retitle_call(alloc: Global, arguments: &[Text]) -> Result<Option<Request>, AllocError>
+    ensures { IfOk result (λ found. found ≡ retitle_call arguments.now) }
+{
+    let [board, title] = arguments else {
+        return Ok(None);
+    };
+    let target = board_target(alloc, board, "/title")?;
+    let body = title_value(alloc, title.as_str())?;
+    let body = body_text(alloc, &body)?;
+    Ok(call_at(target, body))
 }
 
 fn role_call(alloc: Global, arguments: &[Text]) -> Result<Option<Request>, AllocError>
@@ -278,6 +317,23 @@ fn person_value(alloc: Global, name: &str, key: &str) -> Result<Value, AllocErro
     ensures { IfOk result (λ body. view body ≡ person_data name.now key.now) }
 {
     json!(in alloc; {"key": key, "name": name})
+}
+
+fn own_key_value(alloc: Global, old: &str, key: &str) -> Result<Value, AllocError>
+    ensures { IfOk result (λ body. view body ≡ own_key_data old.now key.now) }
+{
+    json!(in alloc; {"key": key, "old": old})
+}
+
+/// The body of a key, which `none` takes.
+fn key_value(alloc: Global, word: &str) -> Result<Value, AllocError>
+    ensures { IfOk result (λ body. view body ≡ key_data word.now) }
+{
+    if word == "none" {
+        json!(in alloc; {"key": null})
+    } else {
+        json!(in alloc; {"key": word})
+    }
 }
 
 fn title_value(alloc: Global, title: &str) -> Result<Value, AllocError>
@@ -345,6 +401,19 @@ pub(crate) fn board_target(
     }
     let mut target = String::new(alloc);
     write!(target, "/boards/{board}{suffix}")?;
+    Ok(Some(Text::from_string(target)))
+}
+
+/// The path behind the key of a person.
+fn key_target(alloc: Global, name: &Text) -> Result<Option<Text>, AllocError>
+    ensures { IfOk result (λ target. target ≡ key_target name.now) }
+{
+    let name = name.as_str();
+    if !Name::fits(name) {
+        return Ok(None);
+    }
+    let mut target = String::new(alloc);
+    write!(target, "/people/{name}/key")?;
     Ok(Some(Text::from_string(target)))
 }
 

@@ -1,5 +1,5 @@
 -- Words for `clap` ask for no help, and for no sending.
-use Rattle.std.proofs.Common.{◌≡◌, ◌∙◌, ◌==◌, Bool, true, false, not, true≢false, List, [], ◌∷◌, codes, Some, None, refl, ap, sym}
+use Rattle.std.proofs.Common.{◌≡◌, ◌∙◌, ◌==◌, Bool, true, false, not, ◌&&◌, true≢false, List, [], ◌∷◌, codes, Some, None, refl, ap, sym}
 use Rattle.std.specs.List.{list_all}
 use Rattle.std.specs.Str.{bytes_eq}
 use Rattle.std.proofs.lemmas.Bool.{and_parts}
@@ -7,17 +7,22 @@ use Rattle.std.proofs.lemmas.Slice.Eq.{bytes_eq-Decides}
 use Rattle.tb_command_line.specs.declared.order.Order.{Order}
 use Rattle.tb_command_line.specs.Page.{without_page}
 use Rattle.tb_command_line.specs.declared.order.ViewKind.TheVariants as view
-use Rattle.tb_command_line.specs.Order.{Request, Text, Init, Serve, Run, Import, View, Check, is_plain, texts_of, words_of}
+use Rattle.tb_command_line.specs.Order.{Request, Text, Init, Serve, Run, Import, View, Check, Key, is_plain, texts_of, words_of}
 use Rattle.tb_command_line.specs.Sending.{told_of}
 
 not_byte : (b : Bool) → not b ≡ true → b ≡ false
 not_byte true e = sym e
 not_byte false e = refl
 
--- a word that begins with no hyphen isn't `--help`
+one_no_help : (hyphen : Bool) → hyphen && false ≡ false
+one_no_help true = refl
+one_no_help false = refl
+
+-- a plain word isn't `--help`
 no_help : (word : Text) → is_plain word ≡ true → bytes_eq word (codes "--help") ≡ false
 no_help [] plain = refl
-no_help (b ∷ bs) plain = rw (not_byte (b == 45) plain) refl
+no_help (b ∷ []) plain = one_no_help (b == 45)
+no_help (b ∷ c ∷ bs) plain = rw (not_byte (b == 45) plain) refl
 
 pub not_told : (request : Request) → list_all is_plain (texts_of request) ≡ true → told_of (words_of request) ≡ None
 unfolding told_of
@@ -27,6 +32,8 @@ not_told Run plain = refl
 not_told (Import file member key id board kind is_all) plain = refl
 not_told (View kind file member key board) plain = refl
 not_told (Check file) plain = rw (no_help file (and_parts (is_plain file) true plain).0) refl
+not_told (Key file name None) plain = refl
+not_told (Key file name (Some word)) plain = refl
 
 abbrev is_send : List Text → Bool
 is_send [] = false
@@ -41,6 +48,8 @@ listed (View view.Export file member key board) = refl
 listed (View view.Listing file member key board) = refl
 listed (View view.Todo file member key board) = refl
 listed (Check file) = refl
+listed (Key file name None) = refl
+listed (Key file name (Some word)) = refl
 
 pub not_sent : (request : Request) (rest : List Text) → words_of request ≡ codes "send" ∷ rest → ⊥
 not_sent request rest e = true≢false (sym (ap is_send e) ∙ listed request)

@@ -85,27 +85,27 @@ awaiting rows id = record (at (record { rows = rows; pending = Some (id, []); sk
 
 file_goes : (file : Text) → IsWord file → walked serving.rules [] (walk_from nothing_held) file ≡ resting [] (codes "file") file
 unfolding clap_on_literals
-file_goes file f = rw (f.no_end, f.no_flag, f.no_flag) (refl {a = resting [] (codes "file") file})
+file_goes file f = rw (f.no_end, f.no_long, f.no_short) (refl {a = resting [] (codes "file") file})
 
 file_turns : (file : Text) → IsWord file → turn_passes serving [] (walk_from nothing_held) file ≡ true
 unfolding clap_on_literals
-file_turns file f = rw (f.no_end, f.no_flag, f.no_flag) (refl {a = true})
+file_turns file f = rw (f.no_end, f.no_long, f.no_short) (refl {a = true})
 
 port_goes : (rows : List Row) (port : Text) → IsWord port → walked serving.rules [] (awaiting rows (codes "port")) port ≡ resting rows (codes "port") port
 unfolding clap_on_literals
-port_goes rows port p = rw (p.no_end, p.no_flag, p.no_flag) (refl {a = resting rows (codes "port") port})
+port_goes rows port p = rw (p.no_end, p.no_long, p.no_short) (refl {a = resting rows (codes "port") port})
 
 port_turns : (rows : List Row) (port : Text) → IsWord port → turn_passes serving [] (awaiting rows (codes "port")) port ≡ true
 unfolding clap_on_literals
-port_turns rows port p = rw (p.no_end, p.no_flag, p.no_flag) (refl {a = true})
+port_turns rows port p = rw (p.no_end, p.no_long, p.no_short) (refl {a = true})
 
 count_goes : (rows : List Row) (count : Text) → IsWord count → walked serving.rules [] (awaiting rows (codes "connections")) count ≡ resting rows (codes "connections") count
 unfolding clap_on_literals
-count_goes rows count n = rw (n.no_end, n.no_flag, n.no_flag) (refl {a = resting rows (codes "connections") count})
+count_goes rows count n = rw (n.no_end, n.no_long, n.no_short) (refl {a = resting rows (codes "connections") count})
 
 count_turns : (rows : List Row) (count : Text) → IsWord count → turn_passes serving [] (awaiting rows (codes "connections")) count ≡ true
 unfolding clap_on_literals
-count_turns rows count n = rw (n.no_end, n.no_flag, n.no_flag) (refl {a = true})
+count_turns rows count n = rw (n.no_end, n.no_long, n.no_short) (refl {a = true})
 
 -- after the options that have values
 abbrev valued : Text → Text → Option Text → Walk

@@ -3,7 +3,7 @@ use Rattle.std.proofs.Common.{◌≡◌, ◌∙◌, ℕ, zero, suc, ◌+◌, ◌
 use Rattle.std.proofs.lemmas.List.{map-append, take-map, drop-map, take_all, length-drop}
 use Rattle.tb_command_line.specs.declared.order.Order.{Order}
 use Rattle.tb_command_line.specs.declared.order.WordsFault.{WordsFault}
-use Rattle.tb_command_line.specs.declared.order.WordsFault.TheVariants.{Bad, Memory}
+use Rattle.tb_command_line.specs.declared.order.WordsFault.TheVariants.{Bad, Memory, NoKey}
 use Rattle.tb_command_line.specs.Order.{Text}
 use Rattle.tb_command_line.specs.Outcome.{Fails}
 use Rattle.tb_command_line.specs.Page.{has_page, is_page_front, page_place, with_page, without_page}
@@ -12,6 +12,7 @@ use Rattle.tb_command_line.specs.Page.{has_page, is_page_front, page_place, with
 pub fails_paged : (page : Option Text) (fault : WordsFault) (expected : Result Order WordsFault) → Fails fault expected → Fails fault (with_page page expected)
 fails_paged None fault expected fails = fails
 fails_paged (Some page) Bad expected fails = ap (with_page (Some page)) fails
+fails_paged (Some page) NoKey expected fails = ap (with_page (Some page)) fails
 fails_paged (Some page) Memory expected fails = tt
 
 pub page_here : (words : List Text) → is_page_front words ≡ true → page_place words ≡ 0

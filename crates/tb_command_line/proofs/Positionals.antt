@@ -5,7 +5,7 @@ use Rattle.std.specs.Option.{option_map_or}
 use Rattle.std.specs.Str.{bytes_eq}
 use Rattle.std.proofs.lemmas.Bool.{and_parts}
 use Rattle.std.proofs.lemmas.List.Sums.{fold-append}
-use Rattle.clap.specs.Lexer.{strip_byte}
+use Rattle.clap.specs.Lexer.{long_of, short_of}
 use Rattle.clap.specs.Walk.{Row, Rule, Text, Held, Walk, idle, walked, arg_by_index, is_multiple, positional_held, next_position, nothing_held, rows_after, finished}
 use Rattle.clap.specs.Simple.{Shape}
 use Rattle.clap.specs.Takes.{walk_passes, turn_passes, positional_passes, settle_passes, default_passes, is_valid, level_passes}
@@ -14,15 +14,24 @@ use Rattle.tb_command_line.specs.Order.{is_plain}
 -- no flag and no `--`
 pub record IsWord (word : Text) : Type 0 where
   pub no_end : bytes_eq word (45 ∷ 45 ∷ []) ≡ false
-  pub no_flag : strip_byte 45 word ≡ None
+  pub no_long : long_of word ≡ None
+  pub no_short : short_of word ≡ None
 
 not_hyphen : (b : Bool) → not b ≡ true → b ≡ false
 not_hyphen true e = sym e
 not_hyphen false e = refl
 
+-- one byte, a hyphen or another
+is_byte : (b : ℕ) (hyphen : Bool) → (b == 45) ≡ hyphen → IsWord (b ∷ [])
+is_byte b true n = record { no_end = rw n refl; no_long = rw n refl; no_short = rw n refl }
+is_byte b false n = record { no_end = rw n refl; no_long = rw n refl; no_short = rw n refl }
+
 pub is_word : (word : Text) → is_plain word ≡ true → IsWord word
-is_word [] plain = record { no_end = refl; no_flag = refl }
-is_word (b ∷ bs) plain = let n : (b == 45) ≡ false = not_hyphen (b == 45) plain in record { no_end = rw n refl; no_flag = rw n refl }
+is_word [] plain = record { no_end = refl; no_long = refl; no_short = refl }
+is_word (b ∷ []) plain = is_byte b (b == 45) refl
+is_word (b ∷ c ∷ bs) plain =
+    let n : (b == 45) ≡ false = not_hyphen (b == 45) plain in
+    record { no_end = rw n refl; no_long = rw n refl; no_short = rw n refl }
 
 -- where a walk stands before the positional at k
 abbrev pub at : Held → ℕ → Walk
@@ -45,11 +54,11 @@ reached s (word ∷ rest) h k = option_map_or (λ a. reached s rest (positional_
 pub step : (rules : List Rule) (h : Held) (k : ℕ) (a : Rule) (word : Text) → IsWord word → arg_by_index rules k ≡ Some a → is_multiple a ≡ false → a.trailing_var_arg ≡ false
     → walked rules [] (at h k) word ≡ at (positional_held rules a word h) (next_position a k)
 unfolding walked
-step rules h k a word w here single plain = rw (w.no_end, w.no_flag, w.no_flag, here, single, plain) refl
+step rules h k a word w here single plain = rw (w.no_end, w.no_long, w.no_short, here, single, plain) refl
 
 pub turn : (s : Shape) (h : Held) (k : ℕ) (a : Rule) (word : Text) → IsWord word → arg_by_index s.rules k ≡ Some a → positional_passes s.rules s.args_override_self a h ≡ true
     → turn_passes s [] (at h k) word ≡ true
-turn s h k a word w here passes = rw (w.no_end, w.no_flag, w.no_flag, here, passes) refl
+turn s h k a word w here passes = rw (w.no_end, w.no_long, w.no_short, here, passes) refl
 
 -- the walk gets there, and each word passes
 pub record Arrives (s : Shape) (words : List Text) (h : Held) (k : ℕ) : Type 0 where

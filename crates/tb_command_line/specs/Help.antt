@@ -1,6 +1,6 @@
 -- What the program tells of itself and of its orders.
 use Rattle.std.specs.Prelude.{ℕ, List}
-use Rattle.tb_command_line.specs.declared.help.TheConstants.{CHECK, IMPORT, INIT, PROGRAM, RUN, SEND, SERVE, VIEW}
+use Rattle.tb_command_line.specs.declared.help.TheConstants.{CHECK, IMPORT, INIT, KEY, PROGRAM, RUN, SEND, SERVE, VIEW}
 use Rattle.tb_command_line.specs.declared.order.Topic.{Topic}
 use Rattle.tb_command_line.specs.declared.order.Topic.TheVariants as topic
 
@@ -15,4 +15,5 @@ help_text topic.Export = VIEW.now
 help_text topic.List = VIEW.now
 help_text topic.Todo = VIEW.now
 help_text topic.Check = CHECK.now
+help_text topic.Key = KEY.now
 help_text topic.Send = SEND.now

@@ -24,6 +24,7 @@ abbrev pub most_seconds : ℕ
 most_seconds = 86400
 
 -- from 1 on
+-- Rule: --for is up to 86,400 seconds. Refused as Bad. Tried by words.
 abbrev pub seconds_in : Text → Option ℕ
 seconds_in text = number_to most_seconds text
 
@@ -105,6 +106,7 @@ topic_named name =
     else if bytes_eq name (codes "list") then Some topic.List
     else if bytes_eq name (codes "todo") then Some topic.Todo
     else if bytes_eq name (codes "check") then Some topic.Check
+    else if bytes_eq name (codes "key") then Some topic.Key
     else if bytes_eq name (codes "send") then Some topic.Send
     else None
 

@@ -9,6 +9,9 @@ use Rattle.clap.specs.declared.builder.command.Command.TheViews.{out-Command}
 abbrev pub needed : Text → Rule
 needed id = record (new_rule id) { required = true; action = Some Set }
 
+abbrev pub optional : Text → Rule
+optional id = record (new_rule id) { action = Some Set }
+
 abbrev pub option_rule : Text → Bool → Rule
 option_rule name is_required =
     record (new_rule name) { long = Some name; required = is_required; action = Some Set }
@@ -57,6 +60,12 @@ import_app = with_rule one_import_app (flag_rule (codes "all"))
 abbrev pub check_app : App
 check_app = with_rule (new_app (codes "check")) (needed (codes "file"))
 
+-- `key FILE NAME [KEY]`
+abbrev pub key_app : App
+key_app = with_rule
+    (with_rule (with_rule (new_app (codes "key")) (needed (codes "file"))) (needed (codes "name")))
+    (optional (codes "key"))
+
 abbrev pub bare : App → App
 bare a =
     on_top (λ s. record s {
@@ -73,9 +82,13 @@ file_app = with_subcommand
     (with_subcommand (bare (new_app (codes "taskboard"))) init_app.top) serve_app.top)
     check_app.top
 
+-- and the one for its keys
+abbrev pub keyed_app : App
+keyed_app = with_subcommand file_app key_app.top
+
 -- and those that read standard input
 abbrev pub input_app : App
-input_app = with_subcommand (with_subcommand file_app (new_app (codes "run")).top) import_app.top
+input_app = with_subcommand (with_subcommand keyed_app (new_app (codes "run")).top) import_app.top
 
 -- and views
 abbrev pub program_app : App

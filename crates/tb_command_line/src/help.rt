@@ -13,6 +13,7 @@ taskboard keeps boards of tasks that a team shares, in one file.
     taskboard import FILE MEMBER KEY ID BOARD json|todo [--all]
     taskboard list|export|todo FILE MEMBER KEY BOARD
     taskboard check FILE
+    taskboard key FILE NAME [-]
     taskboard run
 
 `taskboard ORDER --help` tells more of one, and `taskboard --version` which program this is.
@@ -28,8 +29,8 @@ by KEY, owns board 1 and alone may add people.
 
     FILE   a name that no file has yet
     NAME   1 to 32 bytes of a to z, 0 to 9, _ and -
-    KEY    8 to 64 visible ASCII characters; other users of this machine can see them in a list of
-           its programs
+    KEY    8 to 64 visible ASCII characters. Other users of this machine can see a key that stands
+           here: `taskboard send --help` says where one is read that is given as -
 ";
 
 const SERVE: &str = "\
@@ -58,7 +59,7 @@ taskboard import FILE MEMBER KEY ID BOARD KIND [--all]
 Imports standard input into a board of a file that isn't served, and prints the reply's body.
 Sent again under the same ID it acts once.
 
-    MEMBER, KEY   who imports
+    MEMBER, KEY   who imports; a KEY that is - is read as `taskboard send --help` says
     ID            a uuid, as 00000000-0000-4000-8000-000000000001
     BOARD         the number of a board, from 1
     KIND          json, as `task export` prints it, or todo, for lines of todo.txt; up to 1,048,576
@@ -76,7 +77,7 @@ taskboard todo FILE MEMBER KEY BOARD      lines of todo.txt
 
 Prints a board of a file that isn't served. Where it is, ask the server: `taskboard send --help`.
 
-    MEMBER, KEY   who asks
+    MEMBER, KEY   who asks; a KEY that is - is read as `taskboard send --help` says
     BOARD         the number of a board, from 1
 ";
 
@@ -85,6 +86,17 @@ taskboard check FILE
 
 Looks at all that is stored in a file that isn't served, compares it with what its tasks say, and
 prints `boards B tasks T faults F`. The status is 1 where F isn't 0.
+";
+
+const KEY: &str = "\
+taskboard key FILE NAME [-]
+
+Gives NAME a new key in a file that isn't served. The key of before is no longer taken. Whoever may
+write the file can do it, so a lost key is never the end, the first person's neither.
+
+    NAME   somebody who is there already
+    -      reads the new key from the first line of standard input, and prints the reply's body;
+           else a key is made, and printed once
 ";
 
 const SEND: &str = "\
@@ -103,7 +115,9 @@ prints the answer's body. However often it is sent, a call acts once.
                     modify B TASK JSON, done, delete, reopen, start, stop, each B TASK, annotate,
                     denotate, each B TASK TEXT, depend, undepend, each B TASK TASK, sweep B,
                     import B JSON, import-todo B LINE .., person NAME KEY, board TITLE,
-                    role B NAME owner|member|reader|none, ahead B N (1 to 12)
+                    role B NAME owner|member|reader|none, ahead B N (1 to 12), title B TITLE,
+                    take B, key NAME KEY|none, own-key OLD NEW; own-key alone, with - and a
+                    key in the file, makes the new key
     TASK            a uuid, or the place of a task on the board as it is exported, from 1: the
                     server is first asked which task that is, and it is told on standard error
     WORDS           a line of todo.txt, as Buy milk due:2026-03-01 +Home @phone
@@ -124,6 +138,7 @@ impl Topic {
             Topic::Import => IMPORT,
             Topic::Export | Topic::List | Topic::Todo => VIEW,
             Topic::Check => CHECK,
+            Topic::Key => KEY,
             Topic::Send => SEND,
         }
     }

@@ -21,6 +21,8 @@ pub enum Order {
     View(ViewOrder),
     /// Compares what the file stores with what its tasks say.
     Check(Text),
+    /// Gives a person a new key.
+    Key(KeyOrder),
     Send(SendOrder),
     Help(Topic),
     Version,
@@ -32,6 +34,15 @@ pub struct InitOrder {
     pub file: Text,
     pub name: Name,
     pub key: Key,
+}
+
+/// A new key of a person of a file that isn't served.
+#[derive(Debug, Drop)]
+pub struct KeyOrder {
+    pub file: Text,
+    pub name: Name,
+    /// The key is the first line of standard input. Else it is made, and printed.
+    pub is_read: bool,
 }
 
 /// The server of a file, on a port of the loopback.
@@ -132,6 +143,7 @@ pub enum Topic {
     List,
     Todo,
     Check,
+    Key,
     Send,
 }
 
@@ -140,6 +152,8 @@ pub enum Topic {
 pub enum WordsFault {
     Bad,
     Memory,
+    /// The key is `-`, and none is kept elsewhere.
+    NoKey,
 }
 
 impl From<AllocError> for WordsFault {

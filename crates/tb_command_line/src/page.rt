@@ -8,18 +8,23 @@ ghost use Rattle.tb_command_line.specs.Page.{has_page, is_page_front, page_in, p
 use crate::order::{Order, ServeOrder, WordsFault};
 use crate::words::read_listed;
 use std::alloc::{AllocError, Global};
+use tb_board::Key;
 use tb_values::Text;
 
 /// The order that the words without `--page` are, with the folder.
-pub(crate) fn read_paged(alloc: Global, words: &[&str]) -> Result<Order, WordsFault>
+pub(crate) fn read_paged(
+    alloc: Global,
+    words: &[&str],
+    kept: &Option<Key>,
+) -> Result<Order, WordsFault>
     ensures { (request : Request)
         → without_page (map (λ word. word.now) words.entry.now) ≡ words_of request
         → list_all is_plain (texts_of request) ≡ true
         → Reads result (with_page (page_in (map (λ word. word.now) words.entry.now))
-        (order_of request)) }
+        (order_of kept.now request)) }
 {
     let rest = without_page(alloc, words)?;
-    let order = match read_listed(alloc, rest.as_slice()) {
+    let order = match read_listed(alloc, rest.as_slice(), kept) {
         Ok(order) => order,
         Err(fault) => return Err(fault),
     };

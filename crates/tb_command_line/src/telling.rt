@@ -51,6 +51,7 @@ fn topic_named(name: &str) -> Option<Topic>
         "list" => Some(Topic::List),
         "todo" => Some(Topic::Todo),
         "check" => Some(Topic::Check),
+        "key" => Some(Topic::Key),
         "send" => Some(Topic::Send),
         _ => None,
     }

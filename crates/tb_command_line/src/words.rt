@@ -3,7 +3,7 @@ ghost use Rattle.std.specs.Prelude.{◌≡◌, ◌∷◌, IfOk, Bool, List, None
 ghost use Rattle.std.specs.List.{list_all};
 ghost use Rattle.clap.specs.Simple.{app_of, new_app};
 ghost use Rattle.clap.specs.Walk.{rule_of};
-ghost use Rattle.tb_command_line.specs.Words.{IsShaped, bare, check_app, counted_serve_app, file_app, flag_rule, import_app, init_app, input_app, member_app, needed, one_import_app, option_rule, program_app, serve_app, view_app};
+ghost use Rattle.tb_command_line.specs.Words.{IsShaped, bare, check_app, counted_serve_app, file_app, flag_rule, import_app, init_app, input_app, key_app, keyed_app, member_app, needed, one_import_app, option_rule, optional, program_app, serve_app, view_app};
 ghost use Rattle.tb_command_line.specs.Order.{Request, is_plain, order_of, texts_of, words_of};
 ghost use Rattle.tb_command_line.specs.Outcome.{Reads};
 ghost use Rattle.tb_command_line.specs.Page.{page_in, with_page, without_page};
@@ -18,15 +18,17 @@ use crate::telling::read_told;
 use clap::error::ErrorKind;
 use clap::{Arg, ArgAction, Command};
 use std::alloc::{AllocError, Global};
+use tb_board::Key;
 
-/// The order that the words after the program's name are. Of words in none of the forms, and of words that begin with a hyphen where
-/// no option stands, nothing is promised: tests show that they are bad.
-pub fn command_of(alloc: Global, words: &[&str]) -> Result<Order, WordsFault>
+/// The order that the words after the program's name are. A KEY that is `-` is the one that is kept elsewhere: without one the words
+/// are `NoKey`. Of words in none of the forms, and of other words that begin with a hyphen where no option stands, nothing is
+/// promised: tests show that they are bad.
+pub fn command_of(alloc: Global, words: &[&str], kept: &Option<Key>) -> Result<Order, WordsFault>
     ensures listed { (request : Request)
         → without_page (map (λ word. word.now) words.entry.now) ≡ words_of request
         → list_all is_plain (texts_of request) ≡ true
         → Reads result (with_page (page_in (map (λ word. word.now) words.entry.now))
-        (order_of request)) }
+        (order_of kept.now request)) }
     ensures told { (order : Order) → told_of (map (λ word. word.now) words.entry.now) ≡ Some order
         → result ≡ Ok order }
     ensures sent { (rest : List (List ℕ))
@@ -38,20 +40,24 @@ pub fn command_of(alloc: Global, words: &[&str]) -> Result<Order, WordsFault>
     }
     match words.split_first() {
         Some((first, rest)) if *first == "send" => read_send(alloc, rest),
-        _ => read_paged(alloc, words),
+        _ => read_paged(alloc, words, kept),
     }
 }
 
 /// The order that words for `clap` are.
-pub(crate) fn read_listed(alloc: Global, words: &[&str]) -> Result<Order, WordsFault>
+pub(crate) fn read_listed(
+    alloc: Global,
+    words: &[&str],
+    kept: &Option<Key>,
+) -> Result<Order, WordsFault>
     ensures { (request : Request) → map (λ word. word.now) words.entry.now ≡ words_of request
-        → list_all is_plain (texts_of request) ≡ true → Reads result (order_of request) }
+        → list_all is_plain (texts_of request) ≡ true → Reads result (order_of kept.now request) }
 {
     let Ok(command) = program(alloc) else {
         return Err(WordsFault::Memory);
     };
     match command.try_get_matches_from(words) {
-        Ok(matches) => read_order(alloc, &matches),
+        Ok(matches) => read_order(alloc, &matches, kept),
         Err(error) => Err(fault_of(error.kind())),
     }
 }
@@ -77,14 +83,22 @@ fn program<'a>(alloc: Global) -> Result<Command<'a>, AllocError>
         .subcommand(todo)
 }
 
-/// The program with the subcommands for a file as a whole, and those that read standard input.
+/// The program with the subcommands for a file and its keys, and those that read standard input.
 fn input_commands<'a>(alloc: Global) -> Result<Command<'a>, AllocError>
     ensures { IfOk result (λ c. app_of c ≡ input_app) }
 {
     let import = import(alloc)?;
-    file_commands(alloc)?
+    keyed_commands(alloc)?
         .subcommand(Command::new(alloc, "run"))?
         .subcommand(import)
+}
+
+/// The program with the subcommands for a file as a whole, and for its keys.
+fn keyed_commands<'a>(alloc: Global) -> Result<Command<'a>, AllocError>
+    ensures { IfOk result (λ c. app_of c ≡ keyed_app) }
+{
+    let key = key(alloc)?;
+    file_commands(alloc)?.subcommand(key)
 }
 
 /// The program with the subcommands for a file as a whole.
@@ -181,11 +195,28 @@ fn check<'a>(alloc: Global) -> Result<Command<'a>, AllocError>
     Command::new(alloc, "check").arg(positional(alloc, "file"))
 }
 
+/// `key FILE NAME [KEY]`.
+fn key<'a>(alloc: Global) -> Result<Command<'a>, AllocError>
+    ensures { IfOk result (IsShaped key_app) }
+{
+    Command::new(alloc, "key")
+        .arg(positional(alloc, "file"))?
+        .arg(positional(alloc, "name"))?
+        .arg(optional(alloc, "key"))
+}
+
 fn positional<'a>(alloc: Global, id: &'a str) -> Arg<'a>
     ensures rule { rule_of result ≡ needed id.entry.now }
     ensures local { result.global ≡ false }
 {
     Arg::new(alloc, id).required(true).action(ArgAction::Set)
+}
+
+fn optional<'a>(alloc: Global, id: &'a str) -> Arg<'a>
+    ensures rule { rule_of result ≡ optional id.entry.now }
+    ensures local { result.global ≡ false }
+{
+    Arg::new(alloc, id).action(ArgAction::Set)
 }
 
 fn option<'a>(alloc: Global, name: &'a str, is_required: bool) -> Arg<'a>

@@ -2,9 +2,10 @@
 use Rattle.std.proofs.Common.{◌≡◌, true, true≢false, refl, sym}
 use Rattle.tb_orders.specs.Telling as orders
 use Rattle.tb_orders.specs.Faults.{is_of_opening, is_of_printing}
+use Rattle.tb_orders.specs.NewKey.{is_of_giving, is_of_new_keys}
 use Rattle.tb_program.specs.declared.fault.Fault.{Fault}
 use Rattle.tb_program.specs.declared.fault.Fault.TheVariants.{Bad, BadBody, Memory, NoAnswer, NoClock, NoKey, NoListen, NoPage, NotEmpty, NotOurs, ReadFailed, Store, WriteFailed, WrongVersion}
-use Rattle.tb_files.specs.Faults.{is_of_checking, is_of_imports, is_of_views}
+use Rattle.tb_files.specs.Faults.{is_of_checking, is_of_imports, is_of_keys, is_of_views}
 
 pub of_input : (fault : Fault) → orders.is_of_inputs fault ≡ true → is_of_imports fault ≡ true
 of_input Bad is = absurd (true≢false (sym is))
@@ -85,3 +86,51 @@ of_opening ReadFailed is = absurd (true≢false (sym is))
 of_opening Store is = refl
 of_opening WriteFailed is = absurd (true≢false (sym is))
 of_opening WrongVersion is = refl
+
+pub of_new_key : (fault : Fault) → is_of_new_keys fault ≡ true → is_of_keys fault ≡ true
+of_new_key Bad is = absurd (true≢false (sym is))
+of_new_key BadBody is = absurd (true≢false (sym is))
+of_new_key Memory is = refl
+of_new_key NoClock is = refl
+of_new_key NoListen is = absurd (true≢false (sym is))
+of_new_key NoAnswer is = absurd (true≢false (sym is))
+of_new_key NoKey is = refl
+of_new_key NoPage is = absurd (true≢false (sym is))
+of_new_key NotEmpty is = absurd (true≢false (sym is))
+of_new_key NotOurs is = refl
+of_new_key ReadFailed is = refl
+of_new_key Store is = refl
+of_new_key WriteFailed is = refl
+of_new_key WrongVersion is = refl
+
+pub of_giving : (fault : Fault) → is_of_giving fault ≡ true → is_of_keys fault ≡ true
+of_giving Bad is = absurd (true≢false (sym is))
+of_giving BadBody is = absurd (true≢false (sym is))
+of_giving Memory is = refl
+of_giving NoClock is = refl
+of_giving NoListen is = absurd (true≢false (sym is))
+of_giving NoAnswer is = absurd (true≢false (sym is))
+of_giving NoKey is = refl
+of_giving NoPage is = absurd (true≢false (sym is))
+of_giving NotEmpty is = absurd (true≢false (sym is))
+of_giving NotOurs is = refl
+of_giving ReadFailed is = refl
+of_giving Store is = refl
+of_giving WriteFailed is = refl
+of_giving WrongVersion is = refl
+
+pub of_keyed : (fault : Fault) → is_of_opening fault ≡ true → is_of_keys fault ≡ true
+of_keyed Bad is = absurd (true≢false (sym is))
+of_keyed BadBody is = absurd (true≢false (sym is))
+of_keyed Memory is = refl
+of_keyed NoClock is = refl
+of_keyed NoListen is = absurd (true≢false (sym is))
+of_keyed NoAnswer is = absurd (true≢false (sym is))
+of_keyed NoKey is = refl
+of_keyed NoPage is = absurd (true≢false (sym is))
+of_keyed NotEmpty is = absurd (true≢false (sym is))
+of_keyed NotOurs is = refl
+of_keyed ReadFailed is = refl
+of_keyed Store is = refl
+of_keyed WriteFailed is = refl
+of_keyed WrongVersion is = refl

@@ -2,7 +2,7 @@
 use Rattle.std.specs.Prelude.{Bool, true}
 use Rattle.tb_orders.specs.Faults.{is_of_opening}
 use Rattle.tb_program.specs.declared.fault.Fault.{Fault}
-use Rattle.tb_program.specs.declared.fault.Fault.TheVariants.{BadBody, NoClock, ReadFailed, WriteFailed}
+use Rattle.tb_program.specs.declared.fault.Fault.TheVariants.{BadBody, NoClock, NoKey, ReadFailed, WriteFailed}
 
 -- of comparing what it stores
 abbrev pub is_of_checking : Fault → Bool
@@ -13,6 +13,12 @@ is_of_checking fault = is_of_opening fault
 abbrev pub is_of_views : Fault → Bool
 is_of_views NoClock = true
 is_of_views fault = is_of_checking fault
+
+-- of a key that is given in it
+abbrev pub is_of_keys : Fault → Bool
+is_of_keys ReadFailed = true
+is_of_keys NoKey = true
+is_of_keys fault = is_of_views fault
 
 -- of an import into it
 abbrev pub is_of_imports : Fault → Bool

@@ -1,4 +1,5 @@
-//! The file of boards at a path, and the orders over it but serving: making it, a view, an import, the comparison of its rows.
+//! The file of boards at a path, and the orders over it but serving: making it, a view, an import, a new key,
+//! the comparison of its rows.
 //! It owns how a file is opened, privately made and closed, and what each order comes to over it.
 //! It stands on `tb_headline` for sessions, on `tb_orders` for what orders ask and print, and on `sqlite` for real files.
 #![tactic(auto)]
@@ -7,10 +8,12 @@ mod check;
 mod file;
 mod import;
 mod init;
+mod key;
 mod view;
 
 pub use check::check_file;
 pub use file::{RealFile, close_desk, open_desk};
 pub use import::{import_into_file, import_parts_into_file};
 pub use init::make_file;
+pub use key::give_key_in_file;
 pub use view::print_board;

@@ -28,7 +28,7 @@ use Rattle.tb_import.specs.Refusal.{bad_task, import_refusals, is_cyclic, is_too
 use Rattle.tb_import.proofs.Again.{counts_again, known_after, same_after}
 use Rattle.tb_import.proofs.Templates.{shape}
 use Rattle.tb_core.specs.declared.command.Answer.{Answer}
-use Rattle.tb_core.specs.declared.command.Answer.TheVariants.{OnBoard, NewPerson, NewBoard}
+use Rattle.tb_core.specs.declared.command.Answer.TheVariants.{OnBoard, OfPerson, NewBoard}
 use Rattle.tb_core.specs.declared.command.BoardAnswer.{BoardAnswer}
 use Rattle.tb_core.specs.declared.command.BoardCommand.TheVariants.{Import}
 use Rattle.tb_core.specs.declared.command.Import.TheVariants.{Json}
@@ -152,7 +152,7 @@ put_twice n y (b ∷ bs) is =
 
 abbrev answer_on : BoardAnswer → Result Answer Refusal → BoardAnswer
 answer_on a (Ok (OnBoard b)) = b
-answer_on a (Ok (NewPerson name)) = a
+answer_on a (Ok (OfPerson name)) = a
 answer_on a (Ok (NewBoard n)) = a
 answer_on a (Err refusal) = a
 

@@ -7,4 +7,5 @@ mod Refused
 mod Replies
 mod Stopped
 mod InTurn
+mod InLine
 mod Texts

@@ -10,7 +10,7 @@ use Rattle.tb_reply.specs.declared.reply.Reply.{Reply}
 use Rattle.tb_headline.specs.Headline.{Headline, Lives, as_came}
 use Rattle.tb_headline.proofs.Came.{AreBounded, resumes}
 
-bounded : (s : State) (xs : List Sending) (rs : List (List Reply)) (t : State) → Lives s xs rs t → AreBounded xs
+pub bounded : (s : State) (xs : List Sending) (rs : List (List Reply)) (t : State) → Lives s xs rs t → AreBounded xs
 bounded s [] [] t is = tt
 bounded s [] (r ∷ rs) t lives = absurd lives
 bounded s (x ∷ xs) [] t lives = absurd lives

@@ -1,4 +1,5 @@
 pub mod Exported
+pub mod Given
 pub mod Inputs
 pub mod Items
 pub mod Runs

@@ -14,5 +14,6 @@ abbrev pub audit_line : Audit → List ℕ
 audit_line audit = audit_text audit ++ 10 ∷ []
 
 -- refused where there is a fault
+-- Rule: check ends with 1 where something differs. Tried by outcomes.
 abbrev pub ending_of_audit : Audit → Ending
 ending_of_audit audit = if audit.faults == 0 then Accepted else Refused

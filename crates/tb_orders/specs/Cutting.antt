@@ -16,6 +16,7 @@ abbrev pub uncut : Cut
 uncut = record { full = []; begun = []; lines = 0; is_long = false }
 
 -- a part has at most 1,000 lines and 1,048,576 bytes, the end of each line among them
+-- Rule: a part of an import is what one call takes. Tried by import.sh.
 abbrev pub has_room : Cut → List ℕ → Bool
 has_room cut line =
     nat_lt cut.lines most_items && nat_lt (length cut.begun + length line) longest_body

@@ -4,6 +4,7 @@ pub mod Faults
 pub mod Input
 pub mod Items
 pub mod Message
+pub mod NewKey
 pub mod Orders
 pub mod Running
 pub mod Status

@@ -16,6 +16,7 @@ use Rattle.tb_reply.specs.declared.reply.Reply.{Reply}
 use Rattle.tb_task.specs.TaskId.{named_id}
 
 -- the identifier of a part is made from the import's and the part's number
+-- Rule: each part has an identifier of its own. Tried by import.sh.
 abbrev pub part_id : ℕ → ℕ → ℕ
 part_id id number = named_id id (decimal number)
 

@@ -5,13 +5,14 @@ use Rattle.tb_command_line.specs.declared.order.Order.{Order}
 use Rattle.tb_command_line.specs.declared.order.WordsFault.{WordsFault}
 use Rattle.tb_command_line.specs.declared.order.WordsFault.TheVariants as words
 use Rattle.tb_program.specs.declared.fault.Fault.{Fault}
-use Rattle.tb_program.specs.declared.fault.Fault.TheVariants.{Bad, BadBody, Memory, NoClock, ReadFailed, Store, WriteFailed}
+use Rattle.tb_program.specs.declared.fault.Fault.TheVariants.{Bad, BadBody, Memory, NoClock, NoKey, ReadFailed, Store, WriteFailed}
 use Rattle.tb_program.specs.Fault.{is_of_reading}
 
 -- of the words
 abbrev pub is_of_words : Fault → Bool
 is_of_words Bad = true
 is_of_words Memory = true
+is_of_words NoKey = true
 is_of_words _ = false
 
 -- of what a desk is asked, and of printing what it answers
@@ -37,9 +38,10 @@ is_of_inputs NoClock = true
 is_of_inputs ReadFailed = true
 is_of_inputs fault = is_of_imports fault
 
--- bad words alone are told as such, and memory may run out whatever they are
+-- bad words and a key that isn't there are told as such alone, and memory may run out whatever they are
 abbrev pub Tells : {X : Type 0} → Fault → Result X WordsFault → Type 0
 Tells Bad expected = expected ≡ Err words.Bad
+Tells NoKey expected = expected ≡ Err words.NoKey
 Tells Memory expected = Unit {0}
 Tells _ expected = ⊥
 

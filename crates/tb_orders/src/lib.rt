@@ -6,12 +6,15 @@
 
 mod auditing;
 mod cutting;
+mod elsewhere;
 mod ending;
 mod exporting;
 mod faults;
+mod giving;
 mod importing;
 mod input;
 mod message;
+mod new_key;
 mod order_fault;
 mod running;
 mod status;
@@ -20,12 +23,15 @@ mod whole;
 mod words;
 
 pub use auditing::print_audit;
+pub use elsewhere::kept_key;
 pub use ending::{Ending, fault_of_keep};
 pub use exporting::{Export, print_stored_view};
 pub use faults::{fault_of_making, fault_of_opening, fault_of_script};
+pub use giving::{FirstPerson, give_key};
 pub use importing::import_text;
 pub use input::import_input;
 pub use message::import_message;
+pub use new_key::{NewKey, new_key_of};
 pub use order_fault::{BadItem, OrderFault};
 pub use running::Progress;
 pub use status::{print_fault, status_of};

@@ -9,9 +9,11 @@ ghost use Rattle.tb_command_line.specs.Sending.{send_of, told_of};
 ghost use Rattle.tb_command_line.specs.declared.order.Order.{Order};
 ghost use Rattle.tb_orders.specs.Telling.{ReadsAs, is_of_words};
 
+use crate::elsewhere::kept_key;
 use std::alloc::{AllocError, Global};
 use std::env::{self, Args};
 use std::io::ErrorKind;
+use tb_board::Key;
 use tb_command_line::{Order, WordsFault, command_of};
 use tb_program::Fault;
 
@@ -19,21 +21,44 @@ use tb_program::Fault;
 pub fn read_order(rt: &HostRuntime) -> Result<Order, Fault>
     ensures { IfErr result (λ fault. is_of_words fault ≡ true) }
 {
+    let kept = kept_for_words(rt)?;
+    order_after_name(rt.alloc(), read_words(rt)?, &kept)
+}
+
+/// The key that is kept elsewhere, which is looked for where one of the words is `-`.
+fn kept_for_words(rt: &HostRuntime) -> Result<Option<Key>, Fault>
+    ensures { IfErr result (λ fault. is_of_words fault ≡ true) }
+{
+    let words = after_first(rt.alloc(), read_words(rt)?)?;
+    if has_dash(words.as_slice()) {
+        Ok(kept_key(rt)?)
+    } else {
+        Ok(None)
+    }
+}
+
+fn read_words(rt: &HostRuntime) -> Result<Args, Fault>
+    ensures { IfErr result (λ fault. is_of_words fault ≡ true) }
+{
     match env::args(rt) {
-        Ok(words) => order_after_name(rt.alloc(), words),
+        Ok(words) => Ok(words),
         Err(error) if error.kind() == ErrorKind::OutOfMemory => Err(Fault::Memory),
         Err(_) => Err(Fault::Bad),
     }
 }
 
+fn has_dash(words: &[String]) -> bool {
+    words.iter().any(|word| word.as_str() == "-")
+}
+
 /// The order that the words after the first are, which names the program.
-fn order_after_name(alloc: Global, words: Args) -> Result<Order, Fault>
+fn order_after_name(alloc: Global, words: Args, kept: &Option<Key>) -> Result<Order, Fault>
     ensures order { (request : Request)
         → without_page (map string_bytes (drop 1 (into_iter_items words))) ≡ words_of request
         → list_all is_plain (texts_of request) ≡ true
         → ReadsAs result
         (with_page (page_in (map string_bytes (drop 1 (into_iter_items words))))
-        (order_of request)) }
+        (order_of kept.now request)) }
     ensures told { (order : Order)
         → told_of (map string_bytes (drop 1 (into_iter_items words))) ≡ Some order
         → OnOk result (result ≡ Ok order) }
@@ -44,16 +69,17 @@ fn order_after_name(alloc: Global, words: Args) -> Result<Order, Fault>
 {
     let words = after_first(alloc, words)?;
     let texts = texts_of(alloc, words.as_slice())?;
-    order_of(alloc, texts.as_slice())
+    order_of(alloc, texts.as_slice(), kept)
 }
 
-/// The order that words are, or the program's fault.
-pub fn order_of(alloc: Global, words: &[&str]) -> Result<Order, Fault>
+/// The order that words are, with the key that is kept elsewhere, or the program's fault.
+pub fn order_of(alloc: Global, words: &[&str], kept: &Option<Key>) -> Result<Order, Fault>
     ensures order { (request : Request)
         → without_page (map (λ word. word.now) words.entry.now) ≡ words_of request
         → list_all is_plain (texts_of request) ≡ true
         → ReadsAs result
-        (with_page (page_in (map (λ word. word.now) words.entry.now)) (order_of request)) }
+        (with_page (page_in (map (λ word. word.now) words.entry.now))
+        (order_of kept.now request)) }
     ensures told { (order : Order) → told_of (map (λ word. word.now) words.entry.now) ≡ Some order
         → result ≡ Ok order }
     ensures sent { (rest : List (List ℕ))
@@ -61,9 +87,10 @@ pub fn order_of(alloc: Global, words: &[&str]) -> Result<Order, Fault>
         → told_of (codes "send" ∷ rest) ≡ None → ReadsAs result (send_of rest) }
     ensures fault { IfErr result (λ fault. is_of_words fault ≡ true) }
 {
-    match command_of(alloc, words) {
+    match command_of(alloc, words, kept) {
         Ok(order) => Ok(order),
         Err(WordsFault::Bad) => Err(Fault::Bad),
+        Err(WordsFault::NoKey) => Err(Fault::NoKey),
         Err(WordsFault::Memory) => Err(Fault::Memory),
     }
 }

@@ -20,6 +20,7 @@ name_of WriteFailed = codes "WriteFailed"
 name_of WrongVersion = codes "WrongVersion"
 
 -- 2 for bad words, else 1
+-- Rule: the exit status of a fault is 2 for bad words, else 1. Tried by outcomes.
 abbrev pub status_of : Fault → ℕ
 status_of Bad = 2
 status_of _ = 1

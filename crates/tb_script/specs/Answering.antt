@@ -22,6 +22,7 @@ abbrev pub first_state : State
 first_state = opening (codes "root") (codes "root-key-1")
 
 -- a line is text of at most 1,048,576 bytes
+-- Rule: a line is UTF-8 of 1,048,576 bytes at most. Refused as BadLine. Tried by scripts.
 abbrev pub is_readable : List ℕ → Bool
 is_readable line = nat_le (length line) longest_body && is_utf8 line
 

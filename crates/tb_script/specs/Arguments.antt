@@ -1,8 +1,9 @@
 -- The arguments of a word.
-use Rattle.std.specs.Prelude.{ℕ, List, Option, Some, None, if◌then◌else◌, codes, option_and_then}
+use Rattle.std.specs.Prelude.{ℕ, List, Option, Some, None, if◌then◌else◌, codes, option_and_then, option_map}
 use Rattle.std.specs.Str.{bytes_eq}
 use Rattle.tb_values.specs.Numerals.{number_to}
 use Rattle.tb_board.specs.Ahead.{read_ahead}
+use Rattle.tb_board.specs.Names.{read_key}
 use Rattle.tb_board.specs.declared.world.Role.{Role}
 use Rattle.tb_board.specs.declared.world.Role.TheVariants.{Owner, Member, Reader}
 
@@ -22,3 +23,9 @@ role_named word =
     else if bytes_eq word (codes "reader") then Some (Some Reader)
     else if bytes_eq word (codes "none") then Some None
     else None
+
+-- the key that is given, and `none`, which is no key, where it is taken
+-- Rule: none is no key. Tried by person_key.
+abbrev pub key_or_none : List ℕ → Option (Option (List ℕ))
+key_or_none word = if bytes_eq word (codes "none") then Some None
+    else option_map Some (read_key word)

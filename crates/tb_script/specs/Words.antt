@@ -5,8 +5,8 @@ use Rattle.tb_task.specs.TaskId.{read_id}
 use Rattle.tb_board.specs.Names.{read_name, read_key, read_title}
 use Rattle.tb_core.specs.declared.action.Action.{Action}
 use Rattle.tb_core.specs.declared.action.Action.TheVariants.{Done, Delete, Reopen, Start, Stop, Annotate, Denotate}
-use Rattle.tb_core.specs.declared.command.BoardCommand.TheVariants.{Add, Depend, Import, Modify, OnTask, SetAhead, Sweep, Undepend}
-use Rattle.tb_core.specs.declared.command.Command.TheVariants.{NewBoard, NewPerson, OnBoard, SetRole}
+use Rattle.tb_core.specs.declared.command.BoardCommand.TheVariants.{Add, Depend, Import, Modify, OnTask, Retitle, SetAhead, Sweep, Undepend}
+use Rattle.tb_core.specs.declared.command.Command.TheVariants.{NewBoard, NewPerson, OnBoard, OwnKey, SetKey, SetRole, Take}
 use Rattle.tb_core.specs.declared.command.Import.TheVariants.{Json, Todo as Lines}
 use Rattle.tb_script.specs.declared.asked.Request.{Request}
 use Rattle.tb_script.specs.declared.asked.Request.TheVariants.{Call, View as ViewOf}
@@ -16,7 +16,7 @@ use Rattle.tb_calls.specs.declared.word.Word.{Word}
 use Rattle.tb_calls.specs.declared.word.Word.TheVariants as word
 use Rattle.tb_script.specs.declared.line_fault.Unreadable.{Unreadable}
 use Rattle.tb_script.specs.declared.line_fault.Unreadable.TheVariants.{BadLine}
-use Rattle.tb_script.specs.Arguments.{ahead_number, board_number, role_named}
+use Rattle.tb_script.specs.Arguments.{ahead_number, board_number, key_or_none, role_named}
 use Rattle.tb_script.specs.Body.{edits_in, import_in, incoming_in, tasks_in}
 use Rattle.tb_script.specs.Outcome.{or_bad_line}
 
@@ -132,6 +132,12 @@ set_ahead board number = do
   ahead ← or_bad_line (ahead_number number)
   Ok (Call (OnBoard n (SetAhead ahead)))
 
+abbrev pub retitling : List ℕ → List ℕ → Result Request Unreadable
+retitling board title = do
+  n ← or_bad_line (board_number board)
+  heading ← or_bad_line (read_title title)
+  Ok (Call (OnBoard n (Retitle heading)))
+
 abbrev pub importing : ℕ → List ℕ → List ℕ → Result Request Unreadable
 importing at board text = do
   n ← or_bad_line (board_number board)
@@ -152,6 +158,18 @@ new_person name key = do
   secret ← or_bad_line (read_key key)
   Ok (Call (NewPerson person secret))
 
+abbrev pub own_key : List ℕ → List ℕ → Result Request Unreadable
+own_key old key = do
+  before ← or_bad_line (read_key old)
+  secret ← or_bad_line (read_key key)
+  Ok (Call (OwnKey before secret))
+
+abbrev pub set_key : List ℕ → List ℕ → Result Request Unreadable
+set_key name word = do
+  person ← or_bad_line (read_name name)
+  key ← or_bad_line (key_or_none word)
+  Ok (Call (SetKey person key))
+
 abbrev pub new_board : List ℕ → Result Request Unreadable
 new_board title = do
   heading ← or_bad_line (read_title title)
@@ -163,6 +181,11 @@ set_role board name word = do
   person ← or_bad_line (read_name name)
   role ← or_bad_line (role_named word)
   Ok (Call (SetRole n person role))
+
+abbrev pub taking : List ℕ → Result Request Unreadable
+taking board = do
+  n ← or_bad_line (board_number board)
+  Ok (Call (Take n))
 
 -- ---- the words
 
@@ -189,6 +212,10 @@ request_for word.Ahead arguments at = two set_ahead arguments
 request_for word.Person arguments at = two new_person arguments
 request_for word.Board arguments at = one new_board arguments
 request_for word.Role arguments at = three set_role arguments
+request_for word.OwnKey arguments at = two own_key arguments
+request_for word.Key arguments at = two set_key arguments
+request_for word.Take arguments at = one taking arguments
+request_for word.Title arguments at = two retitling arguments
 request_for word.People arguments at = one people arguments
 request_for word.Me arguments at = none (ViewOf Me) arguments
 

@@ -3,7 +3,7 @@ ghost use Rattle.std.specs.Prelude.{◌≡◌};
 ghost use Rattle.tb_board.specs.Names.{read_name, read_key, read_title};
 ghost use Rattle.tb_task.specs.MomentText.{moment_of};
 ghost use Rattle.tb_task.specs.TaskId.{read_id};
-ghost use Rattle.tb_script.specs.Arguments.{ahead_number, board_number, role_named};
+ghost use Rattle.tb_script.specs.Arguments.{ahead_number, board_number, key_or_none, role_named};
 ghost use Rattle.tb_script.specs.Outcome.{Reads, or_bad_line};
 
 use crate::line_fault::LineFault;
@@ -37,6 +37,15 @@ pub(crate) fn read_secret(alloc: Global, text: &str) -> Result<Key, LineFault>
         Some(key) => Ok(key),
         None => Err(LineFault::bad_line()),
     }
+}
+
+pub(crate) fn read_key_or_none(alloc: Global, text: &str) -> Result<Option<Key>, LineFault>
+    ensures { Reads result (or_bad_line (key_or_none text.now)) }
+{
+    if text == "none" {
+        return Ok(None);
+    }
+    Ok(Some(read_secret(alloc, text)?))
 }
 
 pub(crate) fn read_heading(alloc: Global, text: &str) -> Result<Title, LineFault>

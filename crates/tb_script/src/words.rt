@@ -5,10 +5,11 @@ ghost use Rattle.tb_core.specs.declared.command.Command.TheVariants.{OnBoard};
 ghost use Rattle.tb_script.specs.Outcome.{Reads};
 ghost use Rattle.tb_script.specs.declared.asked.Request.TheVariants.{Call, View as ViewOf};
 ghost use Rattle.tb_calls.specs.declared.view.View.TheVariants.{Me};
-ghost use Rattle.tb_script.specs.Words.{acting, acting_with, adding, new_board, export, set_role, importing, importing_todo, new_person, link, linking, listing, modifying, none, one, people, request_for, request_in, set_ahead, showing, sweeping, task, three, todo, two, unlinking};
+ghost use Rattle.tb_script.specs.Words.{acting, acting_with, adding, new_board, export, set_role, importing, importing_todo, new_person, link, linking, listing, modifying, none, one, own_key, people, request_for, request_in, retitling, set_ahead, set_key, showing, sweeping, taking, task, three, todo, two, unlinking};
 
 use crate::arguments::{
-    read_ahead, read_board, read_heading, read_person, read_role, read_secret, read_uuid,
+    read_ahead, read_board, read_heading, read_key_or_none, read_person, read_role, read_secret,
+    read_uuid,
 };
 use crate::asked::Request;
 use crate::body::{read_edits, read_imported, read_incoming, read_tasks};
@@ -68,6 +69,10 @@ fn request_for(
         Word::Person => read_new_person(alloc, arguments),
         Word::Board => read_new_board(alloc, arguments),
         Word::Role => read_set_role(alloc, arguments),
+        Word::OwnKey => read_own_key(alloc, arguments),
+        Word::Key => read_set_key(alloc, arguments),
+        Word::Take => read_take(arguments),
+        Word::Title => read_retitle(alloc, arguments),
         Word::People => read_people(arguments),
         Word::Me => read_me(arguments),
     }
@@ -301,6 +306,49 @@ fn read_new_person(alloc: Global, arguments: &[&str]) -> Result<Request, LineFau
     let name = read_person(alloc, name)?;
     let key = read_secret(alloc, key)?;
     Ok(Request::Call(Command::NewPerson { name, key }))
+}
+
+fn read_own_key(alloc: Global, arguments: &[&str]) -> Result<Request, LineFault>
+    ensures { Reads result (two own_key (map (λ argument. argument.now) arguments.entry.now)) }
+{
+    let [old, key] = arguments else {
+        return Err(LineFault::bad_line());
+    };
+    let old = read_secret(alloc, old)?;
+    let new = read_secret(alloc, key)?;
+    Ok(Request::Call(Command::OwnKey { old, new }))
+}
+
+fn read_set_key(alloc: Global, arguments: &[&str]) -> Result<Request, LineFault>
+    ensures { Reads result (two set_key (map (λ argument. argument.now) arguments.entry.now)) }
+{
+    let [name, word] = arguments else {
+        return Err(LineFault::bad_line());
+    };
+    let name = read_person(alloc, name)?;
+    let key = read_key_or_none(alloc, word)?;
+    Ok(Request::Call(Command::SetKey { name, key }))
+}
+
+fn read_take(arguments: &[&str]) -> Result<Request, LineFault>
+    ensures { Reads result (one taking (map (λ argument. argument.now) arguments.entry.now)) }
+{
+    let [board] = arguments else {
+        return Err(LineFault::bad_line());
+    };
+    let board = read_board(board)?;
+    Ok(Request::Call(Command::Take { board }))
+}
+
+fn read_retitle(alloc: Global, arguments: &[&str]) -> Result<Request, LineFault>
+    ensures { Reads result (two retitling (map (λ argument. argument.now) arguments.entry.now)) }
+{
+    let [board, title] = arguments else {
+        return Err(LineFault::bad_line());
+    };
+    let board = read_board(board)?;
+    let title = read_heading(alloc, title)?;
+    Ok(on_board(board, BoardCommand::Retitle { title }))
 }
 
 fn read_new_board(alloc: Global, arguments: &[&str]) -> Result<Request, LineFault>

@@ -1,2 +1,4 @@
 pub mod Endings
+pub mod Settled
+pub mod Texts
 pub mod Told

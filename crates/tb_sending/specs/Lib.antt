@@ -1,3 +1,5 @@
+pub mod Beside
+pub mod Changing
 pub mod Faults
 pub mod Identifier
 pub mod Key

@@ -35,6 +35,10 @@ is_lines word.Ahead = false
 is_lines word.Person = false
 is_lines word.Board = false
 is_lines word.Role = false
+is_lines word.OwnKey = false
+is_lines word.Key = false
+is_lines word.Take = false
+is_lines word.Title = false
 is_lines word.People = false
 is_lines word.Me = false
 

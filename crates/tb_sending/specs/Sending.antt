@@ -27,6 +27,7 @@ abbrev pub is_long : Option Text → Bool
 is_long None = false
 is_long (Some body) = nat_lt longest_body (length body)
 
+-- Rule: no body over 1,048,576 bytes is sent. Refused as BadBody. Tried by no test.
 abbrev pub is_too_long : Request → Bool
 is_too_long request = is_long request.body
 

@@ -15,9 +15,18 @@ pub fn name_call(rt: &HostRuntime, order: &mut SendOrder)
     if order.id.is_some() {
         return;
     }
+    order.id = new_id(rt);
+}
+
+/// A random identifier, where the machine gives random bytes.
+pub(crate) fn new_id(rt: &HostRuntime) -> Option<TaskId>
+    ensures { IfSome result IsRandom }
+{
     let mut bytes = [0u8; 16];
     if rt.fill_bytes(&mut bytes).is_ok() {
-        order.id = Some(random_id(bytes));
+        Some(random_id(bytes))
+    } else {
+        None
     }
 }
 

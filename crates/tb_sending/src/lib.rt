@@ -3,12 +3,16 @@
 //! the order, on `tb_orders` for how it ends, and on `tb_program` for faults and printing.
 #![tactic(auto)]
 
+mod beside;
+mod changing;
 mod identifier;
 mod key;
+mod key_folder;
 mod places;
 mod printing;
 mod sending;
 mod server_line;
+mod settling;
 
 pub use identifier::name_call;
 pub use sending::send_order;

@@ -98,6 +98,10 @@ fn is_lines(word: Word) -> bool
         | Word::Person
         | Word::Board
         | Word::Role
+        | Word::OwnKey
+        | Word::Key
+        | Word::Take
+        | Word::Title
         | Word::People
         | Word::Me => false,
     }

@@ -1,13 +1,16 @@
 //! Orders that are sent to a server until they are answered.
 ghost use Rattle.std.specs.Prelude.{◌≡◌, ◌⊎◌, IfErr, IfNone, IfOk, IfSome, OnErr, true};
 ghost use Rattle.tb_program.specs.declared.fault.Fault.TheVariants.{Memory};
+ghost use Rattle.tb_client.specs.Request.{request_of};
+ghost use Rattle.tb_sending.specs.Changing.{Sends, SendsNot};
 ghost use Rattle.tb_sending.specs.Faults.{is_of_sending};
-ghost use Rattle.tb_sending.specs.Sending.{AreNamed, AreRefused, AreUnnamed, ComesTo, Fails, IsMessage, IsNoMessage, IsReplied, IsSent, IsUnsent, Lacks, is_too_long};
+ghost use Rattle.tb_sending.specs.Sending.{AreNamed, AreRefused, AreReplied, AreUnnamed, ComesTo, Fails, IsMessage, IsNoMessage, IsReplied, IsSent, IsUnsent, Lacks, is_too_long};
 
 use crate::key::key_of;
 use crate::places::take_reply;
 use crate::printing::print_reply;
 use crate::server_line::ServerLine;
+use crate::settling::settle;
 use std::io::Write;
 use tb_client::{
     AskFault, Line, Reply, Request, Sender, ask_until_answered, export_of, message_of, places_of,
@@ -19,18 +22,18 @@ use tb_program::Fault;
 use tb_task::LONGEST_BODY;
 use tb_values::{Duplicate, Text};
 
-/// Sends a call or a view until it is answered, and prints the reply. The server is first asked for the tasks of places, which stand
-/// in the order's words from then on. Which bytes reach a server isn't known, but which are sent to it is, and what comes of a reply.
+/// Sends a call or a view until it is answered, and prints the reply. A change of the own key that was begun is made before anything else
+/// is sent under that key. The server is first asked for the tasks of places, which stand in the order's words from then on. Which bytes reach a server isn't known, but which are sent to it is, and what comes of a reply.
 pub fn send_order<W: Write>(
     rt: &HostRuntime,
     order: &mut SendOrder,
     writer: &mut W,
 ) -> Result<Ending, Fault>
     ensures sent { IfOk result (λ ending. (old : _) × (new : _)
-        × ComesTo ⟦<ServerLine<'static> as Line>⟧.follows W.contents
+        × Sends ⟦<ServerLine<'static> as Line>⟧.follows W.contents
         order.old order.new old new writer.old writer.new ending) }
     ensures unsent { IfErr result (λ fault. ((old : _) × (new : _)
-        × Fails ⟦<ServerLine<'static> as Line>⟧.follows W.contents
+        × SendsNot ⟦<ServerLine<'static> as Line>⟧.follows W.contents
         order.old order.new old new writer.old writer.new fault)
         ⊎ ((fault ≡ Memory) × (writer.new ≡ writer.old))) }
     ensures others { order.new ≡ record order.old { words = order.new.words } }
@@ -39,10 +42,31 @@ pub fn send_order<W: Write>(
     let Ok(mut line) = ServerLine::new(rt, order) else {
         return Err(Fault::Memory);
     };
-    send_over(rt, order, &mut line, writer)
+    send_settled(rt, order, &mut line, writer)
 }
 
-/// The same over a line to the server.
+/// The same over a line to the server: a change of the key that was begun comes first.
+fn send_settled<L: Line, W: Write>(
+    rt: &HostRuntime,
+    order: &mut SendOrder,
+    line: &mut L,
+    writer: &mut W,
+) -> Result<Ending, Fault>
+    ensures sent { IfOk result (Sends L.follows W.contents
+        order.old order.new line.old line.new writer.old writer.new) }
+    ensures unsent { IfErr result (SendsNot L.follows W.contents
+        order.old order.new line.old line.new writer.old writer.new) }
+    ensures others { order.new ≡ record order.old { words = order.new.words } }
+    ensures fault { IfErr result (λ fault. is_of_sending fault ≡ true) }
+{
+    match settle(rt, order, line, writer) {
+        Ok(None) => send_over(rt, order, line, writer),
+        Ok(Some(ending)) => Ok(ending),
+        Err(fault) => Err(fault),
+    }
+}
+
+/// The order itself.
 fn send_over<L: Line, W: Write>(
     rt: &HostRuntime,
     order: &mut SendOrder,
@@ -112,6 +136,22 @@ fn send_words<L: Line, W: Write>(
         Ok(reply) => print_reply(writer, order.words.as_slice(), &reply),
         Err(fault) => Err(fault),
     }
+}
+
+/// Sends what the words ask for, until it is answered.
+pub(crate) fn ask_words<L: Line>(
+    rt: &HostRuntime,
+    order: &SendOrder,
+    line: &mut L,
+) -> Result<Reply, Fault>
+    ensures replied { IfOk result (AreReplied L.follows (request_of order.now.words) order.now
+        line.old line.new) }
+    ensures fault { IfErr result (λ fault. is_of_sending fault ≡ true) }
+{
+    let Some(request) = request_of(rt.alloc(), order.words.as_slice())? else {
+        return Err(Fault::Bad);
+    };
+    ask(rt, order, line, &request)
 }
 
 /// Sends the message of a request until it is answered.

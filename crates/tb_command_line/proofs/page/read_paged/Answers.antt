@@ -7,4 +7,4 @@ use Rattle.tb_command_line.proofs.page.read_paged.Goals as goal
 pub returns-in-Err : goal.returns-in-Err
 returns-in-Err c request is plain =
     let listed : map (λ word. word.now) c.as_slice.result.now ≡ words_of request = search (rules, is) in
-    fails_paged (page_in (map (λ word. word.now) c.args.words.now)) c.in-Err.fault (order_of request) (c.in-Err.ensures request listed plain)
+    fails_paged (page_in (map (λ word. word.now) c.args.words.now)) c.in-Err.fault (order_of c.args.kept.now request) (c.in-Err.ensures request listed plain)

@@ -15,11 +15,11 @@ returns-in-Ok-try_get_matches_from c request words plain =
     let app = c.in-Ok.ensures in
     let rows = (c.in-Ok-try_get_matches_from.ensures.matches (ap is_simple app ∙ simple)).1 in
     let named = rows ∙ (ap (λ a. subcommand_of a (map (λ word. word.now) c.args.words.now)) app ∙ ap (subcommand_of program_app) words) in
-    Gives-same Fails c.read_order.result (order_at _) (order_of request) (ap order_at named ∙ (reaches request plain).found) c.read_order.ensures
+    Gives-same Fails c.read_order.result (order_at c.args.kept.now _) (order_of c.args.kept.now request) (ap (order_at c.args.kept.now) named ∙ (reaches c.args.kept.now request plain).found) c.read_order.ensures
 
 pub returns-in-Err : goal.returns-in-Err
 returns-in-Err c request words plain =
     let app = c.in-Ok.ensures in
-    let memory = c.in-Err.ensures.passes (ap (λ a. takes a (map (λ word. word.now) c.args.words.now)) app ∙ (ap (takes program_app) words ∙ (reaches request plain).taken)) in
+    let memory = c.in-Err.ensures.passes (ap (λ a. takes a (map (λ word. word.now) c.args.words.now)) app ∙ (ap (takes program_app) words ∙ (reaches c.args.kept.now request plain).taken)) in
     let is = c.fault_of.ensures (c.kind.ensures ∙ memory) in
     rw is tt

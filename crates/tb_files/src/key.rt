@@ -1,0 +1,36 @@
+//! New keys in a file.
+ghost use Rattle.std.specs.Prelude.{◌≡◌, IfErr, IfOk, true};
+ghost use Rattle.tb_files.specs.Faults.{is_of_keys};
+ghost use Rattle.tb_files.specs.Key.{IsKeyGiven};
+
+use crate::file::{RealFile, close_desk, open_desk};
+use std::io::{Read, Write};
+use tb_calls::Keep;
+use tb_command_line::KeyOrder;
+use tb_keeper::SqlKeep;
+use tb_orders::{Ending, give_key, new_key_of};
+use tb_program::Fault;
+
+/// Gives somebody a new key, which is read, or made and printed. The file isn't opened where there is no key to give.
+#[tactic(auto, using(crate::proofs::Faults::of_new_key, crate::proofs::Faults::of_keyed, crate::proofs::Faults::of_giving))]
+pub fn give_key_in_file<R: Read + Drop, W: Write>(
+    rt: &HostRuntime,
+    order: &KeyOrder,
+    reader: R,
+    writer: &mut W,
+) -> Result<Ending, Fault>
+    ensures given { IfOk result (IsKeyGiven ⟦<SqlKeep<RealFile> as Keep>⟧
+        order.now (R.remaining reader) (W.contents writer.old) (W.contents writer.new)) }
+    ensures fault { IfErr result (λ fault. is_of_keys fault ≡ true) }
+{
+    let asked = new_key_of(rt.alloc(), order, reader, rt, rt)?;
+    let keep = open_desk(rt, order.file.as_str())?.into_keep();
+    let (desk, end) = give_key(rt.alloc(), keep, &asked, writer);
+    match end {
+        Ok(ending) => {
+            close_desk(desk)?;
+            Ok(ending)
+        }
+        Err(fault) => Err(fault),
+    }
+}

@@ -1,0 +1,114 @@
+-- The new key that an order is about, and in whose name the machine's owner gives it.
+use Rattle.std.specs.Prelude.{◌≡◌, ◌&&◌, ◌==◌, ◌⊎◌, ℕ, Bool, true, false, not, List, [], ◌∷◌, ◌++◌, codes, Option, Some, None, IfSome, option_and_then, if◌then◌else◌}
+use Rattle.std.specs.List.{before_first}
+use Rattle.std.specs.Option.{option_map}
+use Rattle.std.specs.Str.{bytes_eq, trim_end}
+use Rattle.std.specs.Io.KnownBytes.{Appends}
+use Rattle.tb_asking.specs.Bodies.{text_in}
+use Rattle.tb_board.specs.Names.{is_key, read_key}
+use Rattle.tb_board.specs.declared.world.Person.{Person}
+use Rattle.tb_calls.specs.Call.{State, once, plain, reply}
+use Rattle.tb_calls.specs.Roles.{person_at}
+use Rattle.tb_calls.specs.declared.call.Call.{Call}
+use Rattle.tb_command_line.specs.declared.order.KeyOrder.{KeyOrder}
+use Rattle.tb_core.specs.declared.command.Command.{Command}
+use Rattle.tb_core.specs.declared.command.Command.TheVariants.{OwnKey, SetKey}
+use Rattle.tb_orders.specs.Orders.{ending_of, line_text}
+use Rattle.tb_orders.specs.declared.ending.Ending.{Ending}
+use Rattle.tb_orders.specs.declared.new_key.NewKey.{NewKey}
+use Rattle.tb_program.specs.declared.fault.Fault.{Fault}
+use Rattle.tb_program.specs.declared.fault.Fault.TheVariants.{Memory, NoClock, NoKey, NotOurs, ReadFailed, Store, WriteFailed}
+use Rattle.tb_reply.specs.declared.reply.Reply.{Reply}
+
+-- ---- which key it is
+
+abbrev pub first_line : List ℕ → List ℕ
+first_line text = before_first (λ byte. byte == 10) text
+
+-- the first line, without the white space at its end
+abbrev pub key_in : List ℕ → Option (List ℕ)
+key_in input = option_and_then (λ text. read_key (trim_end (first_line text))) (text_in input)
+
+-- the key is the one of an input, where it is read
+abbrev pub IsKeyFor : Bool → Option (List ℕ) → List ℕ → Type 0
+IsKeyFor true input key = IfSome input (λ text. key_in text ≡ Some key)
+IsKeyFor false input key = is_key key ≡ true
+
+-- what an order asks for with an input
+pub record IsAsked (order : KeyOrder) (input : Option (List ℕ)) (asked : NewKey) : Type 0 where
+  pub name_is : asked.name ≡ order.name
+  pub made_is : asked.is_made ≡ not order.is_read
+  pub key_is : IsKeyFor order.is_read input asked.key
+
+-- ---- the call that gives it
+
+-- a person with a key, if there is one
+abbrev pub caller_of : Option Person → Option (List ℕ × List ℕ)
+caller_of None = None
+caller_of (Some person) = option_map (λ own. (person.name, own)) person.key
+
+-- the first person changes the own key, and sets those of others
+abbrev pub command_by : NewKey → List ℕ → List ℕ → Command
+command_by asked name own = if bytes_eq name asked.name then OwnKey own asked.key
+    else SetKey asked.name (Some asked.key)
+
+-- the words of that command
+abbrev pub content_by : NewKey → List ℕ → List ℕ → List ℕ
+content_by asked name own =
+    if bytes_eq name asked.name then codes "own-key" ++ 9 ∷ (own ++ 9 ∷ asked.key)
+    else codes "key" ++ 9 ∷ (asked.name ++ 9 ∷ asked.key)
+
+abbrev pub call_by : NewKey → List ℕ → List ℕ → Call
+call_by asked name own = record {
+  member = name;
+  key = own;
+  id = asked.id;
+  moment = asked.at;
+  content = content_by asked name own;
+  command = command_by asked name own;
+}
+
+-- the one call, of the first person under the key that a state has
+-- Rule: the owner of the machine gives keys in the first person's name. Tried by keys.sh.
+abbrev pub call_in : State → NewKey → Option Call
+call_in s asked =
+    option_map (λ caller. call_by asked caller.0 caller.1) (caller_of (person_at s.world 1))
+
+-- ---- what comes of it
+
+-- a key that was made is printed once it is given, and else the body of the reply
+abbrev pub given_text : NewKey → Reply → List ℕ
+given_text asked reply = if asked.is_made && (reply.number == 0) then asked.key ++ 10 ∷ []
+    else line_text reply
+
+-- the one call was made in a state, and its reply is told and decides how the order ended
+pub record IsGiven (asked : NewKey) (s : State) (now : State → Type 0)
+    (before after : Option (List ℕ)) (ending : Ending) : Type 0 where
+  pub call : Call
+  pub is : call_in s asked ≡ Some call
+  pub held : now (plain s (once s (call ∷ [])))
+  pub told : Appends before after (given_text asked (reply s [] call))
+  pub ends : ending ≡ ending_of (reply s [] call)
+
+-- the state is as it was, or after the one call
+abbrev pub HoldsGiven : State → NewKey → (State → Type 0) → Type 0
+HoldsGiven s asked now =
+    now s ⊎ ((call : Call) × (call_in s asked ≡ Some call) × now (plain s (once s (call ∷ []))))
+
+-- ---- which faults these are
+
+-- of the key, its identifier and its moment
+abbrev pub is_of_new_keys : Fault → Bool
+is_of_new_keys Memory = true
+is_of_new_keys NoClock = true
+is_of_new_keys NoKey = true
+is_of_new_keys ReadFailed = true
+is_of_new_keys _ = false
+
+-- of giving it
+abbrev pub is_of_giving : Fault → Bool
+is_of_giving Memory = true
+is_of_giving NotOurs = true
+is_of_giving Store = true
+is_of_giving WriteFailed = true
+is_of_giving _ = false

@@ -1,0 +1,155 @@
+//! A change of the own key, which is settled before an order is sent.
+ghost use Rattle.std.specs.Io.KnownBytes.{Appends};
+ghost use Rattle.std.specs.Prelude.{◌≡◌, ◌++◌, ◌∷◌, [], IfErr, IfNone, IfOk, IfSome, false, true};
+ghost use Rattle.tb_orders.specs.declared.ending.Ending.TheVariants.{Accepted};
+ghost use Rattle.tb_sending.specs.Changing.{EndsBefore, IsSettled, IsUnsettled, asks_for_key, changed_body};
+ghost use Rattle.tb_sending.specs.Faults.{is_of_sending};
+
+use crate::beside::{Begun, Step, step_of};
+use crate::changing::{change_key, changed_body, is_changed, is_unknown};
+use crate::identifier::new_id;
+use crate::key::folder_of;
+use crate::key_folder::KeyFolder;
+use crate::printing::print_refusal;
+use std::io::Write;
+use tb_board::Key;
+use tb_client::{Line, Reply, is_own_key_alone};
+use tb_command_line::SendOrder;
+use tb_orders::Ending;
+use tb_program::{Fault, print_line};
+
+const UNKNOWN: &str =
+    "taskboard: The server knows you neither by the key in ~/.config/taskboard/key nor by the new one in key.new beside it. Both files are as they were. Have the first person give you a key, write it into key, and remove key.new.";
+
+const REFUSED: &str =
+    "taskboard: The server didn't change the key. ~/.config/taskboard/key is as it was, and the new key is still in key.new beside it. Try again, or remove key.new to go on without the change.";
+
+/// Makes the change that an order asks for, or one that was begun before. None where the order is to be sent now.
+pub(crate) fn settle<L: Line, W: Write>(
+    rt: &HostRuntime,
+    order: &SendOrder,
+    line: &mut L,
+    writer: &mut W,
+) -> Result<Option<Ending>, Fault>
+    ensures settled { IfOk result
+        (λ end. IfNone end (IsSettled L.follows order.now line.old line.new)) }
+    ensures still { IfOk result (λ end. IfNone end (writer.new ≡ writer.old)) }
+    ensures ended { IfOk result (λ end. IfSome end (EndsBefore L.follows W.contents order.now
+        line.old line.new writer.old writer.new)) }
+    ensures unsettled { IfErr result
+        (IsUnsettled W.contents writer.old writer.new) }
+    ensures fault { IfErr result (λ fault. is_of_sending fault ≡ true) }
+{
+    let is_change = asks_for_key(order);
+    let Some(folder) = folder_of(rt, order) else {
+        return if is_change {
+            Err(Fault::NoKey)
+        } else {
+            Ok(None)
+        };
+    };
+    if !is_change && !folder.has_change() {
+        return Ok(None);
+    }
+    let _held = folder.hold();
+    let Some(key) = folder.key()? else {
+        return Err(Fault::NoKey);
+    };
+    let beside = folder.beside(order)?;
+    match step_of(is_change, &key, beside) {
+        Step::Send => Ok(None),
+        Step::Stop => Err(Fault::Store),
+        Step::Begin => {
+            let begun = begin(rt, order, &folder)?;
+            finish(rt, order, &folder, &key, &begun, line, writer)
+        }
+        Step::Finish(begun) => finish(rt, order, &folder, &key, &begun, line, writer),
+        Step::Tidy => {
+            folder.tidy()?;
+            end_changed(rt, order, writer)
+        }
+    }
+}
+
+/// Makes a new key, and keeps its change beside the key file before it is sent.
+fn begin(rt: &HostRuntime, order: &SendOrder, folder: &KeyFolder<'_>) -> Result<Begun, Fault>
+    ensures fault { IfErr result (λ fault. is_of_sending fault ≡ true) }
+{
+    let (Some(id), Some(random)) = (order.id, new_id(rt)) else {
+        return Err(Fault::ReadFailed); // The machine gave no random bytes.
+    };
+    let text = random.text(rt.alloc())?;
+    let Some(key) = Key::read(rt.alloc(), text.as_str())? else {
+        return Err(Fault::ReadFailed); // Never: 36 digits and hyphens are a key.
+    };
+    let begun = Begun { key, id };
+    folder.keep(order, &begun)?;
+    Ok(begun)
+}
+
+/// Sends a change that was begun, and moves the new key into place where it is accepted; then the order is to be sent, unless it asked
+/// for the change. A refusal ends the order, and leaves both files.
+fn finish<L: Line, W: Write>(
+    rt: &HostRuntime,
+    order: &SendOrder,
+    folder: &KeyFolder<'_>,
+    key: &Key,
+    begun: &Begun,
+    line: &mut L,
+    writer: &mut W,
+) -> Result<Option<Ending>, Fault>
+    ensures settled { IfOk result
+        (λ end. IfNone end (IsSettled L.follows order.now line.old line.new)) }
+    ensures still { IfOk result (λ end. IfNone end (writer.new ≡ writer.old)) }
+    ensures ended { IfOk result (λ end. IfSome end (EndsBefore L.follows W.contents order.now
+        line.old line.new writer.old writer.new)) }
+    ensures unsettled { IfErr result
+        (IsUnsettled W.contents writer.old writer.new) }
+    ensures fault { IfErr result (λ fault. is_of_sending fault ≡ true) }
+{
+    let reply = change_key(rt, order, key, begun, line)?;
+    if is_changed(rt.alloc(), &order.member, &reply)? {
+        folder.put_in_place(order, begun, &reply)?;
+        end_changed(rt, order, writer)
+    } else {
+        let _ = print_line(&mut rt.stderr(), refusal_text(&reply));
+        print_refusal(writer, reply.body.as_slice())
+    }
+}
+
+/// Ends an order that asked for the change, which is made: its body is printed, as the server answered it.
+fn end_changed<W: Write>(
+    rt: &HostRuntime,
+    order: &SendOrder,
+    writer: &mut W,
+) -> Result<Option<Ending>, Fault>
+    ensures other { IfOk result (λ end. IfNone end
+        ((asks_for_key order.now.key order.now.words ≡ false) × (writer.new ≡ writer.old))) }
+    ensures told { IfOk result (λ end. IfSome end (λ ending. (ending ≡ Accepted)
+        × (asks_for_key order.now.key order.now.words ≡ true)
+        × Appends (W.contents writer.old) (W.contents writer.new)
+        (changed_body order.now.member ++ 10 ∷ []))) }
+    ensures unsettled { IfErr result (IsUnsettled W.contents writer.old writer.new) }
+    ensures fault { IfErr result (λ fault. is_of_sending fault ≡ true) }
+{
+    if !asks_for_key(order) {
+        return Ok(None);
+    }
+    let body = changed_body(rt.alloc(), &order.member)?;
+    match print_line(writer, body.as_str()) {
+        Ok(()) => Ok(Some(Ending::Accepted)),
+        Err(fault) => Err(fault),
+    }
+}
+
+/// Whether an order asks for another key, which is made, for one that is kept elsewhere.
+fn asks_for_key(order: &SendOrder) -> bool
+    ensures { result ≡ asks_for_key order.now.key order.now.words }
+{
+    order.key.is_none() && is_own_key_alone(order.words.as_slice())
+}
+
+/// What became of the keys, and what to do, where the change isn't made.
+fn refusal_text(reply: &Reply) -> &'static str {
+    if is_unknown(reply) { UNKNOWN } else { REFUSED }
+}
