@@ -1,14 +1,15 @@
 //! Boards and worlds, whose tasks are given as the JSON texts that store them, with tabs between them.
 
 use crate::finding::{Finding, missing, show};
-use crate::given::{halves, moment_at, person, read_count};
+use crate::given::{halves, moment_at, read_count};
 use crate::tasks::read;
 use std::alloc::Global;
 use std::io;
-use tb_board::{Board, Person, Role, RoleOn, Title, World};
+use tb_board::{Board, Key, Name, Person, Role, RoleOn, Title, World};
 use tb_good::is_good_world;
 use tb_report::urgency;
 use tb_values::{Items, Shared};
+use test_scenes::Owner;
 
 pub(crate) fn empty_board(alloc: Global) -> io::Result<Board> {
     let title = Title::read(alloc, "board")?.ok_or(missing())?;
@@ -38,8 +39,19 @@ pub(crate) fn urgency_in(alloc: Global, given: &str) -> Finding {
     show(alloc, &urgency(&board, place, at))
 }
 
-pub(crate) fn ann(alloc: Global) -> io::Result<Person> {
-    person(alloc, "ann", "password")
+pub(crate) fn ann(alloc: Global) -> io::Result<Owner> {
+    let name = Name::read(alloc, "ann")?.ok_or(missing())?;
+    let key = Key::read(alloc, "password")?.ok_or(missing())?;
+    Ok(Owner { alloc, name, key })
+}
+
+/// The same person, as one of a world.
+fn twin(alloc: Global) -> io::Result<Person> {
+    let Owner { name, key, .. } = ann(alloc)?;
+    Ok(Person {
+        name,
+        key: Some(key),
+    })
 }
 
 /// The world that a person begins with.
@@ -61,7 +73,7 @@ pub(crate) fn is_good(alloc: Global, tasks: &str) -> Finding {
 pub(crate) fn is_good_otherwise(alloc: Global, word: &str) -> Finding {
     let mut world = opened(alloc)?;
     match word {
-        "good_with_twin" => world.people.push(ann(alloc)?)?,
+        "good_with_twin" => world.people.push(twin(alloc)?)?,
         "good_with_reader" => world.roles = reading(alloc)?,
         _ => world.roles = Items::new(alloc),
     }

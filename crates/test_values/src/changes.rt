@@ -14,8 +14,9 @@ use tb_task::{Incoming, Moment, Task, TaskId};
 pub(crate) fn done(alloc: Global, given: &str) -> Finding {
     let (at, rest) = halves(given);
     let (id, json) = halves(rest);
-    let (add, complete) = (add(read(alloc, json)?), complete(id_of(id)?));
-    both(alloc, &add, &complete, moment_at(at)?)
+    let (id, at) = (id_of(id)?, moment_at(at)?);
+    let add = add(read(alloc, json)?);
+    both(alloc, &add, &complete(id), at)
 }
 
 /// Adds a task under its own identifier.

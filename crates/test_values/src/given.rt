@@ -1,9 +1,8 @@
-//! What stands behind the word of a question: its parts, numbers, texts, bytes, moments and people.
+//! What stands behind the word of a question: its parts, numbers, texts, bytes and moments.
 use crate::finding::missing;
 use bstr::ByteVec;
 use std::alloc::{AllocError, Global};
 use std::io;
-use tb_board::{Key, Name, Person};
 use tb_task::{Moment, Step, TaskId};
 
 /// 20260101T000000Z, at which a question is asked that tells no moment.
@@ -21,12 +20,6 @@ pub fn step_of(text: &str) -> io::Result<Step> {
 
 pub fn id_of(text: &str) -> io::Result<TaskId> {
     TaskId::read(text).ok_or(missing())
-}
-
-pub fn person(alloc: Global, name: &str, key: &str) -> io::Result<Person> {
-    let name = Name::read(alloc, name)?.ok_or(missing())?;
-    let key = Key::read(alloc, key)?.ok_or(missing())?;
-    Ok(Person { name, key })
 }
 
 /// What stands before the first space, and what stands behind it.

@@ -18,6 +18,7 @@ mod json;
 mod lists;
 mod machine;
 pub mod messages;
+mod rates;
 mod recurrences;
 mod scripts;
 mod tasks;

@@ -39,6 +39,7 @@ fn answer_or_none(alloc: Global, word: &str, given: &str) -> Finding {
 fn answer(alloc: Global, word: &str, given: &str) -> Finding {
     match word {
         "words" => orders::words(alloc, given),
+        "words_with" => orders::words_with(alloc, given),
         "order" => orders::order(alloc, given),
         "desk" => orders::desk(alloc, given),
         "audit" => outcomes::audit(alloc, given),

@@ -10,15 +10,16 @@ use tb_values::{Items, Text};
 use test_values::finding::{Finding, missing, show};
 use test_values::given::halves;
 
-/// The people of the rows `NUMBER:NAME`, with their keys.
+/// The people of the rows `NUMBER:NAME:SECRET`, with their keys.
 pub(crate) fn people(alloc: Global, given: &str) -> Finding {
     let mut rows = Vec::new(alloc);
     for text in given.split(' ') {
-        let (number, name) = text.split_once(':').unwrap_or((text, ""));
+        let (number, rest) = text.split_once(':').unwrap_or((text, ""));
+        let (name, secret) = rest.split_once(':').unwrap_or((rest, ""));
         rows.push(PersonRow {
             id: number.parse().unwrap_or(0),
             name: Text::from_str(alloc, name)?,
-            secret: Text::from_str(alloc, "ann-key-1")?,
+            secret: Text::from_str(alloc, secret)?,
         })?;
     }
     let people = match read_people(alloc, rows.as_slice()) {
@@ -27,7 +28,11 @@ pub(crate) fn people(alloc: Global, given: &str) -> Finding {
     };
     let mut told = String::new(alloc);
     for person in people.as_slice() {
-        writeln!(told, "{} {}", person.name.as_str(), person.key.as_str())?;
+        let key = match &person.key {
+            Some(key) => key.as_str(),
+            None => "-",
+        };
+        writeln!(told, "{} {key}", person.name.as_str())?;
     }
     Ok(told)
 }
