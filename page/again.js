@@ -1,4 +1,6 @@
-// Opens the form of a refused change as it was filled, so that it can be mended and sent again under a new identifier.
+// Opens the form of a change that was refused, or that asks before it is sent, as it was filled: so it can be mended and sent under a new
+// identifier.
+import { isOwnKey } from "./changes.js";
 import { keepDraft, readDraft } from "./drafts.js";
 import { find } from "./dom.js";
 import { bodyOf, forget } from "./sending.js";
@@ -25,9 +27,15 @@ const FORMS = {
         find("board-title").value = form.title;
         return true;
     },
-    people: ({ form }, { name, key }) => openPeople({ "person-name": name, "person-key": key, "person-role": form.role, "person-here": form.joins }),
+    people: ({ form, subject }, { key = "" }) => openPeople({ "person-name": subject, "person-key": key, "person-role": form.role, "person-here": form.joins }),
     roles: ({ board, form }) => openPeople({ "invite-name": form.member, "invite-role": form.role }, board),
+    key: (change) => (isOwnKey(change) ? openAccount() : openPeople({ "keys-name": change.subject })),
 };
+
+function openAccount() {
+    find("account").click();
+    return true;
+}
 
 function openPeople(values, board = state.number) {
     go(board, "people");
@@ -37,8 +45,8 @@ function openPeople(values, board = state.number) {
 
 const actionOf = (change) => change.path.split("/").at(-1);
 
-// What of a refused change and those that were to follow it was typed into a form.
-const withForm = ({ behind, ...change }) => [change, ...behind].find((one) => one.form);
+// What of a change and those that were to follow it was typed into a form.
+const withForm = ({ behind = [], ...change }) => [change, ...behind].find((one) => one.form);
 const isOn = ({ board }) => board === 0 || state.boards.some((known) => known.board === board && known.role !== "reader");
 
 // Which way there is for a change: its form, for whoever may change the board still, or sending it as it is where it has none.
@@ -49,7 +57,9 @@ export function wayOf(change) {
 
 export async function openAgain(change) {
     const one = withForm(change);
-    const isOpen = FORMS[actionOf(one)](one, JSON.parse(await bodyOf(one)));
+    // (a key that is hidden under another one than that of now isn't known)
+    const content = await bodyOf(one).then((text) => (text ? JSON.parse(text) : {}), () => ({}));
+    const isOpen = FORMS[actionOf(one)](one, content);
     if (isOpen) await forget(change);
 }
 

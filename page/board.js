@@ -3,7 +3,7 @@
 // Urgency is reckoned here by its definition and not read from the listing. The listing names tasks by place alone, says nothing of tags
 // and notes, and would be a second view each time, of another moment than the export.
 import { breathe } from "./dom.js";
-import { dayOf, isOver, now, seconds, today } from "./moments.js";
+import { dayOf, isTimed, now, seconds, today } from "./moments.js";
 import { changed, unseen } from "./pending.js";
 
 // How long the browser may be kept from drawing at once, in milliseconds.
@@ -27,6 +27,7 @@ export class Task {
         this.assignee = typeof told.assignee === "string" ? told.assignee : "";
         this.due = seconds(told.due);
         this.dueDay = this.due === undefined ? Infinity : dayOf(this.due);
+        this.isTimed = this.due !== undefined && isTimed(this.due);
         this.entry = seconds(told.entry);
         this.isListed = status === "pending" || status === "waiting";
         this.isOpen = this.isListed || status === "recurring";
@@ -51,9 +52,9 @@ function urgencyParts(task, moment) {
 
 export const urgencyText = (task) => (task.parts / UNIT).toFixed(1);
 
-function dueGroup(task, day) {
+function dueGroup(task, moment, day) {
     if (task.due === undefined) return "none";
-    if (isOver(task.due)) return "overdue";
+    if (task.isTimed ? task.due < moment : task.dueDay < day) return "overdue";
     return task.dueDay <= day ? "today" : task.dueDay < day + WEEK ? "week" : "later";
 }
 
@@ -92,7 +93,7 @@ function laidOver(tasks, at, changes) {
 }
 
 function rate(task, moment, day) {
-    task.dueGroup = dueGroup(task, day);
+    task.dueGroup = dueGroup(task, moment, day);
     task.parts = urgencyParts(task, moment);
     task.rank = task.isOpen ? task.parts : (seconds(task.told.end) ?? task.entry) - 1e12;
     if (!task.before) return;

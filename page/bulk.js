@@ -3,7 +3,7 @@ import { changes } from "./changes.js";
 import { choices } from "./crew.js";
 import { button, counted, fill, find, make, oneLine, whenSent } from "./dom.js";
 import { MomentField, options, tagsIn } from "./fields.js";
-import { moves } from "./moving.js";
+import { leftBehind, moves } from "./moving.js";
 import { tellFault, toast } from "./notices.js";
 import { faultInTags, faultInText } from "./rules.js";
 import { areBoxesShown, pickAll, pickNone, picked, showBoxes } from "./selection.js";
@@ -83,12 +83,25 @@ function open(name) {
     if (name) find("bulk-form").querySelector("input").focus();
 }
 
+// What is said before tasks move, since there is no way back from it.
+function aboutMove(tasks, title) {
+    const left = leftBehind(tasks, state.board.tasks);
+    const closed = picked().length - tasks.length;
+    return [
+        `Move ${tasksIn(tasks.length)} to ${title}?`,
+        tasks.length === 1 ? "It gets a new uuid there, and is deleted here." : "Each gets a new uuid there, and is deleted here.",
+        left.length > 0 && `This can't go along: ${left.join("; ")}.`,
+        closed > 0 && `What is closed stays: ${tasksIn(closed)}.`,
+    ].filter(Boolean).join(" ");
+}
+
 function move(to) {
     const { number } = state;
     const tasks = picked().filter((task) => task.isListed);
-    const title = state.boards.find(({ board }) => board === to).title;
+    const title = oneLine(state.boards.find(({ board }) => board === to).title, 60);
+    if (tasks.length > 0 && !confirm(aboutMove(tasks, title))) return;
     pickNone();
-    hold(moves(number, tasks, to), `Moving to ${oneLine(title, 60)}: ${tasksIn(tasks.length)}.`).catch(tellFault);
+    hold(moves(number, tasks, to), `Moving to ${title}: ${tasksIn(tasks.length)}.`).catch(tellFault);
 }
 
 function drawSelects() {

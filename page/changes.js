@@ -2,6 +2,11 @@
 import { newIdentifier } from "./asking.js";
 
 const VERBS = { done: "Complete", delete: "Delete", reopen: "Reopen", start: "Start", stop: "Stop" };
+const OWN_KEY = "/me/key";
+
+export const isOwnKey = ({ path }) => path === OWN_KEY;
+// Whether the first person alone may make it.
+export const isOfFirst = ({ path }) => /^\/people|\/take$/.test(path);
 
 function change(board, path, content, verb, subject) {
     return { board, path, body: content === null ? "" : JSON.stringify(content), verb, subject };
@@ -17,6 +22,11 @@ function ofTask(board, task, action, content, verb) {
 export const changes = {
     board: (title) => ({ ...change(0, "/boards", { title }, "Make the board", title), form: { title } }),
     person: (name, key, form) => ({ ...change(0, "/people", { name, key }, "Add the person", name), form, isSecret: true }),
+    ownKey: (name, before, after) => ({ ...change(0, OWN_KEY, { key: after, old: before }, "Change the key of", name), form: {}, isSecret: true }),
+    // Another one's key, or none: then they are let go.
+    key: (name, key) => ({ ...change(0, `/people/${name}/key`, { key }, key ? "Give a new key to" : "Let go of", name), form: {}, isSecret: key !== null }),
+    title: (board, title) => change(board, `/boards/${board}/title`, { title }, "Rename the board to", title),
+    take: (board, title) => change(board, `/boards/${board}/take`, null, "Take over the board", title),
     role: (board, member, role) => ({
         ...change(board, `/boards/${board}/roles`, { member, role }, role ? `Give the role ${role} to` : "End the role of", member),
         form: role ? { member, role } : undefined,
@@ -51,11 +61,20 @@ const TASK_FAULTS = {
     BadPair: "A repeating task needs a due date and a step such as weekly, monthly or 3d. Look at both.",
 };
 
+const CHANGED_BEFORE = "Your key was changed elsewhere before this came, so the key of this change did nothing. Your key is the one that you sign in with now.";
+
 const REFUSALS = {
     IdReused: () => "Another change had the same identifier, so this one did nothing. Make it again.",
-    NoBoard: () => "You have no role on this board, or it isn't there. Ask an owner of the board to let you in.",
+    UnknownCaller: () => CHANGED_BEFORE,
+    NoBoard: ({ path }) => {
+        if (path.endsWith("/take")) return "There is no board of this number, or you aren't the first person of this server, who alone takes boards over.";
+        return "You have no role on this board, or it isn't there. Ask an owner of the board to let you in.";
+    },
     NotAllowed: ({ path }) => {
         if (path === "/people") return "Only the first person of this server adds people. Ask them to.";
+        if (path.startsWith("/people/")) return "Only the first person of this server gives other people keys, and lets them go. Ask them to.";
+        if (path.endsWith("/take")) return "Only the first person of this server takes boards over. Ask them to.";
+        if (path.endsWith("/title")) return "Only owners rename a board. Ask an owner of the board.";
         if (path.endsWith("/ahead")) return "Only owners say how far a board looks ahead. Ask an owner of the board.";
         return path.endsWith("/roles") ? "Only owners set roles. Ask an owner of the board." : "Your role doesn't allow it. Ask an owner of the board.";
     },
@@ -70,6 +89,7 @@ const REFUSALS = {
     NoPerson: () => "The server knows nobody of that name. Look at the spelling, or have the first person of the server add them.",
     LastOwner: () => "The board would be left without an owner. Make someone else owner first.",
     NameTaken: () => "Someone has this name already. Choose another.",
+    KeyDiffers: () => CHANGED_BEFORE,
     BadBody: ({ answer, reports }) => {
         if (reports) return "The file isn't a Taskwarrior export or todo.txt that can be read. Look at it, and import it again.";
         return `The server can't read ${answer.field ? `what was given for “${answer.field}”` : "it"}. Look at it, and try again.`;

@@ -10,7 +10,7 @@ import { keep } from "./sending.js";
 import { go, listen, state } from "./state.js";
 
 const RECENT = 14 * 86400;
-const [FIRST, MORE] = [50, 200];
+const [FIRST, MORE] = [25, 200];
 const COLUMNS = { todo: "To do", started: "Started", waiting: "Waiting", done: "Done in the last 14 days" };
 const NAMES = Object.keys(COLUMNS);
 // The tasks of each column, their cards by their uuids, and how many of each column are shown at most on which board.
@@ -132,7 +132,7 @@ function steer(event) {
     const sideways = { ArrowLeft: -1, ArrowRight: 1 }[event.key];
     const upright = { ArrowUp: -1, ArrowDown: 1 }[event.key];
     const isReader = shownBoard().role === "reader";
-    // Waiting asks for a date, so a card goes there by the mouse alone, and keys pass it over.
+    // Waiting asks for a date, so a card goes there by a key of its own, and those that move cards pass it over.
     if (sideways && event.shiftKey && !isReader) moveTo(card.task, beside(name, sideways, NAMES.filter((other) => other !== "waiting" || name === other)));
     else if (sideways) {
         const names = NAMES.filter((other) => other === name || cardsIn(other).length > 0);
@@ -140,6 +140,7 @@ function steer(event) {
         focusOn(others[Math.min(cardsIn(name).indexOf(card), others.length - 1)]);
     } else if (upright) focusOn(cardsIn(name)[cardsIn(name).indexOf(card) + upright]);
     else if (event.key === "d" && !isReader) moveTo(card.task, name === "done" ? "todo" : "done");
+    else if (event.key === "w" && !isReader) moveTo(card.task, "waiting");
     else return;
     event.preventDefault();
 }

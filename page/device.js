@@ -36,6 +36,14 @@ export const update = (changes, members) =>
             store.get(order).onsuccess = ({ target }) => target.result && store.put({ ...target.result, ...members });
         }
     });
+// Sets members of each change as they are given with its order, and takes others away, in one transaction.
+export const edit = (edits, gone) =>
+    within("readwrite", (store) => {
+        for (const members of edits) {
+            store.get(members.order).onsuccess = ({ target }) => target.result && store.put({ ...target.result, ...members });
+        }
+        gone.forEach(({ order }) => store.delete(order));
+    });
 export const remove = (changes) => within("readwrite", (store) => changes.forEach((change) => store.delete(change.order)));
 
 // The changes of all who use this device.

@@ -7,6 +7,7 @@ import { Board } from "./board.js";
 import { find } from "./dom.js";
 import { ago } from "./moments.js";
 import { forgetSeen, keepSeen, lastSeen } from "./seen.js";
+import { doubtKey } from "./sending.js";
 import { announce, here, listen, state } from "./state.js";
 
 // How often the server is asked, after how long someone counts as idle, how long a pause in typing is, and how long a board that was seen
@@ -89,6 +90,9 @@ export async function lookAgain(withBoards = false) {
     wantsBoards ||= withBoards;
     if (isAsking) return;
     isAsking = true;
+    const { who } = state;
+    const key = who?.key;
+    let isRekeyed = false;
     try {
         while (isWanted && state.who) {
             lastLook = performance.now();
@@ -101,11 +105,13 @@ export async function lookAgain(withBoards = false) {
     } catch (fault) {
         // Where a board is refused its people have changed.
         if (fault instanceof NoAnswer) setReach(false);
-        else if (fault.status === 401) announce("unknown");
-        else lookAtBoards().catch(console.error);
+        else if (fault.status !== 401) lookAtBoards().catch(console.error);
+        else if (who.key === key) doubtKey(who, key).catch(console.error);
+        else isRekeyed = true;
     } finally {
         isAsking = false;
     }
+    if (isRekeyed && state.who === who) lookAgain(true);
 }
 
 function write(id, text) {
@@ -136,6 +142,8 @@ function lookByClock() {
     drawAge();
 }
 
+const changesBoards = ({ path }) => ["roles", "take", "title"].includes(path.split("/").at(-1));
+
 export function beginLooking() {
     setInterval(lookByClock, LEAST);
     addEventListener("focus", lookIfSeen);
@@ -149,5 +157,6 @@ export function beginLooking() {
     for (const news of ["boards", "route"]) listen(news, showSeen);
     listen("route", drawAge);
     listen("kept", () => state.board?.relay() && announce("board", true));
-    listen("answered", ({ change }) => document.hidden || lookAgain(change.board === 0 || change.path.endsWith("/roles")));
+    listen("rekeyed", () => lookAgain(true));
+    listen("answered", ({ change }) => document.hidden || lookAgain(change.board === 0 || changesBoards(change)));
 }

@@ -11,6 +11,7 @@ const LIST = [
     ["x", "Choose the task, to change several at once"],
     ["Shift + ↑ ↓", "Choose the next one too; Ctrl + A chooses all"],
     ["Shift + ← →", "In columns, move the card: start, stop, complete or reopen the task"],
+    ["w", "In columns, let the task wait until a day"],
 ];
 const ANYWHERE = [
     ["Escape", "Close the task or the form"],

@@ -1,4 +1,5 @@
 // What is on this device for people who aren't signed in, and signing out, which asks about what isn't sent yet.
+import { isOwnKey } from "./changes.js";
 import { dropDrafts, draftsOf } from "./drafts.js";
 import * as device from "./device.js";
 import { button, counted, fill, find, make, said } from "./dom.js";
@@ -40,7 +41,7 @@ function unsent() {
     return { changes, rows };
 }
 
-// A new person's key isn't left behind where it can't be hidden.
+// A key isn't left behind where it can't be hidden.
 const cantStay = (change) => change.isSecret && !canSeal();
 
 // Signs out; where something isn't sent yet, once its person has chosen what becomes of it.
@@ -53,12 +54,15 @@ export function signOut(leave) {
         if (drops) dropDrafts(state.who.name);
         leave();
     };
-    const told = changes.some(cantStay) ? "Without TLS this browser can't hide the key of a new person, so that change is thrown away in either case." : "";
+    const told = [
+        changes.some(cantStay) && "Without TLS this browser can't hide keys, so a change that has one is thrown away in either case.",
+        changes.some(isOwnKey) && "The change of your key may have acted already. Kept, it is finished when you sign in with either key. Thrown away, it leaves you with one of the two: try both.",
+    ].filter(Boolean);
     fill(
         find("leave-parts"),
         make("p", {}, `This isn't sent yet, ${rows.length} in all. Keep it here, and it is sent when ${state.who.name} signs in on this device again.`),
         make("ul", { class: "lines" }, rows.slice(0, MOST_SHOWN), rows.length > MOST_SHOWN ? make("li", {}, `and ${rows.length - MOST_SHOWN} more`) : ""),
-        told ? make("p", { class: "fault" }, told) : "",
+        told.map((text) => make("p", { class: "fault" }, text)),
         make("div", { class: "line" },
             button("Keep it and sign out", end(cantStay, false), { class: "primary", id: "leave-keep" }),
             button("Throw it away and sign out", end(() => true, true), { class: "danger", id: "leave-drop" }),

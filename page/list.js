@@ -35,8 +35,8 @@ export class List {
 
     // Shows these tasks. Unless they are asked for by the person, what is at the upper edge of the window stays there.
     show(tasks, isAsked) {
-        const edge = this.#firstInSight();
-        const anchor = edge > 0 && !isAsked ? this.#items[edge]?.uuid : "";
+        const edge = isAsked ? 0 : this.#firstInSight();
+        const anchor = edge > 0 ? this.#items[edge]?.uuid : "";
         this.#items = tasks;
         this.draw();
         const at = anchor ? tasks.findIndex((task) => task.uuid === anchor) : -1;
@@ -76,12 +76,19 @@ export class List {
         let row = this.#rows.get(item.uuid);
         const isNew = row?.look !== look || (isTask(item) && row.item !== item);
         if (isNew) row = Object.assign(isTask(item) ? this.makeRow(item) : makeHeading(item), { item, look });
-        row.dataset.uuid = item.uuid;
-        row.style.top = `${at * this.#height}px`;
-        row.at = at;
-        row.ariaPosInSet = at + 1;
-        row.ariaSetSize = this.#items.length;
+        if (isNew) row.dataset.uuid = item.uuid;
+        this.#setPlace(row, at);
         return row;
+    }
+
+    // Says where a row stands. One that stays there, as most do when the list is scrolled, isn't written to.
+    #setPlace(row, at) {
+        const [top, count] = [at * this.#height, this.#items.length];
+        if (row.at !== at || row.top !== top) {
+            Object.assign(row, { at, top, ariaPosInSet: at + 1 });
+            row.style.top = `${top}px`;
+        }
+        if (row.count !== count) Object.assign(row, { count, ariaSetSize: count });
     }
 
     // Puts the rows into the page in their order, touching none that stands right. A row that had the focus has it again when it was
@@ -111,7 +118,10 @@ export class List {
     #setTabStop() {
         const opens = [...this.place.querySelectorAll(".open")];
         const stop = this.#rows.get(this.#current)?.querySelector(".open") ?? opens[0];
-        for (const open of opens) open.tabIndex = open === stop ? 0 : -1;
+        for (const open of opens) {
+            const wanted = open === stop ? "0" : "-1";
+            if (open.getAttribute("tabindex") !== wanted) open.setAttribute("tabindex", wanted);
+        }
     }
 
     #move(event) {

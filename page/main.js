@@ -1,4 +1,5 @@
 // The page as a whole: who is signed in, which board and which view are shown.
+import { beginAccount } from "./account.js";
 import { beginAdding } from "./adding.js";
 import { beginBulk } from "./bulk.js";
 import { beginBecoming } from "./becoming.js";
@@ -16,7 +17,8 @@ import { beginFocus } from "./focus.js";
 import { beginLooking, lookAgain, lookAtBoards } from "./fresh.js";
 import { beginKeys } from "./keys.js";
 import { beginNotices, tellFault } from "./notices.js";
-import { beginOffline } from "./offline.js";
+import { beginOffline } from "./start.js";
+import { beginOwning } from "./owning.js";
 import { beginPanel } from "./panel.js";
 import { beginPeople } from "./people.js";
 import { beginRenewing } from "./renewing.js";
@@ -98,6 +100,8 @@ const PARTS = [
     beginBecoming,
     beginRepeating,
     beginPeople,
+    beginOwning,
+    beginAccount,
     beginFiles,
     beginRenewing,
     beginDay,

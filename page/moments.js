@@ -36,6 +36,7 @@ function placed(second) {
 }
 
 export const dayOf = (second) => placed(second).day;
+export const isTimed = (second) => placed(second).minute !== undefined;
 export const today = () => dayNumber(new Date());
 
 // The day so many days after today, as 2026-01-31.

@@ -1,6 +1,7 @@
 // Moving tasks to another board: each is imported there before it is deleted here, so a stop in between loses none and is gone on with.
 import { newIdentifier } from "./asking.js";
 import { changes } from "./changes.js";
+import { counted } from "./dom.js";
 
 // A task goes behind those on which it depends, since an import knows only links to tasks that are there.
 function inOrder(tasks) {
@@ -27,6 +28,23 @@ function lineFor(task, names) {
         .replace(/"depends":\[[^\]]*\]/, `"depends":${JSON.stringify(links)}`)
         .replace(/"imask":\d+,/, "")
         .replace(/"parent":"[0-9a-f-]{36}",/, "");
+}
+
+const linksIn = (count) => `${counted(count)} ${count === 1 ? "link" : "links"}`;
+
+// What can't go along, in words: an import knows no link to a task that isn't there, and no instance without its template. What waits here for a
+// task that moves waits no more.
+export function leftBehind(tasks, all) {
+    const moved = new Set(tasks.map(({ uuid }) => uuid));
+    const linksOf = (some, isCut) => some.flatMap(({ depends }) => depends).filter(isCut).length;
+    const out = linksOf(tasks, (uuid) => !moved.has(uuid));
+    const back = linksOf(all.filter(({ uuid, isOpen }) => isOpen && !moved.has(uuid)), (uuid) => moved.has(uuid));
+    const instances = tasks.filter(({ parent }) => parent).length;
+    return [
+        out > 0 && `${linksIn(out)} to tasks that stay here`,
+        back > 0 && `${linksIn(back)} from tasks that stay here`,
+        instances > 0 && `${counted(instances)} ${instances === 1 ? "place" : "places"} among the instances of a repeating task`,
+    ].filter(Boolean);
 }
 
 // For each task a group of changes: its import there, and then its deletion here.

@@ -1,10 +1,10 @@
 // What the page tells: whether all is answered, what isn't yet, what was refused and why, what an import did, and a way back.
 import { openAgain, textsOf, wayOf } from "./again.js";
 import { NoAnswer } from "./asking.js";
-import { changes, reason } from "./changes.js";
+import { changes, isOwnKey, reason } from "./changes.js";
 import { button, counted, fill, find, make, said, span, tasksTold } from "./dom.js";
 import { ago } from "./moments.js";
-import { forget, keep, sendAgain, sendAllTheSame, sendNow, settled, vainTries, waiting } from "./sending.js";
+import { forget, keep, sendAgain, sendAllTheSame, sendHidden, sendNow, settled, vainTries, waiting } from "./sending.js";
 import { listen } from "./state.js";
 
 const [TOLD_FOR, LATE, MOST_SHOWN] = [10000, 400, 20];
@@ -47,7 +47,9 @@ function drawState() {
 function drawUnanswered() {
     const all = waiting();
     const giveUp = (one) => confirm("Send this change no more? It may have acted already, if only its answer was lost.") && forget(one);
-    const row = (one) => make("li", {}, make("span", {}, about(one)), span("about", ago(one.made), button("Give up", () => giveUp(one), { class: "quiet" })));
+    // A change of the own key that has acted is needed to go on with the new one.
+    const end = (one) => (isOwnKey(one) ? "" : button("Give up", () => giveUp(one), { class: "quiet" }));
+    const row = (one) => make("li", {}, make("span", {}, about(one)), span("about", ago(one.made), end(one)));
     const away = `The server doesn't answer (${vainTries()} tries). They are on this device, and are sent again until it does; none happens twice.`;
     find("unanswered-why").textContent = isThere ? "They are on this device, and go to the server in this order." : away;
     fill(find("unanswered-list"), all.slice(0, MOST_SHOWN).map(row), all.length > MOST_SHOWN ? make("li", {}, `and ${all.length - MOST_SHOWN} more`) : "");
@@ -82,14 +84,35 @@ function already(change) {
 
 const worded = (value) => (value === null || value === undefined ? "nothing" : [value].flat().join(" "));
 
+// A change that was hidden under another key than the one of now is sent once its person gives that one.
+function hiddenOne(change) {
+    const key = make("input", { type: "password", "aria-label": "The key that you had then", autocomplete: "current-password" });
+    const fault = make("p", { class: "fault", role: "alert" });
+    const send = async () => (await sendHidden(change, key.value)) || (fault.textContent = "This isn't the key under which it is hidden.");
+    const submit = (event) => {
+        event.preventDefault();
+        send().catch(tellFault);
+    };
+    const told = [
+        make("p", {}, make("strong", {}, "Not sent yet: "), about(change)),
+        make("p", {}, "It has a key in it, so it is hidden under the key that you had when you made it. Your key is another one now: give the former one to send it."),
+        make("form", { class: "line", submit }, make("input", { autocomplete: "username", value: change.member, hidden: true }), key, make("button", {}, "Send it")),
+        fault,
+    ];
+    return make("li", { class: "notice asks" }, make("div", {}, told), button("Throw away", () => forget(change), { class: "quiet" }));
+}
+
 // A change that waited while its task became another is sent once its person says so.
 function question(change) {
+    if (change.doubt.name === "key") return hiddenOne(change);
     const { name, was, is } = change.doubt;
     const told = [
         make("p", {}, make("strong", {}, "Not sent yet: "), about(change)),
         make("p", {}, `While it waited, the task's ${name} changed on the server from `, quoted(worded(was)), " to ", quoted(worded(is)), "."),
     ];
-    return make("li", { class: "notice asks" }, make("div", {}, told), buttons(button("Send it all the same", attempt(() => sendAllTheSame(change))), button("Throw away", () => forget(change), { class: "quiet" })));
+    const edit = wayOf(change) === "form" ? button("Edit it first", attempt(() => openAgain(change))) : "";
+    const ways = [edit, button("Send it all the same", attempt(() => sendAllTheSame(change))), button("Throw away", () => forget(change), { class: "quiet" })];
+    return make("li", { class: "notice asks" }, make("div", {}, told), buttons(...ways));
 }
 
 // What the parts of an import did together, those that are answered.
@@ -109,7 +132,7 @@ function report(parts) {
 
 function drawNotices() {
     const all = settled();
-    const seen = all.map((one) => [one.order, one.state, one.state === "refused" && wayOf(one)]).join();
+    const seen = all.map((one) => [one.order, one.state, ["refused", "asks"].includes(one.state) && wayOf(one)]).join();
     if (seen === look) return;
     look = seen;
     const of = (state) => all.filter((one) => one.state === state);

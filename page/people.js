@@ -1,41 +1,71 @@
-// The view of the people on a board and their roles, and of adding a person.
-import { changes } from "./changes.js";
+// The view of the people on a board and their roles, of adding a person, and of other people's keys.
+import { changes, isOfFirst } from "./changes.js";
 import { check, isWhole } from "./checking.js";
 import { button, fill, find, make, said, span, whenSent } from "./dom.js";
 import { options } from "./fields.js";
 import { tellFault } from "./notices.js";
+import { drawOwning, showBoardsOf } from "./owning.js";
 import { faultInKey, faultInName } from "./rules.js";
 import { lookOrSeen } from "./seen.js";
 import { keep } from "./sending.js";
+import { newKey } from "./session.js";
 import { here, listen, state } from "./state.js";
 
 // The roles that are known here, and those that the server tells of.
 const roles = new Set(["owner", "member", "reader"]);
 let shown = "";
 
-// Set once the server said that someone may not add people.
+// Set once the server said that someone isn't the first person.
 const refusedTo = (name) => `taskboard.adds-nobody ${name}`;
 
 const isOwner = () => here()?.role === "owner";
 const choices = (chosen) => options([...roles].map((role) => [role, role]), chosen);
 
-// The first person of the server alone adds people. A board tells its people in the order in which they came, so whoever stands behind another
-// isn't that person.
-const mayAddPeople = (first) => first === state.who.name && localStorage.getItem(refusedTo(first)) === null;
+// The first person of the server alone adds people and sets their keys. A board tells its people in the order in which they came, so whoever
+// stands behind another isn't that person.
+const mayBeFirst = (first) => first === state.who.name && localStorage.getItem(refusedTo(first)) === null;
 
 function noteRefusal({ change, status }) {
-    if (change.path !== "/people" || status !== 403) return;
+    if (status === 200 || !isOfFirst(change)) return;
+    find("person-told").hidden = true;
+    if (status !== 403) return;
     localStorage.setItem(refusedTo(change.member), "yes");
     draw(true);
 }
 
-function row({ name, role }) {
+// Says a key, once: the page keeps it nowhere where it could be read again.
+function tellKey(name, key) {
+    const told = [said(name), " signs in with the key ", make("code", {}, key), ". Hand it over so that nobody else reads it; it isn't shown again."];
+    fill(find("person-told"), "Once this is answered, ", ...told);
+    find("person-told").hidden = false;
+    find("person-told").scrollIntoView({ block: "center" });
+}
+
+// Gives someone another key: whoever lost it, whose key others know, or who was let go and comes back.
+async function giveKey(name) {
+    if (!confirm(`Give ${name} a new key? The one that ${name} may have now ends.`)) return;
+    const key = newKey();
+    await keep(changes.key(name, key));
+    tellKey(name, key);
+}
+
+async function letGo(name) {
+    if (!confirm(`Let ${name} go? Nothing that ${name} asks or changes is taken any more. The name, the roles and all that ${name} did stay. A new key lets ${name} come back.`)) return;
+    await keep(changes.key(name, null));
+    await showBoardsOf(name);
+}
+
+const KEY_ACTS = [["New key", giveKey], ["Let go", letGo]];
+const keyButtons = (name) => KEY_ACTS.map(([word, act]) => button(word, () => act(name).catch(tellFault), { class: "quiet", "aria-label": `${word}: ${name}` }));
+
+function row({ name, role }, isFirst) {
     const set = (given) => keep(changes.role(state.number, name, given)).catch(tellFault);
     const isMine = name === state.who.name;
     const [word, question] = isMine ? ["Leave", "Leave this board? Only an owner can let you in again."] : ["Remove", `End the role of ${name}?`];
     const end = button(word, () => confirm(question) && set(null), { class: "quiet", "aria-label": `${word} ${name}` });
     const select = make("select", { "aria-label": `Role of ${name}`, change: (event) => set(event.target.value) }, choices(role));
-    return make("li", {}, span("person", said(name), isMine ? span("about", " (you)") : ""), ...(isOwner() ? [select, end] : [span("chip", said(role))]));
+    const keys = isFirst && !isMine ? keyButtons(name) : [];
+    return make("li", {}, span("person", said(name), isMine ? span("about", " (you)") : ""), ...keys, ...(isOwner() ? [select, end] : [span("chip", said(role))]));
 }
 
 // A view that isn't answered is asked for again at the next look. What was refused is shown anew as it is on the server.
@@ -48,15 +78,16 @@ async function draw(isAnew) {
     shown = text;
     const { people } = JSON.parse(text);
     people.forEach(({ role }) => roles.add(role));
-    fill(find("people"), people.map(row));
+    const isFirst = mayBeFirst(people[0].name);
+    fill(find("people"), people.map((person) => row(person, isFirst)));
     for (const id of ["invite-role", "person-role"]) fill(find(id), choices(find(id).value || "member"));
     find("invite-form").hidden = !isOwner();
-    find("person-form").hidden = !mayAddPeople(people[0].name);
+    for (const id of ["person-form", "keys-form"]) find(id).hidden = !isFirst;
+    drawOwning(isOwner(), isFirst);
 }
 
 function makeKey() {
-    const bytes = crypto.getRandomValues(new Uint8Array(18));
-    find("person-key").value = btoa(String.fromCharCode(...bytes)).replaceAll("+", "-").replaceAll("/", "_");
+    find("person-key").value = newKey();
     find("person-key").dispatchEvent(new Event("input"));
 }
 
@@ -66,9 +97,16 @@ async function addPerson(form) {
     if (!isWhole(form)) return;
     form.reset();
     await keep(changes.person(name, key, { role, joins }), ...(joins ? [changes.role(state.number, name, role)] : []));
-    const told = [said(name), " signs in with the key ", make("code", {}, key), ". Hand it over so that nobody else reads it; it isn't shown again."];
-    fill(find("person-told"), "Once this is answered, ", ...told);
-    find("person-told").hidden = false;
+    tellKey(name, key);
+}
+
+function beginKeysOfOthers() {
+    const input = find("keys-name");
+    const withName = (act) => () => isWhole(find("keys-form")) && act(input.value.trim()).catch(tellFault);
+    check(input, (text) => (text.trim() === state.who?.name ? "You change your own key by a click on your name, at the top." : faultInName(text.trim())));
+    whenSent("keys-form", withName(giveKey));
+    find("keys-end").addEventListener("click", withName(letGo));
+    find("keys-boards").addEventListener("click", withName(showBoardsOf));
 }
 
 export function beginPeople() {
@@ -76,6 +114,7 @@ export function beginPeople() {
     whenSent("person-form", (form) => addPerson(form).catch(tellFault));
     for (const id of ["person-name", "invite-name"]) check(find(id), (text) => faultInName(text.trim()));
     check(find("person-key"), (text) => faultInKey(text.trim()));
+    beginKeysOfOthers();
     whenSent("invite-form", (form) => {
         if (!isWhole(form)) return;
         keep(changes.role(state.number, find("invite-name").value.trim(), find("invite-role").value)).catch(tellFault);

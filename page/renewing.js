@@ -8,8 +8,9 @@ import { changes } from "./changes.js";
 import { check, isWhole } from "./checking.js";
 import { cutTasks, objectTexts } from "./cutting.js";
 import { counted, find, whenSent } from "./dom.js";
+import { momentOf, now } from "./moments.js";
 import { tellFault, tellRefusal } from "./notices.js";
-import { faultInTitle, MOST_TASKS } from "./rules.js";
+import { faultInTitle, MOST_AHEAD, MOST_TASKS } from "./rules.js";
 import { keep, keepEach, settled, waiting } from "./sending.js";
 import { go, here, listen, state } from "./state.js";
 
@@ -42,7 +43,7 @@ function draw() {
 function ask() {
     const tasks = state.board.tasks.filter(isTaken);
     find("renew-title").value = nextTitle(here().title);
-    find("renew-told").textContent = `The new board gets the same people with the same roles, and the ${counted(tasks.length)} open and repeating tasks of this one, which stays as it is.`;
+    find("renew-told").textContent = `The new board gets the same people with the same roles, and the ${counted(tasks.length)} open and repeating tasks of this one, which stays as it is. It looks as far ahead as instances stand here now.`;
     find("renew-dialog").showModal();
 }
 
@@ -76,6 +77,13 @@ async function goOn() {
     }
 }
 
+// How far a board looks ahead, which no view tells: as many instances of a template as stand there ahead of their dates.
+function aheadOf(tasks) {
+    const present = momentOf(now());
+    const later = Object.groupBy(tasks.filter(({ parent, due }) => parent && due > present), ({ parent }) => parent);
+    return Math.min(MOST_AHEAD, Math.max(1, ...Object.values(later).map((instances) => instances.length)));
+}
+
 async function fill(number, { from, title }) {
     const { who } = state;
     const [crew, tasks] = await Promise.all(["people", "export"].map((view) => look(who, `/boards/${from}/${view}`)));
@@ -83,6 +91,8 @@ async function fill(number, { from, title }) {
     const parts = cutTasks(objectTexts(tasks).texts.filter((text) => isTaken(JSON.parse(text))));
     const called = (at) => (parts.length === 1 ? title : `${title}, part ${at + 1} of ${parts.length}`);
     await keepEach(people.filter(({ name }) => name !== who.name).map(({ name, role }) => changes.role(number, name, role)));
+    const ahead = aheadOf(JSON.parse(tasks));
+    if (ahead > 1) await keep(changes.ahead(number, ahead));
     if (parts.length > 0) await keep(...parts.map((part, at) => ({ ...changes.part(number, "import", part, called(at)), file: title, parts: parts.length })));
 }
 

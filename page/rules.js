@@ -5,7 +5,7 @@ import { stepOf } from "./recurrence.js";
 
 const LONGEST = { text: 16384, title: 200, name: 32, key: 64 };
 const SHORTEST_KEY = 8;
-const MOST_AHEAD = 12;
+export const MOST_AHEAD = 12;
 // 12 Full: the tasks on a board, those that are completed or deleted too.
 export const MOST_TASKS = 10000;
 

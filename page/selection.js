@@ -2,14 +2,16 @@
 import { announce, listen, state } from "./state.js";
 
 let chosen = new Set();
-// The uuids of the list in their order, where a choice of many begins, and whether the rows show a box to choose them by without a mouse.
-let [order, anchor, isChoosing] = [[], "", false];
+// The tasks of the list in their order, where a choice of many begins, and whether the rows show a box to choose them by without a mouse.
+let [listed, anchor, isChoosing] = [[], "", false];
+
+const order = () => listed.map(({ uuid }) => uuid);
 
 export const isPicked = (uuid) => chosen.has(uuid);
 export const areBoxesShown = () => isChoosing || chosen.size > 0;
 
 // The chosen tasks, in the order of the list.
-export const picked = () => (chosen.size === 0 ? [] : order.filter((uuid) => chosen.has(uuid)).map((uuid) => state.board.byId.get(uuid)).filter(Boolean));
+export const picked = () => (chosen.size === 0 ? [] : order().filter((uuid) => chosen.has(uuid)).map((uuid) => state.board.byId.get(uuid)).filter(Boolean));
 
 function choose(uuids) {
     chosen = new Set(uuids);
@@ -17,7 +19,7 @@ function choose(uuids) {
 }
 
 export const pickNone = () => choose([]);
-export const pickAll = () => choose(order);
+export const pickAll = () => choose(order());
 
 export function pick(uuid, isWanted = !chosen.has(uuid)) {
     anchor = uuid;
@@ -26,9 +28,10 @@ export function pick(uuid, isWanted = !chosen.has(uuid)) {
 
 // Chooses all from where the last choice was made to there.
 export function pickTo(uuid) {
-    const [from, to] = [order.indexOf(anchor), order.indexOf(uuid)];
+    const all = order();
+    const [from, to] = [all.indexOf(anchor), all.indexOf(uuid)];
     if (from < 0) return pick(uuid, true);
-    choose([...chosen, ...order.slice(Math.min(from, to), Math.max(from, to) + 1)]);
+    choose([...chosen, ...all.slice(Math.min(from, to), Math.max(from, to) + 1)]);
 }
 
 export function showBoxes(isShown) {
@@ -38,9 +41,9 @@ export function showBoxes(isShown) {
 
 // The list shows these tasks: what it doesn't show isn't chosen.
 export function setOrder(tasks) {
-    order = tasks.map(({ uuid }) => uuid);
+    listed = tasks;
     if (chosen.size === 0) return;
-    const shown = new Set(order);
+    const shown = new Set(order());
     const left = [...chosen].filter((uuid) => shown.has(uuid));
     if (left.length < chosen.size) choose(left);
 }

@@ -4,10 +4,14 @@
 // Each tab sends what the person who is signed in there has on this device, also what another tab put there. Locks keep two tabs from
 // doing so at once. Where a browser has none (plain http from another machine) a lease stands in for them, which a tab that sleeps may
 // lose while it sends. That does no harm: both tabs send the first change that isn't answered, and it acts once under its identifier.
+//
+// A change of the own key takes its turn like any other: what is ahead of it goes with the old key, itself too, and what follows with the new
+// one. It stays on the device until the new key stands in the session, so that a tab that stops anywhere in between gets in afterwards.
 import { NoAnswer, newIdentifier, tell } from "./asking.js";
-import { changes as making } from "./changes.js";
+import { changes as making, isOwnKey } from "./changes.js";
 import * as device from "./device.js";
-import { canSeal, seal, unseal } from "./sealing.js";
+import { canSeal, isSealed, reseal, seal, unseal } from "./sealing.js";
+import { isRemembered, openOwnKey, recallKeys, takeKey, takeKeyOf } from "./session.js";
 import { afterAnswer, doubtAbout } from "./settling.js";
 import { announce, state } from "./state.js";
 
@@ -23,6 +27,8 @@ const tab = newIdentifier();
 let [held, tries, isSending] = [[], 0, false];
 // What is on its way to the device, one after the other; it isn't sent before it stands there.
 let [putting, lastPut] = [[], Promise.resolve()];
+// The work that says which key is the one by now.
+let knowing = Promise.resolve();
 // Ends the pause, and whether one that begins is to be left out: somebody asked for sending while a message was on its way.
 let [endPause, isHurried] = [() => {}, false];
 
@@ -37,8 +43,13 @@ async function readDevice(then = () => {}) {
     announce("kept");
 }
 
+const inKnowing = (work) => (knowing = knowing.then(work).catch(console.error));
+
 tabs.onmessage = async ({ data }) => {
-    if (data.change && data.change.member === state.who?.name) announce("answered", data);
+    if (data.change && data.change.member === state.who?.name) {
+        if (isOwnKey(data.change) && data.status === 200) await inKnowing(() => takeKeyOf(data.change));
+        announce("answered", data);
+    }
     await readDevice();
     send();
 };
@@ -53,8 +64,18 @@ export function sendNow() {
 
 export async function beginSending() {
     tries = 0;
+    await inKnowing(() => recallKeys(state.who));
     await readDevice();
     sendNow();
+}
+
+// Who was signed in with this key isn't known to the server. That is news only where no change of the key is under way.
+export async function doubtKey(who, key) {
+    await knowing;
+    await readDevice();
+    if (state.who !== who || who.key !== key) return;
+    if (onDevice().some(isOwnKey)) sendNow();
+    else announce("unknown");
 }
 
 // Holds changes on the device, and then sends them. Several are a group: where one is refused those behind it are taken back.
@@ -93,19 +114,28 @@ function inOrder(put) {
 // Once all that was made stands on the device.
 export const allKept = () => lastPut.then(() => readDevice());
 
-// A new person's key doesn't stand on the device as it is.
+// A key doesn't stand on the device as it is; where it is to replace the own one either of the two opens it.
 async function hideSecret(change) {
-    return change.isSecret && canSeal() ? { ...change, body: "", sealed: await seal(change.body, state.who.key) } : change;
+    if (!change.isSecret || !canSeal()) return change;
+    const keys = isOwnKey(change) ? Object.values(JSON.parse(change.body)) : [state.who.key];
+    return { ...change, body: "", sealed: await seal(change.body, ...keys) };
 }
 
 // The body of a change, also where it was hidden.
 export const bodyOf = async (change) => (change.sealed ? unseal(change.sealed, state.who.key) : change.body);
 
 // Sends on what its person was asked about.
-export async function sendAllTheSame(change) {
-    await device.update([change], { state: "waiting", isSure: true });
+export async function sendAllTheSame(change, members = {}) {
+    await device.update([change], { ...members, state: "waiting", isSure: true });
     await readDevice();
     sendNow();
+}
+
+// Sends what was hidden under the key that its person had before. Gives whether that is the one.
+export async function sendHidden(change, key) {
+    const text = await unseal(change.sealed, key).catch(() => null);
+    if (text !== null) await sendAllTheSame(change, { sealed: await seal(text, state.who.key) });
+    return text !== null;
 }
 
 // Sends again what was refused, and what was to follow it, under new identifiers.
@@ -148,11 +178,10 @@ async function sendInOrder(who) {
     try {
         for (await readDevice(); state.who === who && onDevice().length > 0; await readDevice()) {
             const [change] = onDevice();
-            const doubt = isDoubtful(change) ? await doubtAbout(who, change) : null;
-            if (doubt) await device.update([change], { state: "asks", doubt });
-            else await settle(who, change, await tell(who, { ...change, body: await bodyOf(change) }));
+            const isKnown = await (isOwnKey(change) ? sendOwnKey(who, change) : sendOne(who, change));
             tries = 0;
             announce("reach", true);
+            if (!isKnown) return false;
         }
         return true;
     } catch (fault) {
@@ -163,6 +192,64 @@ async function sendInOrder(who) {
     }
 }
 
+// Sends a change, unless its person has to be asked first. Gives whether the server knows who sends it.
+async function sendOne(who, change) {
+    const body = await bodyOf(change).catch(() => null);
+    const doubt = body === null ? { name: "key" } : isDoubtful(change) ? await doubtAbout(who, change) : null;
+    if (doubt) {
+        await device.update([change], { state: "asks", doubt });
+        return true;
+    }
+    const { key } = who;
+    const answer = await tell(who, { ...change, body });
+    if (answer.status !== 401) await settle(who, change, answer);
+    else await noteUnknown(who, key, change);
+    return answer.status !== 401;
+}
+
+// An answer that says the key is wrong settles nothing: the server keeps no such answer, so the change waits until its person signs in again.
+// Where another tab has sent it meanwhile, and then changed the key, it says nothing at all.
+async function noteUnknown(who, key, { id }) {
+    await knowing;
+    await readDevice();
+    if (state.who === who && who.key === key && onDevice()[0]?.id === id) announce("unknown");
+}
+
+// The answer to a change of the own key. Where the session has neither of its keys another one was set since, and this one can't act any more;
+// and where it has the new one the change was answered before.
+async function answerTo(who, change, keys) {
+    if (!keys) return { status: 409, body: { name: "KeyDiffers" } };
+    return who.key === keys.after ? { status: 200, body: {} } : tell(who, { ...change, body: keys.body });
+}
+
+// Sends a change of the own key, and takes the new one. Gives whether the server knows who sends it.
+async function sendOwnKey(who, change) {
+    const keys = await openOwnKey(change, who.key);
+    const { status, body } = await answerTo(who, change, keys);
+    // (who signed out meanwhile finds it on the device again)
+    if (state.who !== who) return true;
+    if (status === 200 && who.key === keys.before) takeKey(keys);
+    const news = { change, status, body };
+    tabs.postMessage(news);
+    if (status === 200) await inOrder(() => clearKey(who, change, keys));
+    else await device.update([change], { state: "refused", body: "", sealed: null, answer: body, behind: [] });
+    if (state.who === who) announce("answered", news);
+    await readDevice();
+    if (state.who === who && who.key === keys?.before && status === 401) announce("unknown");
+    return status !== 401;
+}
+
+// What was hidden under the old key is hidden under the new one, and the change is done; it stays where a browser that stops may lose the
+// session that has the new key.
+async function clearKey(who, change, { before, after }) {
+    const others = (await device.all(who.name)).filter((other) => other.id !== change.id && !isOwnKey(other) && isSealed(other));
+    const resealed = await Promise.all(others.map((other) => reseal(other, before, after)));
+    const hidden = resealed.map(({ order, sealed, behind }) => ({ order, sealed, behind }));
+    const done = { order: change.order, state: "changed", answeredAt: Date.now() };
+    if (isRemembered(who.name)) await device.edit([...hidden, done], []);
+    else await device.edit(hidden, [change]);
+}
+
 const isDoubtful = (change) => !change.isSure && (change.isOld || change.made < Date.now() - OLD);
 
 // What waits now has waited over a message without an answer.
@@ -171,11 +258,9 @@ async function noteVainTry() {
     await device.update(onDevice().filter((change) => !change.isOld), { isOld: true });
 }
 
-// Takes an answer down before the next change is sent. One that says the key is wrong settles nothing: the server keeps no such answer,
-// so the change waits until its person signs in again.
+// Takes an answer down before the next change is sent.
 async function settle(who, change, answer) {
     const { status, body } = answer;
-    if (status === 401) return state.who?.name === change.member && announce("unknown");
     if (body.more) await device.put([toKeep(making.sweep(change.board), "", change.member)]);
     const behind = status === 200 ? [] : held.filter((other) => change.group && other.group === change.group && other.order > change.order);
     const left = await afterAnswer(who, change, answer, behind);

@@ -23,7 +23,7 @@ export const here = () => state.boards.find((known) => known.board === state.num
 
 // "signed" in, "boards" and "board" (they came), "people" (of the board; they came), "route" (another view), "filter" (another one), "picked"
 // (rows, to change several at once), "kept" (changes are held or were settled), "answered" (with the change, the status and the body),
-// "reach" (the server is there or not), "unknown" (it doesn't know who is signed in), "tick" (15 s are over), "draft" (a form has a draft
+// "reach" (the server is there or not), "unknown" (it doesn't know who is signed in), "rekeyed" (whoever is signed in has another key), "tick" (15 s are over), "draft" (a form has a draft
 // from elsewhere), "left" (with the name of who signs out).
 const news = new EventTarget();
 export const announce = (name, detail) => news.dispatchEvent(new CustomEvent(name, { detail }));

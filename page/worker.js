@@ -1,5 +1,9 @@
 // Keeps the page's own files on the device: it opens without a line, and doesn't load them at each start. All files that are kept are of one
 // version, which is named by their content. The worker answers for these files alone; what is asked of the boards never comes by here.
+//
+// A browser asks for the worker at each start, and installs it anew where a byte of it differs. The next line, made by tests/page_content.py,
+// differs with every other file, so a new version is found at the next start, also where its files are as long as before.
+// Content of the other files: 1594adb0b6f473f64518d79f40aa4aacac53a605e8426102979c2109f109e884
 
 const VERSION = "taskboard ";
 const FILE = /^\/(?:[a-z0-9_.-]+\.(?:html|css|js|svg|png|ico))?$/;
@@ -7,7 +11,7 @@ const FILE = /^\/(?:[a-z0-9_.-]+\.(?:html|css|js|svg|png|ico))?$/;
 const COMPARED = "/kept/compared";
 const DAY = 86400000;
 // Which files a file names: those of the page, and the modules that a module imports.
-const NAMES = /(?:\b(?:href|src)="|\b(?:from|import) ?"\.\/)([a-z0-9_.-]+)"/g;
+const NAMES = /(?:\b(?:href|src)="|\b(?:from|import)[ (]?"\.\/)([a-z0-9_.-]+)"/g;
 const MARKS = ["etag", "last-modified", "content-length"];
 
 // Which version each window was opened with, so that it never gets a module of another one.
@@ -86,7 +90,8 @@ async function compare(isWhole) {
     if (found.name === name) return cache.put(COMPARED, new Response(String(Date.now())));
     if (cache && (await loadAll()).name !== found.name) return;
     await keep(found);
-    const windows = await clients.matchAll();
+    // (a worker that is being installed controls no window yet)
+    const windows = await clients.matchAll({ includeUncontrolled: true });
     if (cache) windows.forEach((window) => window.postMessage("renewed"));
 }
 
