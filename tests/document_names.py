@@ -1,18 +1,20 @@
-"""Looks up what the documents name: files, links, crates, contracts, examples, numbers and the logic. Prints each that isn't there: python3 document_names.py"""
+"""Looks up what the documents name: files, links, crates, contracts, examples, edits, numbers, the logic, and what they quote of the crates. Prints each that isn't there: python3 document_names.py"""
 import collections
 import pathlib
 import re
 import sys
 
 TOP = pathlib.Path(__file__).resolve().parent.parent
-DOCUMENTS = [TOP / "README.md", *sorted((TOP / "docs").glob("*.md"))]
-ENDINGS = r"\.(?:md|sh|py|rt|antt|txt|json|gz|case|steps|wire|script|answers|html)"
+# A crate's README says what the crate is for.
+INTRODUCTIONS = sorted(path for path in (TOP / "crates").glob("*/README.md"))
+DOCUMENTS = [TOP / "README.md", *sorted((TOP / "docs").glob("*.md")), *INTRODUCTIONS]
+ENDINGS = r"\.(?:md|sh|py|rt|antt|txt|json|gz|case|steps|wire|script|answers|html|js|css)"
 # An example goes by its name alone, whatever crate it is told of.
 EXAMPLES = (".script", ".answers", ".wire", ".case", ".steps")
 # What the program and the provers make, so that a clone needn't have it.
 MADE = re.compile(r"((crates/\w+/)?out/.*|.*\.db(-wal)?)")
 PLACEHOLDER = re.compile(r"NAME|FILE|MINUTES")
-FOLDERS = ("", "crates", "docs", "tests", "tools", "contrib")
+FOLDERS = ("", "crates", "docs", "tests", "tools", "contrib", "page")
 faults = []
 
 
@@ -59,9 +61,10 @@ def check_files(path):
     """Each word between backticks that is a path has to be one; words that begin with a slash are routes."""
     crates = []
     for number, line in lines_of(path):
-        # (a row stands for itself, but for promises; a paragraph or a list goes on with the crates of the lines above)
-        is_new = line.startswith("## ") if path.name == "PROMISES.md" else line.startswith("|") or not line.strip()
+        # (a row stands for itself; a paragraph or a list goes on with the crates of the lines above; in a crate's README paths are of that crate)
+        is_new = line.startswith("|") or not line.strip()
         crates = crates_named(line) if is_new else [*crates, *crates_named(line)]
+        crates = [path.parent.name, *crates] if path in INTRODUCTIONS else crates
         for word in [word for quoted in re.findall(r"`([^`]+)`", line) for word in quoted.split()]:
             is_path = re.fullmatch(rf"[\w./-]*\w{ENDINGS}|(?:\w+/)*(?:specs|src|proofs|tests|tools|docs|dist|crates|examples|data|contrib)/?[\w/.-]*", word)
             if is_path and "/" + word[0] != "//" and not MADE.fullmatch(word) and not word.startswith(".") and not is_there(word, crates):
@@ -94,7 +97,7 @@ def declared(crate):
 
 def check_contracts():
     """Each name that carries a promise is declared in a crate that its row names, or that rows above it in its section name."""
-    path = TOP / "docs/PROMISES.md"
+    path = TOP / "docs/THEOREM.md"
     by_crate = {crate: declared(crate) for crate in CRATES}
     everywhere = set().union(*by_crate.values())
     above = []
@@ -112,48 +115,84 @@ def check_contracts():
                 tell(path, number, f"{' '.join(crates) or 'no crate'} declares no {word}")
 
 
+def layers():
+    """The line of each crate in the picture of the layers."""
+    text = (TOP / "docs/ARCHITECTURE.md").read_text()
+    picture = re.search(r"(?s)```\n( +program .*?)```", text)
+    lines = picture[1].split("\n") if picture else []
+    return {name: number for number, line in reversed(list(enumerate(lines))) for name in re.findall(r"\w+", line) if name in CRATES}
+
+
 def check_crates():
-    """The table of crates has each, and each stands on what it's said to."""
-    path, seen = TOP / "docs/CRATES.md", set()
-    whole = (TOP / "docs/ARCHITECTURE.md").read_text()
-    for number, line in lines_of(path):
-        cells = line.strip("| ").split(" | ")
-        names = [name for name in re.findall(r"`(\w+)`", cells[0]) if name in CRATES]
-        if len(cells) != 3 or not names or re.search(r"[./]", cells[0]):
-            continue
-        seen |= set(names)
-        below = set().union(*(all_below(name) for name in names))
-        for other in re.findall(r"`(\w+)`", cells[2]):
-            if other not in below:
-                tell(path, number, f"{names} don't stand on {other}")
+    """The picture of the layers has each crate but those of tests, and each uses crates of its own line and of the lines below alone."""
+    path, line_of = TOP / "docs/ARCHITECTURE.md", layers()
     for crate in sorted(CRATES):
-        if crate not in seen or crate not in BELOW or f" {crate} " not in whole and not crate.startswith("test"):
-            tell(path, 0, f"{crate} lacks in the table of crates, in the layers or in crates.txt")
+        if crate not in BELOW or crate not in line_of and not crate.startswith("test"):
+            tell(path, 0, f"{crate} lacks in the layers or in crates.txt")
+        for other in BELOW.get(crate, ()):
+            if line_of.get(other, len(line_of)) < line_of.get(crate, 0):
+                tell(path, 0, f"{crate} uses {other}, which stands above it in the layers")
 
 
-def all_below(name):
-    return set(BELOW.get(name, ())).union(*(all_below(it) for it in BELOW.get(name, ())))
+def source_lines(folder):
+    """The lines of a folder's sources and definitions, without their margins."""
+    paths = [path for ending in ("rt", "antt") for path in folder.rglob(f"*.{ending}") if "out" not in path.parts]
+    return {line.strip() for path in paths for line in path.read_text().split("\n")}
+
+
+def check_quotes():
+    """Each line of code that THEOREM.md and the crates' READMEs show is one of the crates, or of that crate."""
+    for path in (TOP / "docs/THEOREM.md", *INTRODUCTIONS):
+        known = source_lines(path.parent if path in INTRODUCTIONS else TOP / "crates")
+        for number, line in enumerate(path.read_text().split("\n"), 1):
+            if line.startswith("    ") and line.strip() not in known:
+                tell(path, number, f"no source has {line.strip()}")
+
+
+def check_lengths():
+    """The files of the trusted base are as long as its table says."""
+    path = TOP / "docs/THEOREM.md"
+    for number, line in lines_of(path):
+        for name, told in re.findall(r"^\| `([\w/.]+)` \| (\d+) \| ", line):
+            file = TOP / "crates" / name
+            if file.exists() and len(file.read_text().splitlines()) != int(told):
+                tell(path, number, f"{name} has {len(file.read_text().splitlines())} lines")
+
+
+def check_edits():
+    """Each wrong body in the table of TESTING.md is an edit of the crate that its row names."""
+    path = TOP / "docs/TESTING.md"
+    for number, line in lines_of(path):
+        for name, crate in re.findall(r"^\| `(\w+)` \| `(\w+)` \| ", line):
+            if not (TOP / "crates" / crate / "must-fail" / f"{name}.edit").exists():
+                tell(path, number, f"{crate} has no edit {name}")
 
 
 def check_examples():
-    """Each example that has a heading, or a row of messages, is a file of a crate's data."""
-    path = TOP / "docs/EXAMPLES.md"
-    stems = {pathlib.Path(name).stem for paths in FILES.values() for name in paths if "crates/tests/data/" in name}
-    for number, line in lines_of(path):
-        names = re.findall(r"^#+ ([a-z_]+)$|^\| `([a-z_]+)` \|", line)
-        for name in [heading or row for heading, row in names]:
-            if name not in stems:
-                tell(path, number, f"no example {name}")
+    """Each case has a heading: a script in the list of headings, which has no others, and any other kind in its first line."""
+    data, path = TOP / "crates/tests/data", TOP / "tests/data/examples.txt"
+    headed = set(re.findall(r"(?m)^(\w+): \S", path.read_text()))
+    for name in sorted(headed ^ {script.stem for script in data.glob("*.script")}):
+        tell(path, 0, f"{name} is no script, or a script without a heading")
+    for case in sorted(it for ending in ("wire", "steps", "case") for it in data.glob(f"*.{ending}")):
+        if not case.read_text(errors="replace").startswith("# "):
+            tell(case, 1, "no heading")
 
 
 def check_tests():
-    """Each test has a row."""
+    """Each test has a row, and those in the table of quick.sh are the ones that it runs."""
     path = TOP / "docs/TESTING.md"
-    rows = set(re.findall(r"(?m)^\| `tests/([\w.]+)", path.read_text()))
+    text = path.read_text()
+    rows = set(re.findall(r"(?m)^\| `tests/([\w.]+)", text))
     helpers = {"all.sh", "quick.sh", "prepare.sh", "packages.sh", "release.sh"}
     for name in sorted(test.name for test in (TOP / "tests").glob("*.sh")):
         if name not in rows | helpers:
             tell(path, 0, f"no row of tests/{name}")
+    quick = text.partition("## Tests of `tests/quick.sh`")[2].partition("\n## ")[0]
+    told = set(re.findall(r"(?m)^\| `tests/([\w.]+)", quick))
+    run = set(re.findall(r"(?m)^attempt ([\w.]+)", (TOP / "tests/quick.sh").read_text()))
+    for name in sorted(told ^ run):
+        tell(path, 0, f"tests/{name} is in the table of quick.sh or run by it, and not both")
 
 
 def check_numbers():
@@ -161,7 +200,7 @@ def check_numbers():
     numbers = {
         "must-fail edits": len(list(TOP.glob("crates/*/must-fail/*.edit"))),
         "crates in all": len(CRATES),
-        "STRICT tables": len(re.findall(r"(?m)^    \w+\(", (TOP / "docs/TABLES.md").read_text())),
+        "STRICT tables": len(re.findall(r"(?m)^    \w+\((?:\w+ INTEGER|\w+ BLOB)", (TOP / "docs/OPERATING.md").read_text())),
     }
     words = dict(zip("one two three four five six seven eight nine ten eleven twelve".split(), range(1, 13)))
     for path in DOCUMENTS:
@@ -181,9 +220,9 @@ def check_logic():
 
 
 def check_words():
-    """Each word of a script stands where people look for it: in a table of the README, in the help of `send`, and behind its completion, which offers no others."""
+    """Each word of a script stands where people look for it: in a table of USING.md, in the help of `send`, and behind its completion, which offers no others."""
     words = set(re.findall(r'(?m)^ +"([a-z-]+)" => Word::', (TOP / "crates/tb_calls/src/word.rt").read_text()))
-    rows = re.findall(r"(?m)^\| (`.*?`) \| ", (TOP / "README.md").read_text())
+    rows = re.findall(r"(?m)^\| (`.*?`) \| ", (TOP / "docs/USING.md").read_text())
     read = {word for row in rows for word in re.findall(r"`([a-z-]+)", row)}
     help_text = (TOP / "crates/tb_command_line/src/help.rt").read_text()
     helped = set(re.findall(r"[a-z-]+", help_text.partition("\n    WORD ")[2].partition("\n    TASK ")[0]))
@@ -191,9 +230,32 @@ def check_words():
     offered = set(shell[1].split()) if shell else set()
     if not words:
         faults.append("crates/tb_calls/src/word.rt names no words")
-    for place, told in (("README.md", read), ("the help of send", helped), ("contrib/taskboard.bash", offered)):
+    for place, told in (("docs/USING.md", read), ("the help of send", helped), ("contrib/taskboard.bash", offered)):
         faults.extend(f"{place} lacks the word {word}" for word in sorted(words - told))
     faults.extend(f"contrib/taskboard.bash offers {word}, which is no word" for word in sorted(offered - words))
+
+
+def check_routes():
+    """The table of routes has each route of the server, and no others."""
+    source = "\n".join(path.read_text() for path in TOP.glob("crates/*/src/route.rt"))
+    served = set(re.findall(r'"(/[\w{}/-]*)"', source))
+    written, path = set(), TOP / "docs/HTTP.md"
+    for first, more in re.findall(r"(?m)^\| `(?:POST|GET) ([^`]+)`((?:, `[\w-]+`)*) \|", path.read_text()):
+        begin = first.rpartition("/")[0]
+        routes = [first, *(f"{begin}/{last}" for last in re.findall(r"[\w-]+", more))]
+        written |= {route.replace("/B", "/{b}").replace("/UUID", "/{uuid}").replace("/NAME", "/{name}") for route in routes}
+    for route in sorted(served ^ written):
+        tell(path, 0, f"{route} is no route, or a route without a row")
+
+
+def check_faults():
+    """Each name of a fault has a row among the messages on standard error, and each row of one name is that of a fault."""
+    source = "\n".join(path.read_text() for path in TOP.glob("crates/*/src/fault.rt"))
+    names = set(re.findall(r'\bFault::\w+ => "(\w+)"', source))
+    path = TOP / "docs/OPERATING.md"
+    rows = {name for row in re.findall(r"(?m)^\| (`[A-Z]\w+`[^|]*) \|", path.read_text()) for name in re.findall(r"`(\w+)`", row)}
+    for name in sorted(names ^ rows):
+        tell(path, 0, f"{name} is no fault, or a fault without a row")
 
 
 FILES = every_file()
@@ -204,10 +266,15 @@ for document in DOCUMENTS:
     check_links(document)
 check_contracts()
 check_crates()
+check_quotes()
+check_lengths()
+check_edits()
 check_examples()
 check_tests()
 check_numbers()
 check_logic()
 check_words()
+check_routes()
+check_faults()
 print("\n".join(faults) or f"what {len(DOCUMENTS)} documents name is there")
 sys.exit(bool(faults))

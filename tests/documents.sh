@@ -1,9 +1,12 @@
 #!/bin/sh
-# Holds the documents to what is there: the files, links, crates, contracts, examples and numbers that they name, and what their commands
-# print. It needs python3, and curl for most commands, and takes seconds once the program is there.
+# Holds the documents to what is there: the files, links, crates, contracts, examples and numbers that they name, the tables that are the
+# program's, and what their commands print. It needs python3, curl for most commands and sqlite3 for one, and takes seconds once the program is there.
 set -eu
 
 . "$(dirname "$0")/prepare.sh"
 
 python3 "$top/tests/document_names.py"
+python3 "$top/tests/document_tables.py" "$program"
 PYTHONPATH=$top/tests python3 "$top/tests/document_runs.py" "$program" "$port"
+# What the rules name beside their definitions: tests and refusals.
+python3 "$top/tools/rules.py" --check

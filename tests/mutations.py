@@ -22,7 +22,7 @@ PROGRAM, PORT, COUNT, SEED = os.path.abspath(sys.argv[1]), int(sys.argv[2]), int
 TABLES = (pathlib.Path(__file__).resolve().parent.parent / "docs/HTTP.md").read_text()
 # The status of each name, and of those that a message is answered by its name alone whether the connection is closed.
 REFUSALS = {name: int(status) for name, status in re.findall(r"(?m)^\| \d+ (\w+) \| (\d{3}) \|", TABLES)}
-FAULTS = {name: (int(status), end == "is closed") for name, status, end in re.findall(r"(?m)^\| (\w+) \| (\d{3}) \| .* \| (is closed|goes on) \|$", TABLES)}
+FAULTS = {name: (int(status), end == "is closed") for name, status, end in re.findall(r"(?m)^\| (\w+) \| (\d{3}) \| .* \| (is closed|stays open) \|$", TABLES)}
 ANSWER = re.compile(
     rb"HTTP/1\.1 (\d{3}) [A-Z][A-Za-z ]+\r\ncontent-type: (application/json|text/plain; charset=utf-8)\r\ncontent-length: (\d+)\r\n"
     rb"(allow: [A-Z]+\r\n)?connection: (keep-alive|close)\r\n\r\n"

@@ -23,6 +23,11 @@ ALL_ANSWERED = "return document.getElementById('state').textContent === 'All is 
 LISTED = "return [...document.querySelectorAll('#list .open')].map((row) => row.textContent)"
 IS_LISTED = "return [...document.querySelectorAll('#list .open')].some((row) => row.textContent === arguments[0])"
 IS_TOLD = "return document.body.innerText.includes(arguments[0])"
+# Who is signed in, or that nobody is, once the page shows one of them.
+SHOWN = "return document.getElementById('sign-in-form').offsetParent ? 'sign in' : document.getElementById('who').textContent"
+# What a page has loaded of its own files: each with its status, its length and whether the worker gave it.
+LOADED = """return JSON.stringify([document.readyState, navigator.serviceWorker?.controller?.state,
+    ...performance.getEntriesByType('resource').map((one) => [one.name, one.responseStatus, one.decodedBodySize, one.workerStart > 0])])"""
 LOOK = "window.dispatchEvent(new Event('focus')); return true"
 
 
@@ -35,7 +40,7 @@ def ask(path, body=None, who="ann"):
     """An answer to a message that doesn't come from the page."""
     fields = {"x-member": who, "x-key": KEYS[who], "x-request-id": str(uuid.uuid4())}
     request = urllib.request.Request(f"http://127.0.0.1:{PORT}{path}", body, fields)
-    with urllib.request.urlopen(request, timeout=20) as answer:
+    with urllib.request.urlopen(request, timeout=20 * max(1, SLACK)) as answer:
         return answer.read().decode()
 
 
@@ -102,10 +107,21 @@ class Office:
         """Loads the page anew at a board, and signs in where that has to be."""
         self.browser.open("about:blank")
         self.browser.open(f"{self.address}#/{board}/tasks")
-        if self.browser.wait("return document.getElementById('sign-in-form').offsetParent ? 'sign in' : document.getElementById('who').textContent") != name:
+        if self.first_shown() != name:
             self.browser.run("[sessionStorage, localStorage].forEach((place) => place.removeItem('taskboard.session'))")
             self.enter(name)
         self.go(board)
+
+    def first_shown(self):
+        """Who is signed in, or that nobody is. A page that shows neither is loaded once more, and what it had loaded is told."""
+        end = time.monotonic() + self.browser.patience / 2
+        while time.monotonic() < end:
+            if shown := self.browser.run(SHOWN):
+                return shown
+            time.sleep(0.03)
+        print(f"A PAGE SHOWED NOTHING and was loaded once more: {self.browser.run(LOADED)}", flush=True)
+        self.browser.call("POST", "/refresh")
+        return self.browser.wait(SHOWN)
 
     def go(self, board, view="tasks", task=""):
         self.browser.run("location.hash = arguments[0]", f"/{board}/{view}" + (f"/{task}" if task else ""))

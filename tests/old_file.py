@@ -1,8 +1,8 @@
-"""Opens a file that an earlier program made, which was killed while it served: old_file.py PROGRAM
+"""Opens files that earlier programs made, each of which was killed while it served: old_file.py PROGRAM
 
-`data/version_1` has the file and its log, packed, the calls that were answered, and what each board exported then. Each order that opens the
-file makes it one of version 2 and says so, once. It has no faults then, exports the same, and each call that comes again is told what it was
-told then and changes nothing."""
+A folder of `data` has a file and its log, packed, the calls that were answered, and what each board exported then (`keep_file.py` makes one).
+Each order that opens a file of version 1 makes it one of version 2 and says so, once. A file has no faults then, exports the same, and each call
+that comes again gets its first answer, or the one that its record names, and changes nothing."""
 import json
 import lzma
 import os
@@ -10,29 +10,50 @@ import pathlib
 import subprocess
 import sys
 import tempfile
+from typing import NamedTuple
 
 from connecting import free_port
 from talking import Server, answer_to, body_of, message, status_of
 
 program = os.path.abspath(sys.argv[1])
-made = pathlib.Path(__file__).resolve().parent / "data/version_1"
-KEYS = {"ann": "ann-key-1", "bob": "bob-key-01"}
+data = pathlib.Path(__file__).resolve().parent / "data"
 FILES = ("b.db", "b.db-wal")
 MIGRATED = "taskboard: b.db is now of version 2\n"
 TODO = "00000000-0000-4000-8000-000000009999"
-# Each order that opens a file, but for `serve`, and what is on its standard input.
-ORDERS = [
-    (["check", "b.db"], ""),
-    (["list", "b.db", "ann", KEYS["ann"], "1"], ""),
-    (["export", "b.db", "ann", KEYS["ann"], "1"], ""),
-    (["todo", "b.db", "ann", KEYS["ann"], "1"], ""),
-    (["import", "b.db", "ann", KEYS["ann"], TODO, "1", "todo"], "x 2011-03-03 2011-03-02 Paint\n"),
+
+
+class Old(NamedTuple):
+    """The folder of a file; keys of calls that name none; ann's key; what the first opening says; what `check` prints; how many boards."""
+
+    name: str
+    keys: dict
+    key: str
+    told: str
+    checked: str
+    boards: int
+
+    def folder(self):
+        return data / self.name
+
+    def orders(self):
+        """Each order that opens the file, but for `serve`, and what is on its standard input."""
+        ann = ["b.db", "ann", self.key]
+        yield ["check", "b.db"], ""
+        yield ["list", *ann, "1"], ""
+        yield ["export", *ann, "1"], ""
+        yield ["todo", *ann, "1"], ""
+        yield ["import", *ann, TODO, "1", "todo"], "x 2011-03-03 2011-03-02 Paint\n"
+
+
+OLD = [
+    Old("version_1", {"ann": "ann-key-1", "bob": "bob-key-01"}, "ann-key-1", MIGRATED, "boards 3 tasks 62 faults 0\n", 3),
+    Old("version_2", {}, "ann-key-2", "", "boards 4 tasks 69 faults 0\n", 4),
 ]
 
 
-def unpack():
+def unpack(old):
     for name in FILES:
-        pathlib.Path(name).write_bytes(lzma.decompress((made / f"{name}.xz").read_bytes()))
+        pathlib.Path(name).write_bytes(lzma.decompress((old.folder() / f"{name}.xz").read_bytes()))
 
 
 def printed(*words, told="", text=""):
@@ -47,46 +68,51 @@ def expect(what, wanted, found):
         sys.exit(f"{what}: wanted {wanted[:200]!r}, but got {found[:200]!r}")
 
 
-def look_through(told=""):
-    expect("check", "boards 3 tasks 62 faults 0\n", printed("check", "b.db", told=told))
-    for board in (1, 2, 3):
-        expect(f"board {board}", (made / f"export_{board}.json").read_text(), printed("export", "b.db", "ann", KEYS["ann"], str(board)))
+def look_through(old, told=""):
+    expect(f"check of {old.name}", old.checked, printed("check", "b.db", told=told))
+    for board in range(1, old.boards + 1):
+        exported = (old.folder() / f"export_{board}.json").read_text()
+        expect(f"board {board} of {old.name}", exported, printed("export", "b.db", "ann", old.key, str(board)))
 
 
 def send_again(client, call):
-    who = call["person"]
-    fields = f"x-member: {who}\r\nx-key: {KEYS[who]}\r\nx-request-id: 00000000-0000-4000-8000-{call['number']:012d}\r\n"
+    fields = f"x-member: {call['person']}\r\nx-key: {call['key']}\r\nx-request-id: 00000000-0000-4000-8000-{call['number']:012d}\r\n"
     answer = answer_to(client, message(b"POST", call["target"].encode(), call["body"].encode(), fields.encode()))
     expect(f"call {call['number']}", f"{call['status']} {call['answer']}", f"{status_of(answer)} {body_of(answer).decode()}")
 
 
-def open_by(words, text):
+def open_by(old, words, text):
     """Opens the file for the first time by an order, and then once more."""
-    unpack()
-    printed(*words, told=MIGRATED, text=text)
+    unpack(old)
+    printed(*words, told=old.told, text=text)
     printed(*words, text=text)
 
 
-def send_all_again(calls):
-    unpack()
+def send_all_again(old, calls):
+    unpack(old)
     with open("errors", "w") as errors, Server(program, free_port(), errors=errors) as server, server.connect() as client:
         for call in calls:
-            send_again(client, call)
-    expect("serve, standard error", MIGRATED, pathlib.Path("errors").read_text().partition("taskboard: serving")[0])
+            send_again(client, {"key": old.keys.get(call["person"]), **call, **call.get("again", {})})
+    expect("serve, standard error", old.told, pathlib.Path("errors").read_text().partition("taskboard: serving")[0])
+
+
+def try_file(old):
+    calls = json.loads((old.folder() / "calls.json").read_text())
+    send_all_again(old, calls)
+    look_through(old)
+    unpack(old)
+    look_through(old, old.told)
+    look_through(old)
+    for words, text in old.orders():
+        open_by(old, words, text)
+    print(f"a file of {old.name}: {len(calls)} calls that came again got the answers of then, and {old.boards} boards are the same")
 
 
 def main():
-    calls = json.loads((made / "calls.json").read_text())
     with tempfile.TemporaryDirectory() as folder:
         os.chdir(folder)
-        send_all_again(calls)
-        look_through()
-        unpack()
-        look_through(MIGRATED)
-        look_through()
-        for words, text in ORDERS:
-            open_by(words, text)
-    print(f"a file of version 1: {len(calls)} calls that came again were told what they were told then, and 3 boards are the same")
+        for old in OLD:
+            try_file(old)
 
 
 main()

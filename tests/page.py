@@ -7,6 +7,7 @@ import json
 import os
 import pathlib
 import random
+import statistics
 import subprocess
 import sys
 import time
@@ -16,6 +17,7 @@ import page_day
 import page_days
 import page_everywhere
 import page_files
+import page_keys
 import page_several
 import page_views
 import page_words
@@ -30,12 +32,29 @@ SHOWN_WITHIN, STALL, LOOKS = 1.5, 100, 1.5
 # From here on the pieces of the page's work that took 50 ms and more are noted, and one of none.
 WATCH = "window.stalls = [0]; new PerformanceObserver((list) => stalls.push(...list.getEntries().map((entry) => entry.duration))).observe({ type: 'longtask' })"
 # How many times longer a piece of work may take than where nothing else runs: the slowest of equal pieces, against the quickest.
-BUSY = """const times = Array.from({ length: 40 }, () => {
+BUSY = """const [times, end] = [[], performance.now() + 5000];
+while (times.length < 5 || (times.length < 40 && performance.now() < end)) {
     const begun = performance.now();
     for (let at = 0, sum = 0; at < 6000000; at++) sum += at % 7;
-    return performance.now() - begun;
-});
+    times.push(performance.now() - begun);
+}
 return Math.max(...times) / Math.min(...times);"""
+# What an act may cost the page until it is painted, in milliseconds of a processor: a key, a click, a frame of scrolling. What steers the
+# page isn't counted, nor what other threads of the browser draw.
+KEY, CLICK, FRAME = 16, 50, 32
+PAINTED = "return new Promise((done) => requestAnimationFrame(() => setTimeout(done, 0, true)))"
+FRAMES = 30
+SCROLLED = f"""return new Promise((done) => {{
+    let left = {FRAMES};
+    const step = () => {{
+        if (left-- === 0) return done(true);
+        scrollBy(0, 400);
+        requestAnimationFrame(step);
+    }};
+    step();
+}})"""
+EMPTIED = "const field = document.getElementById(arguments[0]); field.focus(); field.value = ''; field.dispatchEvent(new Event('input', { bubbles: true }))"
+CLICKS = [f"document.querySelector('{what}').click()" for what in ("#list .row:nth-child(3) .open", "#close-panel", "#list .tick:not(.ticked)", "#as-columns", "#as-list")]
 # Once what was put on the device before stands there.
 IS_KEPT = """return new Promise((done) => {
     indexedDB.open("taskboard").onsuccess = ({ target }) => {
@@ -126,7 +145,7 @@ def people(office):
     browser.wait(IS_TOLD, "left without an owner")
     browser.wait("return document.querySelector('#people select').value === 'owner'")
     office.shot("people")
-    browser.click("#notices .quiet")
+    browser.run("document.querySelector('#notices .quiet').click()")
     browser.wait("return document.querySelectorAll('#notices li').length === 0")
 
 
@@ -303,9 +322,43 @@ def saved_files(pattern, patience):
     sys.exit(f"no file {pattern} was saved")
 
 
+def cost(browser, act):
+    """What an act costs the page's thread until it is painted, in milliseconds of a processor, whatever else the machine does."""
+
+    def used():
+        told = {one["name"]: one["value"] for one in browser.tell("Performance.getMetrics")["metrics"]}
+        return told["TaskDuration"] - told["DevToolsCommandDuration"]
+
+    before = used()
+    act()
+    browser.run(PAINTED)
+    return 1000 * (used() - before)
+
+
+def costs(office):
+    """What a key, a click and a frame of scrolling cost on the board that is shown: of each kind the dearest act, in the middle of its tries."""
+    browser, relay = office.browser, office.relay
+    browser.tell("Performance.enable", timeDomain="threadTicks")
+    keys = []
+    for field in ("filter-text", "add-line"):
+        browser.run(EMPTIED, field)
+        keys.append([cost(browser, lambda text=letter: browser.tell("Input.insertText", text=text)) for letter in "number 9"])
+        browser.run(EMPTIED, field)
+    # (what comes with an answer isn't of the click)
+    relay.break_off(LOSES_POSTS)
+    clicks = zip(*([cost(browser, lambda: browser.run(script)) for script in CLICKS] for _ in range(3)))
+    frames = cost(browser, lambda: browser.run(SCROLLED)) / FRAMES
+    relay.heal()
+    browser.run("scrollTo(0, 0); dispatchEvent(new Event('online'))")
+    browser.wait(ALL_ANSWERED)
+    return *(max(map(statistics.median, tries)) for tries in (keys, clicks)), frames
+
+
 def large_board(office):
     """A board of 10,000 tasks: shown soon, in the listing's order, typed into without a stall, and cheap to look at."""
-    browser, board = office.browser, new_board("Large")
+    browser = office.browser
+    office.begin(1)
+    board = new_board("Large")
     large = list(linked_tasks(9998))
     for part in range(9, -1, -1):
         ask(f"/boards/{board}/import", json.dumps(large[part * 1000 : part * 1000 + 1000]).encode())
@@ -335,9 +388,11 @@ def large_board(office):
     for _ in range(10):
         ask(f"/boards/{board}/export")
     used = office.server.seconds_used() - used
+    key, click, frame = costs(office)
     figures = f"10,000 tasks shown after {shown:.2f} s, the longest stall {stall:.0f} ms where work takes up to {max(busy):.1f} times its time, ten looks {used:.2f} s of the server"
+    figures += f", until it is painted a key {key:.0f} ms of a processor, a click {click:.0f}, a frame of scrolling {frame:.0f}"
     slack = max(SLACK, *busy)
-    if shown > SHOWN_WITHIN * slack or stall > STALL * slack or used > LOOKS:
+    if shown > SHOWN_WITHIN * slack or stall > STALL * slack or used > LOOKS or key > KEY * slack or click > CLICK * slack or frame > FRAME * slack:
         sys.exit(f"too slow: {figures}")
     office.figures.append(figures)
 
@@ -363,6 +418,7 @@ SCENES = (
     *page_day.SCENES,
     *page_words.SCENES,
     *page_days.SCENES,
+    *page_keys.SCENES,
     *(large_board, last_steps),
 )
 

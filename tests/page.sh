@@ -28,4 +28,5 @@ if [ "$status" -eq 2 ]; then
     exit 0
 fi
 
+python3 "$top/tests/page_content.py" "$top/page"
 PYTHONPATH=$top/tests python3 "$top/tests/page.py" "$browser" "$program" "$port" "$longest" "$top/page"

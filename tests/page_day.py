@@ -83,6 +83,15 @@ def drag(browser, text, column):
     browser.call("POST", "/actions", {"actions": [{"type": "pointer", "id": "mouse", "parameters": {"pointerType": "mouse"}, "actions": [start, down, *moves, up]}]})
 
 
+def wait_until(browser, when):
+    """Says in the dialog until when the card waits that was moved: the second of its column."""
+    browser.wait("return document.getElementById('wait-dialog').open")
+    browser.run("document.querySelector('#wait-fields input').value = arguments[0]", str(when))
+    browser.click("#wait-form .primary")
+    browser.wait("return document.querySelectorAll('#column-waiting .card').length === 2")
+    browser.wait(ALL_ANSWERED)
+
+
 def columns(office):
     """Cards that are moved by keys and by the mouse are started, stopped, completed and reopened, or wait until a date."""
     browser = office.browser
@@ -117,13 +126,17 @@ def columns(office):
     browser.wait(ALL_ANSWERED)
     expect("reopened and started", ["pending", True], [status(0, "status")[0], bool(status(0, "start")[0])])
     drag(browser, "Begun", "waiting")
-    browser.wait("return document.getElementById('wait-dialog').open")
-    browser.run("document.querySelector('#wait-fields input').value = arguments[0]", str(day(9)))
-    browser.click("#wait-form .primary")
-    browser.wait("return document.querySelectorAll('#column-waiting .card').length === 2")
-    browser.wait(ALL_ANSWERED)
+    wait_until(browser, day(9))
     expect("waits", ["waiting", moment(9)], status(1, "status", "wait"))
     drag(browser, "Begun", "todo")
+    browser.wait(HAS_CARDS, {"todo": ["Begun"], "waiting": ["Waits"]})
+    browser.wait(ALL_ANSWERED)
+    browser.run(f"{CARD}.querySelector('.open').focus()", "Begun")
+    press(browser, "w")
+    wait_until(browser, day(8))
+    expect("waits by a key", ["waiting", moment(8)], status(1, "status", "wait"))
+    browser.run(f"{CARD}.querySelector('.open').focus()", "Begun")
+    press(browser, LEFT, LEFT, held=SHIFT)
     browser.wait(HAS_CARDS, {"todo": ["Begun"], "waiting": ["Waits"]})
     browser.wait(ALL_ANSWERED)
     expect("waits no more", ["pending", None, None], status(1, "status", "wait", "start"))

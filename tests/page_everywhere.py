@@ -5,6 +5,7 @@ import re
 import shutil
 import time
 
+import page_content
 from office import ALL_ANSWERED, ENTER, ESCAPE, IS_LISTED, IS_TOLD, PAGE, SHOTS, TAB, add, ask, descriptions, expect, new_board, tasks, tell
 
 # The names of what the worker keeps, and the paths of the files in it.
@@ -87,6 +88,25 @@ def newer_version(office):
     browser.wait(IS_SHOWN, "#renewed")
     office.begin(board)
     expect("the first version again", [1, before], browser.run(KEPT))
+    as_long_as_before(office, board)
+
+
+def as_long_as_before(office, board):
+    """A version whose files are as long as before, so that nothing but their content tells of it, is found at the next start too."""
+    browser = office.browser
+    office.page = "page-as-long"
+    shutil.copytree(PAGE, office.page)
+    index = pathlib.Path(office.page, "index.html")
+    index.write_text(index.read_text().replace('placeholder="Add a task"', 'placeholder="Put a task"'))
+    page_content.write(pathlib.Path(office.page))
+    for page in (office.page, PAGE):
+        office.page = page
+        office.restart()
+        office.begin(board)
+        browser.wait(IS_SHOWN, "#renewed")
+        office.begin(board)
+        wanted = "Add a task" if page == PAGE else "Put a task"
+        expect("the version after the next start", wanted, browser.run("return document.getElementById('add-line').placeholder"))
 
 
 def by_keys(office):
@@ -196,6 +216,36 @@ def for_readers(office):
     browser.to_tab(anns)
 
 
+# The buttons that are cut off, by their text, and those that stand upon a text of the same message.
+CUT = """const isCut = (button) => {
+    const [own, around] = [button, button.closest(".switch") ?? button].map((one) => one.getBoundingClientRect());
+    return own.right > around.right + 1 || own.right > innerWidth || button.scrollWidth > button.clientWidth + 1;
+};
+const isOn = (button) => {
+    const [own, text] = [button, button.closest(".notice").firstChild].map((one) => one.getBoundingClientRect());
+    return own.left < text.right - 1 && own.top < text.bottom - 1 && own.bottom > text.top + 1;
+};
+const buttons = (place) => [...document.querySelectorAll(`${place} button`)].filter((button) => button.checkVisibility());
+return [...buttons(".filters").filter(isCut), ...buttons("#notices .notice").filter(isOn)].map((button) => button.textContent);"""
+
+
+def on_a_phone(office):
+    """In a narrow window no button of the filters is cut off, and none of a message stands upon its text."""
+    browser, board = office.browser, new_board("Narrow", bob="member")
+    add(board, description="Read on a phone")
+    office.begin(board, "bob")
+    tell(f"/boards/{board}/roles", member="bob", role="reader")
+    browser.run("document.querySelector('#list .tick').click()")
+    browser.wait(IS_TOLD, "Your role doesn't allow it")
+    tell(f"/boards/{board}/roles", member="bob", role="member")
+    for width, height in ((1280, 900), (390, 844), (320, 640)):
+        browser.size(width, height)
+        expect(f"buttons that are cut off or in the way at {width}", [], browser.run(CUT))
+    office.shot("narrow")
+    browser.run("[...document.querySelectorAll('#notices button')].at(-1).click()")
+    browser.wait("return document.querySelectorAll('#notices .refused').length === 0")
+
+
 def asked_seldom(office):
     """The board is asked for every 15 s while someone acts, and every 60 s while nobody does. Time is made to pass."""
     browser, board = office.browser, new_board("Seldom")
@@ -218,4 +268,4 @@ def asked_seldom(office):
     expect("asked after 16 s in which nobody acts", before, times_asked())
 
 
-SCENES = (asked_seldom, without_a_line, newer_version, by_keys, on_paper, for_readers)
+SCENES = (asked_seldom, without_a_line, newer_version, by_keys, on_paper, on_a_phone, for_readers)

@@ -89,6 +89,7 @@ def full_board(office):
     first = next(task for task in tasks(board) if task.get("parent") == template)
     tell(f"/boards/{board}/tasks/{first['uuid']}/done")
     add(board, description="Open", depends=[add(board, description="Ahead")])
+    tell(f"/boards/{board}/ahead", ahead=3)
     ask(f"/boards/{board}/import-todo", "".join(f"Filler {number}\n" for number in range(9000 - len(tasks(board)))).encode())
     before = tasks(board)
     office.begin(board)

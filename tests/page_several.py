@@ -16,11 +16,11 @@ def press(browser, *keys, held=""):
     browser.call("POST", "/actions", {"actions": [{"type": "key", "id": "keys", "actions": around[:1] + steps + around[1:]}]})
 
 
-def pick(browser, *texts):
-    """Chooses rows by their boxes."""
+def pick(browser, *texts, of=0):
+    """Chooses rows by their boxes, beside those that are chosen already."""
     if not browser.run("return document.getElementById('list').classList.contains('choosing')"):
         browser.click("#choose")
-    for count, text in enumerate(texts, 1):
+    for count, text in enumerate(texts, of + 1):
         browser.run("[...document.querySelectorAll('#list .row')].find((row) => row.querySelector('.open').textContent === arguments[0]).querySelector('.choose').click()", text)
         browser.wait(IS_PICKED, f"{count} chosen")
 
@@ -81,6 +81,12 @@ def several(office):
     expect("deleted", ["deleted"] * 4, of_all(board, "status"))
 
 
+def move(browser, board, accepts=True):
+    """Moves the chosen tasks, or asks for it alone: what the page says before."""
+    browser.run(f"const words = arguments; setTimeout(() => ((...arguments) => {{ {CHANGE} }})(...words))", "bulk-move", str(board))
+    return browser.answer_question(accepts)
+
+
 def moves(office):
     """Tasks that move to another board over a line that breaks and a page that is closed on the way: each is there once, and gone here."""
     browser, relay = office.browser, office.relay
@@ -93,7 +99,7 @@ def moves(office):
     browser.wait("return document.getElementById('count').textContent === '3 of 3 tasks'")
     pick(browser, "Upon it", "Ground")
     relay.break_off(LOSES_ANSWERS)
-    browser.run(CHANGE, "bulk-move", str(there))
+    move(browser, there)
     relay.lost.wait(browser.patience)
     browser.wait(IS_TOLD, "4 changes aren't answered yet")
     browser.open("about:blank")
@@ -112,4 +118,36 @@ def moves(office):
     browser.wait(ARE_LISTED, ["Stays"])
 
 
-SCENES = (several, moves)
+def left_behind(office):
+    """Before tasks move the page says what stays behind: links, places among instances, what is closed, the uuid. Who says no moves nothing."""
+    browser = office.browser
+    there, board = new_board("Beyond"), new_board("Behind")
+    base = add(board, description="Base")
+    middle = add(board, description="Middle", depends=[base])
+    add(board, description="Top", depends=[middle, base])
+    add(board, description="Alone")
+    add(board, description="Each week", due=moment(3), recur="weekly")
+    office.begin(board)
+    browser.wait("return document.getElementById('count').textContent === '5 of 6 tasks'")
+    pick(browser, "Alone")
+    expect("of one", "Move 1 task to Beyond? It gets a new uuid there, and is deleted here.", move(browser, there, False))
+    pick(browser, "Middle", "Each week", of=1)
+    told = "Move 3 tasks to Beyond? Each gets a new uuid there, and is deleted here. This can't go along: 1 link to tasks that stay here; 1 link from tasks that stay here; 1 place among the instances of a repeating task."
+    expect("of three", told, move(browser, there, False))
+    expect("moved by who said no", [[], {"pending", "recurring"}], [tasks(there), set(of_all(board, "status"))])
+    browser.wait(IS_PICKED, "3 chosen")
+    move(browser, there)
+    browser.wait(ARE_LISTED, ["Base", "Top"])
+    browser.wait(ALL_ANSWERED)
+    stored = {task["description"]: task for task in tasks(there)}
+    expect("moved", {"Alone", "Middle", "Each week"}, set(stored))
+    expect("went along", [None] * 3, [stored["Middle"].get("depends"), *(stored["Each week"].get(name) for name in ("parent", "imask"))])
+    expect("uuids of before", set(), {task["uuid"] for task in stored.values()} & set(of_all(board, "uuid")))
+    browser.run("const status = document.getElementById('filter-status'); status.value = 'all'; status.dispatchEvent(new Event('input'))")
+    browser.wait("return document.getElementById('count').textContent === '5 of 6 tasks'")
+    pick(browser, "Alone", "Base")
+    told = move(browser, there, False)
+    expect("of what is closed", True, told.startswith("Move 1 task to Beyond?") and told.endswith("What is closed stays: 1 task."))
+
+
+SCENES = (several, moves, left_behind)

@@ -6,7 +6,7 @@ import json
 from office import ALL_ANSWERED, BROWSER, ENTER, IS_LISTED, IS_TOLD, KEYS, PORT, ask, expect, new_board, tasks, tell
 from office import add as add_task
 from relay import LOSES_ANSWERS, LOSES_POSTS
-from webdriver import Browser
+from webdriver import STRANGER, Browser
 
 SENT = "dispatchEvent(new Event('online')); " + ALL_ANSWERED
 OPENED = "return document.getElementById('task-text').textContent === arguments[0] && !document.getElementById('panel').hidden"
@@ -62,6 +62,12 @@ def put_into(browser, selector, text):
     browser.run("const field = document.querySelector(arguments[0]); field.value = arguments[1]; field.dispatchEvent(new Event('input', { bubbles: true }))", selector, text)
 
 
+def expect_nothing_open(browser):
+    """No notice is left that tells of a refusal, or asks. What earlier scenes imported may still be told."""
+    texts = browser.run("return [...document.querySelectorAll('#notices .refused, #notices .asks')].map((notice) => notice.innerText)")
+    expect("told afterwards", [], texts)
+
+
 def open_task(office, board, task):
     office.go(board, "tasks", task)
     office.browser.wait("return location.hash.includes(arguments[0]) && !document.getElementById('panel').hidden", task)
@@ -89,6 +95,17 @@ def heal(office):
     """The line is whole again, and what waits is answered over it."""
     office.relay.heal()
     office.browser.wait(SENT)
+
+
+def add_person_unheard(office, board, name, key):
+    """Adds a person to the server and to a board, over a line that loses it."""
+    browser = office.browser
+    office.go(board, "people")
+    browser.wait("return document.querySelectorAll('#people li').length > 0")
+    office.relay.break_off(LOSES_POSTS)
+    browser.type("#person-name", name)
+    browser.type("#person-key", key + ENTER)
+    browser.wait(IS_TOLD, "2 changes aren't answered yet")
 
 
 def refused_keep_text(office):
@@ -157,7 +174,28 @@ def refused_person(office):
     browser.wait(HAS_VALUE, "#invite-name", "nobody-here")
     type_into(browser, "#invite-name", "bob" + ENTER)
     browser.wait(ALL_ANSWERED)
-    expect("told afterwards", 0, browser.run("return document.querySelectorAll('#notices .refused, #notices .asks').length"))
+    expect_nothing_open(browser)
+
+
+def refused_board(office):
+    """A new board that is refused opens its form as it was filled. A server is full after tens of thousands of boards, so the browser answers for it."""
+    browser, board = office.browser, new_board("Not full")
+    office.begin(board)
+    browser.run("""const real = window.fetch;
+        window.fetch = (path, settings) => (path === "/boards" ? Promise.resolve(new Response('{"name":"Full","refused":12}', { status: 409 })) : real(path, settings));
+        window.unfill = () => (window.fetch = real);""")
+    browser.click("#new-board")
+    browser.type("#board-title", "One too many" + ENTER)
+    browser.wait(IS_TOLD, "as many boards and people on a server")
+    browser.run("window.unfill()")
+    press(browser, "Edit and send again")
+    browser.wait(HAS_VALUE, "#board-title", "One too many")
+    type_into(browser, "#board-title", "Room for one" + ENTER)
+    browser.wait("return document.getElementById('heading').textContent === 'Room for one'")
+    browser.wait(ALL_ANSWERED)
+    titles = [one["title"] for one in json.loads(ask("/me"))["boards"]]
+    expect("boards", [1, 0], [titles.count(title) for title in ("Room for one", "One too many")])
+    expect_nothing_open(browser)
 
 
 def told_before(office):
@@ -180,9 +218,18 @@ def told_before(office):
     put_into(browser, "#edit-fields textarea", "l" * 20000)
     press(browser, "Save", "#edit-form")
     browser.wait("return document.getElementById('edit-fields').textContent.includes('3,616 bytes too long')")
+    put_into(browser, "#edit-fields textarea", "Short")
+    put_into(browser, "#edit-fields input[placeholder='phone mail']", "fine " + "t" * 16385)
+    press(browser, "Save", "#edit-form")
+    browser.wait("return document.getElementById('edit-fields').textContent.includes('1 bytes too long')")
+    browser.click("#cancel-edit")
     put_into(browser, "#note-text", "ж" * 9000)
     browser.wait("return document.querySelector('#note-form .fault').textContent.includes('too long')")
     browser.type("#note-text", ENTER)
+    office.go(board, "repeating")
+    for ahead in ("0", "13"):
+        type_into(browser, "#ahead", ahead + ENTER)
+        browser.wait("return document.getElementById('ahead-form').textContent.includes('A board looks 1 to 12 instances ahead.')")
     office.go(board, "people")
     for name, key, told in (("Carol", "carolas-key-1", "A name has small letters"), ("c" * 33, "carolas-key-1", "1 bytes too long"), ("carola", "short", "8 characters at least"), ("carola", "a key with spaces", "no spaces")):
         type_into(browser, "#person-name", name)
@@ -321,19 +368,62 @@ def changed_while_waiting(office):
     expect("after it", "completed", one_of(board, call)["status"])
 
 
+def edited_before_sending(office):
+    """A change that asks, since somebody else changed the same field, is edited first: both texts stand beside each other."""
+    browser, relay = office.browser, office.relay
+    board = new_board("Asks")
+    task = add_task(board, description="Buy paint")
+    office.begin(board)
+    open_edit(office, board, task, "Buy paint")
+    relay.break_off(LOSES_POSTS)
+    type_into(browser, "#edit-fields textarea", "Buy green paint")
+    press(browser, "Save", "#edit-form")
+    browser.wait(IS_TOLD, "1 change isn't answered yet")
+    relay.lost.wait(browser.patience)
+    tell(f"/boards/{board}/tasks/{task}/modify", description="Buy red paint")
+    browser.wait(IS_TOLD, "Not sent yet: Change Buy paint")
+    relay.heal()
+    press(browser, "Edit it first")
+    browser.wait(EDITED, "Buy green paint")
+    press(browser, "Save", "#edit-form")
+    browser.wait("return document.querySelectorAll('#edit-conflicts fieldset').length === 1")
+    expect("before the choice", "Buy red paint", one_of(board, task)["description"])
+    browser.click("#edit-conflicts input[value=mine]")
+    save(browser)
+    expect("after it", "Buy green paint", one_of(board, task)["description"])
+    expect_nothing_open(browser)
+
+
+def new_key_without_tls(office):
+    """Without TLS the key of a new person can't be hidden, so signing out throws that change away in either case, and says so."""
+    browser, relay, board = office.browser, office.relay, new_board("Plain")
+    ours = office.address
+    office.address = f"http://{STRANGER}:{relay.port}/"
+    office.begin(board)
+    add_person_unheard(office, board, "nina", "nina-key-00")
+    browser.click("#sign-out")
+    browser.wait(IS_TOLD, "Without TLS this browser can't hide keys")
+    browser.click("#leave-keep")
+    browser.wait(IS_SHOWN, "#sign-in-form")
+    device = browser.run(DEVICE)
+    expect("left on the device", [False, False, True], [text in device for text in ("nina-key-00", KEYS["ann"], "Give the role")])
+    relay.heal()
+    office.begin(board)
+    browser.wait(ALL_ANSWERED)
+    browser.wait(IS_TOLD, "The server knows nobody of that name")
+    browser.click("#notices .quiet")
+    office.address = ours
+
+
 def signing_out(office):
     """Signing out names what isn't sent and asks; no key of a new person is readable on the device, and nothing of the boards stays in the page."""
-    browser, relay = office.browser, office.relay
+    browser = office.browser
     board = new_board("Secret title")
     add_task(board, description="Secret task")
     office.begin(board)
     browser.wait(IS_LISTED, "Secret task")
     for way in ("keep", "drop"):
-        office.go(board, "people")
-        browser.wait("return document.querySelectorAll('#people li').length > 0")
-        relay.break_off(LOSES_POSTS)
-        browser.type("#person-name", f"erin-{way}")
-        browser.type("#person-key", f"erins-key-{way}" + ENTER)
+        add_person_unheard(office, board, f"erin-{way}", f"erins-key-{way}")
         office.go(board)
         browser.type("#add-line", f"Unsent {way}" + ENTER)
         browser.wait(IS_TOLD, "3 changes aren't answered yet")
@@ -344,7 +434,7 @@ def signing_out(office):
         browser.click(f"#leave-{way}")
         browser.wait(IS_SHOWN, "#sign-in-form")
         left = browser.run("return document.documentElement.outerHTML + [...document.querySelectorAll('input')].map((input) => input.value) + location.href")
-        expect("left in the page", [], [text for text in ("Secret", "Unsent", "erin", "tasks/") if text in left])
+        expect("left in the page", [], [left[max(0, left.index(text) - 200) :][:400] for text in ("Secret", "Unsent", "erin", "tasks/") if text in left])
         device = browser.run(DEVICE)
         expect("keys on the device", [], [key for key in (f"erins-key-{way}", KEYS["ann"]) if key in device])
         expect("changes on the device", way == "keep", "Unsent keep" in device)
@@ -389,4 +479,4 @@ def unsent_looks_done(office):
     expect("the first", task, stored["Slow one"]["uuid"])
 
 
-SCENES = (refused_keep_text, refused_person, told_before, drafts_stay, two_edit_one_task, two_complete_one_task, changed_while_waiting, signing_out, unsent_looks_done)
+SCENES = (refused_keep_text, refused_person, refused_board, told_before, drafts_stay, two_edit_one_task, two_complete_one_task, changed_while_waiting, edited_before_sending, new_key_without_tls, signing_out, unsent_looks_done)

@@ -1,5 +1,5 @@
 # What the tests of the running program begin with, which read this file: the program, a folder of their own that they work in, a port
-# that nobody has, and a server that they may start. Folder and server are gone at their end.
+# that nobody has, a server that they may start, and how they compare what an order ends with. Folder and server are gone at their end.
 top=$(cd "$(dirname "$0")/.." && pwd)
 folder=$(mktemp -d)
 server=
@@ -13,4 +13,27 @@ cd "$folder"
 start_server() {
     timeout 120 "$program" serve b.db --port "$port" --connections "$1" 2>/dev/null &
     server=$!
+}
+
+# Runs the program with the words after the first two, and compares its status, what it prints and the first line of what it tells; a
+# fault has a line after it.
+ends() {
+    wanted_status=$1
+    wanted=$2
+    shift 2
+    status=0
+    printed=$("$program" "$@" 2>told) || status=$?
+    expect "$*" "$wanted" "$printed$(head -n 1 told)"
+    if [ -s told ] && [ "$(wc -l <told)" -lt 2 ]; then
+        echo "$*: nothing says what to do"
+        exit 1
+    fi
+    expect "status of $*" "$wanted_status" "$status"
+}
+
+expect() {
+    if [ "$2" != "$3" ]; then
+        echo "$1: expected '$2', but got '$3'"
+        exit 1
+    fi
 }

@@ -50,6 +50,7 @@ attempt scripts.py python3
 attempt wire.py python3
 attempt mutations.sh python3
 attempt serve.sh python3
+attempt keys.sh python3
 attempt import.sh python3
 attempt kill.sh python3
 attempt store_fails.sh python3
@@ -75,6 +76,7 @@ attempt faults.sh python3
 attempt power.sh python3 strace
 attempt memory.sh python3 cc
 attempt client.sh python3
+attempt own_key.sh python3
 attempt kits.py python3
 attempt sync.sh python3
 attempt remind.sh python3

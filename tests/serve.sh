@@ -5,29 +5,6 @@ set -eu
 
 . "$(dirname "$0")/prepare.sh"
 
-expect() {
-    if [ "$2" != "$3" ]; then
-        echo "$1: expected '$2', but got '$3'"
-        exit 1
-    fi
-}
-
-# Runs the program with the words behind the first two, and compares its status, what it prints and the first line of what it tells; a
-# fault has a line behind it.
-ends() {
-    wanted_status=$1
-    wanted=$2
-    shift 2
-    status=0
-    printed=$("$program" "$@" 2>told) || status=$?
-    expect "$*" "$wanted" "$printed$(head -n 1 told)"
-    if [ -s told ] && [ "$(wc -l <told)" -lt 2 ]; then
-        echo "$*: nothing says what to do"
-        exit 1
-    fi
-    expect "status of $*" "$wanted_status" "$status"
-}
-
 # Sends one message as ann.
 send() {
     method=$1

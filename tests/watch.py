@@ -10,6 +10,7 @@ import json
 import os
 import pathlib
 import re
+import shlex
 import shutil
 import subprocess
 import sys
@@ -228,6 +229,37 @@ def looks_at_units(wanted):
     finds(WARNING, "no bus", *words)
 
 
+def command_of(unit, name, setting):
+    """A command of a unit, as systemd runs it for the unit of this name, but in this folder."""
+    line = re.search(rf"(?m)^{setting}=\+?(.*)$", (CONTRIB / unit).read_text())[1]
+    here = line.replace("/etc/taskboard/", "./").replace("/run/", "./")
+    return shlex.split(here.replace("$$", "$").replace("%n", name).replace("%i", name))
+
+
+def tells_failures():
+    """What the units run when a server ends, and how often a failure is told."""
+    write_program("systemctl", '#!/bin/sh\necho "$@" >>asked_of_systemd\n')
+    write_program("journalctl", '#!/bin/sh\necho "the last lines of $4"\n')
+    pathlib.Path("tell").write_text('#!/bin/sh\necho "$1: $(cat)" >>told\n')
+    pathlib.Path("tell").chmod(0o755)
+    asked = pathlib.Path("asked_of_systemd")
+    for unit, name in (("taskboard.service", "taskboard.service"), ("taskboard@.service", "taskboard@north.service")):
+        for result in ("success", "exit-code", "signal", "oom-kill"):
+            asked.write_text("")
+            subprocess.run(command_of(unit, name, "ExecStopPost"), env={**os.environ, "SERVICE_RESULT": result}, check=True)
+            wanted = "" if result == "success" else f"start --no-block taskboard-failed@{name}.service\n"
+            expect(f"{name} ended with {result}: {asked.read_text()}", asked.read_text() == wanted)
+    for ago, is_due in ((0, True), (0, False), (59, False), (61, True)):
+        told, before = pathlib.Path("taskboard-told-a.service"), time.time() - 60 * ago
+        if told.exists():
+            os.utime(told, (before, before))
+        condition, start = (command_of("taskboard-failed@.service", "a.service", f"Exec{word}") for word in ("Condition", "Start"))
+        expect(f"{ago} min after it was told", (subprocess.run(condition).returncode == 0) == is_due)
+        if is_due:
+            subprocess.run(start, check=True)
+    expect("what is told", pathlib.Path("told").read_text() == "a.service: the last lines of --unit=a.service\n" * 2)
+
+
 def metrics_of(text):
     found = [METRIC.fullmatch(line) for line in text.splitlines()]
     expect(f"text for Prometheus: {text}", found and all(found))
@@ -311,6 +343,7 @@ def main():
         wanted = looks_at_memory()
         looks_at_shipped()
         looks_at_units(wanted)
+        tells_failures()
         counts_answers(server)
         counts_in_the_journal()
     finds(CRITICAL, "no answer from")

@@ -1,6 +1,7 @@
 #!/bin/sh
-# Watches a server by contrib/taskboard-watch: what it finds well, slow, old, full, large, failed and missing, each with its status; and that
-# its metrics count each line of the log once. It needs python3 with its sqlite3, and takes some ten seconds once the program is there.
+# Watches a server by contrib/taskboard-watch: what it finds well, slow, old, full, large, failed and missing, each with its status; that its
+# metrics count each line of the log once; and that the units tell a server's failure, once an hour. It needs python3 with its sqlite3, and
+# takes some ten seconds once the program is there.
 set -eu
 
 . "$(dirname "$0")/prepare.sh"

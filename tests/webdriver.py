@@ -2,6 +2,9 @@
 import base64
 import contextlib
 import json
+import os
+import pathlib
+import signal
 import subprocess
 import sys
 import time
@@ -17,7 +20,7 @@ ELEMENT = "element-6066-11e4-a52e-4f735466cecf"
 
 
 class Gone(Exception):
-    """An element that was found isn't in the page any more."""
+    """An element that was found isn't in the page any more, or a question that was to be answered isn't asked."""
 
 
 class Steered:
@@ -31,7 +34,8 @@ class Steered:
             if value:
                 return value
             time.sleep(0.03)
-        sys.exit(f"the page didn't come to: {script} {arguments}; it shows: {self.run('return document.body.innerText')[:1500]}\nits console: {self.messages()[-10:]}")
+        at, shown = self.run("return [`${location.href}, ${document.readyState}`, document.body.innerText]")
+        sys.exit(f"the page didn't come to: {script} {arguments}; it is at {at}, and shows: {shown[:1500]}\nits console: {self.messages()[-10:]}")
 
     def messages(self):
         """What the page's console told since this was asked last, where the browser tells it."""
@@ -39,15 +43,16 @@ class Steered:
 
 
 class Browser(Steered):
-    """One browser, whose tabs share what it keeps on the device. `patience` is how long it waits for what shall come, in seconds."""
+    """One browser, whose tabs share what it keeps on the device. `patience` is how long it waits for what shall come, in seconds. What it keeps
+    is in the folder `profile`, where one is given: so another one goes on with it."""
 
-    def __init__(self, program, patience):
+    def __init__(self, program, patience, profile=None):
         port = free_port()
-        self.patience, self.base, self.measures = patience, f"http://127.0.0.1:{port}", (1280, 900)
+        self.patience, self.base, self.measures, self.profile = patience, f"http://127.0.0.1:{port}", (1280, 900), profile
         self.driver = subprocess.Popen(["chromedriver", f"--port={port}"], stdout=subprocess.DEVNULL, stderr=subprocess.DEVNULL)
         connected(port, 10).close()
-        chrome = {"binary": program, "args": WORDS}
-        wanted = {"goog:chromeOptions": chrome, "goog:loggingPrefs": {"browser": "ALL"}, "unhandledPromptBehavior": "ignore"}
+        chrome = {"binary": program, "args": WORDS + ([f"--user-data-dir={pathlib.Path(profile).resolve()}"] if profile else [])}
+        wanted = {"goog:chromeOptions": chrome, "goog:loggingPrefs": {"browser": "ALL"}, "unhandledPromptBehavior": "ignore", "timeouts": {"script": int(1000 * max(30, 5 * patience))}}
         opened = self.call("POST", "/session", {"capabilities": {"alwaysMatch": wanted}})
         self.base += f"/session/{opened['sessionId']}"
 
@@ -55,9 +60,19 @@ class Browser(Steered):
         return self
 
     def __exit__(self, *_):
-        self.call("DELETE", "")
+        if self.driver.poll() is None:
+            self.call("DELETE", "")
+            self.end_driver()
+
+    def end_driver(self):
         self.driver.terminate()
         self.driver.wait()
+
+    def kill(self):
+        """Ends the browser as a machine that stops does. It notes its process in its profile."""
+        process = int(os.readlink(pathlib.Path(self.profile, "SingletonLock")).rpartition("-")[2])
+        os.kill(process, signal.SIGKILL)
+        self.end_driver()
 
     def call(self, method, path, content=None):
         body = json.dumps(content or {}).encode() if method == "POST" else None
@@ -67,7 +82,7 @@ class Browser(Steered):
                 return json.load(answer)["value"]
         except urllib.error.HTTPError as fault:
             told = fault.read().decode()
-            if '"stale element reference"' in told:
+            if '"stale element reference"' in told or '"no such alert"' in told:
                 raise Gone from fault
             sys.exit(f"{method} {path} {content}: {told[:500]}")
 
@@ -110,9 +125,16 @@ class Browser(Steered):
     def to_tab(self, handle):
         self.call("POST", "/window", {"handle": handle})
 
-    def answer_question(self):
-        """Says yes to what the page asks."""
-        self.call("POST", "/alert/accept")
+    def answer_question(self, accepts=True):
+        """Says yes or no to what the page asks, once it does; what that was."""
+        end = time.monotonic() + self.patience
+        told = None
+        while told is None and time.monotonic() < end:
+            with contextlib.suppress(Gone):
+                told = self.call("GET", "/alert/text")
+            time.sleep(0.03)
+        self.call("POST", "/alert/accept" if accepts else "/alert/dismiss")
+        return told
 
     def tell(self, command, **settings):
         return self.call("POST", "/goog/cdp/execute", {"cmd": command, "params": settings})
