@@ -152,6 +152,6 @@ copy_whole
 checked=$("$program" check "$part/$name.db") || fail "the copy of $file didn't pass the check: ${checked:-taskboard check failed}"
 sync "$part/$name.db" || fail "$part/$name.db can't be brought to the disk"
 mv "$part/$name.db" "$copy" || fail "$copy can't be made"
-sync "$folder"
+sync "$folder" || fail "$folder can't be brought to the disk"
 thin
 printf '%s %s\n' "$copy" "$checked"

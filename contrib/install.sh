@@ -37,10 +37,9 @@ parts() {
 644 share/bash-completion/completions/taskboard contrib/taskboard.bash
 644 share/doc/taskboard/nginx.conf contrib/nginx.conf
 644 share/doc/taskboard/README.md README.md
-644 share/doc/taskboard/docs/BRIDGES.md docs/BRIDGES.md
 644 share/doc/taskboard/docs/HTTP.md docs/HTTP.md
 644 share/doc/taskboard/docs/OPERATING.md docs/OPERATING.md
-644 share/doc/taskboard/docs/TABLES.md docs/TABLES.md
+644 share/doc/taskboard/docs/USING.md docs/USING.md
 PARTS
     for path in "$contrib"/* "$contrib"/taskboard_*/*.py "$top"/page/*; do
         [ -f "$path" ] || continue

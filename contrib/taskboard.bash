@@ -55,7 +55,7 @@ _taskboard_of_send() {
     esac
     case $2 in
     -*) _taskboard_words "--id --for" "$2" ;;
-    *) _taskboard_words "list export todo task people me add done delete reopen start stop modify annotate denotate depend undepend sweep import import-todo person board role ahead" "$2" ;;
+    *) _taskboard_words "list export todo task people me add done delete reopen start stop modify annotate denotate depend undepend sweep import import-todo person board role ahead title take key own-key" "$2" ;;
     esac
 }
 
@@ -63,13 +63,13 @@ _taskboard() {
     local order=${COMP_WORDS[1]}
     COMPREPLY=()
     if [ "$COMP_CWORD" -eq 1 ]; then
-        _taskboard_words "init serve send run import list export todo check --help --version" "$2"
+        _taskboard_words "init serve send run import list export todo check key --help --version" "$2"
         return
     fi
     case $order:$COMP_CWORD in
     serve:*) _taskboard_of_serve "$@" ;;
     send:*) _taskboard_of_send "$@" ;;
-    init:2 | import:2 | list:2 | export:2 | todo:2 | check:2) _taskboard_files "$2" ;;
+    init:2 | import:2 | list:2 | export:2 | todo:2 | check:2 | key:2) _taskboard_files "$2" ;;
     import:7) _taskboard_words "json todo" "$2" ;;
     import:8) _taskboard_words "--all" "$2" ;;
     esac
