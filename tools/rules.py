@@ -21,7 +21,7 @@ IMPORT = re.compile(r"use Rattle\.(\w+)\.specs\.(\w+)\.\{([^}]*)\}")
 MOST = 3
 # Names of faults that no table of names in specs/ has.
 OTHER_FAULTS = {"BadLine"}
-NAMES = ("tb_reply/specs/Bodies.antt", "tb_http/specs/Fault.antt", "tb_program/specs/Fault.antt")
+NAMES = ("tb_calls/specs/Bodies.antt", "tb_http/specs/Fault.antt", "tb_program/specs/Fault.antt")
 
 Rule = collections.namedtuple("Rule", "text refused tried place")
 Place = collections.namedtuple("Place", "crate file name")

@@ -1,2 +1,4 @@
 pub mod Names
+pub mod NoFloats
+pub mod RoleBodies
 pub mod RoleLists

@@ -13,7 +13,7 @@ use Rattle.std.proofs.lemmas.Map.Lookups.{exact_pairs, exact_unsigned}
 use Rattle.tb_calls.specs.declared.call.Call.{Call}
 use Rattle.tb_calls.specs.declared.call.KeptReply.{KeptReply}
 use Rattle.tb_calls.specs.Call.{State, CallName, name_cmp, after_call, kept_for, name_of, outcome, same_name}
-use Rattle.tb_reply.specs.Reply.{reply_of}
+use Rattle.tb_calls.specs.Reply.{reply_of}
 
 pub names_total : IsTotalOrder name_cmp
 names_total = then_total (on_total (λ (n : CallName). n.0) nat_list_cmp_total) (on_total (λ (n : CallName). n.1) nat_cmp_total)

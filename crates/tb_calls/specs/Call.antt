@@ -14,8 +14,8 @@ use Rattle.tb_core.specs.Outcomes.{Outcome}
 use Rattle.tb_board.specs.World.{has_key, key_of, opening as opening_world}
 use Rattle.tb_calls.specs.declared.call.Call.{Call}
 use Rattle.tb_calls.specs.declared.call.KeptReply.{KeptReply}
-use Rattle.tb_reply.specs.declared.reply.Reply.{Reply}
-use Rattle.tb_reply.specs.Reply.{reply_of}
+use Rattle.tb_calls.specs.declared.reply.Reply.{Reply}
+use Rattle.tb_calls.specs.Reply.{reply_of}
 
 -- A call's name: the person's, and the identifier that the person gave the call.
 abbrev pub CallName : Type 0

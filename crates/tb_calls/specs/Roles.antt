@@ -9,8 +9,8 @@ use Rattle.tb_board.specs.declared.world.Role.{Role}
 use Rattle.tb_board.specs.declared.world.RoleOn.{RoleOn}
 use Rattle.tb_board.specs.declared.world.World.{World}
 use Rattle.tb_board.specs.World.{find_board, number_of, role_of}
-use Rattle.tb_reply.specs.declared.roles.BoardRole.{BoardRole}
-use Rattle.tb_reply.specs.declared.roles.PersonRole.{PersonRole}
+use Rattle.tb_calls.specs.declared.role_bodies.BoardRole.{BoardRole}
+use Rattle.tb_calls.specs.declared.role_bodies.PersonRole.{PersonRole}
 
 abbrev pub is_of : ℕ → RoleOn → Bool
 is_of person r = r.person == person

@@ -1,7 +1,7 @@
+use crate::reply::Reply;
 use std::alloc::AllocError;
 use tb_board::{Key, Name};
 use tb_core::Command;
-use tb_reply::Reply;
 use tb_task::{Moment, TaskId};
 use tb_values::{Duplicate, Items};
 

@@ -11,10 +11,11 @@ ghost use Rattle.tb_calls.specs.Roles.{boards_of, people_for};
 
 use crate::call::{Call, KeptReply};
 use crate::fault::KeepFault;
+use crate::reply::Reply;
+use crate::role_bodies::{BoardRole, PersonRole};
 use std::alloc::Global;
 use tb_board::{Change, Key, Name};
 use tb_core::{Command, Seen};
-use tb_reply::{BoardRole, PersonRole, Reply};
 use tb_task::TaskId;
 use tb_values::Items;
 

@@ -3,9 +3,9 @@ ghost use Rattle.std.specs.Prelude.{◌≡◌, IfOk};
 ghost use Rattle.tb_board.specs.World.{key_of};
 
 use crate::call::{Call, KeptReply};
+use crate::reply::Reply;
 use std::alloc::AllocError;
 use tb_board::{Key, Name, World};
-use tb_reply::Reply;
 use tb_values::Duplicate;
 
 /// The key of the person of that name, who may have none.

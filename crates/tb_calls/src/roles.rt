@@ -4,9 +4,9 @@ ghost use Rattle.std.specs.List.{filter_map};
 ghost use Rattle.std.specs.Option.{option_map};
 ghost use Rattle.tb_calls.specs.Roles.{board_role, boards_for as boards_for_number, boards_of as boards_of_name, people_for as people_for_name, people_on as people_on_board, person_at as person_at_number, person_role, role_on as role_on_board, where_some};
 
+use crate::role_bodies::{BoardRole, PersonRole};
 use std::alloc::{AllocError, Global};
 use tb_board::{Name, Person, Role, RoleOn, World};
-use tb_reply::{BoardRole, PersonRole};
 use tb_values::{Duplicate, Items};
 
 /// The boards on which the person of that name has a role, by number.

@@ -20,9 +20,9 @@ use Rattle.tb_core.specs.GoodWorld.{IsGoodWorld, IsRoleIn, numbers}
 use Rattle.tb_core.specs.declared.look.SeenBoard.{SeenBoard}
 use Rattle.tb_core.specs.declared.refusal.Refusal.{Refusal}
 use Rattle.tb_core.specs.declared.refusal.Refusal.TheVariants.{UnknownCaller, IdReused, NoBoard, NotAllowed, NoTask, WrongStatus, UuidTaken, BadTask, BadTaskAt, TemplateFixed, NoLink, Cycle, Full, NoPerson, LastOwner, NameTaken, KeyDiffers}
-use Rattle.tb_reply.specs.Reply.{reply_of}
-use Rattle.tb_reply.specs.declared.reply.Reply.{Reply}
-use Rattle.tb_reply.specs.declared.roles.PersonRole.{PersonRole}
+use Rattle.tb_calls.specs.Reply.{reply_of}
+use Rattle.tb_calls.specs.declared.reply.Reply.{Reply}
+use Rattle.tb_calls.specs.declared.role_bodies.PersonRole.{PersonRole}
 use Rattle.tb_report.specs.Lists.{listing}
 use Rattle.tb_report.specs.Showing.{shown}
 use Rattle.tb_todotxt.specs.FileTexts.{file_text}

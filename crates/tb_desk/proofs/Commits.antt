@@ -17,9 +17,9 @@ use Rattle.tb_board.proofs.Places.{place}
 use Rattle.tb_core.proofs.Extending.{extends}
 use Rattle.tb_core.proofs.Stays.{stays_good}
 use Rattle.tb_calls.specs.declared.call.Call.{Call}
-use Rattle.tb_reply.specs.declared.reply.Reply.{Reply}
+use Rattle.tb_calls.specs.declared.reply.Reply.{Reply}
 use Rattle.tb_calls.specs.Call.{State, after_call, is_known, name_of, outcome}
-use Rattle.tb_reply.specs.Reply.{reply_of}
+use Rattle.tb_calls.specs.Reply.{reply_of}
 use Rattle.tb_calls.specs.Keep.{IsNew, MayCommit, with_reply}
 
 someone : (key : Option (List ℕ)) (shown : List ℕ) → has_key key shown ≡ true → IsSome key

@@ -15,7 +15,7 @@ use Rattle.tb_calls.specs.declared.call.Call.{Call}
 use Rattle.tb_calls.specs.declared.call.KeptReply.{KeptReply}
 use Rattle.tb_desk.specs.contracts.list_keep.KeptUnderOrd.TheImpl as kept_under_ord
 use Rattle.tb_desk.specs.declared.list_keep.KeptUnder.{KeptUnder}
-use Rattle.tb_reply.specs.declared.reply.Reply.{Reply}
+use Rattle.tb_calls.specs.declared.reply.Reply.{Reply}
 use Rattle.tb_calls.specs.Call.{CallName, State, name_cmp, name_of, opening}
 use Rattle.tb_calls.specs.Keep.{HoldsEither, MayCommit, with_reply}
 use Rattle.tb_desk.specs.ListKeep.{IsListed, call_name, listed, named}

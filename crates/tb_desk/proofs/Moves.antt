@@ -2,7 +2,7 @@
 use Rattle.std.proofs.Common.{◌≡◌, ◌⊎◌, ℕ, ◌+◌, ◌≤◌, ◌<◌, zero, suc, get_or, Bool, true, false, if◌then◌else◌, List, [], ◌∷◌, length, take, Option, Some, ◌≢◌, Result, Ok, Err, refl, sym, ap, ◌∙◌, subst, inl, inr, true≢false, ⊎_elim, arith}
 use Rattle.std.specs.Prelude.{OnOk, IsErrOf, MatchOption, is_ok}
 use Rattle.tb_calls.specs.declared.call.Call.{Call}
-use Rattle.tb_reply.specs.declared.reply.Reply.{Reply}
+use Rattle.tb_calls.specs.declared.reply.Reply.{Reply}
 use Rattle.tb_calls.specs.declared.fault.KeepFault.{KeepFault}
 use Rattle.tb_calls.specs.declared.fault.KeepFault.TheVariants.{Memory, Store}
 use Rattle.tb_calls.specs.Call.{State, plain, once}

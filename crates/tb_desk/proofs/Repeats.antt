@@ -8,7 +8,7 @@ use Rattle.tb_board.specs.World.{has_key, key_of}
 use Rattle.tb_core.specs.GoodLaws.{own_keys}
 use Rattle.tb_core.proofs.Stays.{stays_good}
 use Rattle.tb_calls.specs.declared.call.Call.{Call}
-use Rattle.tb_reply.specs.declared.reply.Reply.{Reply}
+use Rattle.tb_calls.specs.declared.reply.Reply.{Reply}
 use Rattle.tb_calls.specs.declared.call.KeptReply.{KeptReply}
 use Rattle.tb_calls.specs.Call.{State, after_call, changes_key, counts, has_changed_key, id_reused, is_heard, is_kept_as, is_known, kept_for, kept_or_new, outcome, plain, same_name, told_in, unknown_caller}
 use Rattle.tb_calls.proofs.Names.{kept_for-after_call, kept_for-same_name, kept_of, same_name_self}

@@ -7,7 +7,7 @@ use Rattle.std.proofs.lemmas.Slice.Eq.{bytes_eq-Decides}
 use Rattle.std.proofs.lemmas.Bool.Decides.{nat_tests}
 use Rattle.tb_board.specs.World.{has_key}
 use Rattle.tb_calls.specs.declared.call.Call.{Call}
-use Rattle.tb_reply.specs.declared.reply.Reply.{Reply}
+use Rattle.tb_calls.specs.declared.reply.Reply.{Reply}
 use Rattle.tb_calls.specs.declared.call.KeptReply.{KeptReply}
 use Rattle.tb_calls.specs.Call.{State, id_reused, is_heard, is_known, kept_for, once, plain, replies_after, replies_to, reply, told_in, unknown_caller}
 use Rattle.tb_desk.specs.Sessions.{IsAgain, IsCopy, Sending, Sent, calls_of, comes_at_once, is_key_at, next_after, replies_at, replies_of, reply_at, stands, told_when}

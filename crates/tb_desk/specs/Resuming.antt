@@ -1,7 +1,7 @@
 -- Sessions that send a list, each from where the one before it stopped: where they lead, and what they are told.
 use Rattle.std.specs.Prelude.{◌≡◌, ◌⊎◌, ℕ, ◌+◌, ◌<◌, ◌≤◌, false, List, [], ◌∷◌, ◌++◌, Some, length, take, slice_get}
 use Rattle.tb_calls.specs.declared.call.Call.{Call}
-use Rattle.tb_reply.specs.declared.reply.Reply.{Reply}
+use Rattle.tb_calls.specs.declared.reply.Reply.{Reply}
 use Rattle.tb_calls.specs.declared.call.KeptReply.{KeptReply}
 use Rattle.tb_calls.specs.Call.{State, kept_for, plain, once, reply, replies_to}
 use Rattle.tb_desk.specs.Sessions.{IsCopy, Sent, Sending, WasKnown, calls_of, comes_at_once, next_after, replies_at, stands}

@@ -5,7 +5,7 @@ use Rattle.std.specs.Option.{option_map}
 use Rattle.tb_board.specs.World.{has_key}
 use Rattle.tb_core.specs.GoodLaws.{own_keys}
 use Rattle.tb_calls.specs.declared.call.Call.{Call}
-use Rattle.tb_reply.specs.declared.reply.Reply.{Reply}
+use Rattle.tb_calls.specs.declared.reply.Reply.{Reply}
 use Rattle.tb_calls.specs.Call.{State, is_heard, is_known, once, plain, reply, unknown_caller}
 
 -- ---- a list that is sent in sessions

@@ -14,14 +14,14 @@ use Rattle.tb_board.specs.World.{has_key, key_of, number_of}
 use Rattle.tb_report.specs.Lists.{listing}
 use Rattle.tb_report.specs.Showing.{shown, shown_task}
 use Rattle.tb_todotxt.specs.FileTexts.{file_text}
-use Rattle.tb_reply.specs.declared.reply.Reply.{Reply}
-use Rattle.tb_reply.specs.declared.roles.PersonRole.{PersonRole}
-use Rattle.tb_reply.specs.Roles.{me_text, people_text}
+use Rattle.tb_calls.specs.declared.reply.Reply.{Reply}
+use Rattle.tb_calls.specs.declared.role_bodies.PersonRole.{PersonRole}
+use Rattle.tb_calls.specs.RoleBodies.{me_text, people_text}
 use Rattle.tb_calls.specs.declared.view.View.{View}
 use Rattle.tb_calls.specs.declared.view.View.TheVariants.{Export, Listing, Me, One, People, Todo}
 use Rattle.tb_calls.specs.Call.{State, unknown_caller}
 use Rattle.tb_calls.specs.Roles.{boards_of, people_for}
-use Rattle.tb_reply.specs.Reply.{reply_of}
+use Rattle.tb_calls.specs.Reply.{reply_of}
 
 -- the JSON of all tasks
 abbrev pub export_text : Board → ℕ → List ℕ

@@ -12,9 +12,8 @@ ghost use Rattle.tb_desk.specs.Viewing.{one_text, seen_on, shown_in, view_of};
 use crate::viewing::see;
 use std::alloc::Global;
 use tb_board::{Board, Key, Name};
-use tb_calls::{Keep, KeepFault, View};
+use tb_calls::{Keep, KeepFault, Reply, View, reply_to_refused};
 use tb_core::{Refusal, SeenBoard};
-use tb_reply::{Reply, reply_to_refused};
 use tb_task::TaskId;
 
 /// What a person with a key is told whose view is refused, and None where it is accepted.

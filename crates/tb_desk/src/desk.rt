@@ -12,8 +12,7 @@ use crate::viewing::show;
 use std::alloc::Global;
 use std::marker::Model;
 use tb_board::{Key, Name};
-use tb_calls::{Call, Keep, KeepFault, View};
-use tb_reply::Reply;
+use tb_calls::{Call, Keep, KeepFault, Reply, View};
 use tb_task::Moment;
 use tb_values::Items;
 

@@ -4,15 +4,14 @@ ghost use Rattle.tb_board.specs.World.{key_of};
 ghost use Rattle.tb_core.specs.GoodLaws.{own_keys};
 ghost use Rattle.tb_calls.specs.declared.fault.KeepFault.TheVariants.{Memory, Store};
 ghost use Rattle.tb_calls.specs.Call.{State, after_call, changes_key, is_known, once, outcome, plain, reply};
-ghost use Rattle.tb_reply.specs.Reply.{reply_of};
+ghost use Rattle.tb_calls.specs.Reply.{reply_of};
 ghost use Rattle.tb_calls.specs.Keep.{HoldsEither, IsNew, IsSettled, IsStill, is_store};
 ghost use Rattle.tb_calls.specs.Leaving.{Only};
 
 use std::alloc::Global;
 use tb_board::Key;
-use tb_calls::{Call, Keep, KeepFault};
+use tb_calls::{Call, Keep, KeepFault, Reply, reply_to, reply_to_refused};
 use tb_core::{Command, Refusal, decide};
-use tb_reply::{Reply, reply_to, reply_to_refused};
 
 /// Handles one call: it acts where its name is new, and is told what is kept for it otherwise.
 pub(crate) fn handle_call<K: Keep>(

@@ -7,9 +7,11 @@ ghost use Rattle.tb_desk.specs.ListKeep.{call_name, named};
 use std::alloc::{AllocError, Global};
 use std::collections::BTreeMap;
 use tb_board::{Change, Key, Name, World};
-use tb_calls::{Call, Keep, KeepFault, KeptReply, boards_of, kept_reply, key_in, people_for};
+use tb_calls::{
+    BoardRole, Call, Keep, KeepFault, KeptReply, PersonRole, Reply, boards_of, kept_reply, key_in,
+    people_for,
+};
 use tb_core::{Command, Seen, look_for};
-use tb_reply::{BoardRole, PersonRole, Reply};
 use tb_task::TaskId;
 use tb_values::{Duplicate, Items};
 

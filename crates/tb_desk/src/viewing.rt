@@ -14,10 +14,11 @@ ghost use Rattle.tb_desk.specs.Viewing.{export_text, one_text, people_shown, see
 
 use std::alloc::{AllocError, Global};
 use tb_board::{Board, Key, Name};
-use tb_calls::{Keep, KeepFault, View};
+use tb_calls::{
+    Keep, KeepFault, PersonRole, Reply, View, reply_to_refused, write_me, write_people,
+};
 use tb_core::{BoardCommand, Command, Refusal, SeenBoard};
 use tb_json::{write_task, write_tasks};
-use tb_reply::{PersonRole, Reply, reply_to_refused, write_me, write_people};
 use tb_report::{listing, shown, shown_task};
 use tb_task::{Moment, Task, TaskId};
 use tb_todotxt::write_file;

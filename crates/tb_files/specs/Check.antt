@@ -11,7 +11,7 @@ use Rattle.tb_keeper.specs.Auditing.{IsCountOf}
 use Rattle.tb_keeper.specs.declared.auditing.Audit.{Audit}
 use Rattle.tb_orders.specs.Auditing.{audit_line, ending_of_audit}
 use Rattle.tb_orders.specs.declared.ending.Ending.{Ending}
-use Rattle.tb_stored.specs.Reopening.{OfContent}
+use Rattle.tb_lookup.specs.Reopening.{OfContent}
 
 module _ {D : Type 0} {d : DiskGhosts D} (g : Ghosts (SqlKeep (FileStore D d))) where
   -- what is told was counted in the content over which the session began

@@ -9,10 +9,10 @@ use Rattle.tb_headline.proofs.Replies.{replies_are, replies_front}
 use Rattle.tb_headline.specs.Connections.{HeadlineOfConnections, ServeInTurn, ServedInTurn, Serves, Service, StopsJoin, left_by, sendings}
 use Rattle.tb_headline.specs.Headline.{Lives}
 use Rattle.tb_headline.specs.Session.{calls_handled}
-use Rattle.tb_peers.proofs.Serving.{any_turns}
-use Rattle.tb_reply.specs.declared.reply.Reply.{Reply}
+use Rattle.tb_serve.proofs.TakingTurns.{any_turns}
+use Rattle.tb_calls.specs.declared.reply.Reply.{Reply}
 use Rattle.tb_serve.specs.Telling.{after}
-use Rattle.tb_turns.specs.Served.{handled}
+use Rattle.tb_serve.specs.Served.{handled}
 
 -- what connections are told are the replies to the calls that were answered
 told_are : (s : State) (x : Service) (r : List Reply) → Serves s x r

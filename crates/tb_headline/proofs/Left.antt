@@ -10,8 +10,8 @@ use Rattle.tb_calls.specs.Leaving.{StandsAfter}
 use Rattle.tb_core.specs.GoodWorld.{IsGoodWorld}
 use Rattle.tb_keeper.specs.Holds.{Holds, Kept}
 use Rattle.tb_keeper.specs.Laws.{alone}
-use Rattle.tb_reply.specs.declared.reply.Reply.{Reply}
-use Rattle.tb_stored.specs.Stored.{AreOldTreesOf, AreTreesOf, MayLeave}
+use Rattle.tb_calls.specs.declared.reply.Reply.{Reply}
+use Rattle.tb_lookup.specs.Stored.{AreOldTreesOf, AreTreesOf, MayLeave}
 use Rattle.tb_headline.specs.Session.{IsAt, IsFileOf, IsSession, Leaves, StopLeaves}
 
 -- a keeper is honest while its disk returns what was written

@@ -6,7 +6,7 @@ use Rattle.tb_desk.specs.Sessions.{Sending}
 use Rattle.tb_desk.specs.Resuming.{led_to, sessions_of, told}
 use Rattle.tb_desk.proofs.Repeats.{good_all}
 use Rattle.tb_desk.proofs.Resumed.{resumed}
-use Rattle.tb_reply.specs.declared.reply.Reply.{Reply}
+use Rattle.tb_calls.specs.declared.reply.Reply.{Reply}
 use Rattle.tb_headline.specs.Headline.{Headline, Lives, as_came}
 use Rattle.tb_headline.proofs.Came.{AreBounded, resumes}
 

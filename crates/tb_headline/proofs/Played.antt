@@ -10,13 +10,13 @@ use Rattle.tb_desk.proofs.Resumed.{take_whole}
 use Rattle.tb_headline.proofs.Left.{leaves}
 use Rattle.tb_headline.specs.Session.{IsCut, IsPlayed, calls_handled}
 use Rattle.tb_keeper.specs.Holds.{Holds}
-use Rattle.tb_stored.specs.Stored.{MayLeave}
-use Rattle.tb_peers.proofs.Following.{stands_behind}
-use Rattle.tb_peers.proofs.Serving.{any_turns}
-use Rattle.tb_peers.specs.Happening.{IsStopped, Plays, Stops}
-use Rattle.tb_peers.specs.Server.{calls_at, server}
+use Rattle.tb_lookup.specs.Stored.{MayLeave}
+use Rattle.tb_serve.proofs.Following.{stands_behind}
+use Rattle.tb_serve.proofs.TakingTurns.{any_turns}
+use Rattle.tb_serve.specs.Happening.{IsStopped, Plays, Stops}
+use Rattle.tb_serve.specs.Server.{calls_at, server}
 use Rattle.tb_serve.specs.Telling.{StandsAt, after}
-use Rattle.tb_turns.specs.Turns.{Happening, Run, Talk}
+use Rattle.tb_serve.specs.Turns.{Happening, Run, Talk}
 use Rattle.tb_site.specs.declared.site.Site.{Site}
 
 -- where all calls were answered

@@ -17,7 +17,7 @@ use Rattle.tb_sql.specs.Opening.{IsAnswered, are_old, are_ours, are_tables, has_
 use Rattle.tb_sql_tables.specs.Content.{AreOldRows, AreRows, Content}
 use Rattle.tb_sql_tables.specs.Standing.{StandsEmpty}
 use Rattle.tb_sql_tables.specs.Failing.{FailsByFault}
-use Rattle.tb_stored.specs.Migrating.{IsEmptyOrStored}
+use Rattle.tb_lookup.specs.Migrating.{IsEmptyOrStored}
 use Rattle.tb_headline.specs.Refusals.{HasMeta, IsFilled, IsRefused, IsUnmade, Says}
 use Rattle.tb_headline.specs.Session.{IsFileOf}
 

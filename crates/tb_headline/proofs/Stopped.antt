@@ -10,8 +10,8 @@ use Rattle.tb_sql.specs.declared.opening.Version.TheVariants.{First, Second}
 use Rattle.tb_sql.specs.Opening.{is_old, IsAsBefore}
 use Rattle.tb_sql.proofs.Opened.{rows_second}
 use Rattle.tb_sql_tables.specs.Content.{AreRows, Content}
-use Rattle.tb_stored.specs.Stored.{AreOldTreesOf, AreTreesOf}
-use Rattle.tb_stored.specs.Migrating.{IsStoredInEither}
+use Rattle.tb_lookup.specs.Stored.{AreOldTreesOf, AreTreesOf}
+use Rattle.tb_lookup.specs.Migrating.{IsStoredInEither}
 use Rattle.tb_headline.specs.Session.{IsFileOf, StopLeaves}
 
 -- the tables of this version aren't those of the first

@@ -11,11 +11,11 @@ use Rattle.tb_headline.specs.Session.{AllServed, calls_handled}
 use Rattle.tb_http.specs.declared.answer.ContentType.TheVariants.{Json}
 use Rattle.tb_http.specs.Message.{takes_body}
 use Rattle.tb_http.specs.Wire.{is_last}
-use Rattle.tb_peers.specs.Server.{Timed, calls_at, server}
-use Rattle.tb_reply.specs.declared.reply.Reply.{Reply}
+use Rattle.tb_serve.specs.Server.{Timed, calls_at, server}
+use Rattle.tb_calls.specs.declared.reply.Reply.{Reply}
 use Rattle.tb_serve.specs.Telling.{after, told_reply, told_text}
-use Rattle.tb_turns.specs.Served.{handled}
-use Rattle.tb_turns.specs.Turns.{Run, Step, Talk}
+use Rattle.tb_serve.specs.Served.{handled}
+use Rattle.tb_serve.specs.Turns.{Run, Step, Talk}
 use Rattle.tb_site.specs.declared.site.Site.{Site}
 
 -- A session that serves connections: its page, what they hold when it begins, its steps, what they

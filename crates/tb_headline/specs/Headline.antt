@@ -4,7 +4,7 @@ use Rattle.tb_calls.specs.declared.call.Call.{Call}
 use Rattle.tb_calls.specs.Call.{State, once, plain, replies_to}
 use Rattle.tb_core.specs.GoodWorld.{IsGoodWorld}
 use Rattle.tb_desk.specs.Sessions.{IsAgain, IsCopy, Sending, Sent, WasKnown, calls_of, comes_at_once, is_key_at, next_after, replies_at, stands}
-use Rattle.tb_reply.specs.declared.reply.Reply.{Reply}
+use Rattle.tb_calls.specs.declared.reply.Reply.{Reply}
 
 -- Each session begins with the state that the one before left, tells the answers to the calls that were answered, and
 -- leaves the state after the calls that stand: all that were answered, and one more at most.

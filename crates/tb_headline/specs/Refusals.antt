@@ -14,8 +14,8 @@ use Rattle.tb_sql_tables.specs.declared.rows.MetaRow.{MetaRow}
 use Rattle.tb_sql_tables.specs.Standing.{StandsEmpty}
 use Rattle.tb_sql_tables.specs.Failing.{HasFaulted, IsReady}
 use Rattle.tb_sql_tables.specs.Tables.{no_schema}
-use Rattle.tb_stored.specs.Stored.{AreTreesOf}
-use Rattle.tb_stored.specs.Migrating.{IsEmptyOrStored}
+use Rattle.tb_lookup.specs.Stored.{AreTreesOf}
+use Rattle.tb_lookup.specs.Migrating.{IsEmptyOrStored}
 use Rattle.tb_headline.specs.Session.{IsFileOf, WhileHonest}
 
 -- ---- a database that should be a store

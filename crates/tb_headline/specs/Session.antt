@@ -5,13 +5,13 @@ use Rattle.sqlite_trees.specs.Tree.{Trees}
 use Rattle.tb_calls.specs.declared.call.Call.{Call}
 use Rattle.tb_calls.specs.Call.{State, replies_to}
 use Rattle.tb_calls.specs.Leaving.{IsAfterSome, Only}
-use Rattle.tb_stored.specs.Stored.{AreOldTreesOf, AreTreesOf}
-use Rattle.tb_peers.specs.Happening.{Stops}
-use Rattle.tb_peers.specs.Server.{Timed, calls_among, calls_at, server}
-use Rattle.tb_reply.specs.declared.reply.Reply.{Reply}
+use Rattle.tb_lookup.specs.Stored.{AreOldTreesOf, AreTreesOf}
+use Rattle.tb_serve.specs.Happening.{Stops}
+use Rattle.tb_serve.specs.Server.{Timed, calls_among, calls_at, server}
+use Rattle.tb_calls.specs.declared.reply.Reply.{Reply}
 use Rattle.tb_serve.specs.Telling.{after}
-use Rattle.tb_turns.specs.Served.{IsSame, IsServed, handled}
-use Rattle.tb_turns.specs.Turns.{Happening, Run, Step, Talk, done_in}
+use Rattle.tb_serve.specs.Served.{IsSame, IsServed, handled}
+use Rattle.tb_serve.specs.Turns.{Happening, Run, Step, Talk, done_in}
 use Rattle.tb_site.specs.declared.site.Site.{Site}
 
 -- The trees are all rows of the state: in the tables of this version, or in those of the first, where each board looks one ahead.

@@ -9,8 +9,8 @@ ghost use Rattle.tb_headline.specs.Refusals.{IsFilled, IsRefused, IsUnmade, Says
 ghost use Rattle.tb_headline.specs.Session.{IsAt, IsCut, IsFileOf, IsPlayed, IsSession, StopLeaves, WhileHonest};
 ghost use Rattle.tb_keeper.specs.Versions.{version_taken};
 ghost use Rattle.tb_sql.specs.Opening.{has_tables, is_old, IsAsBefore};
-ghost use Rattle.tb_stored.specs.Stored.{AreTreesOf};
-ghost use Rattle.tb_peers.specs.Happening.{done_at, talk_at};
+ghost use Rattle.tb_lookup.specs.Stored.{AreTreesOf};
+ghost use Rattle.tb_serve.specs.Happening.{done_at, talk_at};
 
 use sqlite::{Alter, Connection};
 use std::alloc::Global;
@@ -18,8 +18,7 @@ use tb_board::{Key, Name};
 use tb_calls::{Call, Keep};
 use tb_desk::{Desk, RunEnd};
 use tb_keeper::{CreateFault, SqlKeep};
-use tb_peers::{Peer, PeerEvent, Tools, play};
-use tb_serve::ServeFault;
+use tb_serve::{Peer, PeerEvent, ServeFault, Tools, play};
 use tb_site::Paths;
 use tb_sql::opening::OpenFault;
 

@@ -11,9 +11,9 @@ use Rattle.tb_board.specs.declared.board.Board.{Board}
 use Rattle.tb_board.specs.declared.world.World.{World}
 use Rattle.tb_core.specs.GoodWorld.{IsGoodWorld}
 use Rattle.tb_calls.specs.Call.{State}
-use Rattle.tb_reopen.specs.Forms.{HasForm}
-use Rattle.tb_reopen.proofs.Joined.{numbered_from, own_rows}
-use Rattle.tb_reopen.proofs.ReadBoards.{own_horizon, own_tasks}
+use Rattle.tb_rows.specs.Forms.{HasForm}
+use Rattle.tb_rows.proofs.Joined.{numbered_from, own_rows}
+use Rattle.tb_rows.proofs.ReadBoards.{own_horizon, own_tasks}
 use Rattle.tb_rows.specs.Rows.{rows_from, world_rows, board_row, horizon_row, board_tasks, board_links, board_instances, link_row, link_rows, instance_rows, instance_rows_of, HaveSameRows}
 use Rattle.tb_sql.specs.Changes.{is_board, is_horizon, IsBoardBefore}
 use Rattle.tb_sql.specs.Opening.{IsAsBefore}
@@ -26,8 +26,8 @@ use Rattle.tb_sql_tables.specs.Content.{AreRows, Content, IsContent, Stands}
 use Rattle.tb_sql_tables.specs.Found.{AreFound}
 use Rattle.tb_keeper.specs.declared.auditing.Audit.{Audit}
 use Rattle.tb_keeper.specs.Auditing.{is_instance_on, is_link_on, sound, without_low, without_mask, HasBoardsOf, HasHorizonOrNone, HasItsRows, StandFor, Tells}
-use Rattle.tb_stored.specs.Reopening.{OfContent}
-use Rattle.tb_stored.specs.Stored.{AreRowsOf, IsStored}
+use Rattle.tb_lookup.specs.Reopening.{OfContent}
+use Rattle.tb_lookup.specs.Stored.{AreRowsOf, IsStored}
 use Rattle.tb_keeper.proofs.Counting.{no_faults}
 use Rattle.tb_keeper.proofs.FoundBoards.{boards_stand}
 

@@ -12,7 +12,7 @@ use Rattle.tb_board.specs.declared.world.World.{World}
 use Rattle.tb_board.specs.Changing.{changed, changed_by, put, with_ahead, with_gone, with_key, with_task_at, with_title, without_gone}
 use Rattle.tb_board.specs.First.{change_first}
 use Rattle.tb_board.specs.World.{has_name, has_number}
-use Rattle.tb_reopen.specs.Forms.{HasBoardForm, HasForm, HasMark, HasPersonForm, HasTaskForm}
+use Rattle.tb_rows.specs.Forms.{HasBoardForm, HasForm, HasMark, HasPersonForm, HasTaskForm}
 use Rattle.tb_keeper.specs.Forms.{HasChangeForm}
 
 -- a task that a board takes has its form

@@ -15,8 +15,8 @@ use Rattle.tb_calls.specs.declared.call.Call.{Call}
 use Rattle.tb_calls.specs.declared.call.KeptReply.{KeptReply}
 use Rattle.tb_calls.specs.Call.{State, name_of}
 use Rattle.tb_calls.specs.Keep.{HoldsEither, MayCommit, with_reply}
-use Rattle.tb_reply.specs.declared.reply.Reply.{Reply}
-use Rattle.tb_reopen.specs.Forms.{HasForm}
+use Rattle.tb_calls.specs.declared.reply.Reply.{Reply}
+use Rattle.tb_rows.specs.Forms.{HasForm}
 use Rattle.tb_rows.specs.Part.{board_in, IsPartOf, part_of_board, touched_board}
 use Rattle.tb_rows.specs.Rows.{world_rows, HaveSameRows, IsSameContent}
 use Rattle.tb_rows.specs.Steps.{Leads}
@@ -28,11 +28,11 @@ use Rattle.tb_sql_tables.specs.declared.rows.KeptRow.{KeptRow}
 use Rattle.tb_sql_tables.specs.Content.{Content, Stands, StandsAsEither}
 use Rattle.tb_lookup.specs.declared.people.StoredPerson.{StoredPerson}
 use Rattle.tb_lookup.specs.People.{IsPersonFound}
-use Rattle.tb_stored.proofs.KeptRows.{with_reply_known, with_reply_rows}
-use Rattle.tb_stored.specs.Reopening.{OfState}
-use Rattle.tb_stored.proofs.States.{either_alone, stored_alone}
-use Rattle.tb_stored.specs.Stored.{kept_row, state_rows, AreRowsOf, IsStored, IsStoredAsEither, MayLeave}
-use Rattle.tb_stored.proofs.Standing.{stored_again}
+use Rattle.tb_lookup.proofs.KeptRows.{with_reply_known, with_reply_rows}
+use Rattle.tb_lookup.specs.Reopening.{OfState}
+use Rattle.tb_lookup.proofs.States.{either_alone, stored_alone}
+use Rattle.tb_lookup.specs.Stored.{kept_row, state_rows, AreRowsOf, IsStored, IsStoredAsEither, MayLeave}
+use Rattle.tb_lookup.proofs.Standing.{stored_again}
 use Rattle.tb_keeper.specs.Forms.{HasChangeForm}
 use Rattle.tb_keeper.specs.Holds.{Holds, IsAtHand}
 use Rattle.tb_keeper.specs.Laws.{alone}

@@ -8,11 +8,11 @@ use Rattle.std.proofs.lemmas.List.Sorted.{All-permutation, IsPermutation-sym, Is
 use Rattle.sqlite.proofs.Callers.{one_permutation}
 use Rattle.sqlite.specs.State.{HasCleanDisk, State as Database}
 use Rattle.sqlite_trees.proofs.ListLemmas.{IsPermutation-same}
-use Rattle.tb_audit.specs.Stored.{masks_of, AreAsStored}
+use Rattle.tb_rows.specs.AsStored.{masks_of, AreAsStored}
 use Rattle.tb_board.specs.declared.board.Board.{Board}
-use Rattle.tb_reopen.specs.Reading.{board_of, is_gone_on, is_task_on}
-use Rattle.tb_reopen.proofs.OneOf.{none_found, one_found}
-use Rattle.tb_reopen.proofs.Rising.{tasks_rise}
+use Rattle.tb_rows.specs.Reading.{board_of, is_gone_on, is_task_on}
+use Rattle.tb_rows.proofs.OneOf.{none_found, one_found}
+use Rattle.tb_rows.proofs.Rising.{tasks_rise}
 use Rattle.tb_rows.specs.Rows.{board_row, board_tasks, horizon_row}
 use Rattle.tb_sql.specs.Changes.{is_board, is_horizon, IsGoneBefore, IsInstanceBefore, IsLinkBefore, IsTaskBefore}
 use Rattle.tb_sql.specs.Opening.{IsAsBefore}
@@ -29,7 +29,7 @@ use Rattle.tb_sql_tables.proofs.Effects.{all_left}
 use Rattle.tb_keeper.specs.declared.auditing.Audit.{Audit}
 use Rattle.tb_keeper.specs.declared.auditing.Checked.{Checked}
 use Rattle.tb_keeper.specs.Auditing.{is_instance_on, is_link_on, task_count, without_mask, AreFaults, HasHorizonOrNone, HasItsRows, IsCheckOf, StandFor, StandsFor, Tells}
-use Rattle.tb_stored.specs.Reopening.{OfContent}
+use Rattle.tb_lookup.specs.Reopening.{OfContent}
 
 -- ---- what is found tells whether the content has the rows of a board
 

@@ -13,10 +13,10 @@ use Rattle.tb_sql.specs.declared.store.StoreFault.{StoreFault}
 use Rattle.tb_sql.specs.declared.store.StoreFault.TheVariants.{Memory as NoRoom, Store as Failed}
 use Rattle.tb_sql_tables.specs.Found.{IsOneOf}
 use Rattle.tb_sql_tables.specs.declared.rows.BoardRow.{BoardRow}
-use Rattle.tb_stored.specs.Reopening.{OfContent, OfState}
+use Rattle.tb_lookup.specs.Reopening.{OfContent, OfState}
 use Rattle.tb_calls.specs.Call.{State}
-use Rattle.tb_stored.specs.Stored.{IsStored}
-use Rattle.tb_stored.proofs.Standing.{stored_again}
+use Rattle.tb_lookup.specs.Stored.{IsStored}
+use Rattle.tb_lookup.proofs.Standing.{stored_again}
 use Rattle.tb_values.specs.Appends.{AppendsFront}
 use Rattle.tb_values.proofs.Appends.{AppendsFront-none, Keeps-refl}
 use Rattle.tb_keeper.specs.Exporting.{IsCut, IsExported, export_text, fault_of, tasks_on, text_on}

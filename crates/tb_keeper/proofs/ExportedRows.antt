@@ -20,9 +20,9 @@ use Rattle.tb_json.specs.Writing.{shown_text}
 use Rattle.tb_json.proofs.ListSteps.{list_text-tail, tail_of, tail-more}
 use Rattle.tb_report.specs.Showing.{mask_on, shown}
 use Rattle.tb_sql.specs.Opening.{IsAsBefore}
-use Rattle.tb_stored.specs.Reopening.{OfState}
-use Rattle.tb_stored.specs.Stored.{IsStored}
-use Rattle.tb_stored.proofs.Standing.{stored_again}
+use Rattle.tb_lookup.specs.Reopening.{OfState}
+use Rattle.tb_lookup.specs.Stored.{IsStored}
+use Rattle.tb_lookup.proofs.Standing.{stored_again}
 use Rattle.tb_values.specs.Appends.{AppendsFront}
 use Rattle.tb_values.proofs.Appends.{Appends-nil, Appends-then, AppendsFront-more, AppendsFront-then}
 use Rattle.tb_keeper.specs.Exporting.{AppendsBut, shown_on, tasks_on, text_on}

@@ -8,11 +8,11 @@ use Rattle.tb_board.specs.World.{opening as opening_world}
 use Rattle.tb_core.proofs.Opening.{opens}
 use Rattle.tb_calls.specs.declared.call.KeptReply.{KeptReply}
 use Rattle.tb_calls.specs.Call.{CallName, name_cmp, opening}
-use Rattle.tb_reopen.specs.Laws.{AreApart}
+use Rattle.tb_rows.specs.Laws.{AreApart}
 use Rattle.tb_rows.specs.Rows.{world_rows, HaveSameRows, IsSameContent}
 use Rattle.tb_sql.specs.Migrating.{without_horizon}
 use Rattle.tb_sql_tables.specs.Content.{Content}
-use Rattle.tb_stored.specs.Stored.{kept_row, state_rows, AreOldRowsOf, AreRowsOf, IsKnown}
+use Rattle.tb_lookup.specs.Stored.{kept_row, state_rows, AreOldRowsOf, AreRowsOf, IsKnown}
 
 none : (es : List (CallName × KeptReply)) → length es ≡ 0 → es ≡ []
 none [] e = refl

@@ -19,15 +19,15 @@ use Rattle.tb_sql_tables.specs.declared.rows.GoneRow.{GoneRow}
 use Rattle.tb_sql_tables.specs.declared.rows.HorizonRow.{HorizonRow}
 use Rattle.tb_sql.specs.Changes.{is_board, IsBoardBefore, IsGoneBefore, IsTaskBefore}
 use Rattle.tb_rows.specs.Rows.{world_rows, board_row, board_tasks, board_gone, horizon_row}
-use Rattle.tb_reopen.specs.Forms.{HasForm, HasBoardForm}
-use Rattle.tb_reopen.specs.Outcome.{readable}
-use Rattle.tb_reopen.specs.Reading.{ahead_of, board_of, gone_in, is_gone_on, is_task_on, task_at, tasks_in}
-use Rattle.tb_reopen.specs.declared.fault.ReopenFault.{ReopenFault}
+use Rattle.tb_rows.specs.Forms.{HasForm, HasBoardForm}
+use Rattle.tb_rows.specs.Outcome.{readable}
+use Rattle.tb_rows.specs.Reading.{ahead_of, board_of, gone_in, is_gone_on, is_task_on, task_at, tasks_in}
+use Rattle.tb_rows.specs.declared.fault.ReopenFault.{ReopenFault}
 use Rattle.tb_board.specs.Names.{read_title}
-use Rattle.tb_reopen.proofs.Joined.{numbered_from}
-use Rattle.tb_reopen.proofs.Orders.{GoneRise, in_order}
-use Rattle.tb_reopen.proofs.ReadBoards.{FindsOwn, board_read, finds_own}
-use Rattle.tb_reopen.proofs.Rising.{boards_rise, tasks_rise}
+use Rattle.tb_rows.proofs.Joined.{numbered_from}
+use Rattle.tb_rows.proofs.Orders.{GoneRise, in_order}
+use Rattle.tb_rows.proofs.ReadBoards.{FindsOwn, board_read, finds_own}
+use Rattle.tb_rows.proofs.Rising.{boards_rise, tasks_rise}
 use Rattle.tb_keeper.specs.Auditing.{without_low, without_mask, HasBoardsOf, HasHorizonOrNone, StandFor, StandsFor}
 use Rattle.tb_keeper.proofs.Images.{all_alone, images_found, IsAlone}
 

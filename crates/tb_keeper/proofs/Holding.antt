@@ -9,9 +9,9 @@ use Rattle.tb_calls.specs.Keep.{IsStill}
 use Rattle.tb_cache.specs.BoardCache.{AreOf}
 use Rattle.tb_sql.specs.Opening.{IsAsBefore}
 use Rattle.tb_sql_tables.specs.Content.{Content, Stands}
-use Rattle.tb_stored.specs.Reopening.{OfState}
-use Rattle.tb_stored.specs.Stored.{AreRowsOf, IsStored, IsStoredAsEither, MayLeave}
-use Rattle.tb_stored.proofs.Standing.{stored_again}
+use Rattle.tb_lookup.specs.Reopening.{OfState}
+use Rattle.tb_lookup.specs.Stored.{AreRowsOf, IsStored, IsStoredAsEither, MayLeave}
+use Rattle.tb_lookup.proofs.Standing.{stored_again}
 use Rattle.tb_keeper.specs.Holds.{Holds, IsAtHand, Kept}
 
 -- a disk that returns what was written did so before

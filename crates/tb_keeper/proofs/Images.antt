@@ -9,7 +9,7 @@ use Rattle.std.proofs.lemmas.List.Sorted.{IsPermutation-keeps, IsPermutation-ref
 use Rattle.sqlite_trees.specs.Tree.{IsAscending}
 use Rattle.sqlite_keyed.proofs.ListLemmas.{all_both, all_weaker, all-append, ascending-map, ascending_from_map, filter_none}
 use Rattle.tb_sql_tables.specs.Found.{AreFound}
-use Rattle.tb_reopen.proofs.Lists.{differ}
+use Rattle.tb_rows.proofs.Lists.{differ}
 
 module _ {A B : Type 0} (f : A → B) where
   image_swap : (ys : List A) (i j : ℕ) → map f (swap ys i j) ≡ swap (map f ys) i j

@@ -3,13 +3,13 @@ use Rattle.std.proofs.Common.{◌≡◌, ◌∙◌, ◌⊎◌, ℕ, Bool, List, 
 use Rattle.std.specs.Prelude.{◌↔◌, IsTrue}
 use Rattle.tb_values.specs.Outcome.{◌>>=◌}
 use Rattle.tb_task.specs.declared.task.Task.{Task}
-use Rattle.tb_audit.specs.Stored.{AreAsStored}
+use Rattle.tb_rows.specs.AsStored.{AreAsStored}
 use Rattle.tb_board.specs.Names.{read_title}
 use Rattle.tb_board.specs.declared.board.Board.{Board}
 use Rattle.tb_board.specs.declared.gone.Gone.{Gone}
-use Rattle.tb_reopen.specs.Outcome.{readable}
-use Rattle.tb_reopen.specs.Reading.{ahead_of, board_of, gone_in, tasks_in}
-use Rattle.tb_reopen.specs.declared.fault.ReopenFault.{ReopenFault}
+use Rattle.tb_rows.specs.Outcome.{readable}
+use Rattle.tb_rows.specs.Reading.{ahead_of, board_of, gone_in, tasks_in}
+use Rattle.tb_rows.specs.declared.fault.ReopenFault.{ReopenFault}
 use Rattle.tb_rows.specs.Rows.{horizon_row}
 use Rattle.tb_sql_tables.specs.declared.rows.BoardRow.{BoardRow}
 use Rattle.tb_sql_tables.specs.declared.rows.GoneRow.{GoneRow}

@@ -16,19 +16,19 @@ use Rattle.tb_calls.specs.Call.{State}
 use Rattle.tb_json.specs.Stored.{stored_of}
 use Rattle.tb_json.specs.declared.fault.JsonFault.{JsonFault}
 use Rattle.tb_json.proofs.StoredLaws.{stored_of-stored_text}
-use Rattle.tb_reopen.proofs.OneOf.{none_found, one_found}
-use Rattle.tb_reopen.proofs.Joined.{AreNumberedFrom, numbered_from}
-use Rattle.tb_reopen.proofs.Lists.{differ}
-use Rattle.tb_reopen.proofs.ReadBoards.{own_tasks}
-use Rattle.tb_reopen.proofs.ReadTasks.{storable}
-use Rattle.tb_reopen.specs.Forms.{HasBoardForm, HasTaskForm}
+use Rattle.tb_rows.proofs.OneOf.{none_found, one_found}
+use Rattle.tb_rows.proofs.Joined.{AreNumberedFrom, numbered_from}
+use Rattle.tb_rows.proofs.Lists.{differ}
+use Rattle.tb_rows.proofs.ReadBoards.{own_tasks}
+use Rattle.tb_rows.proofs.ReadTasks.{storable}
+use Rattle.tb_rows.specs.Forms.{HasBoardForm, HasTaskForm}
 use Rattle.tb_rows.specs.Rows.{board_tasks, rows_from, task_row}
 use Rattle.tb_sql.specs.Changes.{is_task}
 use Rattle.tb_sql_tables.specs.Content.{Content}
 use Rattle.tb_sql_tables.specs.Found.{IsOneOf}
 use Rattle.tb_sql_tables.specs.declared.rows.TaskRow.{TaskRow}
-use Rattle.tb_stored.specs.Reopening.{OfContent, OfState}
-use Rattle.tb_stored.specs.Stored.{AreRowsOf}
+use Rattle.tb_lookup.specs.Reopening.{OfContent, OfState}
+use Rattle.tb_lookup.specs.Stored.{AreRowsOf}
 use Rattle.tb_keeper.specs.Lending.{lent_row, row_behind, stored_row}
 use Rattle.tb_keeper.specs.declared.lending.StoredRow.{StoredRow}
 

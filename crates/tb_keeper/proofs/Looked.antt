@@ -33,7 +33,7 @@ use Rattle.tb_lookup.specs.declared.people.StoredPerson.{StoredPerson}
 use Rattle.tb_lookup.specs.declared.roles.RolesFound.{RolesFound}
 use Rattle.tb_lookup.specs.People.{IsPersonFound}
 use Rattle.tb_lookup.specs.Roles.{AreRolesFound, role_for}
-use Rattle.tb_stored.specs.Stored.{IsKnown, IsStored}
+use Rattle.tb_lookup.specs.Stored.{IsKnown, IsStored}
 use Rattle.tb_keeper.specs.declared.looking.Glance.{Glance}
 use Rattle.tb_keeper.specs.declared.looking.Parties.{Parties}
 use Rattle.tb_keeper.specs.Looking.{board_at, caller_role, takes, AreParties, IsGlance, IsGlanceAt, IsSeenAtHand}

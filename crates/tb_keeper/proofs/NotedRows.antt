@@ -11,16 +11,16 @@ use Rattle.tb_board.specs.World.{find_board, has_number}
 use Rattle.tb_board.specs.declared.board.Board.{Board}
 use Rattle.tb_board.proofs.Worlds.{number_found}
 use Rattle.tb_calls.specs.Call.{State}
-use Rattle.tb_reopen.proofs.Joined.{numbered_from, own_rows}
+use Rattle.tb_rows.proofs.Joined.{numbered_from, own_rows}
 use Rattle.tb_rows.specs.Rows.{board_instances, instance_row, instance_rows, instance_rows_of, rows_from}
 use Rattle.tb_sql.specs.Changes.{IsInstanceBefore}
 use Rattle.tb_sql.specs.Opening.{IsAsBefore}
 use Rattle.tb_sql_tables.specs.Content.{Content}
 use Rattle.tb_sql_tables.specs.Found.{AreFound}
 use Rattle.tb_sql_tables.specs.declared.rows.InstanceRow.{InstanceRow}
-use Rattle.tb_stored.specs.Reopening.{OfContent, OfState}
-use Rattle.tb_stored.specs.Stored.{AreRowsOf}
-use Rattle.tb_stored.proofs.Standing.{stored_again}
+use Rattle.tb_lookup.specs.Reopening.{OfContent, OfState}
+use Rattle.tb_lookup.specs.Stored.{AreRowsOf}
+use Rattle.tb_lookup.proofs.Standing.{stored_again}
 use Rattle.tb_keeper.specs.Exporting.{tasks_on}
 use Rattle.tb_keeper.specs.Lending.{lent_row}
 use Rattle.tb_keeper.specs.Noting.{AreNotes, IsNotedBy, is_note, is_noted, note_at, note_by, note_of, note_of_row, notes_of}

@@ -4,7 +4,7 @@ use Rattle.tb_board.specs.declared.world.Role.{Role}
 use Rattle.tb_board.specs.declared.world.World.{World}
 use Rattle.tb_board.specs.World.{role_of}
 use Rattle.tb_calls.specs.Roles.{people_on, where_some}
-use Rattle.tb_reply.specs.declared.roles.PersonRole.{PersonRole}
+use Rattle.tb_calls.specs.declared.role_bodies.PersonRole.{PersonRole}
 
 module _ (w : World) (board person : ℕ) (caller : Option Role) (caller_is : caller ≡ role_of w board person) where
   pub people_seen : (role : Role) (people : List PersonRole) → caller ≡ Some role → people ≡ people_on w board → Some people ≡ where_some (role_of w board person) (people_on w board)

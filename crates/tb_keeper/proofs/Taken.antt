@@ -14,9 +14,9 @@ use Rattle.tb_sql.specs.declared.opening.Version.TheVariants.{First, Second}
 use Rattle.tb_sql.proofs.Opened.{stands_again}
 use Rattle.tb_sql_tables.specs.Content.{AreOldRows, AreRows, Content, Stands, StandsBy}
 use Rattle.tb_sql_tables.specs.Standing.{IsOldContent, StandsOld, StandsOldOr}
-use Rattle.tb_stored.specs.Stored.{AreOldRowsOf}
-use Rattle.tb_stored.specs.Migrating.{IsStoredInEither, IsStoredOld}
-use Rattle.tb_stored.proofs.Migrating.{migrated_rows}
+use Rattle.tb_lookup.specs.Stored.{AreOldRowsOf}
+use Rattle.tb_lookup.specs.Migrating.{IsStoredInEither, IsStoredOld}
+use Rattle.tb_lookup.proofs.Migrating.{migrated_rows}
 use Rattle.tb_keeper.specs.Holds.{Holds}
 use Rattle.tb_keeper.specs.Versions.{OfOldState}
 use Rattle.tb_keeper.proofs.Holding.{made_held}

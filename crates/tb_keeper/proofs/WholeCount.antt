@@ -5,7 +5,7 @@ use Rattle.std.proofs.lemmas.List.{take_all, take_more}
 use Rattle.std.proofs.lemmas.List.Elements.{filter-append}
 use Rattle.std.proofs.lemmas.List.Sums.{sum_by-append}
 use Rattle.sqlite.specs.State.{HasCleanDisk, State as Database}
-use Rattle.tb_reopen.specs.Reading.{is_gone_on, is_task_on}
+use Rattle.tb_rows.specs.Reading.{is_gone_on, is_task_on}
 use Rattle.tb_sql.specs.Changes.{is_horizon, IsBoardBefore, IsGoneBefore, IsInstanceBefore, IsLinkBefore, IsTaskBefore}
 use Rattle.tb_sql.specs.Opening.{IsAsBefore}
 use Rattle.tb_sql_tables.specs.declared.rows.BoardRow.{BoardRow}
@@ -19,9 +19,9 @@ use Rattle.tb_sql_tables.specs.Found.{AreFound, IsOneOf}
 use Rattle.tb_keeper.specs.declared.auditing.Audit.{Audit}
 use Rattle.tb_keeper.specs.declared.auditing.Checked.{Checked}
 use Rattle.tb_keeper.specs.Auditing.{differs, is_instance_on, is_link_on, AreChecksOf, CountsRows, IsCheckBy, IsCheckOfRow, IsCountOf, IsOwned, IsRowCheck}
-use Rattle.tb_stored.specs.Reopening.{OfContent}
+use Rattle.tb_lookup.specs.Reopening.{OfContent}
 use Rattle.tb_keeper.proofs.Counting.{IsOneMore}
-use Rattle.tb_stored.proofs.Standing.{stood}
+use Rattle.tb_lookup.proofs.Standing.{stood}
 
 -- what is found of a board between looks that change nothing
 pub check_whole : (start second third fourth after : Database) (row : BoardRow) (horizon : Option HorizonRow) (tasks : List TaskRow) (gone : List GoneRow) (links : List LinkRow) (instances : List InstanceRow) (checked : Checked)

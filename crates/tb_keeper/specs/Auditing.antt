@@ -14,9 +14,9 @@ use Rattle.tb_sql_tables.specs.declared.rows.HorizonRow.{HorizonRow}
 use Rattle.tb_sql_tables.specs.Content.{Content}
 use Rattle.tb_sql_tables.specs.Found.{AreFound, IsOneOf}
 use Rattle.tb_sql.specs.Changes.{is_board, is_horizon, IsBoardBefore, IsGoneBefore, IsInstanceBefore, IsLinkBefore, IsRoleBefore, IsTaskBefore}
-use Rattle.tb_audit.specs.Stored.{AreAsStored}
+use Rattle.tb_rows.specs.AsStored.{AreAsStored}
 use Rattle.tb_rows.specs.Rows.{board_instances, board_links, board_row, board_tasks, horizon_row, world_rows}
-use Rattle.tb_reopen.specs.Reading.{board_of, is_gone_on, is_task_on}
+use Rattle.tb_rows.specs.Reading.{board_of, is_gone_on, is_task_on}
 use Rattle.tb_keeper.specs.declared.auditing.Audit.{Audit}
 use Rattle.tb_keeper.specs.declared.auditing.Checked.{Checked}
 

@@ -4,7 +4,7 @@ use Rattle.tb_board.specs.Ahead.{is_ahead}
 use Rattle.tb_board.specs.Names.{is_key, is_name, is_title}
 use Rattle.tb_board.specs.declared.change.Change.{Change}
 use Rattle.tb_board.specs.declared.change.Change.TheVariants.{PutTask, AddPerson, SetKey, AddBoard, SetTitle, SetRole, SetGone, TakeGone, SetAhead}
-use Rattle.tb_reopen.specs.Forms.{HasMark, HasTaskForm}
+use Rattle.tb_rows.specs.Forms.{HasMark, HasTaskForm}
 
 abbrev pub HasChangeForm : Change → Type 0
 HasChangeForm (PutTask n place t) = HasTaskForm t

@@ -6,7 +6,7 @@ use Rattle.tb_board.specs.declared.world.World.{World}
 use Rattle.tb_core.specs.GoodWorld.{IsGoodWorld}
 use Rattle.tb_calls.specs.Call.{State}
 use Rattle.tb_cache.specs.BoardCache.{AreOf}
-use Rattle.tb_stored.specs.Stored.{IsStored, IsStoredAsEither}
+use Rattle.tb_lookup.specs.Stored.{IsStored, IsStoredAsEither}
 
 -- what a keeper has at hand is the world's: how many people and boards there are, and boards by their numbers
 pub record IsAtHand (people boards : ℕ) (cached : List (ℕ × Board)) (w : World) : Type 0 where

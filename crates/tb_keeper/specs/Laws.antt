@@ -5,8 +5,8 @@ use Rattle.sqlite_trees.proofs.Doubt.{clean_of}
 use Rattle.tb_board.specs.declared.board.Board.{Board}
 use Rattle.tb_core.specs.GoodWorld.{IsGoodWorld}
 use Rattle.tb_calls.specs.Call.{State}
-use Rattle.tb_stored.specs.Stored.{MayLeave}
-use Rattle.tb_stored.proofs.States.{stored_alone}
+use Rattle.tb_lookup.specs.Stored.{MayLeave}
+use Rattle.tb_lookup.proofs.States.{stored_alone}
 use Rattle.tb_keeper.specs.Holds.{Holds}
 
 module _ (failed : Bool) (people boards : ℕ) (cached : List (ℕ × Board)) (d : Database) where

@@ -4,7 +4,7 @@ use Rattle.sqlite.specs.State.{HasCleanDisk, State as Database}
 use Rattle.tb_calls.specs.Call.{State}
 use Rattle.tb_sql.specs.declared.opening.Version.{Version}
 use Rattle.tb_sql.specs.declared.opening.Version.TheVariants.{First, Second}
-use Rattle.tb_stored.specs.Migrating.{IsStoredOld}
+use Rattle.tb_lookup.specs.Migrating.{IsStoredOld}
 
 -- the version that a store had before it was opened, which made it the second or not
 abbrev pub version_taken : Bool → Version

@@ -11,7 +11,7 @@ ghost use Rattle.tb_cache.specs.BoardCache.{AreOf};
 ghost use Rattle.tb_cache.specs.Following.{TouchesNone};
 ghost use Rattle.tb_core.specs.GoodWorld.{IsGoodWorld};
 ghost use Rattle.tb_sql.specs.Opening.{IsAsBefore};
-ghost use Rattle.tb_stored.specs.Reopening.{OfState};
+ghost use Rattle.tb_lookup.specs.Reopening.{OfState};
 ghost use Rattle.tb_keeper.specs.Counts.{is_new_board, is_new_person, one_if};
 ghost use Rattle.tb_keeper.specs.Holds.{IsAtHand};
 ghost use Rattle.tb_task.specs.Limits.{most_boards, most_people};

@@ -6,7 +6,7 @@ ghost use Rattle.tb_calls.specs.Call.{State};
 ghost use Rattle.tb_calls.specs.Keep.{IsStill, is_store};
 ghost use Rattle.tb_calls.specs.Roles.{person_at};
 ghost use Rattle.tb_keeper.specs.Holds.{Holds};
-ghost use Rattle.tb_stored.specs.Stored.{MayLeave};
+ghost use Rattle.tb_lookup.specs.Stored.{MayLeave};
 
 use crate::looking::find_first;
 use crate::sql_keep::SqlKeep;

@@ -7,15 +7,15 @@ ghost use Rattle.tb_calls.specs.Call.{opening};
 ghost use Rattle.tb_sql.specs.FirstVersion.{first_content};
 ghost use Rattle.tb_sql_tables.specs.Standing.{StandsEmpty};
 ghost use Rattle.tb_sql_tables.specs.Tables.{no_schema};
-ghost use Rattle.tb_stored.specs.Stored.{AreOldRowsOf};
-ghost use Rattle.tb_stored.specs.Migrating.{IsEmptyOrStoredOld, IsStoredOld};
+ghost use Rattle.tb_lookup.specs.Stored.{AreOldRowsOf};
+ghost use Rattle.tb_lookup.specs.Migrating.{IsEmptyOrStoredOld, IsStoredOld};
 
 use crate::creating::CreateFault;
 use sqlite::{Alter, Connection};
 use std::alloc::{AllocError, Global};
 use tb_board::{Key, Name};
-use tb_reopen::laws::rows_are_apart;
 use tb_rows::FirstRows;
+use tb_rows::laws::rows_are_apart;
 use tb_sql::first_version::create_v1 as create_tables;
 use tb_sql::opening::is_empty;
 use tb_sql::store::StoreFault;

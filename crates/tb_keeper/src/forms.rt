@@ -6,7 +6,7 @@ ghost use Rattle.tb_board.specs.Ahead.{is_ahead};
 ghost use Rattle.tb_board.specs.Names.{is_key};
 ghost use Rattle.tb_task.specs.Mask.{is_mark};
 ghost use Rattle.tb_keeper.specs.Forms.{HasChangeForm};
-ghost use Rattle.tb_reopen.specs.Forms.{HasTaskForm};
+ghost use Rattle.tb_rows.specs.Forms.{HasTaskForm};
 
 use tb_board::{Ahead, Change, Key};
 use tb_task::{Mark, Task, check};

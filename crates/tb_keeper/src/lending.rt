@@ -10,8 +10,8 @@ ghost use Rattle.tb_json.specs.Stored.{stored_of};
 ghost use Rattle.tb_sql.specs.Changes.{is_task};
 ghost use Rattle.tb_sql.specs.Opening.{IsAsBefore};
 ghost use Rattle.tb_sql_tables.specs.Found.{IsOneOf};
-ghost use Rattle.tb_stored.specs.Reopening.{OfContent, OfState};
-ghost use Rattle.tb_stored.specs.Stored.{MayLeave};
+ghost use Rattle.tb_lookup.specs.Reopening.{OfContent, OfState};
+ghost use Rattle.tb_lookup.specs.Stored.{MayLeave};
 ghost use Rattle.tb_keeper.specs.Holds.{Holds};
 ghost use Rattle.tb_keeper.specs.Lending.{passed, stored_row};
 

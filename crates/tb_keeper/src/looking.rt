@@ -9,7 +9,7 @@ ghost use Rattle.tb_cache.specs.BoardCache.{AreOf};
 ghost use Rattle.tb_calls.specs.Roles.{person_at};
 ghost use Rattle.tb_core.specs.Apply.{board_of, number_for, other_of, own_for, seen_with};
 ghost use Rattle.tb_sql.specs.Opening.{IsAsBefore};
-ghost use Rattle.tb_stored.specs.Reopening.{OfState};
+ghost use Rattle.tb_lookup.specs.Reopening.{OfState};
 ghost use Rattle.tb_keeper.specs.Looking.{AreParties, IsGlance, IsGlanceAt, IsSeenAtHand, caller_role, takes};
 
 use crate::at_hand::board_at;

@@ -5,16 +5,16 @@ ghost use Rattle.sqlite.specs.Held.{state};
 ghost use Rattle.tb_board.specs.World.{role_of};
 ghost use Rattle.tb_calls.specs.Roles.{boards_of, people_for, people_on, where_some};
 ghost use Rattle.tb_sql.specs.Opening.{IsAsBefore};
-ghost use Rattle.tb_stored.specs.Reopening.{OfState};
+ghost use Rattle.tb_lookup.specs.Reopening.{OfState};
 
 use sqlite::{Alter, Connection};
 use std::alloc::Global;
 use tb_board::Name;
+use tb_calls::{BoardRole, PersonRole};
 use tb_lookup::boards_of::stored_boards_of;
 use tb_lookup::people::stored_person;
 use tb_lookup::people_on::stored_people_on;
 use tb_lookup::roles::roles_found;
-use tb_reply::{BoardRole, PersonRole};
 use tb_sql::store::StoreFault;
 use tb_values::Items;
 

@@ -5,9 +5,9 @@ ghost use Rattle.tb_calls.specs.Call.{State};
 ghost use Rattle.tb_sql.specs.Opening.{has_meta, has_tables, is_old, IsAnswered, IsAsBefore};
 ghost use Rattle.tb_sql_tables.specs.Content.{AreOldRows, AreRows, Content, Stands};
 ghost use Rattle.tb_sql_tables.specs.Failing.{FailsByFault, KeepsFaults};
-ghost use Rattle.tb_stored.specs.Reopening.{OfState};
-ghost use Rattle.tb_stored.specs.Stored.{AreOldTreesOf, AreTreesOf};
-ghost use Rattle.tb_stored.specs.Migrating.{IsStoredInEither, IsStoredOld};
+ghost use Rattle.tb_lookup.specs.Reopening.{OfState};
+ghost use Rattle.tb_lookup.specs.Stored.{AreOldTreesOf, AreTreesOf};
+ghost use Rattle.tb_lookup.specs.Migrating.{IsStoredInEither, IsStoredOld};
 ghost use Rattle.tb_keeper.specs.Holds.{Holds, IsAtHand};
 ghost use Rattle.tb_keeper.specs.Versions.{OfOldState, version_taken};
 

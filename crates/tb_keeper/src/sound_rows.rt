@@ -6,17 +6,17 @@ ghost use Rattle.sqlite.specs.Held.{state};
 ghost use Rattle.tb_board.specs.Good.{IsGood};
 ghost use Rattle.tb_sql.specs.Opening.{IsAsBefore};
 ghost use Rattle.tb_keeper.specs.Auditing.{is_owners, IsOwned};
-ghost use Rattle.tb_stored.specs.Reopening.{OfContent};
+ghost use Rattle.tb_lookup.specs.Reopening.{OfContent};
 
 use sqlite::{Alter, Connection};
 use std::alloc::Global;
 use tb_board::Board;
 use tb_good::is_good_board;
-use tb_reopen::read_people;
+use tb_lookup::faults::fault_of;
+use tb_lookup::reading::{kept_rows, people_rows, role_rows};
+use tb_rows::read_people;
 use tb_sql::store::StoreFault;
 use tb_sql_tables::rows::{BoardRow, KeptRow, RoleRow};
-use tb_stored::faults::fault_of;
-use tb_stored::reading::{kept_rows, people_rows, role_rows};
 use tb_task::MOST_PEOPLE;
 
 const OWNER: u32 = 1;

@@ -7,7 +7,7 @@ ghost use Rattle.tb_board.specs.World.{find_board, key_of};
 ghost use Rattle.tb_calls.specs.Call.{State};
 ghost use Rattle.tb_calls.specs.Keep.{IsStill, is_store};
 ghost use Rattle.tb_core.specs.Apply.{board_of, seen_of};
-ghost use Rattle.tb_stored.specs.Stored.{IsStored, IsStoredAsEither, MayLeave};
+ghost use Rattle.tb_lookup.specs.Stored.{IsStored, IsStoredAsEither, MayLeave};
 ghost use Rattle.tb_keeper.specs.Holds.{Holds};
 ghost use Rattle.tb_keeper.specs.Looking.{IsSeenAtHand};
 
@@ -17,9 +17,8 @@ use sqlite::{Alter, Connection};
 use std::alloc::Global;
 use tb_board::{Board, Change, Key, Name};
 use tb_cache::BoardCache;
-use tb_calls::{Call, Keep, KeepFault, KeptReply};
+use tb_calls::{BoardRole, Call, Keep, KeepFault, KeptReply, PersonRole, Reply};
 use tb_core::{Command, Seen};
-use tb_reply::{BoardRole, PersonRole, Reply};
 use tb_sql::store::StoreFault;
 use tb_task::TaskId;
 use tb_values::Items;
@@ -74,7 +73,7 @@ impl<S: Alter> Keep for SqlKeep<S> {
     ghost use Rattle.sqlite.specs.Held.{state};
     ghost use Rattle.tb_keeper.specs.Holds.{Holds};
     ghost use Rattle.tb_keeper.specs.Laws.{alone as held_alone, given as held_given, good as held_good, leaves as honest_leaves};
-    ghost use Rattle.tb_stored.specs.Stored.{MayLeave};
+    ghost use Rattle.tb_lookup.specs.Stored.{MayLeave};
 
     ghost holds = { λ k s. Holds k.failed k.people k.boards k.cache.entries
         (state S.Store k.conn) s };

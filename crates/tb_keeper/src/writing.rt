@@ -5,8 +5,8 @@ ghost use Rattle.sqlite.specs.Held.{state};
 ghost use Rattle.sqlite.specs.State.{HasCleanDisk};
 ghost use Rattle.tb_calls.specs.Keep.{MayCommit, with_reply};
 ghost use Rattle.tb_cache.specs.BoardCache.{AreOf};
-ghost use Rattle.tb_stored.specs.Reopening.{OfState};
-ghost use Rattle.tb_stored.specs.Stored.{IsStored, IsStoredAsEither};
+ghost use Rattle.tb_lookup.specs.Reopening.{OfState};
+ghost use Rattle.tb_lookup.specs.Stored.{IsStored, IsStoredAsEither};
 ghost use Rattle.tb_keeper.specs.Holds.{IsAtHand};
 
 use crate::committing::{hold_to_forms, kept_row_for, rows_for};
@@ -14,8 +14,7 @@ use crate::sql_keep::SqlKeep;
 use sqlite::Alter;
 use std::alloc::Global;
 use tb_board::Change;
-use tb_calls::Call;
-use tb_reply::Reply;
+use tb_calls::{Call, Reply};
 use tb_sql::store::{StoreFault, write_rows};
 
 impl<S: Alter> SqlKeep<S> {

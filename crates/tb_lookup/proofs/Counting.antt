@@ -7,8 +7,8 @@ use Rattle.std.proofs.lemmas.List.Sorted.{list_any-IsPermutation}
 use Rattle.sqlite.specs.State.{State as Database}
 use Rattle.tb_calls.specs.Call.{State}
 use Rattle.tb_sql.specs.Opening.{IsAsBefore}
-use Rattle.tb_stored.specs.Reopening.{OfState}
-use Rattle.tb_stored.proofs.Standing.{stored_again}
+use Rattle.tb_lookup.specs.Reopening.{OfState}
+use Rattle.tb_lookup.proofs.Standing.{stored_again}
 use Rattle.tb_lookup.proofs.Within.{IsWithin}
 
 module _ (count : State → ℕ) where

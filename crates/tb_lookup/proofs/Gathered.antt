@@ -6,8 +6,8 @@ use Rattle.std.proofs.lemmas.List.Elements.{filter_map-append}
 use Rattle.sqlite.specs.State.{State as Database}
 use Rattle.tb_calls.specs.Call.{State}
 use Rattle.tb_sql.specs.Opening.{IsAsBefore}
-use Rattle.tb_stored.specs.Reopening.{OfState}
-use Rattle.tb_stored.proofs.Standing.{stored_again}
+use Rattle.tb_lookup.specs.Reopening.{OfState}
+use Rattle.tb_lookup.proofs.Standing.{stored_again}
 
 module _ {X Y : Type 0} where
   one_more : (f : X → Option Y) (xs : List X) (i : ℕ) (x : X) (ys : List Y) (y : Y) → i < length xs → x ≡ get_or xs i x → f x ≡ Some y → ys ≡ filter_map f (take i xs)

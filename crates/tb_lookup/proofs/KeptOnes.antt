@@ -18,11 +18,11 @@ use Rattle.tb_sql.specs.Changes.{is_kept}
 use Rattle.tb_sql_tables.specs.Content.{Content}
 use Rattle.tb_sql_tables.specs.Found.{IsOneOf}
 use Rattle.tb_sql_tables.specs.declared.rows.KeptRow.{KeptRow}
-use Rattle.tb_stored.proofs.Entries.{sorted_apart, AreApart}
-use Rattle.tb_stored.proofs.Numbers.{name_at_number, name_of_number, name_at}
-use Rattle.tb_stored.specs.Stored.{kept_row, reply_in, AreRowsOf, IsKnown}
+use Rattle.tb_lookup.proofs.Entries.{sorted_apart, AreApart}
+use Rattle.tb_lookup.proofs.Numbers.{name_at_number, name_of_number, name_at}
+use Rattle.tb_lookup.specs.Stored.{kept_row, reply_in, AreRowsOf, IsKnown}
 use Rattle.tb_lookup.specs.Replies.{IsReplyFound}
-use Rattle.tb_reopen.proofs.OneOf.{none_found, one_found}
+use Rattle.tb_rows.proofs.OneOf.{none_found, one_found}
 
 abbrev Entry : Type 0
 Entry = CallName × KeptReply

@@ -13,11 +13,11 @@ use Rattle.tb_rows.specs.Rows.{person_row, rows_from, secret_of}
 use Rattle.tb_sql.specs.Changes.{is_named}
 use Rattle.tb_sql_tables.specs.Found.{IsOneOf}
 use Rattle.tb_sql_tables.specs.declared.rows.PersonRow.{PersonRow}
-use Rattle.tb_reopen.specs.declared.fault.ReopenFault.{ReopenFault}
-use Rattle.tb_reopen.specs.Forms.{HasPersonForm}
-use Rattle.tb_reopen.specs.Reading.{secret_in}
-use Rattle.tb_reopen.proofs.OneOf.{none_found, one_found}
-use Rattle.tb_reopen.proofs.ReadPeople.{secret_read}
+use Rattle.tb_rows.specs.declared.fault.ReopenFault.{ReopenFault}
+use Rattle.tb_rows.specs.Forms.{HasPersonForm}
+use Rattle.tb_rows.specs.Reading.{secret_in}
+use Rattle.tb_rows.proofs.OneOf.{none_found, one_found}
+use Rattle.tb_rows.proofs.ReadPeople.{secret_read}
 use Rattle.tb_lookup.specs.People.{IsPersonFound}
 
 -- the rows of people who are numbered from there

@@ -6,7 +6,7 @@ use Rattle.sqlite.specs.State.{State as Database}
 use Rattle.tb_board.specs.declared.world.Person.{Person}
 use Rattle.tb_sql.specs.Changes.{is_person}
 use Rattle.tb_sql_tables.specs.declared.rows.PersonRow.{PersonRow}
-use Rattle.tb_stored.specs.Reopening.{OfContent, OfState}
+use Rattle.tb_lookup.specs.Reopening.{OfContent, OfState}
 use Rattle.tb_lookup.proofs.Within.{IsWithin}
 use Rattle.tb_lookup.proofs.Counting.{AreNumbered, within_any}
 use Rattle.tb_lookup.proofs.NamedPeople.{rows}

@@ -13,13 +13,13 @@ use Rattle.tb_board.specs.Names.{is_title, read_title}
 use Rattle.tb_board.specs.World.{find_board}
 use Rattle.tb_calls.specs.Call.{State}
 use Rattle.tb_calls.specs.Roles.{board_role, is_of, with_title}
-use Rattle.tb_reopen.specs.declared.fault.ReopenFault.{ReopenFault}
-use Rattle.tb_reopen.specs.Reading.{roles_in}
-use Rattle.tb_reopen.proofs.Lists.{all_passed}
-use Rattle.tb_reopen.proofs.Orders.{in_order}
-use Rattle.tb_reopen.proofs.ReadPeople.{roles_read}
-use Rattle.tb_reopen.proofs.RoleRows.{RoleRises}
-use Rattle.tb_reply.specs.declared.roles.BoardRole.{BoardRole}
+use Rattle.tb_rows.specs.declared.fault.ReopenFault.{ReopenFault}
+use Rattle.tb_rows.specs.Reading.{roles_in}
+use Rattle.tb_rows.proofs.Lists.{all_passed}
+use Rattle.tb_rows.proofs.Orders.{in_order}
+use Rattle.tb_rows.proofs.ReadPeople.{roles_read}
+use Rattle.tb_rows.proofs.RoleRows.{RoleRises}
+use Rattle.tb_calls.specs.declared.role_bodies.BoardRole.{BoardRole}
 use Rattle.tb_rows.specs.Rows.{board_row, role_row}
 use Rattle.tb_sql.specs.Changes.{is_board}
 use Rattle.tb_sql.specs.RolesOf.{IsBoardBefore}
@@ -27,8 +27,8 @@ use Rattle.tb_sql_tables.specs.declared.rows.BoardRow.{BoardRow}
 use Rattle.tb_sql_tables.specs.declared.rows.RoleRow.{RoleRow}
 use Rattle.tb_sql_tables.specs.Content.{Content}
 use Rattle.tb_sql_tables.specs.Found.{AreFound, IsOneOf}
-use Rattle.tb_stored.specs.Reopening.{OfContent, OfState}
-use Rattle.tb_stored.specs.Stored.{AreRowsOf}
+use Rattle.tb_lookup.specs.Reopening.{OfContent, OfState}
+use Rattle.tb_lookup.specs.Stored.{AreRowsOf}
 use Rattle.tb_lookup.proofs.StoredBoards.{row_found}
 
 -- ---- the roles of a person

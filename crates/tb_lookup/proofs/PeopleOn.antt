@@ -10,16 +10,16 @@ use Rattle.tb_board.specs.declared.world.RoleOn.{RoleOn}
 use Rattle.tb_board.specs.Names.{is_name, read_name}
 use Rattle.tb_board.specs.declared.world.World.{World}
 use Rattle.tb_calls.specs.Roles.{person_at, with_name}
-use Rattle.tb_reply.specs.declared.roles.PersonRole.{PersonRole}
+use Rattle.tb_calls.specs.declared.role_bodies.PersonRole.{PersonRole}
 use Rattle.tb_rows.specs.Rows.{person_row}
 use Rattle.tb_sql.specs.Changes.{is_person}
 use Rattle.tb_sql_tables.specs.declared.rows.PersonRow.{PersonRow}
 use Rattle.tb_sql_tables.specs.Found.{IsOneOf}
-use Rattle.tb_stored.specs.Reopening.{OfContent, OfState}
+use Rattle.tb_lookup.specs.Reopening.{OfContent, OfState}
 use Rattle.tb_lookup.specs.Named.{IsNameAt, IsNamed}
 use Rattle.tb_lookup.proofs.NamedPeople.{rows}
 use Rattle.tb_lookup.proofs.NumberedPeople.{none_before}
-use Rattle.tb_reopen.proofs.OneOf.{none_found, one_found}
+use Rattle.tb_rows.proofs.OneOf.{none_found, one_found}
 
 -- ---- the row of a number
 

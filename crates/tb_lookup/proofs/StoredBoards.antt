@@ -8,22 +8,22 @@ use Rattle.sqlite.specs.State.{State as Database}
 use Rattle.tb_board.specs.declared.board.Board.{Board}
 use Rattle.tb_board.specs.World.{find_board, has_number}
 use Rattle.tb_calls.specs.Call.{State}
-use Rattle.tb_reopen.specs.Laws.{AreFoundAgain, IsBoardRead}
-use Rattle.tb_reopen.proofs.Joined.{numbered_from, AreNumberedFrom}
-use Rattle.tb_reopen.proofs.Lists.{differ}
+use Rattle.tb_rows.specs.Laws.{AreFoundAgain, IsBoardRead}
+use Rattle.tb_rows.proofs.Joined.{numbered_from, AreNumberedFrom}
+use Rattle.tb_rows.proofs.Lists.{differ}
 use Rattle.tb_rows.specs.Rows.{board_row}
 use Rattle.tb_sql.specs.Changes.{is_board}
 use Rattle.tb_sql.specs.Opening.{IsAsBefore}
 use Rattle.tb_sql_tables.specs.declared.rows.BoardRow.{BoardRow}
 use Rattle.tb_sql_tables.specs.Content.{Content}
 use Rattle.tb_sql_tables.specs.Found.{IsOneOf}
-use Rattle.tb_stored.specs.Reopening.{OfBoard, OfContent, OfState}
-use Rattle.tb_stored.specs.Stored.{AreRowsOf}
-use Rattle.tb_stored.proofs.Reopened.{world_is_read}
-use Rattle.tb_stored.proofs.Standing.{stood}
+use Rattle.tb_lookup.specs.Reopening.{OfBoard, OfContent, OfState}
+use Rattle.tb_lookup.specs.Stored.{AreRowsOf}
+use Rattle.tb_lookup.proofs.Reopened.{world_is_read}
+use Rattle.tb_lookup.proofs.Standing.{stood}
 use Rattle.tb_lookup.proofs.Within.{IsWithin}
 use Rattle.tb_lookup.proofs.Counting.{AreNumbered, within_any}
-use Rattle.tb_reopen.proofs.OneOf.{none_found, one_found}
+use Rattle.tb_rows.proofs.OneOf.{none_found, one_found}
 
 -- ---- the row of a number
 

@@ -12,18 +12,18 @@ use Rattle.tb_board.specs.declared.world.RoleOn.{RoleOn}
 use Rattle.tb_board.specs.declared.world.World.{World}
 use Rattle.tb_board.specs.World.{is_owner, is_role_of, owners, owns, role_of}
 use Rattle.tb_calls.specs.Call.{State}
-use Rattle.tb_reopen.specs.declared.fault.ReopenFault.{ReopenFault}
-use Rattle.tb_reopen.specs.Reading.{roles_in}
-use Rattle.tb_reopen.proofs.Orders.{in_order}
-use Rattle.tb_reopen.proofs.ReadPeople.{roles_read}
-use Rattle.tb_reopen.proofs.RoleRows.{role_rows_on, roles_rise}
+use Rattle.tb_rows.specs.declared.fault.ReopenFault.{ReopenFault}
+use Rattle.tb_rows.specs.Reading.{roles_in}
+use Rattle.tb_rows.proofs.Orders.{in_order}
+use Rattle.tb_rows.proofs.ReadPeople.{roles_read}
+use Rattle.tb_rows.proofs.RoleRows.{role_rows_on, roles_rise}
 use Rattle.tb_rows.specs.Rows.{role_row}
 use Rattle.tb_sql.specs.Changes.{IsRoleBefore}
 use Rattle.tb_sql_tables.specs.declared.rows.RoleRow.{RoleRow}
 use Rattle.tb_sql_tables.specs.Content.{Content}
 use Rattle.tb_sql_tables.specs.Found.{AreFound}
-use Rattle.tb_stored.specs.Reopening.{OfContent, OfState}
-use Rattle.tb_stored.specs.Stored.{AreRowsOf}
+use Rattle.tb_lookup.specs.Reopening.{OfContent, OfState}
+use Rattle.tb_lookup.specs.Stored.{AreRowsOf}
 use Rattle.tb_lookup.specs.declared.roles.RolesFound.{RolesFound}
 use Rattle.tb_lookup.specs.Roles.{role_for, roles_at, AreRolesFound}
 

@@ -4,8 +4,8 @@ use Rattle.tb_board.specs.declared.world.Person.{Person}
 use Rattle.tb_board.specs.declared.world.RoleOn.{RoleOn}
 use Rattle.tb_board.specs.declared.world.World.{World}
 use Rattle.tb_calls.specs.Roles.{board_role, person_at, person_role}
-use Rattle.tb_reply.specs.declared.roles.BoardRole.{BoardRole}
-use Rattle.tb_reply.specs.declared.roles.PersonRole.{PersonRole}
+use Rattle.tb_calls.specs.declared.role_bodies.BoardRole.{BoardRole}
+use Rattle.tb_calls.specs.declared.role_bodies.PersonRole.{PersonRole}
 
 -- the person of this number has the name
 pub record IsNameAt (w : World) (number : ℕ) (name : List ℕ) : Type 0 where

@@ -8,20 +8,20 @@ ghost use Rattle.tb_rows.specs.Rows.{board_row};
 ghost use Rattle.tb_sql.specs.Opening.{IsAsBefore};
 ghost use Rattle.tb_sql_tables.specs.Content.{Stands};
 ghost use Rattle.tb_sql_tables.specs.Failing.{FailsByFault, KeepsFaults};
-ghost use Rattle.tb_stored.specs.Reopening.{OfBoard, OfState};
+ghost use Rattle.tb_lookup.specs.Reopening.{OfBoard, OfState};
 
+use crate::by_key::{board_row_at, has_board_at, horizon_row_at};
+use crate::faults::fault_of;
 use crate::halves::{ABOVE_MOST, middle_of};
+use crate::reading::{gone_rows, task_rows};
 use sqlite::{Alter, Connection};
 use std::alloc::Global;
 use tb_board::Board;
 use tb_good::is_good_board;
-use tb_reopen::laws::rows_are_found_again;
-use tb_reopen::read_board;
+use tb_rows::laws::rows_are_found_again;
+use tb_rows::read_board;
 use tb_sql::store::StoreFault;
 use tb_sql_tables::rows::BoardRow;
-use tb_stored::by_key::{board_row_at, has_board_at, horizon_row_at};
-use tb_stored::faults::fault_of;
-use tb_stored::reading::{gone_rows, task_rows};
 use tb_values::Shared;
 
 /// The board of a number, if there is one. What is answered is good and has that number, whatever the rows are:

@@ -5,19 +5,19 @@ ghost use Rattle.std.specs.List.{filter_map};
 ghost use Rattle.sqlite.specs.Held.{state};
 ghost use Rattle.tb_calls.specs.Roles.{board_role as board_role_in, boards_for, is_of};
 ghost use Rattle.tb_sql.specs.Opening.{IsAsBefore};
-ghost use Rattle.tb_stored.specs.Reopening.{OfState};
+ghost use Rattle.tb_lookup.specs.Reopening.{OfState};
 ghost use Rattle.tb_lookup.specs.Named.{IsTitled};
 
+use crate::by_key::board_row_at;
+use crate::faults::fault_of;
 use crate::gathering::put;
+use crate::own_roles::role_rows_of;
 use sqlite::{Alter, Connection};
 use std::alloc::Global;
 use tb_board::{RoleOn, Title};
-use tb_reopen::add_roles;
-use tb_reply::BoardRole;
+use tb_calls::BoardRole;
+use tb_rows::add_roles;
 use tb_sql::store::StoreFault;
-use tb_stored::by_key::board_row_at;
-use tb_stored::faults::fault_of;
-use tb_stored::own_roles::role_rows_of;
 use tb_values::Items;
 
 /// The boards on which the person of a number has a role, by number. Of a board its row alone is read.

@@ -5,17 +5,17 @@ ghost use Rattle.sqlite.specs.Held.{state};
 ghost use Rattle.tb_sql.specs.Opening.{IsAsBefore};
 ghost use Rattle.tb_sql_tables.specs.Content.{Stands};
 ghost use Rattle.tb_sql_tables.specs.Failing.{FailsByFault, KeepsFaults};
-ghost use Rattle.tb_stored.specs.Reopening.{OfState};
+ghost use Rattle.tb_lookup.specs.Reopening.{OfState};
 ghost use Rattle.tb_lookup.specs.People.{IsPersonFound};
 
+use crate::by_key::{has_person_at, person_row_named};
+use crate::faults::fault_of;
 use crate::halves::{ABOVE_MOST, middle_of};
 use sqlite::{Alter, Connection};
 use std::alloc::Global;
 use tb_board::{Key, Name};
-use tb_reopen::read_secret;
+use tb_rows::read_secret;
 use tb_sql::store::StoreFault;
-use tb_stored::by_key::{has_person_at, person_row_named};
-use tb_stored::faults::fault_of;
 
 /// A person, by the number under which the tables name them, counted from 1. The person may have no key.
 #[derive(Drop)]

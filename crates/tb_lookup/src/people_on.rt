@@ -5,19 +5,19 @@ ghost use Rattle.std.specs.List.{filter_map};
 ghost use Rattle.sqlite.specs.Held.{state};
 ghost use Rattle.tb_calls.specs.Roles.{is_on, people_on, person_role as person_role_in};
 ghost use Rattle.tb_sql.specs.Opening.{IsAsBefore};
-ghost use Rattle.tb_stored.specs.Reopening.{OfState};
+ghost use Rattle.tb_lookup.specs.Reopening.{OfState};
 ghost use Rattle.tb_lookup.specs.Named.{IsNameAt, IsNamed};
 
+use crate::by_key::person_row_at;
+use crate::faults::fault_of;
 use crate::gathering::put;
+use crate::reading::role_rows;
 use sqlite::{Alter, Connection};
 use std::alloc::Global;
 use tb_board::{Name, RoleOn};
-use tb_reopen::add_roles;
-use tb_reply::PersonRole;
+use tb_calls::PersonRole;
+use tb_rows::add_roles;
 use tb_sql::store::StoreFault;
-use tb_stored::by_key::person_row_at;
-use tb_stored::faults::fault_of;
-use tb_stored::reading::role_rows;
 use tb_values::Items;
 
 /// Those who have a role on a board, in the order in which they came.

@@ -3,16 +3,15 @@
 ghost use Rattle.std.specs.Prelude.{◌≡◌, false, IfOk};
 ghost use Rattle.sqlite.specs.Held.{state};
 ghost use Rattle.tb_sql.specs.Opening.{IsAsBefore};
-ghost use Rattle.tb_stored.specs.Reopening.{OfState};
-ghost use Rattle.tb_stored.specs.Stored.{reply_in};
+ghost use Rattle.tb_lookup.specs.Reopening.{OfState};
+ghost use Rattle.tb_lookup.specs.Stored.{reply_in};
 ghost use Rattle.tb_lookup.specs.Replies.{IsReplyFound};
 
+use crate::by_key::kept_row_at;
 use sqlite::{Alter, Connection};
-use tb_calls::KeptReply;
-use tb_reply::Reply;
+use tb_calls::{KeptReply, Reply};
 use tb_sql::store::StoreFault;
 use tb_sql_tables::rows::KeptRow;
-use tb_stored::by_key::kept_row_at;
 use tb_task::TaskId;
 
 /// What is kept of a call, by the number of its person and its identifier.

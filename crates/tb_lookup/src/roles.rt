@@ -3,16 +3,16 @@
 ghost use Rattle.std.specs.Prelude.{◌≡◌, false, IfOk};
 ghost use Rattle.sqlite.specs.Held.{state};
 ghost use Rattle.tb_sql.specs.Opening.{IsAsBefore};
-ghost use Rattle.tb_stored.specs.Reopening.{OfState};
+ghost use Rattle.tb_lookup.specs.Reopening.{OfState};
 ghost use Rattle.tb_lookup.specs.Roles.{AreRolesFound, role_for, roles_at};
 
+use crate::faults::fault_of;
+use crate::reading::role_rows;
 use sqlite::{Alter, Connection};
 use std::alloc::Global;
 use tb_board::{Role, World};
-use tb_reopen::add_roles;
+use tb_rows::add_roles;
 use tb_sql::store::StoreFault;
-use tb_stored::faults::fault_of;
-use tb_stored::reading::role_rows;
 use tb_values::Items;
 
 /// The roles of two people on a board, and how many owners it has.

@@ -18,7 +18,7 @@ use Rattle.tb_orders.specs.declared.ending.Ending.{Ending}
 use Rattle.tb_orders.specs.declared.new_key.NewKey.{NewKey}
 use Rattle.tb_program.specs.declared.fault.Fault.{Fault}
 use Rattle.tb_program.specs.declared.fault.Fault.TheVariants.{Memory, NoClock, NoKey, NotOurs, ReadFailed, Store, WriteFailed}
-use Rattle.tb_reply.specs.declared.reply.Reply.{Reply}
+use Rattle.tb_calls.specs.declared.reply.Reply.{Reply}
 
 -- ---- which key it is
 

@@ -12,7 +12,7 @@ use Rattle.tb_orders.specs.Orders.{AsksFor, line_text}
 use Rattle.tb_orders.specs.declared.ending.Ending.{Ending}
 use Rattle.tb_orders.specs.declared.ending.Ending.TheVariants.{Accepted, Refused}
 use Rattle.tb_program.specs.declared.fault.Fault.{Fault}
-use Rattle.tb_reply.specs.declared.reply.Reply.{Reply}
+use Rattle.tb_calls.specs.declared.reply.Reply.{Reply}
 use Rattle.tb_task.specs.TaskId.{named_id}
 
 -- the identifier of a part is made from the import's and the part's number

@@ -3,9 +3,8 @@ ghost use Rattle.std.specs.Prelude.{◌≡◌, true};
 ghost use Rattle.tb_orders.specs.Orders.{ending_of, fault_of_keep};
 ghost use Rattle.tb_orders.specs.Telling.{is_of_answers};
 
-use tb_calls::KeepFault;
+use tb_calls::{KeepFault, Reply};
 use tb_program::Fault;
-use tb_reply::Reply;
 
 /// How an order ended that was carried out.
 #[derive(Clone, Copy, Debug, PartialEq, Eq)]

@@ -16,12 +16,11 @@ use sqlite::Alter;
 use std::alloc::{AllocError, Global};
 use std::io::Write;
 use tb_board::{Key, Name, Person};
-use tb_calls::{Call, Keep, KeepFault};
+use tb_calls::{Call, Keep, KeepFault, Reply};
 use tb_core::Command;
 use tb_desk::Desk;
 use tb_keeper::SqlKeep;
 use tb_program::{Fault, print_line};
-use tb_reply::Reply;
 use tb_values::{Duplicate, Items};
 
 /// A keeper that knows who the first person is.

@@ -13,11 +13,10 @@ use crate::ending::{Ending, ending_of, fault_of_keep};
 use std::alloc::Global;
 use std::io::Write;
 use tb_asking::{Asked, CallFault, call_of};
-use tb_calls::{Call, Keep};
+use tb_calls::{Call, Keep, Reply};
 use tb_desk::Desk;
 use tb_http::Message;
 use tb_program::{Fault, print_line};
-use tb_reply::Reply;
 use tb_task::Moment;
 
 /// Makes the call that the same import makes over HTTP, and prints the body of its reply on a line.

@@ -11,11 +11,10 @@ ghost use Rattle.tb_values.specs.Appends.{AppendsFront};
 use crate::ending::{Ending, ending_of, fault_of_keep};
 use std::alloc::Global;
 use std::io::Write;
-use tb_calls::{Keep, View};
+use tb_calls::{Keep, Reply, View};
 use tb_command_line::{ViewKind, ViewOrder};
 use tb_desk::Desk;
 use tb_program::{Fault, print_line, print_text};
-use tb_reply::Reply;
 use tb_task::Moment;
 
 /// Prints what a view shows of a board at a moment, or why it is refused.

@@ -7,7 +7,7 @@ use Rattle.tb_calls.specs.declared.view.View.{View}
 use Rattle.tb_calls.specs.declared.view.View.TheVariants.{Listing, Export, Todo, One, People, Me}
 use Rattle.tb_calls.specs.Call.{State, once, plain, reply, opening}
 use Rattle.tb_desk.specs.Viewing.{shown_in}
-use Rattle.tb_reply.specs.declared.reply.Reply.{Reply}
+use Rattle.tb_calls.specs.declared.reply.Reply.{Reply}
 use Rattle.tb_script.specs.declared.asked.Asked.{Asked}
 use Rattle.tb_script.specs.declared.asked.Asked.TheVariants as asks
 use Rattle.tb_script.specs.declared.line_fault.Unreadable.{Unreadable}

@@ -13,9 +13,8 @@ use crate::line_fault::LineFault;
 use crate::reading::read_line;
 use crate::replies::{write_reply, write_unreadable};
 use std::alloc::{AllocError, Global};
-use tb_calls::{Call, Keep, View};
+use tb_calls::{Call, Keep, Reply, View};
 use tb_desk::Desk;
-use tb_reply::Reply;
 use tb_task::LONGEST_BODY;
 use tb_values::Text;
 

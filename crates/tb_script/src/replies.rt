@@ -6,7 +6,7 @@ ghost use Rattle.tb_script.specs.Replies.{reply_text, unreadable_body, unreadabl
 use crate::line_fault::Unreadable;
 use serde_json::{Value, json};
 use std::alloc::{AllocError, Global};
-use tb_reply::Reply;
+use tb_calls::Reply;
 use tb_values::Text;
 
 /// What is written for a line that can't be read.

@@ -13,8 +13,8 @@ use Rattle.tb_http.specs.Stream.{Brings, Received}
 use Rattle.tb_http.specs.Wire.{BeginsWithMessage, is_last}
 use Rattle.tb_serve.specs.declared.serving.Exchange.{Exchange}
 use Rattle.tb_serve.specs.declared.serving.ServeEnd.{ServeEnd}
-use Rattle.tb_serve.specs.declared.serving.Turn.{Turn}
-use Rattle.tb_serve.specs.declared.serving.Turn.TheVariants.{Replied, Failed, Unread}
+use Rattle.tb_serve.specs.declared.serving.MessageOutcome.{MessageOutcome}
+use Rattle.tb_serve.specs.declared.serving.MessageOutcome.TheVariants.{Replied, Failed, Unread}
 use Rattle.tb_serve.specs.Serving.{Exchanges, Handles, HandlesMessage, IsServingEnd, Sends, Turns, answer_to, answers, calls_of, ended_by, ended_well, ends_last, goes_on, later, left_by, next, no_start, none_closes}
 use Rattle.tb_serve.specs.Telling.{StandsAt, after, calls_in}
 use Rattle.tb_serve.proofs.Lists.{answers-push, brings-push, calls-push, ends-push, left-push, none-push, reached, reached-after}
@@ -22,7 +22,7 @@ use Rattle.tb_site.specs.declared.site.Site.{Site}
 
 -- ---- a message that was read and handled
 
-turned : (site : Site) (s : State) (clock : List (Option ℕ)) (before : ℕ) (bytes rest : List ℕ) (message : Message) (closes is_closing flag : Bool) (at : Option ℕ) (turn : Turn) (text : List ℕ) (now stops : State → Type 0)
+turned : (site : Site) (s : State) (clock : List (Option ℕ)) (before : ℕ) (bytes rest : List ℕ) (message : Message) (closes is_closing flag : Bool) (at : Option ℕ) (turn : MessageOutcome) (text : List ℕ) (now stops : State → Type 0)
     → BeginsWithMessage bytes message closes rest → is_closing ≡ is_last closes before → flag ≡ is_last closes before → at ≡ next clock
     → Handles site s at flag message turn text now stops → Turns site s clock before bytes turn text now stops (Some rest) is_closing
 turned site s clock before bytes rest message closes is_closing flag at Replied text now stops begins last same is handles =
@@ -137,7 +137,7 @@ more site s all bytes known clock later_clock old new newer now stops next_now n
       closing = λ closed. ends-push 0 told m (r.unclosed unclosed) ∙ sym last ∙ closed;
     }
 
-pub told_on : (turn : Turn) (is_whole : Bool) → goes_on turn is_whole ≡ true → (turn ≡ Replied) × (is_whole ≡ true)
+pub told_on : (turn : MessageOutcome) (is_whole : Bool) → goes_on turn is_whole ≡ true → (turn ≡ Replied) × (is_whole ≡ true)
 told_on Replied is_whole on = (refl, on)
 told_on (Failed fault) is_whole on = absurd (cc)
 told_on (Unread fault) is_whole on = absurd (cc)
@@ -158,7 +158,7 @@ run_more site s (Some bytes) (Some all) known clock later_clock old new newer no
     subst (λ (k : ℕ). SoFar site s all bytes left later_clock old newer next_now next_stops k closing) (sym counted)
     (more site s all bytes known clock later_clock old new newer now stops next_now next_stops count is_closing closing left at.0 run
     (subst (λ (b : Bool). Sends new newer [] at.0 b) (told_on exchange.turn exchange.is_whole on).1 at.1)
-    (subst (λ (u : Turn). Turns site t (left_by all run.told) count run.left u at.0 next_now next_stops left closing) (told_on exchange.turn exchange.is_whole on).0 at.2)
+    (subst (λ (u : MessageOutcome). Turns site t (left_by all run.told) count run.left u at.0 next_now next_stops left closing) (told_on exchange.turn exchange.is_whole on).0 at.2)
     unclosed
     (at_some clock (left_by all run.told) (λ c. later_clock ≡ Some (later c)) run.clock_is passed))
 

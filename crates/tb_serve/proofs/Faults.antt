@@ -4,8 +4,8 @@ use Rattle.tb_calls.specs.declared.fault.KeepFault.TheVariants as keep
 use Rattle.tb_http.specs.declared.fault.WireFault.{WireFault}
 use Rattle.tb_http.specs.declared.fault.WireFault.TheVariants as wire
 use Rattle.tb_serve.specs.declared.serving.ServeFault.TheVariants as fault
-use Rattle.tb_serve.specs.declared.serving.Turn.{Turn}
-use Rattle.tb_serve.specs.declared.serving.Turn.TheVariants.{Replied, Failed, Unread}
+use Rattle.tb_serve.specs.declared.serving.MessageOutcome.{MessageOutcome}
+use Rattle.tb_serve.specs.declared.serving.MessageOutcome.TheVariants.{Replied, Failed, Unread}
 use Rattle.tb_serve.specs.Serving.{turn_fault, unread_fault}
 
 -- what can't be read is no failure of the store
@@ -26,7 +26,7 @@ unread_apart wire.BadBody is = cc
 unread_apart wire.NoClock is = cc
 
 -- it is told of a call or a view that failed so
-pub store_failed : (turn : Turn) (is_whole : Bool) → (if is_whole then turn_fault turn else Some fault.WriteFailed) ≡ Some fault.Store → turn ≡ Failed keep.Store
+pub store_failed : (turn : MessageOutcome) (is_whole : Bool) → (if is_whole then turn_fault turn else Some fault.WriteFailed) ≡ Some fault.Store → turn ≡ Failed keep.Store
 store_failed turn false is = absurd (cc)
 store_failed Replied true is = absurd (cc)
 store_failed (Failed keep.Memory) true is = absurd (cc)

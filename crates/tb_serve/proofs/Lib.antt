@@ -1,5 +1,11 @@
+pub mod Alone
 pub mod Connection
+pub mod Exchanges
 pub mod Faults
+pub mod Following
+pub mod Interleaved
 pub mod Lists
 pub mod Pages
 pub mod Standing
+pub mod Steps
+pub mod TakingTurns

@@ -11,7 +11,7 @@ use Rattle.tb_site.specs.declared.site.Site.{Site}
 use Rattle.tb_site.specs.declared.site.SiteFile.{SiteFile}
 use Rattle.tb_site.specs.Site.{file_answer, file_for}
 use Rattle.tb_site.proofs.Files.{files_behind_routes}
-use Rattle.tb_serve.specs.declared.serving.Turn.TheVariants.{Replied}
+use Rattle.tb_serve.specs.declared.serving.MessageOutcome.TheVariants.{Replied}
 use Rattle.tb_serve.specs.Serving.{HandlesMessage, Sends, Settles}
 use Rattle.tb_serve.specs.Telling.{StandsAt, after, called_by, calls_in, file_or, told_at, told_text, told_with}
 

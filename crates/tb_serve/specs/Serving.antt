@@ -18,8 +18,8 @@ use Rattle.tb_serve.specs.declared.serving.Exchange.{Exchange}
 use Rattle.tb_serve.specs.declared.serving.ServeEnd.{ServeEnd}
 use Rattle.tb_serve.specs.declared.serving.ServeFault.{ServeFault}
 use Rattle.tb_serve.specs.declared.serving.ServeFault.TheVariants as fault
-use Rattle.tb_serve.specs.declared.serving.Turn.{Turn}
-use Rattle.tb_serve.specs.declared.serving.Turn.TheVariants.{Replied, Failed, Unread}
+use Rattle.tb_serve.specs.declared.serving.MessageOutcome.{MessageOutcome}
+use Rattle.tb_serve.specs.declared.serving.MessageOutcome.TheVariants.{Replied, Failed, Unread}
 use Rattle.tb_serve.specs.Telling.{FailedAt, StandsAt, after, calls_in, failed_text, told_text, told_with}
 use Rattle.tb_site.specs.declared.site.Site.{Site}
 
@@ -87,7 +87,7 @@ Sends old new front text false = (count : ℕ) × (count < length text)
     × Appends old new (front ++ take count text)
 
 -- What came of a message that was read, which closes the connection or not, the text that answers it, and what stands then.
-abbrev pub Handles : Site → State → Option ℕ → Bool → Message → Turn → List ℕ → (State → Type 0)
+abbrev pub Handles : Site → State → Option ℕ → Bool → Message → MessageOutcome → List ℕ → (State → Type 0)
     → (State → Type 0) → Type 0
 Handles site s at closes message Replied text now may_leave =
     (text ≡ told_text (told_with site s message at) closes (takes_body message))
@@ -98,7 +98,7 @@ Handles site s at closes message (Failed fault) text now may_leave =
 Handles site s at closes message (Unread fault) text now may_leave = ⊥
 
 -- what stands behind a message that was read, whatever it was told
-abbrev pub Settles : State → Option ℕ → Message → Turn → (State → Type 0)
+abbrev pub Settles : State → Option ℕ → Message → MessageOutcome → (State → Type 0)
     → (State → Type 0) → Type 0
 Settles s at message Replied now may_leave = StandsAt (after s (calls_in message at)) now may_leave
 Settles s at message (Failed fault) now may_leave =
@@ -107,14 +107,14 @@ Settles s at message (Unread fault) now may_leave = ⊥
 
 -- Handled, with what was written of the text.
 abbrev pub HandlesMessage : Site → State → Option ℕ → Bool → Message → Option (List ℕ)
-    → Option (List ℕ) → Turn → Bool → (State → Type 0) → (State → Type 0) → Type 0
+    → Option (List ℕ) → MessageOutcome → Bool → (State → Type 0) → (State → Type 0) → Type 0
 HandlesMessage site s at closes message old new turn is_whole now may_leave =
     (text : List ℕ) × Sends old new [] text is_whole
     × Handles site s at closes message turn text now may_leave
 
 -- What comes of the bytes at the front of which the next message stands, if one does. What is left of them is told where the
 -- connection goes on.
-abbrev pub Turns : Site → State → List (Option ℕ) → ℕ → List ℕ → Turn → List ℕ → (State → Type 0)
+abbrev pub Turns : Site → State → List (Option ℕ) → ℕ → List ℕ → MessageOutcome → List ℕ → (State → Type 0)
     → (State → Type 0) → Option (List ℕ) → Bool → Type 0
 Turns site s clock before bytes (Unread fault) text now may_leave left is_closing =
     Faults bytes fault × (text ≡ unread_text fault) × StandsAt s now may_leave
@@ -160,7 +160,7 @@ abbrev pub keep_fault : KeepFault → ServeFault
 keep_fault keep.Memory = fault.Memory
 keep_fault keep.Store = fault.Store
 
-abbrev pub turn_fault : Turn → Option ServeFault
+abbrev pub turn_fault : MessageOutcome → Option ServeFault
 turn_fault Replied = None
 turn_fault (Failed fault) = Some (keep_fault fault)
 turn_fault (Unread fault) = unread_fault fault
@@ -170,18 +170,18 @@ exchange_fault exchange = if exchange.is_whole then turn_fault exchange.turn
     else Some fault.WriteFailed
 
 -- a message was told what it asked for, and its answer written whole
-abbrev pub goes_on : Turn → Bool → Bool
+abbrev pub goes_on : MessageOutcome → Bool → Bool
 goes_on Replied is_whole = is_whole
 goes_on (Failed fault) is_whole = false
 goes_on (Unread fault) is_whole = false
 
 -- a message was read, and an answer is owed
-abbrev pub reads_one : Turn → ℕ
+abbrev pub reads_one : MessageOutcome → ℕ
 reads_one Replied = 1
 reads_one (Failed fault) = 1
 reads_one (Unread fault) = 0
 
-abbrev pub owes_one : Turn → ℕ
+abbrev pub owes_one : MessageOutcome → ℕ
 owes_one Replied = 1
 owes_one (Failed fault) = 1
 owes_one (Unread fault) = if is_some (status_of fault) then 1 else 0

@@ -4,9 +4,8 @@ ghost use Rattle.tb_serve.specs.Telling.{answer_of, told_fault, told_rejection, 
 
 use std::alloc::{AllocError, Global};
 use tb_asking::Rejection;
-use tb_calls::View;
+use tb_calls::{Reply, View};
 use tb_http::{Answer, ContentType, Verb, WireFault};
-use tb_reply::Reply;
 use tb_values::Text;
 
 /// An answer, but for what the connection adds to it.

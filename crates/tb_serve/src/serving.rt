@@ -40,7 +40,7 @@ pub struct ServeEnd {
 
 /// What came of the next message.
 #[derive(Clone, Copy)]
-pub enum Turn {
+pub enum MessageOutcome {
     /// It was read, and is told what it asked for, or that it asked for nothing.
     Replied,
     /// It was read, and its call or view got no reply.
@@ -52,7 +52,7 @@ pub enum Turn {
 /// What came of the next message, and whether its answer was written whole.
 #[derive(Clone, Copy)]
 pub struct Exchange {
-    pub turn: Turn,
+    pub turn: MessageOutcome,
     pub is_whole: bool,
 }
 
@@ -74,7 +74,7 @@ impl Exchange {
         ensures { result ≡ goes_on self.turn self.is_whole }
     {
         match self.turn {
-            Turn::Replied => self.is_whole,
+            MessageOutcome::Replied => self.is_whole,
             _ => false,
         }
     }
@@ -102,15 +102,15 @@ impl Exchange {
     }
 }
 
-impl Turn {
+impl MessageOutcome {
     // Whether a message was read.
     fn reads_one(self) -> usize
         ensures value { result ≡ reads_one self }
         ensures small { result ≤ 1 }
     {
         match self {
-            Turn::Replied | Turn::Failed(_) => 1,
-            Turn::Unread(_) => 0,
+            MessageOutcome::Replied | MessageOutcome::Failed(_) => 1,
+            MessageOutcome::Unread(_) => 0,
         }
     }
 
@@ -120,9 +120,9 @@ impl Turn {
         ensures small { result ≤ 1 }
     {
         match self {
-            Turn::Replied | Turn::Failed(_) => 1,
-            Turn::Unread(fault) if fault.status().is_some() => 1,
-            Turn::Unread(_) => 0,
+            MessageOutcome::Replied | MessageOutcome::Failed(_) => 1,
+            MessageOutcome::Unread(fault) if fault.status().is_some() => 1,
+            MessageOutcome::Unread(_) => 0,
         }
     }
 
@@ -130,12 +130,12 @@ impl Turn {
         ensures { result ≡ turn_fault self }
     {
         match self {
-            Turn::Replied => None,
-            Turn::Failed(KeepFault::Memory) => Some(ServeFault::Memory),
-            Turn::Failed(KeepFault::Store) => Some(ServeFault::Store),
-            Turn::Unread(WireFault::ReadFailed) => Some(ServeFault::ReadFailed),
-            Turn::Unread(WireFault::Memory) => Some(ServeFault::Memory),
-            Turn::Unread(_) => None,
+            MessageOutcome::Replied => None,
+            MessageOutcome::Failed(KeepFault::Memory) => Some(ServeFault::Memory),
+            MessageOutcome::Failed(KeepFault::Store) => Some(ServeFault::Store),
+            MessageOutcome::Unread(WireFault::ReadFailed) => Some(ServeFault::ReadFailed),
+            MessageOutcome::Unread(WireFault::Memory) => Some(ServeFault::Memory),
+            MessageOutcome::Unread(_) => None,
         }
     }
 }
@@ -219,12 +219,12 @@ pub fn handle_message<W: Write, K: Keep>(
         → Settles s at message.now result.turn (K.holds desk.new) (K.after_stop desk.new) }
     ensures read { reads_one result.turn ≡ 1 }
     ensures honest { K.is_honest desk.new ≡ true → K.is_honest desk.old ≡ true }
-    ensures failed { result.turn ≡ Turn.Failed KeepFault.Store → K.has_failed desk.new ≡ true }
+    ensures failed { result.turn ≡ MessageOutcome.Failed KeepFault.Store → K.has_failed desk.new ≡ true }
 {
     if let Some(file) = paths.file(message) {
         let answer = file.answer(is_last, message.takes_body());
         return Exchange {
-            turn: Turn::Replied,
+            turn: MessageOutcome::Replied,
             is_whole: send(room, writer, answer, file.body.as_slice()),
         };
     }
@@ -232,12 +232,12 @@ pub fn handle_message<W: Write, K: Keep>(
         Ok(told) => {
             let answer = told.answer(is_last, message.takes_body());
             Exchange {
-                turn: Turn::Replied,
+                turn: MessageOutcome::Replied,
                 is_whole: send(room, writer, answer, told.body.as_bytes()),
             }
         }
         Err(fault) => Exchange {
-            turn: Turn::Failed(fault),
+            turn: MessageOutcome::Failed(fault),
             is_whole: send_failed(room, writer, fault, message.takes_body()),
         },
     }
@@ -261,11 +261,11 @@ fn serve_message<R: Read + Drop, W: Write, K: Keep, C: Clock>(
         (W.contents writer.new) result
         (K.holds desk.new) (K.after_stop desk.new) reader.new.bytes reader.new.is_closing)) }
     ensures honest { K.is_honest desk.new ≡ true → K.is_honest desk.old ≡ true }
-    ensures failed { result.turn ≡ Turn.Failed KeepFault.Store → K.has_failed desk.new ≡ true }
+    ensures failed { result.turn ≡ MessageOutcome.Failed KeepFault.Store → K.has_failed desk.new ≡ true }
     ensures clock { IfSome (C.answers clock.old)
         (λ moments. C.answers clock.new ≡ Some (drop (reads_one result.turn) moments)) }
-    ensures counted { result.turn ≡ Turn.Replied → reader.new.messages ≡ reader.old.messages + 1 }
-    ensures limit { result.turn ≡ Turn.Replied → message_limit ≤ reader.new.messages
+    ensures counted { result.turn ≡ MessageOutcome.Replied → reader.new.messages ≡ reader.old.messages + 1 }
+    ensures limit { result.turn ≡ MessageOutcome.Replied → message_limit ≤ reader.new.messages
         → reader.new.is_closing ≡ true }
 {
     match reader.read_message(alloc) {
@@ -275,7 +275,7 @@ fn serve_message<R: Read + Drop, W: Write, K: Keep, C: Clock>(
             handle_message(alloc, paths, room, writer, desk, &message, at, is_last)
         }
         Err(fault) => Exchange {
-            turn: Turn::Unread(fault),
+            turn: MessageOutcome::Unread(fault),
             is_whole: send_unread(room, writer, fault),
         },
     }

@@ -10,11 +10,10 @@ ghost use Rattle.tb_serve.specs.Telling.{ReachesAt, called_by, calls_in, told_as
 use crate::response::Response;
 use std::alloc::{AllocError, Global};
 use tb_asking::{Asked, CallFault, Sender, ask};
-use tb_calls::{Call, Keep, KeepFault, View};
+use tb_calls::{Call, Keep, KeepFault, View, reply_to_refused};
 use tb_core::Refusal;
 use tb_desk::Desk;
 use tb_http::{ContentType, Message, Routes, WireFault};
-use tb_reply::reply_to_refused;
 use tb_task::Moment;
 use tb_values::Text;
 

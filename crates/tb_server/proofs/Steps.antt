@@ -6,15 +6,15 @@ use Rattle.std.proofs.lemmas.List.{drop_all, take_all}
 use Rattle.tb_calls.specs.Call.{State}
 use Rattle.tb_calls.specs.Leaving.{Only}
 use Rattle.tb_event_loop.specs.Done.{Done}
-use Rattle.tb_peers.specs.Following.{Follows, has_stopped}
-use Rattle.tb_peers.specs.Happening.{Comes, Happens, Plays, talk_at}
-use Rattle.tb_peers.specs.Server.{Timed, server}
-use Rattle.tb_peers.proofs.Following as following
-use Rattle.tb_peers.proofs.Steps.{plays_none}
+use Rattle.tb_serve.specs.Following.{Follows, has_stopped}
+use Rattle.tb_serve.specs.Happening.{Comes, Happens, Plays, talk_at}
+use Rattle.tb_serve.specs.Server.{Timed, server}
+use Rattle.tb_serve.proofs.Following as following
+use Rattle.tb_serve.proofs.Steps.{plays_none}
 use Rattle.tb_serve.specs.declared.serving.ServeFault.{ServeFault}
 use Rattle.tb_serve.specs.declared.serving.ServeFault.TheVariants.{ReadFailed, WriteFailed, Store, Memory}
 use Rattle.tb_server.specs.Serves.{IsTimed, Makes, Serves, at_places}
-use Rattle.tb_turns.specs.Turns.{Event, Happening, Moves, MovesIf, Talk, after_event, silent}
+use Rattle.tb_serve.specs.Turns.{Event, Happening, Moves, MovesIf, Talk, after_event, silent}
 use Rattle.tb_site.specs.declared.site.Site.{Site}
 
 moves_if : (site : Site) (place c : ℕ) (is : Bool) (s : State) (e : Event Timed) (talks later : ℕ → Talk) → (place == c) ≡ is → Moves (server site) s e (talks place) (later place)

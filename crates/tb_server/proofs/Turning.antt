@@ -1,11 +1,11 @@
 -- What a run of the connections says of the desk, and of each connection.
 use Rattle.std.proofs.Common.{Bool, List, subst}
 use Rattle.tb_calls.specs.Call.{State}
-use Rattle.tb_peers.specs.Happening.{talk_at}
-use Rattle.tb_peers.proofs.Serving.{any_turns}
+use Rattle.tb_serve.specs.Happening.{talk_at}
+use Rattle.tb_serve.proofs.TakingTurns.{any_turns}
 use Rattle.tb_serve.specs.Telling.{StandsAt}
 use Rattle.tb_server.specs.Laws.{MakesTurns}
-use Rattle.tb_turns.specs.Turns.{Talk}
+use Rattle.tb_serve.specs.Turns.{Talk}
 use Rattle.tb_site.specs.declared.site.Site.{Site}
 
 pub makes_turns : (site kept : Site) (talks later : List Talk) (was_honest is_honest : Bool) (old old_stops now stops : State → Type 0)

@@ -5,13 +5,13 @@ use Rattle.std.proofs.lemmas.List.Elements.{filter-append}
 use Rattle.tb_calls.specs.Call.{State}
 use Rattle.tb_calls.specs.Leaving.{Only}
 use Rattle.tb_event_loop.specs.Done.{Done}
-use Rattle.tb_peers.specs.Happening.{Plays, talk_at}
-use Rattle.tb_peers.specs.Server.{server}
-use Rattle.tb_peers.proofs.Following as following
-use Rattle.tb_peers.proofs.Steps.{plays_none, plays_then}
+use Rattle.tb_serve.specs.Happening.{Plays, talk_at}
+use Rattle.tb_serve.specs.Server.{server}
+use Rattle.tb_serve.proofs.Following as following
+use Rattle.tb_serve.proofs.Steps.{plays_none, plays_then}
 use Rattle.tb_server.specs.Serves.{AreTimed, Makes, Serves, at_places}
-use Rattle.tb_turns.specs.Turns.{Happening, Talk, done_in}
-use Rattle.tb_turns.proofs.Interleaved.{done_then, run_then}
+use Rattle.tb_serve.specs.Turns.{Happening, Talk, done_in}
+use Rattle.tb_serve.proofs.Interleaved.{done_then, run_then}
 use Rattle.tb_site.specs.declared.site.Site.{Site}
 
 timed_then : (first more : List (ℕ × Done)) (t u : List (ℕ × Happening (Option ℕ)))

@@ -4,10 +4,10 @@ use Rattle.tb_calls.specs.Call.{State}
 use Rattle.tb_calls.specs.Leaving.{Only}
 use Rattle.tb_event_loop.specs.Done as done
 use Rattle.tb_event_loop.specs.Done.{Done}
-use Rattle.tb_peers.specs.Following.{Follows}
-use Rattle.tb_peers.specs.Happening.{Plays, Stops, talk_at}
-use Rattle.tb_peers.specs.Server.{Timed, server}
-use Rattle.tb_turns.specs.Turns.{Happening, Run, Step, Talk, done_in, opens, comes, turns, goes}
+use Rattle.tb_serve.specs.Following.{Follows}
+use Rattle.tb_serve.specs.Happening.{Plays, Stops, talk_at}
+use Rattle.tb_serve.specs.Server.{Timed, server}
+use Rattle.tb_serve.specs.Turns.{Happening, Run, Step, Talk, done_in, opens, comes, turns, goes}
 use Rattle.tb_site.specs.declared.site.Site.{Site}
 
 -- what was done, with a moment where it was a turn
@@ -66,7 +66,7 @@ pub record Serves (site kept : Site) (stopped : Bool) (history : List (ℕ × Do
   pub fits : AreTimed history timed
   pub honest : is_honest ≡ true → was_honest ≡ true
   -- These very bytes came, these turns were had, this much was sent. The calls are those of the messages that the bytes
-  -- bring, by the law of any turns of `tb_peers`.
+  -- bring, by the law of any turns of `tb_serve`.
   pub run : is_honest ≡ true → (s : State) → old s → Only s old_stops
       → Makes site stopped s (at_places (length talks) timed) (talk_at talks)
       (talk_at later) now stops

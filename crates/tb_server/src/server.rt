@@ -1,17 +1,16 @@
 //! The connections of a server over a desk.
 ghost use Rattle.std.specs.Prelude.{◌≡◌, ℕ, IfOk};
 ghost use Rattle.tb_event_loop.specs.History.{done_of as done_to};
-ghost use Rattle.tb_peers.specs.Happening.{done_of, talk_at};
+ghost use Rattle.tb_serve.specs.Happening.{done_of, talk_at};
 ghost use Rattle.tb_server.specs.Serves.{IsTimed, Serves};
 ghost use Rattle.tb_server.specs.Joining.{serves_none, serves_then};
-ghost use Rattle.tb_turns.specs.Turns.{silent};
+ghost use Rattle.tb_serve.specs.Turns.{silent};
 
 use std::alloc::{AllocError, Global};
 use tb_calls::Keep;
 use tb_desk::Desk;
 use tb_event_loop::{Service, SocketEvent, StoreFailed};
-use tb_peers::{Peer, PeerEvent, Tools, happen, stops_all};
-use tb_serve::Clock;
+use tb_serve::{Clock, Peer, PeerEvent, Tools, happen, stops_all};
 use tb_site::{Paths, Site};
 use tb_timeouts::CONNECTIONS;
 

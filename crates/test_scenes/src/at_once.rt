@@ -6,8 +6,7 @@ use crate::scene::{Connection, USUAL};
 use std::alloc::{AllocError, Global};
 use std::{io, mem};
 use tb_desk::{Desk, ListKeep};
-use tb_peers::{Peer, PeerEvent, Tools, play};
-use tb_serve::{ListClock, serve_reader};
+use tb_serve::{ListClock, Peer, PeerEvent, Tools, play, serve_reader};
 use tb_site::{Paths, Site};
 use tb_task::Moment;
 

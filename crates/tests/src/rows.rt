@@ -3,7 +3,7 @@
 use std::alloc::Global;
 use std::io;
 use tb_board::Board;
-use tb_reopen::{add_roles, read_board, read_people};
+use tb_rows::{add_roles, read_board, read_people};
 use tb_sql_tables::rows::{BoardRow, GoneRow, HorizonRow, PersonRow, RoleRow, TaskRow};
 use tb_task::TaskId;
 use tb_values::{Items, Text};

@@ -1,7 +1,7 @@
 use Rattle.std.proofs.Common.{arith}
 use Rattle.sqlite.specs.Held.{state}
 use Rattle.tb_keeper.proofs.Counting.{one_counted}
-use Rattle.tb_stored.proofs.Standing.{before_then}
+use Rattle.tb_lookup.proofs.Standing.{before_then}
 use Rattle.tb_keeper.proofs.WholeCount.{all_first, one_first}
 use Rattle.tb_keeper.proofs.auditing.audit_rows.Goals as goal
 

@@ -2,7 +2,7 @@ use Rattle.sqlite.specs.Held.{state}
 use Rattle.std.proofs.lemmas.Result.{IfOk-weaker}
 use Rattle.tb_board.specs.declared.world.World.{World}
 use Rattle.tb_core.specs.GoodWorld.{IsGoodWorld}
-use Rattle.tb_reopen.specs.Forms.{HasForm}
+use Rattle.tb_rows.specs.Forms.{HasForm}
 use Rattle.tb_keeper.specs.Auditing.{HasBoardsOf, IsCountOf, Tells}
 use Rattle.tb_keeper.proofs.WholeCount.{behind}
 use Rattle.tb_keeper.proofs.auditing.audit_store.Goals as goal

@@ -1,7 +1,7 @@
 use Rattle.std.proofs.Common.{rules}
 use Rattle.sqlite.specs.Held.{state}
 use Rattle.sqlite.specs.State.{HasCleanDisk}
-use Rattle.tb_stored.proofs.Standing.{found_standing}
+use Rattle.tb_lookup.proofs.Standing.{found_standing}
 use Rattle.tb_keeper.proofs.auditing.link_rows.Goals as goal
 
 pub returns-in-Ok-clause-found : goal.returns-in-Ok-clause-found

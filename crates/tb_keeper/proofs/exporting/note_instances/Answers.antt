@@ -1,6 +1,6 @@
 use Rattle.std.proofs.Common.{rules}
 use Rattle.sqlite.specs.Held.{state}
-use Rattle.tb_stored.proofs.Standing.{before_then}
+use Rattle.tb_lookup.proofs.Standing.{before_then}
 use Rattle.tb_keeper.proofs.NotedRows.{noted_all, noted_more}
 use Rattle.tb_keeper.proofs.exporting.note_instances.Goals as goal
 

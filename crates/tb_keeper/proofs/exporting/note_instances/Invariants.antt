@@ -1,7 +1,7 @@
 use Rattle.std.proofs.Common.{◌≡◌, false, take}
 use Rattle.sqlite.specs.Held.{state}
 use Rattle.tb_sql.specs.Opening.{IsAsBefore}
-use Rattle.tb_stored.specs.Reopening.{OfState}
+use Rattle.tb_lookup.specs.Reopening.{OfState}
 use Rattle.tb_keeper.proofs.NotedRows.{AreNotedBy}
 use Rattle.tb_keeper.proofs.exporting.note_instances.Given as goal
 

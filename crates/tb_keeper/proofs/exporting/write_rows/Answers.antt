@@ -1,7 +1,7 @@
 use Rattle.std.proofs.Common.{◌+◌, ◌∷◌, [], false, true}
 use Rattle.std.specs.String.{string_bytes}
 use Rattle.sqlite.specs.Held.{state}
-use Rattle.tb_stored.proofs.Standing.{before_then}
+use Rattle.tb_lookup.proofs.Standing.{before_then}
 use Rattle.tb_keeper.proofs.ExportedBoards.{err_by}
 use Rattle.tb_keeper.proofs.ExportedRows.{all_state, as_before, begun_state, end_front_state, front_now, front_state, more_state, moved_front_state, moved_state}
 use Rattle.tb_keeper.proofs.exporting.write_rows.Goals as goal

@@ -2,7 +2,7 @@ use Rattle.std.proofs.Common.{◌≡◌, false}
 use Rattle.std.specs.String.{string_bytes}
 use Rattle.sqlite.specs.Held.{state}
 use Rattle.tb_sql.specs.Opening.{IsAsBefore}
-use Rattle.tb_stored.specs.Reopening.{OfState}
+use Rattle.tb_lookup.specs.Reopening.{OfState}
 use Rattle.tb_keeper.proofs.ExportedRows.{ByNotes, IsOut}
 use Rattle.tb_keeper.proofs.exporting.write_rows.Given as goal
 

@@ -3,8 +3,8 @@ use Rattle.std.proofs.lemmas.Result.{IfOk-weaker}
 use Rattle.std.specs.FinMap.{get}
 use Rattle.sqlite.specs.Held.{state}
 use Rattle.tb_lookup.specs.Replies.{IsReplyFound}
-use Rattle.tb_stored.specs.Reopening.{OfState}
-use Rattle.tb_stored.proofs.Standing.{stored_again}
+use Rattle.tb_lookup.specs.Reopening.{OfState}
+use Rattle.tb_lookup.proofs.Standing.{stored_again}
 use Rattle.tb_keeper.proofs.Looked.{nobody_number, nothing_kept, person_number}
 use Rattle.tb_keeper.proofs.looking.find_reply.Goals as goal
 

@@ -1,5 +1,5 @@
 use Rattle.sqlite.specs.Held.{state}
-use Rattle.tb_stored.proofs.Standing.{stored_again}
+use Rattle.tb_lookup.proofs.Standing.{stored_again}
 use Rattle.tb_keeper.proofs.Looked.{glance_at}
 use Rattle.tb_keeper.proofs.looking.glance_at.Goals as goal
 

@@ -2,8 +2,8 @@ use Rattle.std.proofs.Common.{◌∙◌, sym}
 use Rattle.std.proofs.lemmas.Result.{IfOk-weaker}
 use Rattle.sqlite.specs.Held.{state}
 use Rattle.tb_cache.specs.BoardCache.{AreOf}
-use Rattle.tb_stored.specs.Reopening.{OfState}
-use Rattle.tb_stored.proofs.Standing.{stored_again}
+use Rattle.tb_lookup.specs.Reopening.{OfState}
+use Rattle.tb_lookup.proofs.Standing.{stored_again}
 use Rattle.tb_keeper.specs.Looking.{IsGlance, IsGlanceAt}
 use Rattle.tb_keeper.proofs.Looked.{glance_off, glance_on, seen_under}
 use Rattle.tb_keeper.proofs.looking.look_up.Goals as goal

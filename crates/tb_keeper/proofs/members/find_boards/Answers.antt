@@ -2,8 +2,8 @@ use Rattle.std.proofs.Common.{◌≡◌, ◌∙◌, Some, ap}
 use Rattle.std.proofs.lemmas.Result.{IfOk-weaker}
 use Rattle.sqlite.specs.Held.{state}
 use Rattle.tb_calls.specs.Roles.{boards_for, boards_of}
-use Rattle.tb_stored.specs.Reopening.{OfState}
-use Rattle.tb_stored.proofs.Standing.{stored_again}
+use Rattle.tb_lookup.specs.Reopening.{OfState}
+use Rattle.tb_lookup.proofs.Standing.{stored_again}
 use Rattle.tb_keeper.proofs.Looked.{nobody_number, person_number}
 use Rattle.tb_keeper.proofs.members.find_boards.Goals as goal
 

@@ -1,5 +1,5 @@
 use Rattle.sqlite.specs.Held.{state}
-use Rattle.tb_stored.proofs.Standing.{stored_again}
+use Rattle.tb_lookup.proofs.Standing.{stored_again}
 use Rattle.tb_keeper.proofs.SeenPeople.{nobody_seen, people_seen}
 use Rattle.tb_keeper.proofs.members.people_seen_by.Goals as goal
 

@@ -4,7 +4,7 @@ use Rattle.sqlite.specs.Held.{state}
 use Rattle.tb_sql.specs.declared.store.StoreFault.TheVariants.{Store}
 use Rattle.tb_sql_tables.specs.Content.{Stands}
 use Rattle.tb_sql_tables.proofs.Failing.{faults_then}
-use Rattle.tb_stored.proofs.Standing.{fails_then, stood, stored_again}
+use Rattle.tb_lookup.proofs.Standing.{fails_then, stood, stored_again}
 use Rattle.tb_keeper.proofs.Holding.{none_at_hand}
 use Rattle.tb_keeper.proofs.opening.at_hand.Goals as goal
 

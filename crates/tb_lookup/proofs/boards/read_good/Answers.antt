@@ -2,8 +2,8 @@ use Rattle.std.proofs.Common.{◌≡◌, ◌∙◌}
 use Rattle.std.proofs.lemmas.Result.{IfOk-weaker}
 use Rattle.sqlite.specs.Held.{state}
 use Rattle.tb_rows.specs.Rows.{board_row}
-use Rattle.tb_stored.specs.Reopening.{OfBoard}
-use Rattle.tb_stored.proofs.WorldRead.{board_read}
+use Rattle.tb_lookup.specs.Reopening.{OfBoard}
+use Rattle.tb_lookup.proofs.WorldRead.{board_read}
 use Rattle.tb_lookup.proofs.boards.read_good.Goals as goal
 
 pub returns-in-Ok-clause-found : goal.returns-in-Ok-clause-found

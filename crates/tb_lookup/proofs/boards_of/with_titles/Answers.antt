@@ -1,7 +1,7 @@
 use Rattle.std.proofs.Common.{rules}
 use Rattle.sqlite.specs.Held.{state}
 use Rattle.tb_calls.specs.Roles.{board_role}
-use Rattle.tb_stored.proofs.Standing.{before_then}
+use Rattle.tb_lookup.proofs.Standing.{before_then}
 use Rattle.tb_lookup.specs.Named.{IsTitled}
 use Rattle.tb_lookup.proofs.Gathered.{gathered}
 use Rattle.tb_lookup.proofs.boards_of.with_titles.Goals as goal

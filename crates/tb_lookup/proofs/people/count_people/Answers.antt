@@ -5,8 +5,8 @@ use Rattle.tb_calls.specs.Call.{State}
 use Rattle.tb_sql.specs.declared.store.StoreFault.TheVariants.{Store}
 use Rattle.tb_sql_tables.specs.Content.{IsContent, Stands}
 use Rattle.tb_sql_tables.proofs.Failing.{faults_then}
-use Rattle.tb_stored.specs.Reopening.{OfState}
-use Rattle.tb_stored.proofs.Standing.{before_then, fails_then, stood}
+use Rattle.tb_lookup.specs.Reopening.{OfState}
+use Rattle.tb_lookup.proofs.Standing.{before_then, fails_then, stood}
 use Rattle.tb_lookup.proofs.Within.{IsWithin}
 use Rattle.tb_lookup.proofs.Counting.{higher, lower}
 use Rattle.tb_lookup.proofs.NumberedPeople.{person_within}

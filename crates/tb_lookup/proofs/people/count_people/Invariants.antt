@@ -2,7 +2,7 @@ use Rattle.std.proofs.Common.{◌≡◌, ◌≤◌, ◌<◌, ◌-◌, false, len
 use Rattle.sqlite.specs.Held.{state}
 use Rattle.tb_sql.specs.Opening.{IsAsBefore}
 use Rattle.tb_sql_tables.specs.Failing.{KeepsFaults}
-use Rattle.tb_stored.specs.Reopening.{OfState}
+use Rattle.tb_lookup.specs.Reopening.{OfState}
 use Rattle.tb_lookup.proofs.Counting.{AreBetween}
 use Rattle.tb_lookup.proofs.people.count_people.Given as goal
 

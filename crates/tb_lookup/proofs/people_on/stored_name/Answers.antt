@@ -3,7 +3,7 @@ use Rattle.sqlite.specs.Held.{state}
 use Rattle.tb_board.specs.Names.{read_name}
 use Rattle.tb_sql.specs.Changes.{is_person}
 use Rattle.tb_sql_tables.specs.Found.{IsOneOf}
-use Rattle.tb_stored.specs.Reopening.{OfContent}
+use Rattle.tb_lookup.specs.Reopening.{OfContent}
 use Rattle.tb_lookup.proofs.PeopleOn.{name_stored}
 use Rattle.tb_lookup.proofs.people_on.stored_name.Goals as goal
 

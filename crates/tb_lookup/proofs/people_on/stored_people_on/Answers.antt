@@ -3,7 +3,7 @@ use Rattle.std.specs.List.{filter_map}
 use Rattle.std.proofs.lemmas.Result.{IfOk-weaker}
 use Rattle.sqlite.specs.Held.{state}
 use Rattle.tb_calls.specs.Roles.{is_on, people_on, person_role}
-use Rattle.tb_stored.specs.Reopening.{OfState}
+use Rattle.tb_lookup.specs.Reopening.{OfState}
 use Rattle.tb_lookup.proofs.Gathered.{gathered_of}
 use Rattle.tb_lookup.proofs.people_on.stored_people_on.Goals as goal
 

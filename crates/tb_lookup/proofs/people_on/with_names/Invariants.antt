@@ -3,7 +3,7 @@ use Rattle.std.specs.List.{filter_map}
 use Rattle.sqlite.specs.Held.{state}
 use Rattle.tb_calls.specs.Roles.{person_role}
 use Rattle.tb_sql.specs.Opening.{IsAsBefore}
-use Rattle.tb_stored.specs.Reopening.{OfState}
+use Rattle.tb_lookup.specs.Reopening.{OfState}
 use Rattle.tb_lookup.proofs.people_on.with_names.Given as goal
 
 abbrev pub invariant-loop-role : goal.invariant-loop-role

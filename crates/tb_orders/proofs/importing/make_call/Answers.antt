@@ -1,7 +1,7 @@
 use Rattle.std.proofs.Common.{[], OnErr, subst}
 use Rattle.tb_calls.specs.Call.{reply}
 use Rattle.tb_orders.specs.Orders.{line_text}
-use Rattle.tb_reply.specs.declared.reply.Reply.{Reply}
+use Rattle.tb_calls.specs.declared.reply.Reply.{Reply}
 use Rattle.tb_values.specs.Appends.{AppendsFront}
 use Rattle.tb_orders.proofs.Standing.{answered, unanswered}
 use Rattle.tb_orders.proofs.importing.make_call.Goals as goal

@@ -1,6 +1,6 @@
 use Rattle.std.proofs.Common.{◌≡◌, ℕ}
-use Rattle.tb_peers.specs.Happening.{talk_at}
-use Rattle.tb_turns.specs.Turns.{silent}
+use Rattle.tb_serve.specs.Happening.{talk_at}
+use Rattle.tb_serve.specs.Turns.{silent}
 use Rattle.tb_server.proofs.server.silent_peers.Given as goal
 
 -- nothing came to those so far

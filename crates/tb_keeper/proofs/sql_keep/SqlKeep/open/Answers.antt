@@ -1,9 +1,9 @@
 use Rattle.std.proofs.Common.{◌∙◌, Err, true≢false, sym, ap, inl, inr, refl}
 use Rattle.sqlite.specs.Held.{state}
 use Rattle.tb_sql_tables.specs.Content.{AreRows, Stands}
-use Rattle.tb_stored.specs.Stored.{IsStored}
-use Rattle.tb_stored.specs.Migrating.{IsStoredOld}
-use Rattle.tb_stored.proofs.Standing.{before_then, fails_then, stored_again}
+use Rattle.tb_lookup.specs.Stored.{IsStored}
+use Rattle.tb_lookup.specs.Migrating.{IsStoredOld}
+use Rattle.tb_lookup.proofs.Standing.{before_then, fails_then, stored_again}
 use Rattle.tb_keeper.proofs.Holding.{first_held}
 use Rattle.tb_keeper.proofs.Taken.{in_first, never_both, stood_old}
 use Rattle.tb_keeper.proofs.sql_keep.SqlKeep.open.Goals as goal

@@ -1,6 +1,6 @@
 use Rattle.std.proofs.Common.{inl}
 use Rattle.sqlite.specs.Held.{state}
-use Rattle.tb_stored.proofs.Standing.{stored_again}
+use Rattle.tb_lookup.proofs.Standing.{stored_again}
 use Rattle.tb_keeper.proofs.Commits.{on_ok, write_done, write_failed, write_undone}
 use Rattle.tb_keeper.proofs.sql_keep.SqlKeep.write_call.Goals as goal
 

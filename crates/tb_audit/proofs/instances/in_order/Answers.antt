@@ -1,7 +1,0 @@
-use Rattle.std.proofs.Common.{rules}
-use Rattle.std.proofs.lemmas.List.Sorted.{answers_always}
-use Rattle.tb_sql_tables.specs.declared.rows.InstanceRow.{InstanceRow}
-use Rattle.tb_audit.proofs.instances.in_order.Goals as goal
-
-pub returns-clause-sorted : goal.returns-clause-sorted
-returns-clause-sorted c = c.sort_unstable_by_key.ensures.sorted (λ (a : InstanceRow). (a.board, a.template, a.imask, a.place)) (answers_always _ _ _ (λ f a r h k. search rules))

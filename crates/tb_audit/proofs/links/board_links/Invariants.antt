@@ -1,6 +1,0 @@
-use Rattle.std.proofs.Common.{◌≡◌, take}
-use Rattle.tb_rows.specs.Rows.{rows_from, link_rows}
-use Rattle.tb_audit.proofs.links.board_links.Given as goal
-
-abbrev pub invariant-loop-place : goal.invariant-loop-place
-invariant-loop-place l = l.links ≡ rows_from (link_rows l.board) 1 (take l.place l.board.tasks)

@@ -1,0 +1,105 @@
+-- When the tables are the rows of a state, and what a stop may leave.
+use Rattle.std.specs.Prelude.{◌≡◌, ◌-◌, false, List, map, IsSome}
+use Rattle.std.specs.List.{AllByRecursion}
+use Rattle.std.specs.Option.{unwrap_or}
+use Rattle.std.specs.FinMap.{entries}
+use Rattle.sqlite_trees.specs.Tree.{Trees}
+use Rattle.sqlite.specs.State.{HasCleanDisk, State as Database}
+use Rattle.tb_board.specs.declared.board.Board.{Board}
+use Rattle.tb_board.specs.declared.world.World.{World}
+use Rattle.tb_board.specs.World.{number_of}
+use Rattle.tb_core.specs.GoodWorld.{IsGoodWorld}
+use Rattle.tb_calls.specs.declared.call.KeptReply.{KeptReply}
+use Rattle.tb_calls.specs.Call.{CallName, State}
+use Rattle.tb_rows.specs.Forms.{HasForm}
+use Rattle.tb_rows.specs.Laws.{AreApart}
+use Rattle.tb_rows.specs.Rows.{world_rows, IsSameContent}
+use Rattle.tb_sql_tables.specs.declared.rows.HorizonRow.{HorizonRow}
+use Rattle.tb_sql_tables.specs.declared.rows.KeptRow.{KeptRow}
+use Rattle.tb_sql_tables.specs.Content.{AreOldRows, AreRows, Content, Stands, StandsAsEither}
+
+-- ---- the rows of a state
+
+-- a kept reply, under the number of its person
+abbrev pub kept_row : World → CallName × KeptReply → KeptRow
+kept_row w e = record {
+  person = unwrap_or (number_of w e.0.0) 0;
+  id = e.0.1;
+  content = e.1.content;
+  number = e.1.reply.number;
+  status = e.1.reply.status;
+  body = e.1.reply.body;
+}
+
+-- what is kept by a row
+abbrev pub reply_in : KeptRow → KeptReply
+reply_in row = record {
+  content = row.content;
+  reply = record { number = row.number; status = row.status; body = row.body };
+}
+
+abbrev pub state_rows : State → Content
+state_rows s = record (world_rows s.world) { kept = map (kept_row s.world) (entries s.kept) }
+
+-- the entry is kept for a person of the world
+abbrev pub IsKnown : World → CallName × KeptReply → Type 0
+IsKnown w e = IsSome (number_of w e.0.0)
+
+abbrev pub AreOfPeople : State → Type 0
+AreOfPeople s = AllByRecursion (IsKnown s.world) (entries s.kept)
+
+-- the content is the rows of the state, in any order
+pub record AreRowsOf (s : State) (content : Content) : Type 0 where
+  -- no two good worlds have the same rows: a law, which is kept here for the laws of a keeper
+  pub apart : AreApart
+  pub good : IsGoodWorld s.world
+  pub form : HasForm s.world
+  pub people : AreOfPeople s
+  pub same : IsSameContent content (state_rows s)
+
+-- the trees are the rows of the state
+pub record AreTreesOf (s : State) (db : Trees) : Type 0 where
+  pub content : Content
+  pub rows : AreRowsOf s content
+  pub stored : AreRows content db
+
+-- ---- a database that holds them
+
+-- the database holds the rows of the state, and a stop leaves them
+pub record IsStored (s : State) (d : Database) : Type 0 where
+  pub content : Content
+  pub rows : AreRowsOf s content
+  pub stands : Stands content d
+  pub idle : d.in_transaction ≡ false
+
+-- it holds the rows of one of the two states, and a stop leaves those of one
+pub record IsStoredAsEither (s t : State) (d : Database) : Type 0 where
+  pub before : Content
+  pub after : Content
+  pub rows_before : AreRowsOf s before
+  pub rows_after : AreRowsOf t after
+  pub stands : StandsAsEither before after d
+
+-- while its disk returns what was written, a stop may leave the rows of the state
+pub record MayLeave (d : Database) (t : State) : Type 0 where
+  pub clean : HasCleanDisk d
+  pub trees : Trees
+  pub left : d.may_leave trees
+  pub stored : AreTreesOf t trees
+
+-- ---- rows in the tables of the first version
+
+-- each board looks one ahead, as all did in the first version
+abbrev pub LookOneAhead : State → Type 0
+LookOneAhead s = AllByRecursion (λ (b : Board). b.ahead ≡ 1) s.world.boards
+
+-- the content but for how far ahead the boards look is the rows of such a state
+pub record AreOldRowsOf (s : State) (content : Content) : Type 0 where
+  pub one_ahead : LookOneAhead s
+  pub horizon : List HorizonRow
+  pub rows : AreRowsOf s (record content { horizon = horizon })
+
+pub record AreOldTreesOf (s : State) (db : Trees) : Type 0 where
+  pub content : Content
+  pub rows : AreOldRowsOf s content
+  pub stored : AreOldRows content db

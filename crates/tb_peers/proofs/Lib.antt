@@ -1,4 +1,0 @@
-pub mod Serving
-pub mod Exchanges
-pub mod Following
-pub mod Steps

@@ -1,6 +1,0 @@
-use Rattle.std.proofs.Common.{◌≡◌, [], drop}
-use Rattle.tb_reopen.specs.Reading.{gone_in}
-use Rattle.tb_reopen.proofs.gone.read_gone.Given as goal
-
-abbrev pub invariant-loop-row : goal.invariant-loop-row
-invariant-loop-row l = gone_in l.tasks l.gone (drop l.row-index l.rows) ≡ gone_in l.tasks [] l.rows

@@ -1,5 +1,0 @@
-use Rattle.tb_reopen.proofs.Worlds.{reads_back}
-use Rattle.tb_reopen.proofs.laws.rows_are_read_back.Goals as goal
-
-pub returns : goal.returns
-returns c = reads_back c.ids_are_read.ensures

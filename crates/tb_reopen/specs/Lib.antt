@@ -1,4 +1,0 @@
-pub mod Forms
-pub mod Laws
-pub mod Outcome
-pub mod Reading

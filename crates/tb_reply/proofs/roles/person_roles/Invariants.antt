@@ -1,7 +1,0 @@
-use Rattle.std.proofs.Common.{◌≡◌, map, take}
-use Rattle.serde_json.specs.View.{view}
-use Rattle.tb_reply.specs.Roles.{person_role_data}
-use Rattle.tb_reply.proofs.roles.person_roles.Given as goal
-
-abbrev pub invariant-loop-person : goal.invariant-loop-person
-invariant-loop-person l = map view l.list.items ≡ map person_role_data (take l.person-index l.people)

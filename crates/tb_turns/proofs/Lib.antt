@@ -1,2 +1,0 @@
-pub mod Interleaved
-pub mod Alone
