@@ -1,6 +1,7 @@
 pub mod Content
 pub mod Failing
 pub mod Found
+pub mod Inside
 pub mod Read
 pub mod Rows
 pub mod Standing
