@@ -1,8 +1,8 @@
 //! Changes of the rows, as values, and a statement for each.
 
 ghost use Rattle.std.specs.Prelude.{◌≡◌, IsTrue, OnOk, OnErr};
-ghost use Rattle.sqlite.specs.Held.{state};
 ghost use Rattle.sqlite.specs.State.{HasCleanDisk, KeepsCommit, Survives};
+ghost use Rattle.tb_sql_tables.specs.Inside.{seen, KeepsOnErr};
 ghost use Rattle.tb_sql_tables.specs.Statements.{Changes};
 ghost use Rattle.tb_sql.specs.Writing.{changed_by, changed_by_all};
 
@@ -76,16 +76,12 @@ pub enum RowChange {
 /// Makes one change.
 pub fn apply_change<S: Alter>(tx: &mut Transaction<'_, S>, change: &RowChange) -> Result<(), Error>
     ensures same_reference { tx.new.conn.ghost_name ≡ tx.old.conn.ghost_name }
-    ensures put { HasCleanDisk (state S.Store tx.new.conn.now)
-        → IsTrue (state S.Store tx.old.conn.now).in_transaction
-        → OnOk result (Changes (changed_by change.now) (state S.Store tx.old.conn.now)
-        (state S.Store tx.new.conn.now)) }
-    ensures kept { HasCleanDisk (state S.Store tx.new.conn.now)
-        → IsTrue (state S.Store tx.old.conn.now).in_transaction
-        → OnErr result (KeepsCommit (state S.Store tx.old.conn.now)
-        (state S.Store tx.new.conn.now)) }
-    ensures survives { Survives (state S.Store tx.old.conn.now)
-        (state S.Store tx.new.conn.now) (λ _. ⊥) }
+    ensures put { HasCleanDisk (seen S.Store tx.new)
+        → IsTrue (seen S.Store tx.old).in_transaction
+        → OnOk result (Changes (changed_by change.now) (seen S.Store tx.old)
+        (seen S.Store tx.new)) }
+    ensures kept { KeepsOnErr (seen S.Store tx.old) (seen S.Store tx.new) result }
+    ensures survives { Survives (seen S.Store tx.old) (seen S.Store tx.new) (λ _. ⊥) }
 {
     match change {
         RowChange::AddPerson(person) => insert_person(tx, person),
@@ -125,18 +121,16 @@ pub fn apply_changes<S: Alter>(
     changes: &[RowChange],
 ) -> Result<(), Error>
     ensures same_reference { tx.new.conn.ghost_name ≡ tx.old.conn.ghost_name }
-    ensures put { HasCleanDisk (state S.Store tx.new.conn.now)
-        → IsTrue (state S.Store tx.old.conn.now).in_transaction
-        → IsTrue (state S.Store tx.old.conn.now).is_open
-        → OnOk result (Changes (changed_by_all changes.now) (state S.Store tx.old.conn.now)
-        (state S.Store tx.new.conn.now)) }
-    ensures kept { HasCleanDisk (state S.Store tx.new.conn.now)
-        → IsTrue (state S.Store tx.old.conn.now).in_transaction
-        → IsTrue (state S.Store tx.old.conn.now).is_open
-        → OnErr result (KeepsCommit (state S.Store tx.old.conn.now)
-        (state S.Store tx.new.conn.now)) }
-    ensures survives { Survives (state S.Store tx.old.conn.now)
-        (state S.Store tx.new.conn.now) (λ _. ⊥) }
+    ensures put { HasCleanDisk (seen S.Store tx.new)
+        → IsTrue (seen S.Store tx.old).in_transaction
+        → IsTrue (seen S.Store tx.old).is_open
+        → OnOk result (Changes (changed_by_all changes.now) (seen S.Store tx.old)
+        (seen S.Store tx.new)) }
+    ensures kept { HasCleanDisk (seen S.Store tx.new)
+        → IsTrue (seen S.Store tx.old).in_transaction
+        → IsTrue (seen S.Store tx.old).is_open
+        → OnErr result (KeepsCommit (seen S.Store tx.old) (seen S.Store tx.new)) }
+    ensures survives { Survives (seen S.Store tx.old) (seen S.Store tx.new) (λ _. ⊥) }
 {
     'changes: for change in changes {
         apply_change(tx, change)?;

@@ -1,8 +1,8 @@
 //! The statements on the kept replies.
 
-ghost use Rattle.std.specs.Prelude.{◌≡◌, IsTrue, IfOk, IsPermutation, OnOk, OnErr, filter};
-ghost use Rattle.sqlite.specs.Held.{state};
-ghost use Rattle.sqlite.specs.State.{HasCleanDisk, KeepsCommit, Survives};
+ghost use Rattle.std.specs.Prelude.{◌≡◌, IsTrue, IfOk, IsPermutation, OnOk, filter};
+ghost use Rattle.sqlite.specs.State.{HasCleanDisk, Survives};
+ghost use Rattle.tb_sql_tables.specs.Inside.{seen, KeepsInside, KeepsOnErr};
 ghost use Rattle.tb_sql_tables.specs.Statements.{Changes, Finds};
 ghost use Rattle.tb_sql_tables.specs.Found.{IsOneOf};
 ghost use Rattle.tb_sql.specs.Changes.{with_kept, is_kept};
@@ -18,16 +18,11 @@ use tb_values::Items;
 /// Keeps a reply. It fails where there is no such person, or one is kept under this identifier.
 pub fn insert_kept<S: Alter>(tx: &mut Transaction<'_, S>, kept: &KeptRow) -> Result<(), Error>
     ensures same_reference { tx.new.conn.ghost_name ≡ tx.old.conn.ghost_name }
-    ensures put { HasCleanDisk (state S.Store tx.new.conn.now)
-        → IsTrue (state S.Store tx.old.conn.now).in_transaction
-        → OnOk result (Changes (with_kept kept.now) (state S.Store tx.old.conn.now)
-        (state S.Store tx.new.conn.now)) }
-    ensures kept { HasCleanDisk (state S.Store tx.new.conn.now)
-        → IsTrue (state S.Store tx.old.conn.now).in_transaction
-        → OnErr result (KeepsCommit (state S.Store tx.old.conn.now)
-        (state S.Store tx.new.conn.now)) }
-    ensures survives { Survives (state S.Store tx.old.conn.now)
-        (state S.Store tx.new.conn.now) (λ _. ⊥) }
+    ensures put { HasCleanDisk (seen S.Store tx.new)
+        → IsTrue (seen S.Store tx.old).in_transaction
+        → OnOk result (Changes (with_kept kept.now) (seen S.Store tx.old) (seen S.Store tx.new)) }
+    ensures kept { KeepsOnErr (seen S.Store tx.old) (seen S.Store tx.new) result }
+    ensures survives { Survives (seen S.Store tx.old) (seen S.Store tx.new) (λ _. ⊥) }
 {
     let id = identifier_bytes(kept.id);
     let id = id.as_slice();
@@ -47,15 +42,12 @@ pub fn find_kept<S: Alter>(
     id: TaskId,
 ) -> Result<Option<KeptRow>, Error>
     ensures same_reference { tx.new.conn.ghost_name ≡ tx.old.conn.ghost_name }
-    ensures found { HasCleanDisk (state S.Store tx.new.conn.now)
+    ensures found { HasCleanDisk (seen S.Store tx.new)
         → IfOk result (λ kept. Finds
         (λ content. IsOneOf (filter (is_kept person id) content.kept) kept)
-        (state S.Store tx.old.conn.now)) }
-    ensures kept { HasCleanDisk (state S.Store tx.new.conn.now)
-        → IsTrue (state S.Store tx.old.conn.now).in_transaction
-        → KeepsCommit (state S.Store tx.old.conn.now) (state S.Store tx.new.conn.now) }
-    ensures survives { Survives (state S.Store tx.old.conn.now)
-        (state S.Store tx.new.conn.now) (λ _. ⊥) }
+        (seen S.Store tx.old)) }
+    ensures kept { KeepsInside (seen S.Store tx.old) (seen S.Store tx.new) }
+    ensures survives { Survives (seen S.Store tx.old) (seen S.Store tx.new) (λ _. ⊥) }
 {
     let bytes = identifier_bytes(id);
     let bytes = bytes.as_slice();
@@ -70,14 +62,11 @@ pub fn find_kept<S: Alter>(
 /// All replies that are kept, in no order.
 pub fn select_kept<S: Alter>(tx: &mut Transaction<'_, S>) -> Result<Items<KeptRow>, Error>
     ensures same_reference { tx.new.conn.ghost_name ≡ tx.old.conn.ghost_name }
-    ensures found { HasCleanDisk (state S.Store tx.new.conn.now)
+    ensures found { HasCleanDisk (seen S.Store tx.new)
         → IfOk result (λ kept. Finds (λ content. IsPermutation content.kept kept)
-        (state S.Store tx.old.conn.now)) }
-    ensures kept { HasCleanDisk (state S.Store tx.new.conn.now)
-        → IsTrue (state S.Store tx.old.conn.now).in_transaction
-        → KeepsCommit (state S.Store tx.old.conn.now) (state S.Store tx.new.conn.now) }
-    ensures survives { Survives (state S.Store tx.old.conn.now)
-        (state S.Store tx.new.conn.now) (λ _. ⊥) }
+        (seen S.Store tx.old)) }
+    ensures kept { KeepsInside (seen S.Store tx.old) (seen S.Store tx.new) }
+    ensures survives { Survives (seen S.Store tx.old) (seen S.Store tx.new) (λ _. ⊥) }
 {
     let rows = find_rows(
         tx,

@@ -1,8 +1,8 @@
 //! The statements on the table that tells what the file is.
 
-ghost use Rattle.std.specs.Prelude.{◌≡◌, [], ◌∷◌, IsTrue, IfErr, IfOk, OnErr, OnOk};
-ghost use Rattle.sqlite.specs.Held.{state};
-ghost use Rattle.sqlite.specs.State.{HasCleanDisk, KeepsCommit, Survives};
+ghost use Rattle.std.specs.Prelude.{◌≡◌, [], ◌∷◌, IsTrue, IfErr, IfOk, OnOk};
+ghost use Rattle.sqlite.specs.State.{HasCleanDisk, Survives};
+ghost use Rattle.tb_sql_tables.specs.Inside.{seen, KeepsInside, KeepsOnErr};
 ghost use Rattle.tb_sql_tables.specs.Content.{Content, IsContent};
 ghost use Rattle.tb_sql_tables.specs.Statements.{Finds, Turns};
 ghost use Rattle.tb_sql_tables.specs.Standing.{IsHalfway};
@@ -19,21 +19,16 @@ use tb_values::Items;
 /// What the file is, which in a store is one row.
 pub fn select_meta<S: Alter>(tx: &mut Transaction<'_, S>) -> Result<Items<MetaRow>, Error>
     ensures same_reference { tx.new.conn.ghost_name ≡ tx.old.conn.ghost_name }
-    ensures found { HasCleanDisk (state S.Store tx.new.conn.now)
-        → IfOk result (λ metas. Finds (λ _. metas ≡ our_meta ∷ [])
-        (state S.Store tx.old.conn.now)) }
-    ensures told { HasCleanDisk (state S.Store tx.new.conn.now)
-        → IfOk result (λ metas. AreMetas (state S.Store tx.old.conn.now).now metas) }
-    ensures shown { HasCleanDisk (state S.Store tx.new.conn.now)
-        → IfOk result (λ metas. AreShown (state S.Store tx.old.conn.now)
-        (state S.Store tx.new.conn.now) metas) }
-    ensures excused { HasCleanDisk (state S.Store tx.new.conn.now)
-        → IfErr result (IsExcused (state S.Store tx.old.conn.now) (state S.Store tx.new.conn.now)) }
-    ensures kept { HasCleanDisk (state S.Store tx.new.conn.now)
-        → IsTrue (state S.Store tx.old.conn.now).in_transaction
-        → KeepsCommit (state S.Store tx.old.conn.now) (state S.Store tx.new.conn.now) }
-    ensures survives { Survives (state S.Store tx.old.conn.now)
-        (state S.Store tx.new.conn.now) (λ _. ⊥) }
+    ensures found { HasCleanDisk (seen S.Store tx.new)
+        → IfOk result (λ metas. Finds (λ _. metas ≡ our_meta ∷ []) (seen S.Store tx.old)) }
+    ensures told { HasCleanDisk (seen S.Store tx.new)
+        → IfOk result (λ metas. AreMetas (seen S.Store tx.old).now metas) }
+    ensures shown { HasCleanDisk (seen S.Store tx.new)
+        → IfOk result (λ metas. AreShown (seen S.Store tx.old) (seen S.Store tx.new) metas) }
+    ensures excused { HasCleanDisk (seen S.Store tx.new)
+        → IfErr result (IsExcused (seen S.Store tx.old) (seen S.Store tx.new)) }
+    ensures kept { KeepsInside (seen S.Store tx.old) (seen S.Store tx.new) }
+    ensures survives { Survives (seen S.Store tx.old) (seen S.Store tx.new) (λ _. ⊥) }
 {
     let rows = find_rows(tx, "SELECT kind, version FROM meta", &[])?;
     read_all(*rows.allocator(), &rows)
@@ -42,17 +37,13 @@ pub fn select_meta<S: Alter>(tx: &mut Transaction<'_, S>) -> Result<Items<MetaRo
 /// Tells that the file is of the second version.
 pub(crate) fn update_version<S: Alter>(tx: &mut Transaction<'_, S>) -> Result<(), Error>
     ensures same_reference { tx.new.conn.ghost_name ≡ tx.old.conn.ghost_name }
-    ensures made { HasCleanDisk (state S.Store tx.new.conn.now)
-        → IsTrue (state S.Store tx.old.conn.now).in_transaction
+    ensures made { HasCleanDisk (seen S.Store tx.new)
+        → IsTrue (seen S.Store tx.old).in_transaction
         → OnOk result ((content : Content)
         → Turns (IsHalfway content) (IsContent (without_horizon content))
-        (state S.Store tx.old.conn.now) (state S.Store tx.new.conn.now)) }
-    ensures kept { HasCleanDisk (state S.Store tx.new.conn.now)
-        → IsTrue (state S.Store tx.old.conn.now).in_transaction
-        → OnErr result (KeepsCommit (state S.Store tx.old.conn.now)
-        (state S.Store tx.new.conn.now)) }
-    ensures survives { Survives (state S.Store tx.old.conn.now)
-        (state S.Store tx.new.conn.now) (λ _. ⊥) }
+        (seen S.Store tx.old) (seen S.Store tx.new)) }
+    ensures kept { KeepsOnErr (seen S.Store tx.old) (seen S.Store tx.new) result }
+    ensures survives { Survives (seen S.Store tx.old) (seen S.Store tx.new) (λ _. ⊥) }
 {
     run(tx, "UPDATE meta SET version = 2", &[])
 }

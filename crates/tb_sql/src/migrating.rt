@@ -1,8 +1,9 @@
 //! Makes a store of the first version one of the second.
 
-ghost use Rattle.std.specs.Prelude.{◌≡◌, false, map, IsTrue, IfErr, IfOk, OnErr, OnOk, Err};
+ghost use Rattle.std.specs.Prelude.{◌≡◌, false, map, IsTrue, IfErr, IfOk, OnOk, Err};
 ghost use Rattle.sqlite.specs.Held.{state};
-ghost use Rattle.sqlite.specs.State.{HasCleanDisk, KeepsCommit, Survives};
+ghost use Rattle.sqlite.specs.State.{HasCleanDisk, Survives};
+ghost use Rattle.tb_sql_tables.specs.Inside.{seen, KeepsOnErr};
 ghost use Rattle.tb_sql_tables.specs.Content.{AreRows, Content, IsContent, StandsBy};
 ghost use Rattle.tb_sql_tables.specs.Standing.{IsOldContent, StandsOld, StandsOldOr};
 ghost use Rattle.tb_sql_tables.specs.Statements.{Turns};
@@ -44,17 +45,13 @@ fn horizon_changes(alloc: Global, boards: &[BoardRow]) -> Result<Items<RowChange
 /// Makes the table that is missing, and tells the version.
 fn widen<S: Alter>(tx: &mut Transaction<'_, S>) -> Result<(), Error>
     ensures same_reference { tx.new.conn.ghost_name ≡ tx.old.conn.ghost_name }
-    ensures made { HasCleanDisk (state S.Store tx.new.conn.now)
-        → IsTrue (state S.Store tx.old.conn.now).in_transaction
+    ensures made { HasCleanDisk (seen S.Store tx.new)
+        → IsTrue (seen S.Store tx.old).in_transaction
         → OnOk result ((content : Content)
         → Turns (IsOldContent content) (IsContent (without_horizon content))
-        (state S.Store tx.old.conn.now) (state S.Store tx.new.conn.now)) }
-    ensures kept { HasCleanDisk (state S.Store tx.new.conn.now)
-        → IsTrue (state S.Store tx.old.conn.now).in_transaction
-        → OnErr result (KeepsCommit (state S.Store tx.old.conn.now)
-        (state S.Store tx.new.conn.now)) }
-    ensures survives { Survives (state S.Store tx.old.conn.now)
-        (state S.Store tx.new.conn.now) (λ _. ⊥) }
+        (seen S.Store tx.old) (seen S.Store tx.new)) }
+    ensures kept { KeepsOnErr (seen S.Store tx.old) (seen S.Store tx.new) result }
+    ensures survives { Survives (seen S.Store tx.old) (seen S.Store tx.new) (λ _. ⊥) }
 {
     create_horizon(tx)?;
     update_version(tx)
@@ -63,17 +60,13 @@ fn widen<S: Alter>(tx: &mut Transaction<'_, S>) -> Result<(), Error>
 /// Puts the row of each board into the table.
 fn fill<S: Alter>(alloc: Global, tx: &mut Transaction<'_, S>) -> Result<Counts, Error>
     ensures same_reference { tx.new.conn.ghost_name ≡ tx.old.conn.ghost_name }
-    ensures made { HasCleanDisk (state S.Store tx.new.conn.now)
-        → IsTrue (state S.Store tx.old.conn.now).in_transaction
+    ensures made { HasCleanDisk (seen S.Store tx.new)
+        → IsTrue (seen S.Store tx.old).in_transaction
         → IfOk result (λ counts. (content : Content)
         → Turns (IsContent (without_horizon content)) (IsMigrated content counts)
-        (state S.Store tx.old.conn.now) (state S.Store tx.new.conn.now)) }
-    ensures kept { HasCleanDisk (state S.Store tx.new.conn.now)
-        → IsTrue (state S.Store tx.old.conn.now).in_transaction
-        → OnErr result (KeepsCommit (state S.Store tx.old.conn.now)
-        (state S.Store tx.new.conn.now)) }
-    ensures survives { Survives (state S.Store tx.old.conn.now)
-        (state S.Store tx.new.conn.now) (λ _. ⊥) }
+        (seen S.Store tx.old) (seen S.Store tx.new)) }
+    ensures kept { KeepsOnErr (seen S.Store tx.old) (seen S.Store tx.new) result }
+    ensures survives { Survives (seen S.Store tx.old) (seen S.Store tx.new) (λ _. ⊥) }
 {
     let people = select_people(tx)?;
     let boards = select_boards(tx)?;
@@ -88,17 +81,13 @@ fn fill<S: Alter>(alloc: Global, tx: &mut Transaction<'_, S>) -> Result<Counts, 
 /// Makes the tables those of the second version, with the row of each board.
 fn put_second<S: Alter>(alloc: Global, tx: &mut Transaction<'_, S>) -> Result<Counts, Error>
     ensures same_reference { tx.new.conn.ghost_name ≡ tx.old.conn.ghost_name }
-    ensures made { HasCleanDisk (state S.Store tx.new.conn.now)
-        → IsTrue (state S.Store tx.old.conn.now).in_transaction
+    ensures made { HasCleanDisk (seen S.Store tx.new)
+        → IsTrue (seen S.Store tx.old).in_transaction
         → IfOk result (λ counts. (content : Content)
-        → Turns (IsOldContent content) (IsMigrated content counts) (state S.Store tx.old.conn.now)
-        (state S.Store tx.new.conn.now)) }
-    ensures kept { HasCleanDisk (state S.Store tx.new.conn.now)
-        → IsTrue (state S.Store tx.old.conn.now).in_transaction
-        → OnErr result (KeepsCommit (state S.Store tx.old.conn.now)
-        (state S.Store tx.new.conn.now)) }
-    ensures survives { Survives (state S.Store tx.old.conn.now)
-        (state S.Store tx.new.conn.now) (λ _. ⊥) }
+        → Turns (IsOldContent content) (IsMigrated content counts) (seen S.Store tx.old)
+        (seen S.Store tx.new)) }
+    ensures kept { KeepsOnErr (seen S.Store tx.old) (seen S.Store tx.new) result }
+    ensures survives { Survives (seen S.Store tx.old) (seen S.Store tx.new) (λ _. ⊥) }
 {
     widen(tx)?;
     fill(alloc, tx)

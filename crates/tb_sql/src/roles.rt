@@ -1,8 +1,8 @@
 //! The statements on the roles of people on boards.
 
-ghost use Rattle.std.specs.Prelude.{◌≡◌, ◌==◌, filter, IsTrue, IfOk, OnOk, OnErr};
-ghost use Rattle.sqlite.specs.Held.{state};
-ghost use Rattle.sqlite.specs.State.{HasCleanDisk, KeepsCommit, Survives};
+ghost use Rattle.std.specs.Prelude.{◌≡◌, ◌==◌, filter, IsTrue, IfOk, OnOk};
+ghost use Rattle.sqlite.specs.State.{HasCleanDisk, Survives};
+ghost use Rattle.tb_sql_tables.specs.Inside.{seen, KeepsInside, KeepsOnErr};
 ghost use Rattle.tb_sql_tables.specs.Statements.{Changes, Finds};
 ghost use Rattle.tb_sql_tables.specs.Found.{AreFound, IsOneOf};
 ghost use Rattle.tb_sql.specs.Changes.{with_role, without_role, is_role, IsRoleBefore};
@@ -16,16 +16,11 @@ use tb_values::Items;
 /// Gives a person a role on a board. It fails where there is no such board or person, or the person has a role there.
 pub fn insert_role<S: Alter>(tx: &mut Transaction<'_, S>, role: &RoleRow) -> Result<(), Error>
     ensures same_reference { tx.new.conn.ghost_name ≡ tx.old.conn.ghost_name }
-    ensures put { HasCleanDisk (state S.Store tx.new.conn.now)
-        → IsTrue (state S.Store tx.old.conn.now).in_transaction
-        → OnOk result (Changes (with_role role.now) (state S.Store tx.old.conn.now)
-        (state S.Store tx.new.conn.now)) }
-    ensures kept { HasCleanDisk (state S.Store tx.new.conn.now)
-        → IsTrue (state S.Store tx.old.conn.now).in_transaction
-        → OnErr result (KeepsCommit (state S.Store tx.old.conn.now)
-        (state S.Store tx.new.conn.now)) }
-    ensures survives { Survives (state S.Store tx.old.conn.now)
-        (state S.Store tx.new.conn.now) (λ _. ⊥) }
+    ensures put { HasCleanDisk (seen S.Store tx.new)
+        → IsTrue (seen S.Store tx.old).in_transaction
+        → OnOk result (Changes (with_role role.now) (seen S.Store tx.old) (seen S.Store tx.new)) }
+    ensures kept { KeepsOnErr (seen S.Store tx.old) (seen S.Store tx.new) result }
+    ensures survives { Survives (seen S.Store tx.old) (seen S.Store tx.new) (λ _. ⊥) }
 {
     run(
         tx,
@@ -41,16 +36,12 @@ pub fn delete_role<S: Alter>(
     person: u32,
 ) -> Result<(), Error>
     ensures same_reference { tx.new.conn.ghost_name ≡ tx.old.conn.ghost_name }
-    ensures put { HasCleanDisk (state S.Store tx.new.conn.now)
-        → IsTrue (state S.Store tx.old.conn.now).in_transaction
-        → OnOk result (Changes (without_role board person) (state S.Store tx.old.conn.now)
-        (state S.Store tx.new.conn.now)) }
-    ensures kept { HasCleanDisk (state S.Store tx.new.conn.now)
-        → IsTrue (state S.Store tx.old.conn.now).in_transaction
-        → OnErr result (KeepsCommit (state S.Store tx.old.conn.now)
-        (state S.Store tx.new.conn.now)) }
-    ensures survives { Survives (state S.Store tx.old.conn.now)
-        (state S.Store tx.new.conn.now) (λ _. ⊥) }
+    ensures put { HasCleanDisk (seen S.Store tx.new)
+        → IsTrue (seen S.Store tx.old).in_transaction
+        → OnOk result (Changes (without_role board person) (seen S.Store tx.old)
+        (seen S.Store tx.new)) }
+    ensures kept { KeepsOnErr (seen S.Store tx.old) (seen S.Store tx.new) result }
+    ensures survives { Survives (seen S.Store tx.old) (seen S.Store tx.new) (λ _. ⊥) }
 {
     run(
         tx,
@@ -65,15 +56,12 @@ pub fn select_roles<S: Alter>(
     board: u32,
 ) -> Result<Items<RoleRow>, Error>
     ensures same_reference { tx.new.conn.ghost_name ≡ tx.old.conn.ghost_name }
-    ensures found { HasCleanDisk (state S.Store tx.new.conn.now)
+    ensures found { HasCleanDisk (seen S.Store tx.new)
         → IfOk result (λ roles. Finds
         (λ content. AreFound IsRoleBefore (filter (λ role. role.board == board) content.roles)
-        roles) (state S.Store tx.old.conn.now)) }
-    ensures kept { HasCleanDisk (state S.Store tx.new.conn.now)
-        → IsTrue (state S.Store tx.old.conn.now).in_transaction
-        → KeepsCommit (state S.Store tx.old.conn.now) (state S.Store tx.new.conn.now) }
-    ensures survives { Survives (state S.Store tx.old.conn.now)
-        (state S.Store tx.new.conn.now) (λ _. ⊥) }
+        roles) (seen S.Store tx.old)) }
+    ensures kept { KeepsInside (seen S.Store tx.old) (seen S.Store tx.new) }
+    ensures survives { Survives (seen S.Store tx.old) (seen S.Store tx.new) (λ _. ⊥) }
 {
     let rows = find_rows(
         tx,
@@ -90,15 +78,12 @@ pub fn find_role<S: Alter>(
     person: u32,
 ) -> Result<Option<RoleRow>, Error>
     ensures same_reference { tx.new.conn.ghost_name ≡ tx.old.conn.ghost_name }
-    ensures found { HasCleanDisk (state S.Store tx.new.conn.now)
+    ensures found { HasCleanDisk (seen S.Store tx.new)
         → IfOk result (λ role. Finds
         (λ content. IsOneOf (filter (is_role board person) content.roles) role)
-        (state S.Store tx.old.conn.now)) }
-    ensures kept { HasCleanDisk (state S.Store tx.new.conn.now)
-        → IsTrue (state S.Store tx.old.conn.now).in_transaction
-        → KeepsCommit (state S.Store tx.old.conn.now) (state S.Store tx.new.conn.now) }
-    ensures survives { Survives (state S.Store tx.old.conn.now)
-        (state S.Store tx.new.conn.now) (λ _. ⊥) }
+        (seen S.Store tx.old)) }
+    ensures kept { KeepsInside (seen S.Store tx.old) (seen S.Store tx.new) }
+    ensures survives { Survives (seen S.Store tx.old) (seen S.Store tx.new) (λ _. ⊥) }
 {
     let rows = find_rows(
         tx,

@@ -1,8 +1,8 @@
 //! The statement on the roles of one person.
 
-ghost use Rattle.std.specs.Prelude.{◌≡◌, ◌==◌, filter, IsTrue, IfOk};
-ghost use Rattle.sqlite.specs.Held.{state};
-ghost use Rattle.sqlite.specs.State.{HasCleanDisk, KeepsCommit, Survives};
+ghost use Rattle.std.specs.Prelude.{◌≡◌, ◌==◌, filter, IfOk};
+ghost use Rattle.sqlite.specs.State.{HasCleanDisk, Survives};
+ghost use Rattle.tb_sql_tables.specs.Inside.{seen, KeepsInside};
 ghost use Rattle.tb_sql_tables.specs.Statements.{Finds};
 ghost use Rattle.tb_sql_tables.specs.Found.{AreFound};
 ghost use Rattle.tb_sql.specs.RolesOf.{IsBoardBefore};
@@ -19,15 +19,12 @@ pub fn select_roles_of<S: Alter>(
     person: u32,
 ) -> Result<Items<RoleRow>, Error>
     ensures same_reference { tx.new.conn.ghost_name ≡ tx.old.conn.ghost_name }
-    ensures found { HasCleanDisk (state S.Store tx.new.conn.now)
+    ensures found { HasCleanDisk (seen S.Store tx.new)
         → IfOk result (λ roles. Finds
         (λ content. AreFound IsBoardBefore (filter (λ role. role.person == person) content.roles)
-        roles) (state S.Store tx.old.conn.now)) }
-    ensures kept { HasCleanDisk (state S.Store tx.new.conn.now)
-        → IsTrue (state S.Store tx.old.conn.now).in_transaction
-        → KeepsCommit (state S.Store tx.old.conn.now) (state S.Store tx.new.conn.now) }
-    ensures survives { Survives (state S.Store tx.old.conn.now)
-        (state S.Store tx.new.conn.now) (λ _. ⊥) }
+        roles) (seen S.Store tx.old)) }
+    ensures kept { KeepsInside (seen S.Store tx.old) (seen S.Store tx.new) }
+    ensures survives { Survives (seen S.Store tx.old) (seen S.Store tx.new) (λ _. ⊥) }
 {
     let rows = find_rows(
         tx,

@@ -1,8 +1,9 @@
 //! The transactions: a new store, and changes with a kept reply at once.
 
-ghost use Rattle.std.specs.Prelude.{◌≡◌, ◌↔◌, false, IsTrue, OnOk, OnErr, Err};
+ghost use Rattle.std.specs.Prelude.{◌≡◌, ◌↔◌, false, IsTrue, OnOk, Err};
 ghost use Rattle.sqlite.specs.Held.{state};
-ghost use Rattle.sqlite.specs.State.{HasCleanDisk, KeepsCommit, Survives};
+ghost use Rattle.sqlite.specs.State.{HasCleanDisk, Survives};
+ghost use Rattle.tb_sql_tables.specs.Inside.{seen, KeepsOnErr};
 ghost use Rattle.tb_sql_tables.specs.Content.{Content, IsContent, Stands, StandsAsEither};
 ghost use Rattle.tb_sql_tables.specs.Statements.{Changes, Turns};
 ghost use Rattle.tb_sql_tables.specs.Standing.{HasNoTables, StandsEmpty, StandsEmptyOr};
@@ -43,16 +44,12 @@ fn put_rows<S: Alter>(
     kept: &KeptRow,
 ) -> Result<(), Error>
     ensures same_reference { tx.new.conn.ghost_name ≡ tx.old.conn.ghost_name }
-    ensures put { HasCleanDisk (state S.Store tx.new.conn.now)
-        → IsTrue (state S.Store tx.old.conn.now).in_transaction
-        → OnOk result (Changes (written changes.now kept.now) (state S.Store tx.old.conn.now)
-        (state S.Store tx.new.conn.now)) }
-    ensures kept { HasCleanDisk (state S.Store tx.new.conn.now)
-        → IsTrue (state S.Store tx.old.conn.now).in_transaction
-        → OnErr result (KeepsCommit (state S.Store tx.old.conn.now)
-        (state S.Store tx.new.conn.now)) }
-    ensures survives { Survives (state S.Store tx.old.conn.now)
-        (state S.Store tx.new.conn.now) (λ _. ⊥) }
+    ensures put { HasCleanDisk (seen S.Store tx.new)
+        → IsTrue (seen S.Store tx.old).in_transaction
+        → OnOk result (Changes (written changes.now kept.now) (seen S.Store tx.old)
+        (seen S.Store tx.new)) }
+    ensures kept { KeepsOnErr (seen S.Store tx.old) (seen S.Store tx.new) result }
+    ensures survives { Survives (seen S.Store tx.old) (seen S.Store tx.new) (λ _. ⊥) }
 {
     insert_kept(tx, kept)?;
     apply_changes(tx, changes)
@@ -88,16 +85,12 @@ pub fn write_rows<S: Alter>(
 /// Makes the tables, and puts the first rows in.
 fn put_tables<S: Alter>(tx: &mut Transaction<'_, S>, rows: &[RowChange]) -> Result<(), Error>
     ensures same_reference { tx.new.conn.ghost_name ≡ tx.old.conn.ghost_name }
-    ensures made { HasCleanDisk (state S.Store tx.new.conn.now)
-        → IsTrue (state S.Store tx.old.conn.now).in_transaction
+    ensures made { HasCleanDisk (seen S.Store tx.new)
+        → IsTrue (seen S.Store tx.old).in_transaction
         → OnOk result (Turns HasNoTables (IsContent (opening rows.now))
-        (state S.Store tx.old.conn.now) (state S.Store tx.new.conn.now)) }
-    ensures kept { HasCleanDisk (state S.Store tx.new.conn.now)
-        → IsTrue (state S.Store tx.old.conn.now).in_transaction
-        → OnErr result (KeepsCommit (state S.Store tx.old.conn.now)
-        (state S.Store tx.new.conn.now)) }
-    ensures survives { Survives (state S.Store tx.old.conn.now)
-        (state S.Store tx.new.conn.now) (λ _. ⊥) }
+        (seen S.Store tx.old) (seen S.Store tx.new)) }
+    ensures kept { KeepsOnErr (seen S.Store tx.old) (seen S.Store tx.new) result }
+    ensures survives { Survives (seen S.Store tx.old) (seen S.Store tx.new) (λ _. ⊥) }
 {
     create_all(tx)?;
     apply_changes(tx, rows)
