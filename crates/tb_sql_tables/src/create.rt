@@ -1,8 +1,8 @@
 //! The statements that make the tables of an empty database, in their one order.
 
-ghost use Rattle.std.specs.Prelude.{◌≡◌, IsTrue, OnOk, OnErr};
-ghost use Rattle.sqlite.specs.Held.{state};
-ghost use Rattle.sqlite.specs.State.{HasCleanDisk, KeepsCommit, Survives};
+ghost use Rattle.std.specs.Prelude.{◌≡◌, IsTrue, OnOk};
+ghost use Rattle.sqlite.specs.State.{HasCleanDisk, Survives};
+ghost use Rattle.tb_sql_tables.specs.Inside.{seen, KeepsOnErr};
 ghost use Rattle.tb_sql_tables.specs.Tables.{no_schema, meta_schema, person_schema, board_schema, role_schema, task_schema, link_schema, instance_schema, gone_schema, old_schema, store_schema};
 ghost use Rattle.tb_sql_tables.specs.Content.{nothing, Content, IsContent};
 ghost use Rattle.tb_sql_tables.specs.Statements.{AreEmpty, Turns};
@@ -14,16 +14,12 @@ use sqlite::{Alter, Error, Transaction};
 /// The table of what the file is, and in which version.
 fn create_meta<S: Alter>(tx: &mut Transaction<'_, S>) -> Result<(), Error>
     ensures same_reference { tx.new.conn.ghost_name ≡ tx.old.conn.ghost_name }
-    ensures made { HasCleanDisk (state S.Store tx.new.conn.now)
-        → IsTrue (state S.Store tx.old.conn.now).in_transaction
+    ensures made { HasCleanDisk (seen S.Store tx.new)
+        → IsTrue (seen S.Store tx.old).in_transaction
         → OnOk result (Turns (AreEmpty no_schema) (AreEmpty meta_schema)
-        (state S.Store tx.old.conn.now) (state S.Store tx.new.conn.now)) }
-    ensures kept { HasCleanDisk (state S.Store tx.new.conn.now)
-        → IsTrue (state S.Store tx.old.conn.now).in_transaction
-        → OnErr result (KeepsCommit (state S.Store tx.old.conn.now)
-        (state S.Store tx.new.conn.now)) }
-    ensures survives { Survives (state S.Store tx.old.conn.now)
-        (state S.Store tx.new.conn.now) (λ _. ⊥) }
+        (seen S.Store tx.old) (seen S.Store tx.new)) }
+    ensures kept { KeepsOnErr (seen S.Store tx.old) (seen S.Store tx.new) result }
+    ensures survives { Survives (seen S.Store tx.old) (seen S.Store tx.new) (λ _. ⊥) }
 {
     run(
         tx,
@@ -35,16 +31,12 @@ fn create_meta<S: Alter>(tx: &mut Transaction<'_, S>) -> Result<(), Error>
 /// The table of the people.
 fn create_person<S: Alter>(tx: &mut Transaction<'_, S>) -> Result<(), Error>
     ensures same_reference { tx.new.conn.ghost_name ≡ tx.old.conn.ghost_name }
-    ensures made { HasCleanDisk (state S.Store tx.new.conn.now)
-        → IsTrue (state S.Store tx.old.conn.now).in_transaction
+    ensures made { HasCleanDisk (seen S.Store tx.new)
+        → IsTrue (seen S.Store tx.old).in_transaction
         → OnOk result (Turns (AreEmpty meta_schema) (AreEmpty person_schema)
-        (state S.Store tx.old.conn.now) (state S.Store tx.new.conn.now)) }
-    ensures kept { HasCleanDisk (state S.Store tx.new.conn.now)
-        → IsTrue (state S.Store tx.old.conn.now).in_transaction
-        → OnErr result (KeepsCommit (state S.Store tx.old.conn.now)
-        (state S.Store tx.new.conn.now)) }
-    ensures survives { Survives (state S.Store tx.old.conn.now)
-        (state S.Store tx.new.conn.now) (λ _. ⊥) }
+        (seen S.Store tx.old) (seen S.Store tx.new)) }
+    ensures kept { KeepsOnErr (seen S.Store tx.old) (seen S.Store tx.new) result }
+    ensures survives { Survives (seen S.Store tx.old) (seen S.Store tx.new) (λ _. ⊥) }
 {
     run(
         tx,
@@ -56,16 +48,12 @@ fn create_person<S: Alter>(tx: &mut Transaction<'_, S>) -> Result<(), Error>
 /// The table of the boards.
 fn create_board<S: Alter>(tx: &mut Transaction<'_, S>) -> Result<(), Error>
     ensures same_reference { tx.new.conn.ghost_name ≡ tx.old.conn.ghost_name }
-    ensures made { HasCleanDisk (state S.Store tx.new.conn.now)
-        → IsTrue (state S.Store tx.old.conn.now).in_transaction
+    ensures made { HasCleanDisk (seen S.Store tx.new)
+        → IsTrue (seen S.Store tx.old).in_transaction
         → OnOk result (Turns (AreEmpty person_schema) (AreEmpty board_schema)
-        (state S.Store tx.old.conn.now) (state S.Store tx.new.conn.now)) }
-    ensures kept { HasCleanDisk (state S.Store tx.new.conn.now)
-        → IsTrue (state S.Store tx.old.conn.now).in_transaction
-        → OnErr result (KeepsCommit (state S.Store tx.old.conn.now)
-        (state S.Store tx.new.conn.now)) }
-    ensures survives { Survives (state S.Store tx.old.conn.now)
-        (state S.Store tx.new.conn.now) (λ _. ⊥) }
+        (seen S.Store tx.old) (seen S.Store tx.new)) }
+    ensures kept { KeepsOnErr (seen S.Store tx.old) (seen S.Store tx.new) result }
+    ensures survives { Survives (seen S.Store tx.old) (seen S.Store tx.new) (λ _. ⊥) }
 {
     run(
         tx,
@@ -77,16 +65,12 @@ fn create_board<S: Alter>(tx: &mut Transaction<'_, S>) -> Result<(), Error>
 /// The table of the roles of people on boards.
 fn create_role<S: Alter>(tx: &mut Transaction<'_, S>) -> Result<(), Error>
     ensures same_reference { tx.new.conn.ghost_name ≡ tx.old.conn.ghost_name }
-    ensures made { HasCleanDisk (state S.Store tx.new.conn.now)
-        → IsTrue (state S.Store tx.old.conn.now).in_transaction
+    ensures made { HasCleanDisk (seen S.Store tx.new)
+        → IsTrue (seen S.Store tx.old).in_transaction
         → OnOk result (Turns (AreEmpty board_schema) (AreEmpty role_schema)
-        (state S.Store tx.old.conn.now) (state S.Store tx.new.conn.now)) }
-    ensures kept { HasCleanDisk (state S.Store tx.new.conn.now)
-        → IsTrue (state S.Store tx.old.conn.now).in_transaction
-        → OnErr result (KeepsCommit (state S.Store tx.old.conn.now)
-        (state S.Store tx.new.conn.now)) }
-    ensures survives { Survives (state S.Store tx.old.conn.now)
-        (state S.Store tx.new.conn.now) (λ _. ⊥) }
+        (seen S.Store tx.old) (seen S.Store tx.new)) }
+    ensures kept { KeepsOnErr (seen S.Store tx.old) (seen S.Store tx.new) result }
+    ensures survives { Survives (seen S.Store tx.old) (seen S.Store tx.new) (λ _. ⊥) }
 {
     run(
         tx,
@@ -98,16 +82,12 @@ fn create_role<S: Alter>(tx: &mut Transaction<'_, S>) -> Result<(), Error>
 /// The table of the tasks.
 fn create_task<S: Alter>(tx: &mut Transaction<'_, S>) -> Result<(), Error>
     ensures same_reference { tx.new.conn.ghost_name ≡ tx.old.conn.ghost_name }
-    ensures made { HasCleanDisk (state S.Store tx.new.conn.now)
-        → IsTrue (state S.Store tx.old.conn.now).in_transaction
+    ensures made { HasCleanDisk (seen S.Store tx.new)
+        → IsTrue (seen S.Store tx.old).in_transaction
         → OnOk result (Turns (AreEmpty role_schema) (AreEmpty task_schema)
-        (state S.Store tx.old.conn.now) (state S.Store tx.new.conn.now)) }
-    ensures kept { HasCleanDisk (state S.Store tx.new.conn.now)
-        → IsTrue (state S.Store tx.old.conn.now).in_transaction
-        → OnErr result (KeepsCommit (state S.Store tx.old.conn.now)
-        (state S.Store tx.new.conn.now)) }
-    ensures survives { Survives (state S.Store tx.old.conn.now)
-        (state S.Store tx.new.conn.now) (λ _. ⊥) }
+        (seen S.Store tx.old) (seen S.Store tx.new)) }
+    ensures kept { KeepsOnErr (seen S.Store tx.old) (seen S.Store tx.new) result }
+    ensures survives { Survives (seen S.Store tx.old) (seen S.Store tx.new) (λ _. ⊥) }
 {
     run(
         tx,
@@ -119,16 +99,12 @@ fn create_task<S: Alter>(tx: &mut Transaction<'_, S>) -> Result<(), Error>
 /// The table of the links between tasks.
 fn create_link<S: Alter>(tx: &mut Transaction<'_, S>) -> Result<(), Error>
     ensures same_reference { tx.new.conn.ghost_name ≡ tx.old.conn.ghost_name }
-    ensures made { HasCleanDisk (state S.Store tx.new.conn.now)
-        → IsTrue (state S.Store tx.old.conn.now).in_transaction
+    ensures made { HasCleanDisk (seen S.Store tx.new)
+        → IsTrue (seen S.Store tx.old).in_transaction
         → OnOk result (Turns (AreEmpty task_schema) (AreEmpty link_schema)
-        (state S.Store tx.old.conn.now) (state S.Store tx.new.conn.now)) }
-    ensures kept { HasCleanDisk (state S.Store tx.new.conn.now)
-        → IsTrue (state S.Store tx.old.conn.now).in_transaction
-        → OnErr result (KeepsCommit (state S.Store tx.old.conn.now)
-        (state S.Store tx.new.conn.now)) }
-    ensures survives { Survives (state S.Store tx.old.conn.now)
-        (state S.Store tx.new.conn.now) (λ _. ⊥) }
+        (seen S.Store tx.old) (seen S.Store tx.new)) }
+    ensures kept { KeepsOnErr (seen S.Store tx.old) (seen S.Store tx.new) result }
+    ensures survives { Survives (seen S.Store tx.old) (seen S.Store tx.new) (λ _. ⊥) }
 {
     run(
         tx,
@@ -140,16 +116,12 @@ fn create_link<S: Alter>(tx: &mut Transaction<'_, S>) -> Result<(), Error>
 /// The table of the instances of templates.
 fn create_instance<S: Alter>(tx: &mut Transaction<'_, S>) -> Result<(), Error>
     ensures same_reference { tx.new.conn.ghost_name ≡ tx.old.conn.ghost_name }
-    ensures made { HasCleanDisk (state S.Store tx.new.conn.now)
-        → IsTrue (state S.Store tx.old.conn.now).in_transaction
+    ensures made { HasCleanDisk (seen S.Store tx.new)
+        → IsTrue (seen S.Store tx.old).in_transaction
         → OnOk result (Turns (AreEmpty link_schema) (AreEmpty instance_schema)
-        (state S.Store tx.old.conn.now) (state S.Store tx.new.conn.now)) }
-    ensures kept { HasCleanDisk (state S.Store tx.new.conn.now)
-        → IsTrue (state S.Store tx.old.conn.now).in_transaction
-        → OnErr result (KeepsCommit (state S.Store tx.old.conn.now)
-        (state S.Store tx.new.conn.now)) }
-    ensures survives { Survives (state S.Store tx.old.conn.now)
-        (state S.Store tx.new.conn.now) (λ _. ⊥) }
+        (seen S.Store tx.old) (seen S.Store tx.new)) }
+    ensures kept { KeepsOnErr (seen S.Store tx.old) (seen S.Store tx.new) result }
+    ensures survives { Survives (seen S.Store tx.old) (seen S.Store tx.new) (λ _. ⊥) }
 {
     run(
         tx,
@@ -161,16 +133,12 @@ fn create_instance<S: Alter>(tx: &mut Transaction<'_, S>) -> Result<(), Error>
 /// The table of the instances that are not on the board.
 fn create_gone<S: Alter>(tx: &mut Transaction<'_, S>) -> Result<(), Error>
     ensures same_reference { tx.new.conn.ghost_name ≡ tx.old.conn.ghost_name }
-    ensures made { HasCleanDisk (state S.Store tx.new.conn.now)
-        → IsTrue (state S.Store tx.old.conn.now).in_transaction
+    ensures made { HasCleanDisk (seen S.Store tx.new)
+        → IsTrue (seen S.Store tx.old).in_transaction
         → OnOk result (Turns (AreEmpty instance_schema) (AreEmpty gone_schema)
-        (state S.Store tx.old.conn.now) (state S.Store tx.new.conn.now)) }
-    ensures kept { HasCleanDisk (state S.Store tx.new.conn.now)
-        → IsTrue (state S.Store tx.old.conn.now).in_transaction
-        → OnErr result (KeepsCommit (state S.Store tx.old.conn.now)
-        (state S.Store tx.new.conn.now)) }
-    ensures survives { Survives (state S.Store tx.old.conn.now)
-        (state S.Store tx.new.conn.now) (λ _. ⊥) }
+        (seen S.Store tx.old) (seen S.Store tx.new)) }
+    ensures kept { KeepsOnErr (seen S.Store tx.old) (seen S.Store tx.new) result }
+    ensures survives { Survives (seen S.Store tx.old) (seen S.Store tx.new) (λ _. ⊥) }
 {
     run(
         tx,
@@ -182,16 +150,12 @@ fn create_gone<S: Alter>(tx: &mut Transaction<'_, S>) -> Result<(), Error>
 /// The table of the kept replies.
 fn create_kept<S: Alter>(tx: &mut Transaction<'_, S>) -> Result<(), Error>
     ensures same_reference { tx.new.conn.ghost_name ≡ tx.old.conn.ghost_name }
-    ensures made { HasCleanDisk (state S.Store tx.new.conn.now)
-        → IsTrue (state S.Store tx.old.conn.now).in_transaction
+    ensures made { HasCleanDisk (seen S.Store tx.new)
+        → IsTrue (seen S.Store tx.old).in_transaction
         → OnOk result (Turns (AreEmpty gone_schema) (AreEmpty old_schema)
-        (state S.Store tx.old.conn.now) (state S.Store tx.new.conn.now)) }
-    ensures kept { HasCleanDisk (state S.Store tx.new.conn.now)
-        → IsTrue (state S.Store tx.old.conn.now).in_transaction
-        → OnErr result (KeepsCommit (state S.Store tx.old.conn.now)
-        (state S.Store tx.new.conn.now)) }
-    ensures survives { Survives (state S.Store tx.old.conn.now)
-        (state S.Store tx.new.conn.now) (λ _. ⊥) }
+        (seen S.Store tx.old) (seen S.Store tx.new)) }
+    ensures kept { KeepsOnErr (seen S.Store tx.old) (seen S.Store tx.new) result }
+    ensures survives { Survives (seen S.Store tx.old) (seen S.Store tx.new) (λ _. ⊥) }
 {
     run(
         tx,
@@ -203,21 +167,17 @@ fn create_kept<S: Alter>(tx: &mut Transaction<'_, S>) -> Result<(), Error>
 /// The table of what a board has ahead. It may stand beside tables of the first version that have rows.
 pub fn create_horizon<S: Alter>(tx: &mut Transaction<'_, S>) -> Result<(), Error>
     ensures same_reference { tx.new.conn.ghost_name ≡ tx.old.conn.ghost_name }
-    ensures made { HasCleanDisk (state S.Store tx.new.conn.now)
-        → IsTrue (state S.Store tx.old.conn.now).in_transaction
+    ensures made { HasCleanDisk (seen S.Store tx.new)
+        → IsTrue (seen S.Store tx.old).in_transaction
         → OnOk result (Turns (AreEmpty old_schema) (AreEmpty store_schema)
-        (state S.Store tx.old.conn.now) (state S.Store tx.new.conn.now)) }
-    ensures added { HasCleanDisk (state S.Store tx.new.conn.now)
-        → IsTrue (state S.Store tx.old.conn.now).in_transaction
+        (seen S.Store tx.old) (seen S.Store tx.new)) }
+    ensures added { HasCleanDisk (seen S.Store tx.new)
+        → IsTrue (seen S.Store tx.old).in_transaction
         → OnOk result ((content : Content)
-        → Turns (IsOldContent content) (IsHalfway content) (state S.Store tx.old.conn.now)
-        (state S.Store tx.new.conn.now)) }
-    ensures kept { HasCleanDisk (state S.Store tx.new.conn.now)
-        → IsTrue (state S.Store tx.old.conn.now).in_transaction
-        → OnErr result (KeepsCommit (state S.Store tx.old.conn.now)
-        (state S.Store tx.new.conn.now)) }
-    ensures survives { Survives (state S.Store tx.old.conn.now)
-        (state S.Store tx.new.conn.now) (λ _. ⊥) }
+        → Turns (IsOldContent content) (IsHalfway content) (seen S.Store tx.old)
+        (seen S.Store tx.new)) }
+    ensures kept { KeepsOnErr (seen S.Store tx.old) (seen S.Store tx.new) result }
+    ensures survives { Survives (seen S.Store tx.old) (seen S.Store tx.new) (λ _. ⊥) }
 {
     run(
         tx,
@@ -229,16 +189,12 @@ pub fn create_horizon<S: Alter>(tx: &mut Transaction<'_, S>) -> Result<(), Error
 /// The one row of the first table.
 fn insert_meta<S: Alter>(tx: &mut Transaction<'_, S>) -> Result<(), Error>
     ensures same_reference { tx.new.conn.ghost_name ≡ tx.old.conn.ghost_name }
-    ensures made { HasCleanDisk (state S.Store tx.new.conn.now)
-        → IsTrue (state S.Store tx.old.conn.now).in_transaction
+    ensures made { HasCleanDisk (seen S.Store tx.new)
+        → IsTrue (seen S.Store tx.old).in_transaction
         → OnOk result (Turns (AreEmpty store_schema) (IsContent nothing)
-        (state S.Store tx.old.conn.now) (state S.Store tx.new.conn.now)) }
-    ensures kept { HasCleanDisk (state S.Store tx.new.conn.now)
-        → IsTrue (state S.Store tx.old.conn.now).in_transaction
-        → OnErr result (KeepsCommit (state S.Store tx.old.conn.now)
-        (state S.Store tx.new.conn.now)) }
-    ensures survives { Survives (state S.Store tx.old.conn.now)
-        (state S.Store tx.new.conn.now) (λ _. ⊥) }
+        (seen S.Store tx.old) (seen S.Store tx.new)) }
+    ensures kept { KeepsOnErr (seen S.Store tx.old) (seen S.Store tx.new) result }
+    ensures survives { Survives (seen S.Store tx.old) (seen S.Store tx.new) (λ _. ⊥) }
 {
     run(
         tx,
@@ -250,16 +206,12 @@ fn insert_meta<S: Alter>(tx: &mut Transaction<'_, S>) -> Result<(), Error>
 /// The one row of the first table in the first version.
 fn insert_old_meta<S: Alter>(tx: &mut Transaction<'_, S>) -> Result<(), Error>
     ensures same_reference { tx.new.conn.ghost_name ≡ tx.old.conn.ghost_name }
-    ensures made { HasCleanDisk (state S.Store tx.new.conn.now)
-        → IsTrue (state S.Store tx.old.conn.now).in_transaction
+    ensures made { HasCleanDisk (seen S.Store tx.new)
+        → IsTrue (seen S.Store tx.old).in_transaction
         → OnOk result (Turns (AreEmpty old_schema) (IsOldContent nothing)
-        (state S.Store tx.old.conn.now) (state S.Store tx.new.conn.now)) }
-    ensures kept { HasCleanDisk (state S.Store tx.new.conn.now)
-        → IsTrue (state S.Store tx.old.conn.now).in_transaction
-        → OnErr result (KeepsCommit (state S.Store tx.old.conn.now)
-        (state S.Store tx.new.conn.now)) }
-    ensures survives { Survives (state S.Store tx.old.conn.now)
-        (state S.Store tx.new.conn.now) (λ _. ⊥) }
+        (seen S.Store tx.old) (seen S.Store tx.new)) }
+    ensures kept { KeepsOnErr (seen S.Store tx.old) (seen S.Store tx.new) result }
+    ensures survives { Survives (seen S.Store tx.old) (seen S.Store tx.new) (λ _. ⊥) }
 {
     run(
         tx,
@@ -271,16 +223,12 @@ fn insert_old_meta<S: Alter>(tx: &mut Transaction<'_, S>) -> Result<(), Error>
 /// The tables that the others refer to, and the first.
 fn create_parents<S: Alter>(tx: &mut Transaction<'_, S>) -> Result<(), Error>
     ensures same_reference { tx.new.conn.ghost_name ≡ tx.old.conn.ghost_name }
-    ensures made { HasCleanDisk (state S.Store tx.new.conn.now)
-        → IsTrue (state S.Store tx.old.conn.now).in_transaction
+    ensures made { HasCleanDisk (seen S.Store tx.new)
+        → IsTrue (seen S.Store tx.old).in_transaction
         → OnOk result (Turns (AreEmpty no_schema) (AreEmpty board_schema)
-        (state S.Store tx.old.conn.now) (state S.Store tx.new.conn.now)) }
-    ensures kept { HasCleanDisk (state S.Store tx.new.conn.now)
-        → IsTrue (state S.Store tx.old.conn.now).in_transaction
-        → OnErr result (KeepsCommit (state S.Store tx.old.conn.now)
-        (state S.Store tx.new.conn.now)) }
-    ensures survives { Survives (state S.Store tx.old.conn.now)
-        (state S.Store tx.new.conn.now) (λ _. ⊥) }
+        (seen S.Store tx.old) (seen S.Store tx.new)) }
+    ensures kept { KeepsOnErr (seen S.Store tx.old) (seen S.Store tx.new) result }
+    ensures survives { Survives (seen S.Store tx.old) (seen S.Store tx.new) (λ _. ⊥) }
 {
     create_meta(tx)?;
     create_person(tx)?;
@@ -290,16 +238,12 @@ fn create_parents<S: Alter>(tx: &mut Transaction<'_, S>) -> Result<(), Error>
 /// The tables of what is on the boards.
 fn create_board_tables<S: Alter>(tx: &mut Transaction<'_, S>) -> Result<(), Error>
     ensures same_reference { tx.new.conn.ghost_name ≡ tx.old.conn.ghost_name }
-    ensures made { HasCleanDisk (state S.Store tx.new.conn.now)
-        → IsTrue (state S.Store tx.old.conn.now).in_transaction
+    ensures made { HasCleanDisk (seen S.Store tx.new)
+        → IsTrue (seen S.Store tx.old).in_transaction
         → OnOk result (Turns (AreEmpty board_schema) (AreEmpty gone_schema)
-        (state S.Store tx.old.conn.now) (state S.Store tx.new.conn.now)) }
-    ensures kept { HasCleanDisk (state S.Store tx.new.conn.now)
-        → IsTrue (state S.Store tx.old.conn.now).in_transaction
-        → OnErr result (KeepsCommit (state S.Store tx.old.conn.now)
-        (state S.Store tx.new.conn.now)) }
-    ensures survives { Survives (state S.Store tx.old.conn.now)
-        (state S.Store tx.new.conn.now) (λ _. ⊥) }
+        (seen S.Store tx.old) (seen S.Store tx.new)) }
+    ensures kept { KeepsOnErr (seen S.Store tx.old) (seen S.Store tx.new) result }
+    ensures survives { Survives (seen S.Store tx.old) (seen S.Store tx.new) (λ _. ⊥) }
 {
     create_role(tx)?;
     create_task(tx)?;
@@ -311,16 +255,12 @@ fn create_board_tables<S: Alter>(tx: &mut Transaction<'_, S>) -> Result<(), Erro
 /// The tables of the first version.
 fn create_tables<S: Alter>(tx: &mut Transaction<'_, S>) -> Result<(), Error>
     ensures same_reference { tx.new.conn.ghost_name ≡ tx.old.conn.ghost_name }
-    ensures made { HasCleanDisk (state S.Store tx.new.conn.now)
-        → IsTrue (state S.Store tx.old.conn.now).in_transaction
+    ensures made { HasCleanDisk (seen S.Store tx.new)
+        → IsTrue (seen S.Store tx.old).in_transaction
         → OnOk result (Turns (AreEmpty no_schema) (AreEmpty old_schema)
-        (state S.Store tx.old.conn.now) (state S.Store tx.new.conn.now)) }
-    ensures kept { HasCleanDisk (state S.Store tx.new.conn.now)
-        → IsTrue (state S.Store tx.old.conn.now).in_transaction
-        → OnErr result (KeepsCommit (state S.Store tx.old.conn.now)
-        (state S.Store tx.new.conn.now)) }
-    ensures survives { Survives (state S.Store tx.old.conn.now)
-        (state S.Store tx.new.conn.now) (λ _. ⊥) }
+        (seen S.Store tx.old) (seen S.Store tx.new)) }
+    ensures kept { KeepsOnErr (seen S.Store tx.old) (seen S.Store tx.new) result }
+    ensures survives { Survives (seen S.Store tx.old) (seen S.Store tx.new) (λ _. ⊥) }
 {
     create_parents(tx)?;
     create_board_tables(tx)?;
@@ -330,16 +270,12 @@ fn create_tables<S: Alter>(tx: &mut Transaction<'_, S>) -> Result<(), Error>
 /// Makes the tables of the first version in an empty database, with nothing in them but what the file is.
 pub fn create_old<S: Alter>(tx: &mut Transaction<'_, S>) -> Result<(), Error>
     ensures same_reference { tx.new.conn.ghost_name ≡ tx.old.conn.ghost_name }
-    ensures made { HasCleanDisk (state S.Store tx.new.conn.now)
-        → IsTrue (state S.Store tx.old.conn.now).in_transaction
-        → OnOk result (Turns HasNoTables (IsOldContent nothing) (state S.Store tx.old.conn.now)
-        (state S.Store tx.new.conn.now)) }
-    ensures kept { HasCleanDisk (state S.Store tx.new.conn.now)
-        → IsTrue (state S.Store tx.old.conn.now).in_transaction
-        → OnErr result (KeepsCommit (state S.Store tx.old.conn.now)
-        (state S.Store tx.new.conn.now)) }
-    ensures survives { Survives (state S.Store tx.old.conn.now)
-        (state S.Store tx.new.conn.now) (λ _. ⊥) }
+    ensures made { HasCleanDisk (seen S.Store tx.new)
+        → IsTrue (seen S.Store tx.old).in_transaction
+        → OnOk result (Turns HasNoTables (IsOldContent nothing) (seen S.Store tx.old)
+        (seen S.Store tx.new)) }
+    ensures kept { KeepsOnErr (seen S.Store tx.old) (seen S.Store tx.new) result }
+    ensures survives { Survives (seen S.Store tx.old) (seen S.Store tx.new) (λ _. ⊥) }
 {
     create_tables(tx)?;
     insert_old_meta(tx)
@@ -348,16 +284,12 @@ pub fn create_old<S: Alter>(tx: &mut Transaction<'_, S>) -> Result<(), Error>
 /// Makes the tables of an empty database, with nothing in them but what the file is.
 pub fn create_all<S: Alter>(tx: &mut Transaction<'_, S>) -> Result<(), Error>
     ensures same_reference { tx.new.conn.ghost_name ≡ tx.old.conn.ghost_name }
-    ensures made { HasCleanDisk (state S.Store tx.new.conn.now)
-        → IsTrue (state S.Store tx.old.conn.now).in_transaction
-        → OnOk result (Turns HasNoTables (IsContent nothing) (state S.Store tx.old.conn.now)
-        (state S.Store tx.new.conn.now)) }
-    ensures kept { HasCleanDisk (state S.Store tx.new.conn.now)
-        → IsTrue (state S.Store tx.old.conn.now).in_transaction
-        → OnErr result (KeepsCommit (state S.Store tx.old.conn.now)
-        (state S.Store tx.new.conn.now)) }
-    ensures survives { Survives (state S.Store tx.old.conn.now)
-        (state S.Store tx.new.conn.now) (λ _. ⊥) }
+    ensures made { HasCleanDisk (seen S.Store tx.new)
+        → IsTrue (seen S.Store tx.old).in_transaction
+        → OnOk result (Turns HasNoTables (IsContent nothing) (seen S.Store tx.old)
+        (seen S.Store tx.new)) }
+    ensures kept { KeepsOnErr (seen S.Store tx.old) (seen S.Store tx.new) result }
+    ensures survives { Survives (seen S.Store tx.old) (seen S.Store tx.new) (λ _. ⊥) }
 {
     create_tables(tx)?;
     create_horizon(tx)?;
