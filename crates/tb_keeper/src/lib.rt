@@ -8,7 +8,6 @@
 
 mod at_hand;
 mod auditing;
-mod committing;
 mod creating;
 mod export_fault;
 mod exporting;
@@ -20,6 +19,7 @@ mod looking;
 mod members;
 mod noting;
 mod opening;
+mod row_changes;
 mod sound_rows;
 mod sql_keep;
 mod writing;

@@ -9,7 +9,7 @@ ghost use Rattle.tb_lookup.specs.Reopening.{OfState};
 ghost use Rattle.tb_lookup.specs.Stored.{IsStored, IsStoredAsEither};
 ghost use Rattle.tb_keeper.specs.Holds.{IsAtHand};
 
-use crate::committing::{hold_to_forms, kept_row_for, rows_for};
+use crate::row_changes::{hold_to_forms, kept_row_for, rows_for};
 use crate::sql_keep::SqlKeep;
 use sqlite::Alter;
 use std::alloc::Global;

@@ -1,7 +1,7 @@
 use Rattle.std.proofs.Common.{subst}
 use Rattle.tb_lookup.specs.People.{IsPersonFound}
 use Rattle.tb_keeper.proofs.Commits.{row_found}
-use Rattle.tb_keeper.proofs.committing.kept_row_for.Goals as goal
+use Rattle.tb_keeper.proofs.row_changes.kept_row_for.Goals as goal
 
 pub returns-in-Ok-row_of-clause-row : goal.returns-in-Ok-row_of-clause-row
 returns-in-Ok-row_of-clause-row g c clean s stored =

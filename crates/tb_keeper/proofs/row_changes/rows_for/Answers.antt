@@ -1,5 +1,5 @@
 use Rattle.tb_keeper.proofs.Commits.{part_leads}
-use Rattle.tb_keeper.proofs.committing.rows_for.Goals as goal
+use Rattle.tb_keeper.proofs.row_changes.rows_for.Goals as goal
 
 pub returns-in-Ok-clause-leads : goal.returns-in-Ok-clause-leads
 returns-in-Ok-clause-leads g c clean s stored are count call may =
