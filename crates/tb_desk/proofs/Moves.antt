@@ -1,13 +1,15 @@
 -- Held states under other names.
-use Rattle.std.proofs.Common.{◌≡◌, ◌⊎◌, ℕ, ◌+◌, ◌≤◌, ◌<◌, zero, suc, get_or, Bool, true, false, if◌then◌else◌, List, [], ◌∷◌, length, take, Option, Some, ◌≢◌, Result, Ok, Err, refl, sym, ap, ◌∙◌, subst, inl, inr, true≢false, ⊎_elim, arith}
+use Rattle.std.proofs.Common.{◌≡◌, ◌⊎◌, ℕ, ◌+◌, ◌≤◌, ◌<◌, zero, suc, get_or, Bool, true, false, if◌then◌else◌, List, [], ◌∷◌, length, take, Option, Some, None, ◌≢◌, Result, Ok, Err, refl, sym, ap, ◌∙◌, subst, inl, inr, true≢false, ⊎_elim, arith}
 use Rattle.std.specs.Prelude.{OnOk, IsErrOf, MatchOption, is_ok}
 use Rattle.tb_calls.specs.declared.call.Call.{Call}
 use Rattle.tb_calls.specs.declared.reply.Reply.{Reply}
 use Rattle.tb_calls.specs.declared.fault.KeepFault.{KeepFault}
 use Rattle.tb_calls.specs.declared.fault.KeepFault.TheVariants.{Memory, Store}
-use Rattle.tb_calls.specs.Call.{State, plain, once}
+use Rattle.tb_core.specs.GoodWorld.{IsGoodWorld}
+use Rattle.tb_calls.specs.Call.{State, after_call, plain, once}
+use Rattle.tb_desk.proofs.Repeats.{good_all, new_acts}
 use Rattle.tb_desk.proofs.Runs.{after_all, after_all-more}
-use Rattle.tb_calls.specs.Keep.{HoldsEither, IsStill, is_store}
+use Rattle.tb_calls.specs.Keep.{HoldsEither, IsNew, IsStill, is_store}
 use Rattle.tb_calls.specs.Leaving.{IsAfterSome, Only, StandsAfter}
 
 pub either_of : {a b : State} {now : State → Type 0} {stops : State → Type 0} (c : State) → b ≡ c → HoldsEither a b now stops → HoldsEither a c now stops
@@ -37,6 +39,27 @@ pub stands_still : (s : State) (calls : List Call) (now stops : State → Type 0
 stands_still s calls now stops held only =
     let at : IsAfterSome s calls 0 s = (0, omega arith, omega arith, refl) in
     record { held = (s, held, at); stops = λ t left. subst (IsAfterSome s calls 0) (sym (only t left)) at }
+
+-- nothing but what is still as it was
+pub stands_as_was : (s : State) (calls : List Call) (old old_stops now stops : State → Type 0) → IsStill old old_stops now stops → old s → Only s old_stops → StandsAfter s calls 0 now stops
+stands_as_was s calls old old_stops now stops still held only = stands_still s calls now stops (still.held s held) (λ t left. only t (still.stops s t held left))
+
+-- after a call that acts where what is kept is as it was put. Elsewhere a stop leaves nothing, and each good state is held
+pub stands_new : (s : State) (c : Call) (now stops : State → Type 0) (honest : Bool) (r : Result Reply KeepFault) → (honest ≡ true → IsNew s c)
+    → (IsNew s c → OnOk r (now (after_call s c))) → (IsNew s c → IsErrOf r Memory → now s) → (IsNew s c → IsErrOf r Store → HoldsEither s (after_call s c) now stops)
+    → ((t : State) → now t → is_store r ≡ false → Only t stops) → ((t : State) → IsGoodWorld t.world → (honest ≡ true → now t) → now t) → ((t : State) → stops t → honest ≡ true) → IsGoodWorld s.world
+    → StandsAfter s (c ∷ []) (if is_ok r then 1 else 0) now stops
+stands_new s c now stops true r new done same either alone given leaves good =
+    let acts = new_acts s c (new refl) in
+    stands_after s c now stops r (subst (λ t. OnOk r (now t)) acts (done (new refl))) (same (new refl)) alone (λ failed. either_of _ acts (either (new refl) failed))
+stands_new s c now stops false (Ok x) new done same either alone given leaves good = record {
+  held = (plain s (once s (c ∷ [])), given _ (good_all s (c ∷ []) good) (λ e. absurd (true≢false (sym e))), (1, omega arith, omega arith, refl));
+  stops = λ t left. absurd (true≢false (sym (leaves t left)));
+}
+stands_new s c now stops false (Err f) new done same either alone given leaves good = record {
+  held = (s, given s good (λ e. absurd (true≢false (sym e))), (0, omega arith, omega arith, refl));
+  stops = λ t left. absurd (true≢false (sym (leaves t left)));
+}
 
 -- a call that was not answered: the calls before it stand, and it may
 pub stands_more : (s t : State) (now stops : State → Type 0) (calls : List Call) (i : ℕ) (c : Call) → i < length calls → c ≡ get_or calls i c → t ≡ after_all s (take i calls) → StandsAfter t (c ∷ []) 0 now stops → StandsAfter s calls i now stops
@@ -83,6 +106,9 @@ held_where_honest now false either given = inl (given (λ e. absurd (true≢fals
 -- what is matched by a value that is there
 pub matched_some : {X : Type 0} (N : Type 0) (P : X → Type 0) (o : Option X) (x : X) → MatchOption o N P → o ≡ Some x → P x
 matched_some N P o x matched is = subst (λ p. MatchOption p N P) is matched
+
+pub matched_none : {X : Type 0} (N : Type 0) (P : X → Type 0) (o : Option X) → MatchOption o N P → o ≡ None → N
+matched_none N P o matched is = subst (λ p. MatchOption p N P) is matched
 
 -- ---- whether a keeper has failed
 

@@ -11,6 +11,7 @@ use Rattle.tb_calls.specs.declared.call.Call.{Call}
 use Rattle.tb_calls.specs.declared.reply.Reply.{Reply}
 use Rattle.tb_calls.specs.declared.call.KeptReply.{KeptReply}
 use Rattle.tb_calls.specs.Call.{State, after_call, changes_key, counts, has_changed_key, id_reused, is_heard, is_kept_as, is_known, kept_for, kept_or_new, outcome, plain, same_name, told_in, unknown_caller}
+use Rattle.tb_calls.specs.Keep.{IsNew}
 use Rattle.tb_calls.proofs.Names.{kept_for-after_call, kept_for-same_name, kept_of, same_name_self}
 use Rattle.tb_desk.specs.Sessions.{IsAgain, IsCopy}
 use Rattle.tb_desk.proofs.Keys.{heard_next, known_heard, same_bytes}
@@ -70,6 +71,10 @@ counts_not : (a b : Bool) → b ≡ true → (a && (not b && true)) ≡ false
 counts_not true true e = refl
 counts_not true false e = absurd (true≢false (sym e))
 counts_not false b e = refl
+
+-- a new call acts
+pub new_acts : (s : State) (c : Call) → IsNew s c → after_call s c ≡ after_all s (c ∷ [])
+new_acts s c new = sym (ap (λ b. plain s (if b then c ∷ [] else [])) (counts_new (is_known s c) (is_some (kept_for s c)) new.known (ap is_some new.new)))
 
 -- a call for which something is kept changes nothing
 pub same-holds : (s : State) (c : Call) (v : KeptReply) → Holds s c v → after_all s (c ∷ []) ≡ s

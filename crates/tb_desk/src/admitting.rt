@@ -9,6 +9,7 @@ ghost use Rattle.tb_calls.specs.Roles.{role_on};
 ghost use Rattle.tb_desk.specs.Admitting.{admission, refusal_in, refusal_without};
 ghost use Rattle.tb_desk.specs.Viewing.{one_text, seen_on, shown_in, view_of};
 
+use crate::desk::Desk;
 use crate::viewing::see;
 use std::alloc::Global;
 use tb_board::{Board, Key, Name};
@@ -16,28 +17,31 @@ use tb_calls::{Keep, KeepFault, Reply, View, reply_to_refused};
 use tb_core::{Refusal, SeenBoard};
 use tb_task::TaskId;
 
-/// What a person with a key is told whose view is refused, and None where it is accepted.
-pub(crate) fn admit<K: Keep>(
-    keep: &mut K,
-    alloc: Global,
-    name: &Name,
-    key: &Key,
-    view: &View,
-) -> Result<Option<Reply>, KeepFault>
-    ensures told { K.is_honest keep.new ≡ true → (s : State) → K.holds keep.old s → (at : ℕ)
-        → IfOk result (λ refused. refused ≡ admission (shown_in s name.now key.now view.now at)) }
-    ensures same { IsStill (K.holds keep.old) (K.after_stop keep.old) (K.holds keep.new)
-        (K.after_stop keep.new) }
-    ensures honest { K.is_honest keep.new ≡ true → K.is_honest keep.old ≡ true }
-    ensures failed { K.has_failed keep.new ≡ is_store result }
-    ensures closed { K.has_failed keep.old ≡ true → IsErrOf result Store }
-{
-    if !is_known(keep, alloc, name, key)? {
-        return Ok(Some(reply_to_refused(alloc, Refusal::UnknownCaller)?));
-    }
-    match find_refusal(keep, alloc, name, view)? {
-        Some(refusal) => Ok(Some(reply_to_refused(alloc, refusal)?)),
-        None => Ok(None),
+impl<K: Keep> Desk<K> {
+    /// What a person with a key is told whose view is refused, and None where it is accepted. That is the same at each moment.
+    pub fn admits(
+        &mut self,
+        alloc: Global,
+        name: &Name,
+        key: &Key,
+        view: &View,
+    ) -> Result<Option<Reply>, KeepFault>
+        ensures told { K.is_honest self.new ≡ true → (s : State) → K.holds self.old s → (at : ℕ)
+            → IfOk result
+            (λ refused. refused ≡ admission (shown_in s name.now key.now view.now at)) }
+        ensures same { IsStill (K.holds self.old) (K.after_stop self.old) (K.holds self.new)
+            (K.after_stop self.new) }
+        ensures honest { K.is_honest self.new ≡ true → K.is_honest self.old ≡ true }
+        ensures failed { K.has_failed self.new ≡ is_store result }
+        ensures closed { K.has_failed self.old ≡ true → IsErrOf result Store }
+    {
+        if !is_known(&mut self.keep, alloc, name, key)? {
+            return Ok(Some(reply_to_refused(alloc, Refusal::UnknownCaller)?));
+        }
+        match find_refusal(&mut self.keep, alloc, name, view)? {
+            Some(refusal) => Ok(Some(reply_to_refused(alloc, refusal)?)),
+            None => Ok(None),
+        }
     }
 }
 

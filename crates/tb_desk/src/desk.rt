@@ -1,25 +1,18 @@
-ghost use Rattle.std.specs.Prelude.{◌≡◌, ◌≢◌, ◌⊎◌, ℕ, ◌+◌, ◌++◌, ◌∷◌, ◌<◌, ◌≤◌, [], Some, None, IfOk, IsErr, IsErrOf, IsSome, OnErr, OnOk, false, if◌then◌else◌, is_ok, length, take, true};
+ghost use Rattle.std.specs.Prelude.{◌≡◌, ◌≢◌, ◌+◌, ◌++◌, ◌∷◌, ◌<◌, ◌≤◌, [], Some, None, IsErr, IsErrOf, IsSome, OnErr, OnOk, false, if◌then◌else◌, is_ok, length, take, true};
 ghost use Rattle.tb_calls.specs.declared.fault.KeepFault.TheVariants.{Memory, Store};
 ghost use Rattle.tb_calls.specs.Call.{State, once, plain, replies_to, reply};
 ghost use Rattle.tb_calls.specs.Keep.{IsStill, is_store};
 ghost use Rattle.tb_calls.specs.Leaving.{Only, StandsAfter};
-ghost use Rattle.tb_desk.specs.Admitting.{admission};
-ghost use Rattle.tb_desk.specs.Viewing.{shown_in};
 
-use crate::admitting::admit;
-use crate::handling::handle_call;
-use crate::viewing::show;
 use std::alloc::Global;
 use std::marker::Model;
-use tb_board::{Key, Name};
-use tb_calls::{Call, Keep, KeepFault, Reply, View};
-use tb_task::Moment;
+use tb_calls::{Call, Keep, KeepFault, Reply};
 use tb_values::Items;
 
 /// Handles calls over a keeper. A contract sees the keeper.
 #[derive(Drop)]
 pub struct Desk<K: Keep> {
-    keep: K,
+    pub(crate) keep: K,
 }
 
 impl<K: Keep> Model for Desk<K> {
@@ -47,29 +40,6 @@ impl<K: Keep> Desk<K> {
     {
         let Desk { keep } = self;
         keep
-    }
-
-    /// Handles one call: it acts where its name is new, and is told what is kept for it otherwise.
-    pub fn handle(&mut self, alloc: Global, call: &Call) -> Result<Reply, KeepFault>
-        ensures told { K.is_honest self.new ≡ true → (s : State) → K.holds self.old s
-            → IfOk result (λ r. r ≡ reply s [] call.now) }
-        ensures left { (s : State) → K.holds self.old s
-            → OnOk result (K.holds self.new (plain s (once s (call.now ∷ [])))) }
-        ensures memory { (s : State) → K.holds self.old s → IsErrOf result Memory
-            → K.holds self.new s }
-        ensures held { (s : State) → K.holds self.old s
-            → K.holds self.new s ⊎ K.holds self.new (plain s (once s (call.now ∷ []))) }
-        ensures stands { (s : State) → K.holds self.old s → Only s (K.after_stop self.old)
-            → StandsAfter s (call.now ∷ []) (if is_ok result then 1 else 0) (K.holds self.new)
-            (K.after_stop self.new) }
-        ensures honest { K.is_honest self.new ≡ true → K.is_honest self.old ≡ true }
-        ensures still { K.has_failed self.old ≡ true
-            → IsStill (K.holds self.old) (K.after_stop self.old) (K.holds self.new)
-            (K.after_stop self.new) }
-        ensures failed { K.has_failed self.new ≡ is_store result }
-        ensures closed { K.has_failed self.old ≡ true → IsErrOf result Store }
-    {
-        handle_call(&mut self.keep, alloc, call)
     }
 
     /// Handles calls in order, up to the first fault. The place of a reply is made before its call is handled, so a keeper that has
@@ -106,46 +76,6 @@ impl<K: Keep> Desk<K> {
             replies: Items::from_vec(replies),
             fault: None,
         }
-    }
-
-    /// What a view of a person with a key is answered at a moment.
-    pub fn view(
-        &mut self,
-        alloc: Global,
-        name: &Name,
-        key: &Key,
-        view: &View,
-        at: Moment,
-    ) -> Result<Reply, KeepFault>
-        ensures told { K.is_honest self.new ≡ true → (s : State) → K.holds self.old s
-            → IfOk result (λ r. r ≡ shown_in s name.now key.now view.now at) }
-        ensures same { IsStill (K.holds self.old) (K.after_stop self.old) (K.holds self.new)
-            (K.after_stop self.new) }
-        ensures honest { K.is_honest self.new ≡ true → K.is_honest self.old ≡ true }
-        ensures failed { K.has_failed self.new ≡ is_store result }
-        ensures closed { K.has_failed self.old ≡ true → IsErrOf result Store }
-    {
-        show(&mut self.keep, alloc, name, key, view, at)
-    }
-
-    /// What a person with a key is told whose view is refused, and None where it is accepted. That is the same at each moment.
-    pub fn admits(
-        &mut self,
-        alloc: Global,
-        name: &Name,
-        key: &Key,
-        view: &View,
-    ) -> Result<Option<Reply>, KeepFault>
-        ensures told { K.is_honest self.new ≡ true → (s : State) → K.holds self.old s → (at : ℕ)
-            → IfOk result
-            (λ refused. refused ≡ admission (shown_in s name.now key.now view.now at)) }
-        ensures same { IsStill (K.holds self.old) (K.after_stop self.old) (K.holds self.new)
-            (K.after_stop self.new) }
-        ensures honest { K.is_honest self.new ≡ true → K.is_honest self.old ≡ true }
-        ensures failed { K.has_failed self.new ≡ is_store result }
-        ensures closed { K.has_failed self.old ≡ true → IsErrOf result Store }
-    {
-        admit(&mut self.keep, alloc, name, key, view)
     }
 
     // Makes the reply's place, and then handles the call.

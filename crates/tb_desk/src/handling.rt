@@ -1,45 +1,44 @@
 //! How one call is handled, over any keeper.
-ghost use Rattle.std.specs.Prelude.{◌≡◌, ◌⊎◌, ◌∷◌, [], true, false, Some, IfOk, OnOk, IsErrOf, MatchOption};
+ghost use Rattle.std.specs.Prelude.{◌≡◌, ◌⊎◌, ◌∷◌, [], true, false, Some, IfOk, OnOk, IsErrOf, MatchOption, if◌then◌else◌, is_ok};
 ghost use Rattle.tb_board.specs.World.{key_of};
 ghost use Rattle.tb_core.specs.GoodLaws.{own_keys};
 ghost use Rattle.tb_calls.specs.declared.fault.KeepFault.TheVariants.{Memory, Store};
 ghost use Rattle.tb_calls.specs.Call.{State, after_call, changes_key, is_known, once, outcome, plain, reply};
 ghost use Rattle.tb_calls.specs.Reply.{reply_of};
 ghost use Rattle.tb_calls.specs.Keep.{HoldsEither, IsNew, IsSettled, IsStill, is_store};
-ghost use Rattle.tb_calls.specs.Leaving.{Only};
+ghost use Rattle.tb_calls.specs.Leaving.{Only, StandsAfter};
 
+use crate::desk::Desk;
 use std::alloc::Global;
 use tb_board::Key;
 use tb_calls::{Call, Keep, KeepFault, Reply, reply_to, reply_to_refused};
 use tb_core::{Command, Refusal, decide};
 
-/// Handles one call: it acts where its name is new, and is told what is kept for it otherwise.
-pub(crate) fn handle_call<K: Keep>(
-    keep: &mut K,
-    alloc: Global,
-    call: &Call,
-) -> Result<Reply, KeepFault>
-    ensures told { K.is_honest keep.new ≡ true → (s : State) → K.holds keep.old s
-        → IfOk result (λ r. r ≡ reply s [] call.now) }
-    ensures left { (s : State) → K.holds keep.old s
-        → OnOk result (K.holds keep.new (plain s (once s (call.now ∷ [])))) }
-    ensures memory { (s : State) → K.holds keep.old s → IsErrOf result Memory → K.holds keep.new s }
-    ensures held { (s : State) → K.holds keep.old s
-        → K.holds keep.new s ⊎ K.holds keep.new (plain s (once s (call.now ∷ []))) }
-    ensures store { (s : State) → K.holds keep.old s → Only s (K.after_stop keep.old)
-        → IsErrOf result Store
-        → HoldsEither s (plain s (once s (call.now ∷ []))) (K.holds keep.new)
-        (K.after_stop keep.new) }
-    ensures honest { K.is_honest keep.new ≡ true → K.is_honest keep.old ≡ true }
-    ensures still { K.has_failed keep.old ≡ true
-        → IsStill (K.holds keep.old) (K.after_stop keep.old) (K.holds keep.new)
-        (K.after_stop keep.new) }
-    ensures failed { K.has_failed keep.new ≡ is_store result }
-    ensures closed { K.has_failed keep.old ≡ true → IsErrOf result Store }
-{
-    match find_settled(keep, alloc, call)? {
-        Some(reply) => Ok(reply),
-        None => answer_new(keep, alloc, call),
+impl<K: Keep> Desk<K> {
+    /// Handles one call: it acts where its name is new, and is told what is kept for it otherwise.
+    pub fn handle(&mut self, alloc: Global, call: &Call) -> Result<Reply, KeepFault>
+        ensures told { K.is_honest self.new ≡ true → (s : State) → K.holds self.old s
+            → IfOk result (λ r. r ≡ reply s [] call.now) }
+        ensures left { (s : State) → K.holds self.old s
+            → OnOk result (K.holds self.new (plain s (once s (call.now ∷ [])))) }
+        ensures memory { (s : State) → K.holds self.old s → IsErrOf result Memory
+            → K.holds self.new s }
+        ensures held { (s : State) → K.holds self.old s
+            → K.holds self.new s ⊎ K.holds self.new (plain s (once s (call.now ∷ []))) }
+        ensures stands { (s : State) → K.holds self.old s → Only s (K.after_stop self.old)
+            → StandsAfter s (call.now ∷ []) (if is_ok result then 1 else 0) (K.holds self.new)
+            (K.after_stop self.new) }
+        ensures honest { K.is_honest self.new ≡ true → K.is_honest self.old ≡ true }
+        ensures still { K.has_failed self.old ≡ true
+            → IsStill (K.holds self.old) (K.after_stop self.old) (K.holds self.new)
+            (K.after_stop self.new) }
+        ensures failed { K.has_failed self.new ≡ is_store result }
+        ensures closed { K.has_failed self.old ≡ true → IsErrOf result Store }
+    {
+        match find_settled(&mut self.keep, alloc, call)? {
+            Some(reply) => Ok(reply),
+            None => answer_new(&mut self.keep, alloc, call),
+        }
     }
 }
 

@@ -12,6 +12,7 @@ ghost use Rattle.tb_calls.specs.Call.{State};
 ghost use Rattle.tb_calls.specs.Keep.{IsStill, is_store};
 ghost use Rattle.tb_desk.specs.Viewing.{export_text, one_text, people_shown, seen_on, shown_in, view_of, view_reply};
 
+use crate::desk::Desk;
 use std::alloc::{AllocError, Global};
 use tb_board::{Board, Key, Name};
 use tb_calls::{
@@ -24,29 +25,31 @@ use tb_task::{Moment, Task, TaskId};
 use tb_todotxt::write_file;
 use tb_values::{Items, Shared, Text};
 
-/// What a view of a person with a key is answered.
-pub(crate) fn show<K: Keep>(
-    keep: &mut K,
-    alloc: Global,
-    name: &Name,
-    key: &Key,
-    view: &View,
-    at: Moment,
-) -> Result<Reply, KeepFault>
-    ensures told { K.is_honest keep.new ≡ true → (s : State) → K.holds keep.old s
-        → IfOk result (λ r. r ≡ shown_in s name.now key.now view.now at) }
-    ensures same { IsStill (K.holds keep.old) (K.after_stop keep.old) (K.holds keep.new)
-        (K.after_stop keep.new) }
-    ensures honest { K.is_honest keep.new ≡ true → K.is_honest keep.old ≡ true }
-    ensures failed { K.has_failed keep.new ≡ is_store result }
-    ensures closed { K.has_failed keep.old ≡ true → IsErrOf result Store }
-{
-    match keep.person(alloc, name)? {
-        Some(known) if known.as_str() == key.as_str() => {}
-        _ => return Ok(reply_to_refused(alloc, Refusal::UnknownCaller)?),
+impl<K: Keep> Desk<K> {
+    /// What a view of a person with a key is answered at a moment.
+    pub fn view(
+        &mut self,
+        alloc: Global,
+        name: &Name,
+        key: &Key,
+        view: &View,
+        at: Moment,
+    ) -> Result<Reply, KeepFault>
+        ensures told { K.is_honest self.new ≡ true → (s : State) → K.holds self.old s
+            → IfOk result (λ r. r ≡ shown_in s name.now key.now view.now at) }
+        ensures same { IsStill (K.holds self.old) (K.after_stop self.old) (K.holds self.new)
+            (K.after_stop self.new) }
+        ensures honest { K.is_honest self.new ≡ true → K.is_honest self.old ≡ true }
+        ensures failed { K.has_failed self.new ≡ is_store result }
+        ensures closed { K.has_failed self.old ≡ true → IsErrOf result Store }
+    {
+        match self.keep.person(alloc, name)? {
+            Some(known) if known.as_str() == key.as_str() => {}
+            _ => return Ok(reply_to_refused(alloc, Refusal::UnknownCaller)?),
+        }
+        let shown = look_at(&mut self.keep, alloc, name, view, at)?;
+        Ok(reply_with(alloc, shown)?)
     }
-    let shown = look_at(keep, alloc, name, view, at)?;
-    Ok(reply_with(alloc, shown)?)
 }
 
 /// What a view shows a person who is known, or why it doesn't.
