@@ -15,6 +15,7 @@ pub mod Looked
 pub mod NotedMarks
 pub mod NotedRows
 pub mod SeenPeople
+pub mod Settled
 pub mod Taken
 pub mod WholeCount
 pub mod WokenMasks

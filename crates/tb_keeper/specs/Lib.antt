@@ -1,5 +1,6 @@
 pub mod Auditing
 pub mod Counts
+pub mod Ending
 pub mod Exporting
 pub mod Forms
 pub mod Holds

@@ -14,7 +14,6 @@ use sqlite::Alter;
 use std::alloc::Global;
 use tb_board::Person;
 use tb_calls::KeepFault;
-use tb_sql::store::StoreFault;
 
 impl<S: Alter> SqlKeep<S> {
     /// The first person, with the key that is stored.
@@ -38,13 +37,7 @@ impl<S: Alter> SqlKeep<S> {
         if self.failed {
             return Err(KeepFault::Store);
         }
-        match find_first(alloc, &mut self.conn) {
-            Ok(person) => Ok(person),
-            Err(StoreFault::Memory) => Err(KeepFault::Memory),
-            Err(StoreFault::Store) => {
-                self.failed = true;
-                Err(KeepFault::Store)
-            }
-        }
+        let end = find_first(alloc, &mut self.conn);
+        self.settle(end)
     }
 }

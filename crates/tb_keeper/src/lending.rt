@@ -96,14 +96,8 @@ impl<S: Alter> SqlKeep<S> {
         if self.failed {
             return Err(KeepFault::Store);
         }
-        match find_row(alloc, &mut self.conn, board, behind) {
-            Ok(row) => Ok(row),
-            Err(StoreFault::Memory) => Err(KeepFault::Memory),
-            Err(StoreFault::Store) => {
-                self.failed = true;
-                Err(KeepFault::Store)
-            }
-        }
+        let end = find_row(alloc, &mut self.conn, board, behind);
+        self.settle(end)
     }
 }
 

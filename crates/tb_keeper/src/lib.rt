@@ -1,9 +1,9 @@
 //! A keeper over one SQLite file: people, boards and roles, and the replies given.
 //!
-//! It owns the keeper that looks in the tables at each call and has a few boards at hand. Stands on `tb_stored` for what it means that
-//! tables are the rows of a state, on `tb_lookup` for what is looked up in them, on `tb_cache` for the boards at hand, on `tb_sql` for
-//! the transactions, on `tb_rows` for the rows of a world, on `tb_calls` for what a keeper promises, and on `tb_report` and `tb_json`
-//! for what an export shows.
+//! It owns the keeper that looks in the tables at each call and has a few boards at hand. Stands on `tb_lookup` for what it means that
+//! tables are the rows of a state and for what is looked up in them, on `tb_cache` for the boards at hand, on `tb_sql` for the
+//! transactions, on `tb_rows` for the rows of a world, on `tb_calls` for what a keeper promises, and on `tb_report` and `tb_json` for
+//! what an export shows.
 #![tactic(auto)]
 
 mod at_hand;

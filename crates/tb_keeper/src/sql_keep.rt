@@ -1,4 +1,4 @@
-ghost use Rattle.std.specs.Prelude.{◌≡◌, ℕ, None, Some, IfOk, IfSome, IsErrOf, IsSome, false, if◌then◌else◌, nat_eq, true};
+ghost use Rattle.std.specs.Prelude.{◌≡◌, ◌||◌, ℕ, None, Some, IfOk, IfSome, IsErrOf, IsSome, false, if◌then◌else◌, nat_eq, true};
 ghost use Rattle.std.specs.Map.{lookup};
 ghost use Rattle.std.specs.Option.{option_map};
 ghost use Rattle.sqlite.specs.Held.{state};
@@ -8,6 +8,7 @@ ghost use Rattle.tb_calls.specs.Call.{State};
 ghost use Rattle.tb_calls.specs.Keep.{IsStill, is_store};
 ghost use Rattle.tb_core.specs.Apply.{board_of, seen_of};
 ghost use Rattle.tb_lookup.specs.Stored.{IsStored, IsStoredAsEither, MayLeave};
+ghost use Rattle.tb_keeper.specs.Ending.{ended};
 ghost use Rattle.tb_keeper.specs.Holds.{Holds};
 ghost use Rattle.tb_keeper.specs.Looking.{IsSeenAtHand};
 
@@ -67,6 +68,21 @@ impl<S: Alter> SqlKeep<S> {
         }
         self.cache.cached(board)
     }
+
+    /// Tells how a look or a write ended. Where the store failed, the keeper has failed from then on.
+    pub(crate) fn settle<T>(&mut self, end: Result<T, StoreFault>) -> Result<T, KeepFault>
+        ensures told { result ≡ ended end }
+        ensures left { self.new ≡ record self.old { failed = self.old.failed || is_store result } }
+    {
+        match end {
+            Ok(found) => Ok(found),
+            Err(StoreFault::Memory) => Err(KeepFault::Memory),
+            Err(StoreFault::Store) => {
+                self.failed = true;
+                Err(KeepFault::Store)
+            }
+        }
+    }
 }
 
 impl<S: Alter> Keep for SqlKeep<S> {
@@ -100,14 +116,8 @@ impl<S: Alter> Keep for SqlKeep<S> {
         if self.failed {
             return Err(KeepFault::Store);
         }
-        match find_key(alloc, &mut self.conn, name) {
-            Ok(key) => Ok(key),
-            Err(StoreFault::Memory) => Err(KeepFault::Memory),
-            Err(StoreFault::Store) => {
-                self.failed = true;
-                Err(KeepFault::Store)
-            }
-        }
+        let end = find_key(alloc, &mut self.conn, name);
+        self.settle(end)
     }
 
     fn kept(
@@ -119,14 +129,8 @@ impl<S: Alter> Keep for SqlKeep<S> {
         if self.failed {
             return Err(KeepFault::Store);
         }
-        match find_reply(alloc, &mut self.conn, name, id) {
-            Ok(kept) => Ok(kept),
-            Err(StoreFault::Memory) => Err(KeepFault::Memory),
-            Err(StoreFault::Store) => {
-                self.failed = true;
-                Err(KeepFault::Store)
-            }
-        }
+        let end = find_reply(alloc, &mut self.conn, name, id);
+        self.settle(end)
     }
 
     /// A board that is seen is at hand from then on.
@@ -168,14 +172,8 @@ impl<S: Alter> Keep for SqlKeep<S> {
         if self.failed {
             return Err(KeepFault::Store);
         }
-        match find_boards(alloc, &mut self.conn, name) {
-            Ok(boards) => Ok(boards),
-            Err(StoreFault::Memory) => Err(KeepFault::Memory),
-            Err(StoreFault::Store) => {
-                self.failed = true;
-                Err(KeepFault::Store)
-            }
-        }
+        let end = find_boards(alloc, &mut self.conn, name);
+        self.settle(end)
     }
 
     fn people_for(
@@ -187,14 +185,8 @@ impl<S: Alter> Keep for SqlKeep<S> {
         if self.failed {
             return Err(KeepFault::Store);
         }
-        match find_people(alloc, &mut self.conn, name, board) {
-            Ok(people) => Ok(people),
-            Err(StoreFault::Memory) => Err(KeepFault::Memory),
-            Err(StoreFault::Store) => {
-                self.failed = true;
-                Err(KeepFault::Store)
-            }
-        }
+        let end = find_people(alloc, &mut self.conn, name, board);
+        self.settle(end)
     }
 
     fn commit(

@@ -1,7 +1,7 @@
 //! Runs a script of lines over a desk: each is answered, in order, whatever pieces the reader gives them in.
 //!
 //! It owns what a line asks, the texts of the answers, and the reading loop. It stands on `tb_desk` for calls and views, on `tb_calls`
-//! for words, on `tb_reply` for replies, and on `tb_asking` for what bodies hold.
+//! for words and replies, and on `tb_asking` for what bodies hold.
 #![tactic(auto)]
 
 mod answering;

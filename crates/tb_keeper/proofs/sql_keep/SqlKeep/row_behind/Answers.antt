@@ -1,30 +1,28 @@
-use Rattle.std.proofs.Common.{◌≡◌}
+use Rattle.std.proofs.Common.{◌≡◌, ◌+◌, ◌≤◌, refl}
 use Rattle.sqlite.specs.Held.{state}
 use Rattle.sqlite_trees.proofs.Doubt.{clean_of}
 use Rattle.tb_keeper.specs.Lending.{stored_row}
-use Rattle.tb_keeper.proofs.Holding.{failure_leaves, look_leaves, same_at_hand, told}
+use Rattle.tb_keeper.proofs.Holding.{same_at_hand}
+use Rattle.tb_keeper.proofs.Settled.{settled_leaves, settled_ok, settled_told}
 use Rattle.tb_keeper.proofs.sql_keep.SqlKeep.row_behind.Goals as goal
 
-pub returns-in-Ok-clause-found : goal.returns-in-Ok-clause-found
-returns-in-Ok-clause-found g c clean s held =
+pub returns-clause-found : goal.returns-clause-found
+returns-clause-found g c clean s held =
     let k = c.args.self.now in
-    let new = state g.S.Store c.find_row.new.conn in
-    told k.failed k.people k.boards k.cache.entries k.cache.entries (state g.S.Store k.conn) new c.if-self.false c.in-Ok.ensures.same c.in-Ok.ensures.idle
-    (λ s. c.in-Ok.row ≡ stored_row s.world c.args.board c.args.behind) c.in-Ok.ensures.found (clean_of new.is_clean clean) s held
+    settled_told k.failed k.people k.boards k.cache.entries k.cache.entries (state g.S.Store k.conn) (state g.S.Store c.find_row.new.conn) c.if-self.false c.find_row.ensures.same c.find_row.ensures.idle
+    (λ row s. row ≡ stored_row s.world c.args.board c.args.behind) c.find_row.result _ c.settle.ensures.told c.find_row.ensures.found (clean_of (state g.S.Store c.find_row.new.conn).is_clean (rw c.settle.ensures.left at clean)) s held
 
-pub returns-in-Ok-clause-same : goal.returns-in-Ok-clause-same
-returns-in-Ok-clause-same g c =
+pub returns-clause-same : goal.returns-clause-same
+returns-clause-same g c =
     let k = c.args.self.now in
-    let new = state g.S.Store c.find_row.new.conn in
-    look_leaves k.failed k.people k.boards k.cache.entries k.cache.entries (state g.S.Store k.conn) new c.if-self.false c.in-Ok.ensures.same c.in-Ok.ensures.idle (same_at_hand k.cache.entries (state g.S.Store k.conn) new)
+    rw c.settle.ensures.left (settled_leaves k.failed k.people k.boards k.cache.entries k.cache.entries (state g.S.Store k.conn) (state g.S.Store c.find_row.new.conn) c.if-self.false c.find_row.ensures.same c.find_row.ensures.idle
+    c.find_row.result _ c.settle.ensures.told (same_at_hand k.cache.entries (state g.S.Store k.conn) (state g.S.Store c.find_row.new.conn)))
 
-pub returns-in-Err-Memory-clause-same : goal.returns-in-Err-Memory-clause-same
-returns-in-Err-Memory-clause-same g c =
-    let k = c.args.self.now in
-    let new = state g.S.Store c.find_row.new.conn in
-    look_leaves k.failed k.people k.boards k.cache.entries k.cache.entries (state g.S.Store k.conn) new c.if-self.false c.in-Err-Memory.ensures.same c.in-Err-Memory.ensures.idle (same_at_hand k.cache.entries (state g.S.Store k.conn) new)
+pub returns-clause-failed : goal.returns-clause-failed
+returns-clause-failed g c = rw (c.settle.ensures.left, c.if-self.false) refl
 
-pub returns-in-Err-Store-clause-same : goal.returns-in-Err-Store-clause-same
-returns-in-Err-Store-clause-same g c =
-    let k = c.args.self.now in
-    failure_leaves k.failed k.people k.boards k.cache.entries k.cache.entries (state g.S.Store k.conn) (state g.S.Store c.find_row.new.conn) c.if-self.false c.in-Err-Store.ensures.same c.in-Err-Store.ensures.idle
+pub returns-clause-clean : goal.returns-clause-clean
+returns-clause-clean g c = rw c.settle.ensures.left c.find_row.ensures.same.clean
+
+pub returns-clause-placed : goal.returns-clause-placed
+returns-clause-placed g c = settled_ok (λ _. c.args.behind + 1 ≤ 4294967295) c.find_row.result _ c.settle.ensures.told c.find_row.ensures.placed

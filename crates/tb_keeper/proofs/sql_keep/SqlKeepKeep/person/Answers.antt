@@ -1,36 +1,24 @@
-use Rattle.std.proofs.Common.{◌≡◌}
+use Rattle.std.proofs.Common.{◌≡◌, refl}
 use Rattle.sqlite.specs.Held.{state}
 use Rattle.tb_board.specs.World.{key_of}
-use Rattle.tb_keeper.proofs.Holding.{failure_leaves, honest, look_leaves, same_at_hand, told}
+use Rattle.tb_keeper.proofs.Holding.{honest, same_at_hand}
+use Rattle.tb_keeper.proofs.Settled.{settled_leaves, settled_told}
 use Rattle.tb_keeper.proofs.sql_keep.SqlKeepKeep.person.Goals as goal
 
-pub returns-in-Ok-clause-answer : goal.returns-in-Ok-clause-answer
-returns-in-Ok-clause-answer g c is s held =
+pub returns-clause-answer : goal.returns-clause-answer
+returns-clause-answer g c is s held =
     let k = c.args.self.now in
-    told k.failed k.people k.boards k.cache.entries k.cache.entries (state g.S.Store k.conn) (state g.S.Store c.find_key.new.conn) c.if-self.false c.in-Ok.ensures.same c.in-Ok.ensures.idle (λ s. c.in-Ok.key ≡ key_of s.world c.args.name.now) c.in-Ok.ensures.found is s held
+    settled_told k.failed k.people k.boards k.cache.entries k.cache.entries (state g.S.Store k.conn) (state g.S.Store c.find_key.new.conn) c.if-self.false c.find_key.ensures.same c.find_key.ensures.idle
+    (λ key s. key ≡ key_of s.world c.args.name.now) c.find_key.result _ c.settle.ensures.told c.find_key.ensures.found (rw c.settle.ensures.left at is) s held
 
-pub returns-in-Ok-clause-same : goal.returns-in-Ok-clause-same
-returns-in-Ok-clause-same g c =
+pub returns-clause-same : goal.returns-clause-same
+returns-clause-same g c =
     let k = c.args.self.now in
-    let new = state g.S.Store c.find_key.new.conn in
-    look_leaves k.failed k.people k.boards k.cache.entries k.cache.entries (state g.S.Store k.conn) new c.if-self.false c.in-Ok.ensures.same c.in-Ok.ensures.idle (same_at_hand k.cache.entries (state g.S.Store k.conn) new)
+    rw c.settle.ensures.left (settled_leaves k.failed k.people k.boards k.cache.entries k.cache.entries (state g.S.Store k.conn) (state g.S.Store c.find_key.new.conn) c.if-self.false c.find_key.ensures.same c.find_key.ensures.idle
+    c.find_key.result _ c.settle.ensures.told (same_at_hand k.cache.entries (state g.S.Store k.conn) (state g.S.Store c.find_key.new.conn)))
 
-pub returns-in-Ok-clause-honest : goal.returns-in-Ok-clause-honest
-returns-in-Ok-clause-honest g c = honest (state g.S.Store c.args.self.now.conn) (state g.S.Store c.find_key.new.conn) c.in-Ok.ensures.same.clean
+pub returns-clause-failed : goal.returns-clause-failed
+returns-clause-failed g c = rw (c.settle.ensures.left, c.if-self.false) refl
 
-pub returns-in-Err-Memory-clause-same : goal.returns-in-Err-Memory-clause-same
-returns-in-Err-Memory-clause-same g c =
-    let k = c.args.self.now in
-    let new = state g.S.Store c.find_key.new.conn in
-    look_leaves k.failed k.people k.boards k.cache.entries k.cache.entries (state g.S.Store k.conn) new c.if-self.false c.in-Err-Memory.ensures.same c.in-Err-Memory.ensures.idle (same_at_hand k.cache.entries (state g.S.Store k.conn) new)
-
-pub returns-in-Err-Memory-clause-honest : goal.returns-in-Err-Memory-clause-honest
-returns-in-Err-Memory-clause-honest g c = honest (state g.S.Store c.args.self.now.conn) (state g.S.Store c.find_key.new.conn) c.in-Err-Memory.ensures.same.clean
-
-pub returns-in-Err-Store-clause-same : goal.returns-in-Err-Store-clause-same
-returns-in-Err-Store-clause-same g c =
-    let k = c.args.self.now in
-    failure_leaves k.failed k.people k.boards k.cache.entries k.cache.entries (state g.S.Store k.conn) (state g.S.Store c.find_key.new.conn) c.if-self.false c.in-Err-Store.ensures.same c.in-Err-Store.ensures.idle
-
-pub returns-in-Err-Store-clause-honest : goal.returns-in-Err-Store-clause-honest
-returns-in-Err-Store-clause-honest g c = honest (state g.S.Store c.args.self.now.conn) (state g.S.Store c.find_key.new.conn) c.in-Err-Store.ensures.same.clean
+pub returns-clause-honest : goal.returns-clause-honest
+returns-clause-honest g c = rw c.settle.ensures.left (honest (state g.S.Store c.args.self.now.conn) (state g.S.Store c.find_key.new.conn) c.find_key.ensures.same.clean)

@@ -1,0 +1,62 @@
+-- What a look leaves of what is held, however it ended.
+use Rattle.std.proofs.Common.{◌≡◌, ℕ, Bool, true, false, ◌||◌, List, Result, Ok, Err, refl, sym, subst}
+use Rattle.std.specs.Prelude.{IfOk}
+use Rattle.sqlite.specs.State.{State as Database}
+use Rattle.tb_board.specs.declared.board.Board.{Board}
+use Rattle.tb_calls.specs.Call.{State}
+use Rattle.tb_calls.specs.Keep.{IsStill, is_store}
+use Rattle.tb_calls.specs.declared.fault.KeepFault.{KeepFault}
+use Rattle.tb_cache.specs.BoardCache.{AreOf}
+use Rattle.tb_sql.specs.Opening.{IsAsBefore}
+use Rattle.tb_sql.specs.declared.store.StoreFault.{StoreFault}
+use Rattle.tb_sql.specs.declared.store.StoreFault.TheVariants.{Memory as NoRoom, Store as Failed}
+use Rattle.tb_lookup.specs.Reopening.{OfState}
+use Rattle.tb_lookup.specs.Stored.{MayLeave}
+use Rattle.tb_keeper.specs.Ending.{ended}
+use Rattle.tb_keeper.specs.Holds.{Holds}
+use Rattle.tb_keeper.proofs.Holding.{failure_leaves, look_leaves, told}
+
+or_false : (b : Bool) → b ≡ (b || false)
+or_false true = refl
+or_false false = refl
+
+or_true : (b : Bool) → true ≡ (b || true)
+or_true true = refl
+or_true false = refl
+
+ended_ok : {T : Type 0} (P : T → Type 0) (r : Result T StoreFault) → IfOk r P → IfOk (ended r) P
+ended_ok P (Ok x) found = found
+ended_ok P (Err NoRoom) found = tt
+ended_ok P (Err Failed) found = tt
+
+-- what is true of what was found is true of what is told
+pub settled_ok : {T : Type 0} (P : T → Type 0) (r : Result T StoreFault) (e : Result T KeepFault) → e ≡ ended r → IfOk r P → IfOk e P
+settled_ok P r e is found = subst (λ y. IfOk y P) (sym is) (ended_ok P r found)
+
+module _ (failed : Bool) (people boards : ℕ) (cached later : List (ℕ × Board)) (old new : Database) (fine : failed ≡ false) (before : IsAsBefore old new) (idle : old.in_transaction ≡ false → new.in_transaction ≡ false) where
+  found_told : {T : Type 0} (P : T → State → Type 0) (r : Result T StoreFault) → IfOk r (λ x. OfState old new (P x)) → new.is_clean ≡ true → (s : State) → Holds failed people boards cached old s → IfOk r (λ x. P x s)
+  found_told P (Ok x) found is s held = told failed people boards cached later old new fine before idle (P x) found is s held
+  found_told P (Err f) found is s held = tt
+
+  -- what is looked up of a state that is held
+  pub settled_told : {T : Type 0} (P : T → State → Type 0) (r : Result T StoreFault) (e : Result T KeepFault) → e ≡ ended r → IfOk r (λ x. OfState old new (P x)) → new.is_clean ≡ true → (s : State) → Holds failed people boards cached old s
+      → IfOk e (λ x. P x s)
+  settled_told P r e as_told found is s held = settled_ok (λ x. P x s) r e as_told (found_told P r found is s held)
+
+  leaves : {T : Type 0} (r : Result T StoreFault) → OfState old new (λ s. AreOf s.world cached → AreOf s.world later)
+      → IsStill (λ s. Holds failed people boards cached old s) (λ t. MayLeave old t) (λ s. Holds (failed || is_store (ended r)) people boards later new s) (λ t. MayLeave new t)
+  leaves (Ok x) of =
+      subst (λ b. IsStill (λ s. Holds failed people boards cached old s) (λ t. MayLeave old t) (λ s. Holds b people boards later new s) (λ t. MayLeave new t)) (or_false failed)
+      (look_leaves failed people boards cached later old new fine before idle of)
+  leaves (Err NoRoom) of =
+      subst (λ b. IsStill (λ s. Holds failed people boards cached old s) (λ t. MayLeave old t) (λ s. Holds b people boards later new s) (λ t. MayLeave new t)) (or_false failed)
+      (look_leaves failed people boards cached later old new fine before idle of)
+  leaves (Err Failed) of =
+      subst (λ b. IsStill (λ s. Holds failed people boards cached old s) (λ t. MayLeave old t) (λ s. Holds b people boards later new s) (λ t. MayLeave new t)) (or_true failed)
+      (failure_leaves failed people boards cached later old new fine before idle)
+
+  -- a look leaves what is held, and so does one that fails
+  pub settled_leaves : {T : Type 0} (r : Result T StoreFault) (e : Result T KeepFault) → e ≡ ended r → OfState old new (λ s. AreOf s.world cached → AreOf s.world later)
+      → IsStill (λ s. Holds failed people boards cached old s) (λ t. MayLeave old t) (λ s. Holds (failed || is_store e) people boards later new s) (λ t. MayLeave new t)
+  settled_leaves r e as_told of =
+      subst (λ y. IsStill (λ s. Holds failed people boards cached old s) (λ t. MayLeave old t) (λ s. Holds (failed || is_store y) people boards later new s) (λ t. MayLeave new t)) (sym as_told) (leaves r of)
