@@ -271,6 +271,7 @@ class Week:
             self.remove()
         self.saved_meanwhile()
         self.same_identifier()
+        self.opened_again()
         left = self.expect_alike("the end")
         self.delete_missing()
         expect("what stopped runs left", [], [name for name in os.listdir() if "taskboard-" in name])
@@ -311,6 +312,18 @@ class Week:
         expect("both lines", (1, 1), (sum("The first of two" in line for line in lines), lines.count(f"A copy uuid:{uuid}")))
         lines.remove(f"A copy uuid:{uuid}")
         self.file.write(lines)
+
+    def opened_again(self):
+        """A deleted task loses its line, and gets one again once it is opened, whether a run came between or not."""
+        uuid = next(it for it, task in self.editor.tasks().items() if task["status"] == "pending" and self.file.at(it) is not None)
+        for runs in (1, 2):
+            self.editor.change(uuid, "delete")
+            for _ in range(runs):
+                self.runs.complete()
+            expect("the line of a deleted task", None, self.file.at(uuid))
+            self.editor.change(uuid, "reopen")
+            self.runs.complete()
+            expect("its line once it is opened", True, self.file.at(uuid) is not None)
 
     def delete_missing(self):
         uuid = next(it for it, task in self.editor.tasks().items() if task["status"] == "pending" and self.file.at(it) is not None)

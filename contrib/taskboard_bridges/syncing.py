@@ -194,7 +194,7 @@ class Sync:
     def plan_missing(self, plan, task):
         """A task that the other side lacks: it is new there, or gone from there."""
         entry, view = self.state.tasks.get(task), self.left_view(plan, task)
-        if self.base(task) and not (entry.get("gone") and view != entry["left"] and view[STATUS] == "open"):
+        if self.base(task) and not comes_again(entry, view):
             if not entry.get("gone") or self.options.delete_missing:
                 self.gone(plan, task, entry, view)
             return
@@ -210,7 +210,7 @@ class Sync:
 
     def gone(self, plan, task, entry, view):
         """A task that was on the other side, and isn't any more. It is told of once, and deleted where that was asked for."""
-        if view[STATUS] == "open" and entry["left"][STATUS] == "open":
+        if view[STATUS] == "open":
             self.counts["gone"] += 1
             if self.options.delete_missing:
                 merged = merge((view, view), view, {**view, STATUS: "deleted"}, Alike, None)
@@ -467,6 +467,12 @@ class Sync:
         """Tells once, ever, that a value stays on one side; the state keeps that it was told."""
         if self.state.tell_once(f"{task} {key}"):
             self.say(f"one side can't hold it: {self.label(plan, task)}:{named([key])} stays on the other", True)
+
+
+def comes_again(entry, view):
+    """Whether a task of the board that went from the other side comes there anew: it was opened since, or changed after that was told."""
+    was_closed = entry["left"].get(STATUS, "open") != "open"
+    return view[STATUS] == "open" and (was_closed or bool(entry.get("gone")) and view != entry["left"])
 
 
 class Alike:
