@@ -15,7 +15,7 @@ from bridging import Editor, expect
 from ledger import expect_alike
 from syncing import PORT, Week
 
-A, B, C, D, E = (f"dddddddd-dddd-4ddd-8ddd-00000000000{at}" for at in range(1, 6))
+A, B, C, D, E, F = (f"dddddddd-dddd-4ddd-8ddd-00000000000{at}" for at in range(1, 7))
 BASE = {"entry": "20260102T081500Z", "modified": "20260103T101010Z", "status": "pending"}
 
 
@@ -150,6 +150,52 @@ class Scenes(Week):
         self.runs.complete()
         return at - 4
 
+    def expect_both(self, name, task, **wanted):
+        """What both sides have to say of a task."""
+        for side in (self.editor.tasks(), self.user.tasks()):
+            expect(name, wanted, {it: side[task].get(it) for it in wanted})
+
+    def taken_over(self):
+        """Who opens, closes or deletes a completed task, after a stopped run had opened it to change it or before it came so far, isn't
+        overruled."""
+        # (the messages: who one is, the board, the task, that it is opened, changed and closed)
+        for at, stop, told, status in ((6, "run after", ("reopen",), "pending"), (4, "run before", ("reopen", "delete"), "deleted"), (4, "run after", ("delete",), "deleted")):
+            self.user.task(D, "done")
+            self.runs.complete()
+            self.user.bring({**self.user.tasks()[D], "project": f"{at} {stop}"})
+            expect(f"{stop} message {at}", True, self.runs.stop(at, stop))
+            for word in told:
+                self.editor.change(D, word)
+            self.runs.complete()
+            self.expect_both(f"{told} after a run stopped at {at}", D, status=status, project=f"{at} {stop}")
+            if status != "pending":
+                self.editor.change(D, "reopen")
+                self.runs.complete()
+        self.user.task(D, "done")
+        self.runs.complete()
+        self.user.bring({**self.user.tasks()[D], "project": "opened"})
+        expect("the fourth message", True, self.runs.stop(4, "run after"))
+        self.user.bring({**{name: value for name, value in self.user.tasks()[D].items() if name != "end"}, "status": "pending"})
+        self.runs.complete()
+        self.expect_both("opened in Taskwarrior too", D, status="pending", project="opened")
+        self.editor.change(D, "done")
+        self.runs.complete()
+        self.expect_both("closed after that", D, status="completed")
+        self.editor.change(D, "reopen")
+        self.runs.complete()
+
+    def met_first(self):
+        """What both sides had when a run first saw them counts, also where that run was stopped: what goes from one side goes from both."""
+        task = {**BASE, "uuid": F, "description": "On both", "due": "20300102T030405Z", "tags": ["both"]}
+        self.user.bring(task)
+        self.editor.call("import", [task])
+        self.user.task(D, "modify", "project:first")
+        expect("the fourth message", True, self.runs.stop(4, "run after"))
+        self.user.task(F, "modify", "due:")
+        self.editor.change(F, "modify", {"tags": []})
+        self.runs.complete()
+        self.expect_both("what went after the first look", F, due=None, tags=None)
+
     def templates(self):
         """A template of Taskwarrior's is told once, and what to do where the board has it too; its instances are plain tasks for the bridge."""
         self.user.task("add", "recur:monthly", "due:2098-01-05", "Rent")
@@ -257,6 +303,8 @@ if __name__ == "__main__":
         scenes.refused()
         scenes.stopped()
         stops = scenes.conflicts() + scenes.closed()
+        scenes.taken_over()
+        scenes.met_first()
         scenes.templates()
         scenes.purged()
         scenes.strangers()

@@ -88,19 +88,22 @@ class Sync:
     # What a stopped run left.
 
     def settle(self):
-        """Makes the notes of conflicts, and opens the tasks, that a stopped run may have made and opened or not; then takes what it did
-        as what both sides have."""
+        """Makes the notes of conflicts that a stopped run may have made or not, and learns which tasks it opened and hasn't closed; then
+        takes what it did as what both sides have."""
         for owed in self.state.owed:
             self.boards.call(owed["id"], f"/boards/{self.board}/tasks/{owed['task']}/annotate", Call("annotate", {"description": owed["note"]}, []).bytes())
         for task, opened in list(self.state.reopened.items()):
-            if not self.boards.call(opened["id"], f"/boards/{self.board}/tasks/{task}/reopen", b"{}").is_accepted():
-                # Someone else had opened it before.
+            if not self.was_made(task, {"id": opened["id"], "target": f"/boards/{self.board}/tasks/{task}/reopen", "body": "{}"}):
                 del self.state.reopened[task]
         if self.state.pending:
             pending, written = self.state.pending, self.right.marks.tasks()
             known = {owed["id"] for owed in self.state.owed}
             for task, done in pending.items():
-                self.take(task, done, {call["id"]: call["id"] in known or self.was_made(task, call) for call in done["calls"]}, task in written)
+                made = {call["id"]: call["id"] in known or self.was_made(task, call) for call in done["calls"]}
+                self.take(task, done, made, task in written)
+                if any(made[call["id"]] and call["target"].endswith(("/done", "/delete")) for call in done["calls"]):
+                    # It is closed again: whoever opens it from now on is somebody else.
+                    self.state.reopened.pop(task, None)
             self.state.pending = None
         self.state.save()
         self.right.marks.clear()
@@ -124,6 +127,8 @@ class Sync:
         missing = set(done["left"]) - {key for call in done["calls"] for key in call["keys"]} | failed
         if not is_written:
             missing |= set(done["right"])
+        if STATUS in missing:
+            missing.add(STARTED)
         pairs = {key: pair for key, pair in done["pairs"].items() if key not in missing}
         for side, at in (("left", 0), ("right", 1)):
             kept = {key: value for key, value in (entry[side] or {}).items() if key not in pairs}
@@ -286,13 +291,20 @@ class Sync:
             self.counts["made" if changes[task].is_new else "written"] += 1
             self.say(f"{self.right.name}: {'add' if changes[task].is_new else 'change'} {self.label(plan, task)}{'' if changes[task].is_new else named(changes[task].keys)}")
         plan.skipped |= set(changes) - written - set(refused)
-        self.keep_bases(plan, done, written)
+        self.keep_bases(plan, plan.bases, done, written)
+        for task in plan.adds:
+            if task not in plan.bases:
+                # The next try is another call.
+                self.state.entry(task)["turn"] += 1
         self.state.pending = None
         self.state.save()
         self.right.marks.clear()
 
     def keep_plan(self, plan):
-        """Keeps what the run is about to do, as the next one has to know of it where this one is stopped."""
+        """Keeps what the run is about to do, as the next one has to know of it where this one is stopped; and which tasks both sides have
+        alike, so that the next one sees what changes from now on."""
+        alike = {task: merged for task, merged in plan.bases.items() if isinstance(merged, tuple) and task not in plan.changes and task not in plan.merges}
+        self.keep_bases(plan, alike, {}, set())
         for merged in plan.bases.values():
             self.state.owed += [conflict.owed for conflict in getattr(merged, "conflicts", ()) if hasattr(conflict, "owed")]
         for task, merged in plan.merges.items():
@@ -314,8 +326,7 @@ class Sync:
                 for call in calls if call.keys]
         if isinstance(merged, tuple):
             return {"calls": kept, "new": merged} if task not in plan.merges else {"calls": [], "left": [], "right": [], "pairs": {}}
-        pairs = {key: merged.base[key] for key in {*merged.left, *merged.right} if key in merged.base}
-        return {"calls": kept, "left": list(merged.left), "right": list(merged.right), "pairs": pairs}
+        return {"calls": kept, "left": list(merged.left), "right": list(merged.right), "pairs": merged.base}
 
     def identifier(self, task, call):
         """What names a call on a task from its present base."""
@@ -395,17 +406,21 @@ class Sync:
         if self.boards.task(self.board, task) != plan.lefts[task]:
             plan.skipped.add(task)
             return set()
-        done, failed, calls = set(), set(), list(plan.calls[task])
+        done, failed, made, calls = set(), set(), [], list(plan.calls[task])
+        if task in self.state.reopened and merged.left.get(STATUS) == "open" == view_of(plan.lefts[task])[STATUS]:
+            # It stays as a stopped run opened it.
+            done.add(STATUS)
         self.tell_refused_before(plan, task, merged, calls)
         while calls:
             call = calls.pop(0)
             accepted = self.send(plan, task, call)
             if accepted is None:
                 calls = [*split(call), *calls]
-                plan.calls[task] = calls
+                plan.calls[task] = [*made, *calls]
                 self.state.pending[task] = self.pending(plan, task)
                 self.state.save()
             elif accepted:
+                made.append(call)
                 done |= set(call.keys)
             else:
                 failed |= set(call.keys)
@@ -423,9 +438,9 @@ class Sync:
             for why in sorted(set(entry["refused"].values())) if missing else ():
                 self.refuse(plan, task, f"change{named(sorted(missing))}", f"{why}, as before (--again tries it anew)")
 
-    def keep_bases(self, plan, done, written):
-        """Takes what both sides have now as what they have in common."""
-        for task, merged in plan.bases.items():
+    def keep_bases(self, plan, bases, done, written):
+        """Takes what both sides have now of some tasks as what they have in common."""
+        for task, merged in bases.items():
             entry = self.state.entry(task)
             before = json.dumps([entry["left"], entry["right"]], sort_keys=True)
             if isinstance(merged, tuple):
@@ -439,10 +454,6 @@ class Sync:
                 entry["left"], entry["right"] = after(self.base(task), merged, done.get(task, set()), keys)
                 entry.pop("gone", None)
             self.settled(plan, task, entry, before)
-        for task in plan.adds:
-            if task not in plan.bases:
-                # The next try is another call.
-                self.state.entry(task)["turn"] += 1
 
     def settled(self, plan, task, entry, before):
         """What was kept for a stopped run goes, and so do refusals where nothing is to be changed any more; the next calls on a task that
