@@ -51,6 +51,8 @@ class Line:
     def __init__(self, server):
         self.server, self.run, self.at, self.stop, self.count, self.posts = server, None, None, None, 0, 0
         self.edit, self.edits = None, 0
+        # How often a run looked at both sides, and whether one has the board's tasks and did nothing since.
+        self.looks, self.asked = 0, False
         self.listener = socket.create_server(("127.0.0.1", 0))
         self.port = self.listener.getsockname()[1]
         self.lock = threading.Lock()
@@ -72,11 +74,21 @@ class Line:
                     return
                 client.sendall(answer)
 
+    def count_look(self):
+        """Counts a look of a run that has the board's tasks and goes on. One that asks for them again at once only named lines."""
+        self.looks += self.asked
+        self.asked = False
+
     def pass_on(self, message):
         """The answer to a message; None where it is lost."""
         with self.lock:
             self.count += 1
             self.posts += message.startswith(b"POST")
+            asks = message.startswith(b"GET") and b"/export " in message.partition(b"\r")[0]
+            if asks:
+                self.asked = False
+            else:
+                self.count_look()
             stop = self.stop if self.count == self.at else None
             if stop == "run before":
                 self.run.kill()
@@ -98,6 +110,7 @@ class Line:
                 self.server.kill()
                 self.server.start()
                 return None
+            self.asked = asks
             return answer
 
 
@@ -166,6 +179,7 @@ class Runs:
 
     def finish(self, process, statuses=(0,)):
         said = process.communicate(timeout=600)[0]
+        self.line.count_look()
         self.said += said.splitlines()
         if process.returncode not in statuses:
             sys.exit(f"a run ended with {process.returncode}: {said[-2000:]}")

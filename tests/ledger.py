@@ -55,22 +55,26 @@ def expect_alike(name, left, right):
 
 class Ledger:
     """What was edited since both sides were alike. An edit is lost where its value is neither there, nor was seen by a later edit, nor is
-    kept as a note."""
+    kept as a note that names its side; but nobody can know what a side had at first, nor of a value that comes back between two looks."""
 
-    def __init__(self, where):
-        # How a note names the side whose value lost.
-        self.where = where
+    def __init__(self, looks):
+        # How often the bridge has looked at both sides.
+        self.looks = looks
         self.values, self.added, self.removed, self.count = collections.defaultdict(list), set(), set(), 0
         self.conflicts = 0
 
-    def set(self, uuid, name, before, value, noted=None):
-        """An edit by somebody who saw the value that was there before; `noted` is what a note says of it, where that is another text."""
+    def set(self, side, uuid, name, before, value, noted=None):
+        """An edit on a side, by somebody who saw the value that was there before; `noted` is what a note says of it, where that is
+        another text."""
         if before == value:
             return
         self.count += 1
+        look = self.looks()
         for edit in self.values[uuid, name]:
-            edit["seen"] = edit["seen"] or edit["value"] == before
-        self.values[uuid, name].append({"value": value, "seen": False, "noted": noted or value})
+            edit["seen"] = edit["seen"] or edit["value"] == before and (edit["side"] == side or edit["look"] < look)
+        # What was removed before the first look comes again from the side that has it.
+        is_unknown = value is None and look == 0
+        self.values[uuid, name].append({"side": side, "look": look, "before": before, "value": value, "seen": is_unknown, "noted": noted or value})
 
     def add(self, uuid, kind, value):
         self.count += 1
@@ -78,19 +82,36 @@ class Ledger:
 
     def remove(self, uuid, kind, value):
         self.count += 1
-        self.removed.add((uuid, kind, value))
+        if self.looks():
+            self.removed.add((uuid, kind, value))
+        else:
+            self.added.discard((uuid, kind, value))
+
+    @staticmethod
+    def came_back(edits, at):
+        """Whether an edit gives its side the value again that the bridge saw there at its last look, while the other side has a new one."""
+        edit, was = edits[at], edits[at]["before"]
+        for other in edits[at - 1 :: -1] if at else []:
+            if other["side"] != edit["side"]:
+                continue
+            if other["look"] != edit["look"] or other["value"] != was:
+                return False
+            if other["before"] == edit["value"]:
+                return True
+            was = other["before"]
+        return False
 
     def judge(self, said):
         """Ends the test where an edit was lost without a word."""
         # (a task that was deleted before the other side had it is there alone)
         for (uuid, name), edits in [item for item in self.values.items() if item[0][0] in said]:
             final, notes = said[uuid].get(name), said[uuid]["notes"]
-            for edit in edits:
+            for at, edit in enumerate(edits):
                 was = "was removed" if edit["noted"] is None else "was " + json.dumps(edit["noted"], ensure_ascii=False)
-                kept = [f"sync: {name} {was} {where}" for where in self.where]
-                is_noted = any(note in notes for note in kept)
+                is_noted = f"sync: {name} {was} {edit['side']}" in notes
                 self.conflicts += is_noted and edit["value"] != final
-                if not (edit["seen"] or edit["value"] == final or is_noted):
+                is_elsewhere = any(other["side"] != edit["side"] and other["value"] == final for other in edits)
+                if not (edit["seen"] or edit["value"] == final or is_noted or is_elsewhere and self.came_back(edits, at)):
                     expect(f"{uuid} {name} of {edits}", edit["value"], (final, notes))
         for uuid, kind, value in [it for it in self.added - self.removed if it[0] in said and (it[1] != "links" or it[2] in said)]:
             if said[uuid][kind].count(value) != 1:

@@ -36,6 +36,8 @@ esac
 exec "{1}" "$@"
 """
 IMPORTS = ("stop before", "stop after")
+# The sides, as notes name them.
+LEFT, RIGHT = "on the board", "in Taskwarrior"
 numbers = iter(range(10**9))
 
 
@@ -134,7 +136,7 @@ class Week:
         self.line.edit = lambda: self.edit(3)
         self.words = [f"{CONTRIB}/taskwarrior-sync", "--key", "key", "--for", "20", "--state", "state.json", f"127.0.0.1:{self.line.port}", "ann", "1"]
         self.runs = Runs(self.words, self.line, {**os.environ, "PATH": f"{here}/bin:{os.environ['PATH']}"})
-        self.ledger, self.gone = Ledger(("in Taskwarrior", "on the board")), set()
+        self.ledger, self.gone = Ledger(lambda: self.line.looks), set()
         self.closed_edits, self.kinds = 0, in_turn(RANDOM, (*STOPS, *IMPORTS))
 
     # Edits of the user of Taskwarrior.
@@ -150,7 +152,7 @@ class Week:
 
     def right_set(self, uuid, task, name, value):
         self.closed_edits += status_of(task) != "open"
-        self.ledger.set(uuid, name, task.get(name), value)
+        self.ledger.set(RIGHT, uuid, name, task.get(name), value)
         self.user.bring({**{key: it for key, it in task.items() if key != name}, **({} if value is None else {name: value})})
 
     def right_text(self, uuid, task, _):
@@ -158,7 +160,7 @@ class Week:
 
     def right_project(self, uuid, task, _):
         value = RANDOM.choice((None, f"P{next(numbers)}"))
-        self.ledger.set(uuid, "project", task.get("project"), value)
+        self.ledger.set(RIGHT, uuid, "project", task.get("project"), value)
         self.user.task(uuid, "modify", f"project:{value or ''}")
 
     def right_due(self, uuid, task, _):
@@ -166,7 +168,7 @@ class Week:
 
     def right_priority(self, uuid, task, _):
         value = RANDOM.choice(("H", "M", "L"))
-        self.ledger.set(uuid, "priority", task.get("priority"), value)
+        self.ledger.set(RIGHT, uuid, "priority", task.get("priority"), value)
         self.user.task(uuid, "modify", f"priority:{value}")
 
     def right_cost(self, uuid, task, _):
@@ -199,7 +201,7 @@ class Week:
     def right_status(self, uuid, task, tasks):
         before = status_of(task)
         status = RANDOM.choice([it for it in ("open", "completed", "deleted") if it != before])
-        self.ledger.set(uuid, "status", before, status)
+        self.ledger.set(RIGHT, uuid, "status", before, status)
         if before == "open" and not any(uuid in other.get("depends", ()) for other in tasks.values()) and not task.get("depends"):
             self.user.task(uuid, "done" if status == "completed" else "delete")
         else:
@@ -242,7 +244,7 @@ class Week:
         tasks[uuid] = self.editor.ask("GET", f"/boards/1/tasks/{uuid}")[1]
 
     def left_set(self, uuid, task, name, value):
-        self.ledger.set(uuid, name, task.get(name), value)
+        self.ledger.set(LEFT, uuid, name, task.get(name), value)
         self.editor.change(uuid, "modify", {name: value})
 
     def left_text(self, uuid, task, _):
@@ -283,7 +285,7 @@ class Week:
     def left_status(self, uuid, task, _):
         before = status_of(task)
         status = "open" if before != "open" else RANDOM.choice(("completed", "deleted"))
-        self.ledger.set(uuid, "status", before, status)
+        self.ledger.set(LEFT, uuid, "status", before, status)
         self.editor.change(uuid, {"open": "reopen", "completed": "done", "deleted": "delete"}[status])
 
     def left_start(self, uuid, task, _):

@@ -17,6 +17,8 @@ PROGRAM, PORT, TASKS, DAYS = sys.argv[1], int(sys.argv[2]), int(sys.argv[3]), in
 SEED, RANDOM = seeded()
 TODO = next((shutil.which(name) for name in ("todo-txt", "todo.sh") if shutil.which(name)), None)
 WORDS = "Call Mom about the \"report\" [draft] back naïve 東京 😀 it's {a} #5 pri:D a:b t:2026-01-01 % ; < > | ~ 1/2".split(" ")
+# The sides, as notes name them.
+LEFT, RIGHT = "on the board", "in todo.txt"
 LETTERS = {"A": "H", "B": "M", "C": "L"}
 numbers = iter(range(10**9))
 
@@ -90,7 +92,7 @@ class Week:
         self.line.edit = lambda: self.edit(3)
         command = [f"{CONTRIB}/todotxt-sync", "--key", "key", "--for", "60", "--state", "state.json", f"127.0.0.1:{self.line.port}", "ann", "1", "todo.txt"]
         self.runs = Runs(command, self.line, dict(os.environ))
-        self.ledger, self.gone, self.kinds = Ledger(("in todo.txt", "on the board")), set(), in_turn(RANDOM, STOPS)
+        self.ledger, self.gone, self.kinds = Ledger(lambda: self.line.looks), set(), in_turn(RANDOM, STOPS)
 
     # What both sides say.
 
@@ -164,12 +166,14 @@ class Week:
 
     def line_status(self, uuid, at, line, task):
         before = "completed" if task["status"] == "completed" else "open"
-        self.ledger.set(uuid, "status", before, "open" if before == "completed" else "completed")
+        self.ledger.set(RIGHT, uuid, "status", before, "open" if before == "completed" else "completed")
         if before == "completed":
             lines = self.file.lines()
             lines[at] = line_of(task)
             self.file.write(lines)
         else:
+            # The program takes the letter away with that.
+            self.ledger.set(RIGHT, uuid, "priority", task.get("priority"), None)
             self.file.todo("do", str(at + 1))
 
     def line_value(self, uuid, at, task, kind):
@@ -180,7 +184,7 @@ class Week:
             return
         if kind == "priority":
             letter = RANDOM.choice("ABC")
-            self.ledger.set(uuid, "priority", task.get("priority"), LETTERS[letter])
+            self.ledger.set(RIGHT, uuid, "priority", task.get("priority"), LETTERS[letter])
             self.file.todo("pri", str(at + 1), letter)
             return
         if kind == "untag":
@@ -189,7 +193,7 @@ class Week:
             self.ledger.remove(uuid, "tags", task["tags"].pop())
         else:
             value = {"description": words, "project": lambda: RANDOM.choice((None, f"P{next(numbers)}")), "due": lambda: RANDOM.choice((None, day()))}[kind]()
-            self.ledger.set(uuid, kind, task.get(kind), value)
+            self.ledger.set(RIGHT, uuid, kind, task.get(kind), value)
             task[kind] = value
         lines = self.file.lines()
         lines[at] = line_of({name: value for name, value in task.items() if value is not None})
@@ -202,7 +206,7 @@ class Week:
         is_open = task["status"] in ("pending", "waiting")
         if kind == "status" or not is_open:
             action, status = ("reopen", "open") if not is_open else RANDOM.choice((("done", "completed"), ("done", "completed"), ("delete", "deleted")))
-            self.ledger.set(uuid, "status", "open" if is_open else task["status"], status)
+            self.ledger.set(LEFT, uuid, "status", "open" if is_open else task["status"], status)
             self.editor.change(uuid, action)
         elif kind == "note":
             self.editor.change(uuid, "annotate", {"description": words()})
@@ -218,7 +222,7 @@ class Week:
                      "priority": lambda: RANDOM.choice(("H", "M", "L", None))}[kind]()
             in_line = value and kind == "due" and value[:8] + "T000000Z"
             before = task.get(kind) and kind == "due" and task[kind][:8] + "T000000Z"
-            self.ledger.set(uuid, kind, before or task.get(kind), in_line or value, value)
+            self.ledger.set(LEFT, uuid, kind, before or task.get(kind), in_line or value, value)
             self.editor.change(uuid, "modify", {kind: value})
 
     def edit(self, count):
