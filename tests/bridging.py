@@ -4,7 +4,6 @@ import http.client
 import itertools
 import json
 import os
-import random
 import re
 import socket
 import subprocess
@@ -221,8 +220,3 @@ WORDS = "Call Mom about the \"report\" [draft] \\ back / forth naïve 東京 �
 def text(generator, number):
     """A text that is unlike each other one, and that is hard to spell."""
     return " ".join([f"n{number}", *generator.sample(WORDS, generator.randint(1, 5))])
-
-
-def seeded():
-    seed = int(os.environ.get("SEED") or random.randrange(10**6))
-    return seed, random.Random(seed)

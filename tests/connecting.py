@@ -16,7 +16,7 @@ def can_listen(port):
 def free_port():
     """A port that nobody listens on, nor on the next one, below those that the system gives to clients: so tests may run side by side."""
     while True:
-        port = random.randrange(10000, 32000, 2)
+        port = random.SystemRandom().randrange(10000, 32000, 2)
         if can_listen(port) and can_listen(port + 1):
             return port
 

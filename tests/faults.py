@@ -9,6 +9,7 @@ import subprocess
 import sys
 import time
 
+from drawing import seeded
 from failing import CALLS, TASKS, Judge, Wrong, expect
 from talking import make_file
 from tracing import counted, injected
@@ -215,6 +216,7 @@ def kills():
 
 TRIED = {"calls": calls_fail, "stops": stops, "kills": kills, "memory": memory_bounded, "size": files_bounded, "disk": disk_full}
 begun = time.monotonic()
+seeded()
 judge = Judge(PROGRAM, PORT)
 for kind in KINDS:
     TRIED[kind]()

@@ -13,6 +13,7 @@ import sys
 import threading
 import time
 
+from drawing import seeded
 from killed import Server
 
 program = sys.argv[1]
@@ -57,6 +58,7 @@ class Client:
         sys.exit(f"task {number} got no answer")
 
 
+seeded()
 server, client = Server(program, port), Client()
 try:
     took = client.add(1)

@@ -13,6 +13,7 @@ import sys
 import tempfile
 
 from connecting import free_port
+from drawing import seeded
 from talking import Server, adding, answer_to, expect_each_once, make_file, status_of
 
 program = os.path.abspath(sys.argv[1])
@@ -111,6 +112,7 @@ def open_copies(file, log):
 
 
 def main():
+    seeded()
     with tempfile.TemporaryDirectory() as folder:
         os.chdir(folder)
         file, log = write_boards()

@@ -11,6 +11,7 @@ import sys
 import threading
 
 from connecting import connected
+from drawing import seeded
 from tracing import counted, injected
 
 PROGRAM, PORT, TRIES = os.path.abspath(sys.argv[1]), int(sys.argv[2]), int(sys.argv[3])
@@ -234,6 +235,7 @@ def at_once():
     judge("at once", keys, False)
 
 
+seeded()
 shutil.rmtree(HOME, ignore_errors=True)
 os.makedirs(FOLDER)
 write(KEY, "ann-key-1\n")

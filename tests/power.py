@@ -8,6 +8,7 @@ import re
 import subprocess
 import sys
 
+from drawing import seeded
 from failing import CALLS, Judge, Wrong
 from talking import make_file
 from tracing import taken_down
@@ -145,6 +146,7 @@ def in_the_making():
     return tally("power lost in the making of a file", dict.fromkeys(FILES, b""), steps_of(lines), before_judging=made_again)
 
 
+seeded()
 judge = Judge(PROGRAM, PORT)
 wrong = [*in_a_session(), *behind_a_kill(), *in_the_making()]
 for told in wrong[:20]:

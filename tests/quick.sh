@@ -12,6 +12,8 @@ failed=
 export LONGEST=${LONGEST:-5}
 # Each way in which a machine fails the program is tried once; by itself that test tries more.
 export TRIES=${TRIES:-1}
+# What is drawn by chance is the same each time; by itself a test draws anew.
+export SEED=${SEED:-1}
 # Two sides are edited for two days, with fewer tasks; by itself that test takes a week.
 export SYNC_TASKS=${SYNC_TASKS:-60} SYNC_DAYS=${SYNC_DAYS:-2}
 

@@ -11,7 +11,8 @@ import time
 import uuid
 import zoneinfo
 
-from bridging import CONTRIB, Editor, Server, expect, seeded, text
+from bridging import CONTRIB, Editor, Server, expect, text
+from drawing import seeded
 from mailing import STEPS, MailServer
 
 PROGRAM, PORT = sys.argv[1], int(sys.argv[2])

@@ -11,6 +11,7 @@ import sys
 import time
 
 from connecting import free_port
+from drawing import seeded
 from shipping import Load, Metronome, Place, Shipper, clear, clear_other_place, expect, wait_until
 from talking import make_file
 
@@ -116,6 +117,7 @@ def seconds_of(moment):
 
 def one_job(first):
     """The tries of every so many numbers from the first on; prints what came of them."""
+    seeded()
     run = Run()
     for number in range(first, TRIES, JOBS):
         run.one_try(WAYS[number % len(WAYS)])
@@ -123,11 +125,11 @@ def one_job(first):
 
 
 def all_jobs():
-    jobs = []
+    jobs, (seed, _) = [], seeded()
     for first in range(min(JOBS, TRIES)):
         os.mkdir(f"job-{first}")
         words = [sys.executable, os.path.abspath(__file__), place.program, place.ship, str(TRIES), str(JOBS), str(first)]
-        jobs.append(subprocess.Popen(words, cwd=f"job-{first}", stdout=subprocess.PIPE, text=True))
+        jobs.append(subprocess.Popen(words, cwd=f"job-{first}", env={**os.environ, "SEED": str(seed + first)}, stdout=subprocess.PIPE, text=True))
     told = [job.communicate()[0] for job in jobs]
     if any(job.returncode for job in jobs):
         sys.exit(1)

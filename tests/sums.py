@@ -11,6 +11,7 @@ import sys
 import tempfile
 
 from connecting import free_port
+from drawing import seeded
 from talking import Server, adding, answer_to, make_file, status_of
 
 program = os.path.abspath(sys.argv[1])
@@ -62,6 +63,7 @@ def read_by_sqlite():
 
 
 def main():
+    seeded()
     with tempfile.TemporaryDirectory() as folder:
         os.chdir(folder)
         file, log = write_boards()

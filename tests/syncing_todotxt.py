@@ -10,7 +10,8 @@ import sys
 import time
 import uuid as uuids
 
-from bridging import CONTRIB, STOPS, Editor, Line, Runs, Server, expect, in_turn, moment, seeded
+from bridging import CONTRIB, STOPS, Editor, Line, Runs, Server, expect, in_turn, moment
+from drawing import seeded
 from ledger import Ledger, is_template
 
 PROGRAM, PORT, TASKS, DAYS = sys.argv[1], int(sys.argv[2]), int(sys.argv[3]), int(sys.argv[4])
