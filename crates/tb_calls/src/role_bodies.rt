@@ -60,7 +60,7 @@ fn board_roles(alloc: Global, boards: &[BoardRole]) -> Result<Vec<Value>, AllocE
     Ok(list)
 }
 
-#[tactic(auto, unfolding(crate::specs::Roles::board_role_data))]
+#[tactic(auto, unfolding(crate::specs::RoleBodies::board_role_data))]
 fn board_role(alloc: Global, board: &BoardRole) -> Result<Value, AllocError>
     ensures { IfOk result (λ value. view value ≡ board_role_data board.now) }
 {
@@ -93,7 +93,7 @@ fn person_roles(alloc: Global, people: &[PersonRole]) -> Result<Vec<Value>, Allo
     Ok(list)
 }
 
-#[tactic(auto, unfolding(crate::specs::Roles::person_role_data))]
+#[tactic(auto, unfolding(crate::specs::RoleBodies::person_role_data))]
 fn person_role(alloc: Global, person: &PersonRole) -> Result<Value, AllocError>
     ensures { IfOk result (λ value. view value ≡ person_role_data person.now) }
 {
