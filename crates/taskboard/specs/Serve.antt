@@ -13,7 +13,7 @@ use Rattle.tb_event_loop.specs.declared.fault.LoopFault.TheVariants as ending
 use Rattle.tb_files.specs.File.{IsFileSession}
 use Rattle.tb_keeper.specs.declared.sql_keep.SqlKeep.{SqlKeep}
 use Rattle.tb_orders.specs.Faults.{is_of_opening}
-use Rattle.tb_serve.specs.Happening.{talk_at}
+use Rattle.tb_serve.specs.Server.{talk_at}
 use Rattle.tb_program.specs.declared.fault.Fault.{Fault}
 use Rattle.tb_program.specs.declared.fault.Fault.TheVariants.{Memory, NoListen, NoPage, Store}
 use Rattle.tb_server.specs.Serves.{Serves}

@@ -1,6 +1,6 @@
 -- Held states under other names.
 use Rattle.std.proofs.Common.{◌≡◌, ◌⊎◌, ℕ, ◌+◌, ◌≤◌, ◌<◌, zero, suc, get_or, Bool, true, false, if◌then◌else◌, List, [], ◌∷◌, length, take, Option, Some, None, ◌≢◌, Result, Ok, Err, refl, sym, ap, ◌∙◌, subst, inl, inr, true≢false, ⊎_elim, arith}
-use Rattle.std.specs.Prelude.{OnOk, IsErrOf, MatchOption, is_ok}
+use Rattle.std.specs.Prelude.{OnOk, IsErr, IsErrOf, MatchOption, is_ok}
 use Rattle.tb_calls.specs.declared.call.Call.{Call}
 use Rattle.tb_calls.specs.declared.reply.Reply.{Reply}
 use Rattle.tb_calls.specs.declared.fault.KeepFault.{KeepFault}
@@ -40,9 +40,10 @@ stands_still s calls now stops held only =
     let at : IsAfterSome s calls 0 s = (0, omega arith, omega arith, refl) in
     record { held = (s, held, at); stops = λ t left. subst (IsAfterSome s calls 0) (sym (only t left)) at }
 
--- nothing but what is still as it was
-pub stands_as_was : (s : State) (calls : List Call) (old old_stops now stops : State → Type 0) → IsStill old old_stops now stops → old s → Only s old_stops → StandsAfter s calls 0 now stops
-stands_as_was s calls old old_stops now stops still held only = stands_still s calls now stops (still.held s held) (λ t left. only t (still.stops s t held left))
+-- a fault before anything was handled: what is still is as it was
+pub stands_as_was : (s : State) (calls : List Call) (old old_stops now stops : State → Type 0) (r : Result Reply KeepFault) → IsErr r → IsStill old old_stops now stops → old s → Only s old_stops → StandsAfter s calls (if is_ok r then 1 else 0) now stops
+stands_as_was s calls old old_stops now stops (Ok x) wrong still held only = absurd (true≢false (sym wrong))
+stands_as_was s calls old old_stops now stops (Err f) wrong still held only = stands_still s calls now stops (still.held s held) (λ t left. only t (still.stops s t held left))
 
 -- after a call that acts where what is kept is as it was put. Elsewhere a stop leaves nothing, and each good state is held
 pub stands_new : (s : State) (c : Call) (now stops : State → Type 0) (honest : Bool) (r : Result Reply KeepFault) → (honest ≡ true → IsNew s c)

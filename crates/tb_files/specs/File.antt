@@ -12,7 +12,7 @@ use Rattle.tb_keeper.specs.declared.sql_keep.SqlKeep.{SqlKeep}
 use Rattle.sqlite_wal.specs.Reads.{AreClean}
 use Rattle.tb_calls.specs.Call.{State}
 use Rattle.tb_headline.specs.Refusals.{IsRefused}
-use Rattle.tb_headline.specs.Session.{IsAt, IsFileOf}
+use Rattle.tb_headline.specs.Headline.{IsAt, IsFileOf}
 use Rattle.tb_keeper.specs.Versions.{version_taken}
 use Rattle.tb_program.specs.declared.fault.Fault.{Fault}
 use Rattle.tb_program.specs.declared.fault.Fault.TheVariants as fault

@@ -10,7 +10,7 @@ use Rattle.tb_keeper.specs.declared.sql_keep.SqlKeep.{SqlKeep}
 use Rattle.tb_calls.specs.Call.{State}
 use Rattle.tb_files.specs.File.{IsSaved}
 use Rattle.tb_headline.specs.Refusals.{IsUnmade}
-use Rattle.tb_headline.specs.Session.{IsAt}
+use Rattle.tb_headline.specs.Headline.{IsAt}
 use Rattle.tb_keeper.specs.declared.creating.CreateFault.TheVariants as making
 use Rattle.tb_program.specs.declared.fault.Fault.{Fault}
 use Rattle.tb_program.specs.declared.fault.Fault.TheVariants as fault

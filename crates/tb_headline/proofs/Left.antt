@@ -12,7 +12,7 @@ use Rattle.tb_keeper.specs.Holds.{Holds, Kept}
 use Rattle.tb_keeper.specs.Laws.{alone}
 use Rattle.tb_calls.specs.declared.reply.Reply.{Reply}
 use Rattle.tb_lookup.specs.Stored.{AreOldTreesOf, AreTreesOf, MayLeave}
-use Rattle.tb_headline.specs.Session.{IsAt, IsFileOf, IsSession, Leaves, StopLeaves}
+use Rattle.tb_headline.specs.Headline.{IsAt, IsFileOf, IsSession, Leaves, StopLeaves}
 
 -- a keeper is honest while its disk returns what was written
 pub honest : (d : Database) → HasCleanDisk d → d.is_clean ≡ true

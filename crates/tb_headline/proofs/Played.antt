@@ -8,12 +8,12 @@ use Rattle.tb_calls.specs.Call.{State}
 use Rattle.tb_calls.specs.Leaving.{StandsAfter}
 use Rattle.tb_desk.proofs.Resumed.{take_whole}
 use Rattle.tb_headline.proofs.Left.{leaves}
-use Rattle.tb_headline.specs.Session.{IsCut, IsPlayed, calls_handled}
+use Rattle.tb_headline.specs.Headline.{IsCut, IsPlayed, calls_handled}
 use Rattle.tb_keeper.specs.Holds.{Holds}
 use Rattle.tb_lookup.specs.Stored.{MayLeave}
 use Rattle.tb_serve.proofs.Following.{stands_behind}
 use Rattle.tb_serve.proofs.TakingTurns.{any_turns}
-use Rattle.tb_serve.specs.Happening.{IsStopped, Plays, Stops}
+use Rattle.tb_serve.specs.Server.{IsStopped, Plays, Stops}
 use Rattle.tb_serve.specs.Server.{calls_at, server}
 use Rattle.tb_serve.specs.Telling.{StandsAt, after}
 use Rattle.tb_serve.specs.Turns.{Happening, Run, Talk}

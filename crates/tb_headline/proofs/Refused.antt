@@ -19,7 +19,7 @@ use Rattle.tb_sql_tables.specs.Standing.{StandsEmpty}
 use Rattle.tb_sql_tables.specs.Failing.{FailsByFault}
 use Rattle.tb_lookup.specs.Migrating.{IsEmptyOrStored}
 use Rattle.tb_headline.specs.Refusals.{HasMeta, IsFilled, IsRefused, IsUnmade, Says}
-use Rattle.tb_headline.specs.Session.{IsFileOf}
+use Rattle.tb_headline.specs.Headline.{IsFileOf}
 
 -- ---- the first table
 

@@ -3,7 +3,7 @@ use Rattle.std.proofs.Common.{◌≡◌, ℕ, zero, suc, List, [], ◌∷◌, �
 use Rattle.tb_calls.specs.declared.call.Call.{Call}
 use Rattle.tb_calls.specs.Call.{State, replies_after, replies_to, reply}
 use Rattle.tb_desk.proofs.Runs.{after_all-append, replies_after-append}
-use Rattle.tb_headline.specs.Connections.{replies_among}
+use Rattle.tb_headline.specs.Headline.{replies_among}
 use Rattle.tb_serve.specs.Server.{Timed, calls_among, calls_at}
 use Rattle.tb_calls.specs.declared.reply.Reply.{Reply}
 use Rattle.tb_serve.specs.Telling.{after}

@@ -12,7 +12,7 @@ use Rattle.tb_sql.proofs.Opened.{rows_second}
 use Rattle.tb_sql_tables.specs.Content.{AreRows, Content}
 use Rattle.tb_lookup.specs.Stored.{AreOldTreesOf, AreTreesOf}
 use Rattle.tb_lookup.specs.Migrating.{IsStoredInEither}
-use Rattle.tb_headline.specs.Session.{IsFileOf, StopLeaves}
+use Rattle.tb_headline.specs.Headline.{IsFileOf, StopLeaves}
 
 -- the tables of this version aren't those of the first
 not_old : (d : Database) (content : Content) → Opens d → IsLive d → AreRows content d.now.trees → (old : Bool) → is_old d.now.schema ≡ old → is_old d.now.schema ≡ false

@@ -6,7 +6,7 @@ use Rattle.tb_asking.specs.declared.rejection.Rejection.{Rejection}
 use Rattle.tb_asking.specs.Asking.{asked_of}
 use Rattle.tb_calls.specs.declared.call.Call.{Call}
 use Rattle.tb_calls.specs.Call.{State, reply}
-use Rattle.tb_headline.specs.Connections.{TellsReplies}
+use Rattle.tb_headline.specs.Headline.{TellsReplies}
 use Rattle.tb_http.specs.declared.answer.ContentType.TheVariants.{Json}
 use Rattle.tb_http.specs.declared.message.Message.{Message}
 use Rattle.tb_http.specs.Message.{takes_body}

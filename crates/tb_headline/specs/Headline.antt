@@ -1,10 +1,99 @@
--- The life of a file: sessions in a row, each of which ends by a stop or by itself.
-use Rattle.std.specs.Prelude.{◌≡◌, ◌⊎◌, ℕ, ◌+◌, ◌<◌, ◌≤◌, ◌==◌, true, false, if◌then◌else◌, List, [], ◌∷◌, ◌++◌, Some, length, take, slice_get}
+-- The life of a file: what a session over it begins with and leaves; sessions in a row, each of which ends by a stop or by itself; and
+-- sessions that serve connections: whatever turns these take, it is the life of the list of their calls.
+use Rattle.std.specs.Prelude.{◌≡◌, ◌⊎◌, ℕ, ◌==◌, false, List, ◌∷◌, ◌++◌, Option, length, take, ◌+◌, ◌<◌, ◌≤◌, true, if◌then◌else◌, [], Some, slice_get}
+use Rattle.sqlite.specs.State.{HasCleanDisk, State as Database}
+use Rattle.sqlite_trees.specs.Tree.{Trees}
 use Rattle.tb_calls.specs.declared.call.Call.{Call}
-use Rattle.tb_calls.specs.Call.{State, once, plain, replies_to}
+use Rattle.tb_calls.specs.Call.{State, replies_to, once, plain, reply}
+use Rattle.tb_calls.specs.Leaving.{IsAfterSome, Only}
+use Rattle.tb_lookup.specs.Stored.{AreOldTreesOf, AreTreesOf}
+use Rattle.tb_serve.specs.Server.{Stops, Timed, calls_among, calls_at, server}
+use Rattle.tb_calls.specs.declared.reply.Reply.{Reply}
+use Rattle.tb_serve.specs.Telling.{after, told_reply, told_text}
+use Rattle.tb_serve.specs.Turns.{IsSame, IsServed, handled, Happening, Run, Step, Talk, done_in}
+use Rattle.tb_site.specs.declared.site.Site.{Site}
 use Rattle.tb_core.specs.GoodWorld.{IsGoodWorld}
 use Rattle.tb_desk.specs.Sessions.{IsAgain, IsCopy, Sending, Sent, WasKnown, calls_of, comes_at_once, is_key_at, next_after, replies_at, stands}
-use Rattle.tb_calls.specs.declared.reply.Reply.{Reply}
+use Rattle.tb_http.specs.declared.answer.ContentType.TheVariants.{Json}
+use Rattle.tb_http.specs.Message.{takes_body}
+use Rattle.tb_http.specs.Wire.{is_last}
+
+-- The trees are all rows of the state: in the tables of this version, or in those of the first, where each board looks one ahead.
+abbrev pub IsFileOf : State → Trees → Type 0
+IsFileOf s db = AreTreesOf s db ⊎ AreOldTreesOf s db
+
+-- this state is held, and a stop leaves it alone
+pub record IsAt (s : State) (now : State → Type 0) (may_leave : State → Type 0) : Type 0 where
+  pub held : now s
+  pub only : Only s may_leave
+
+-- The one premise of what is promised of a session over a file: the disk returned what was written, wherever one looked,
+-- to the end of the session.
+abbrev pub WhileHonest : Database → Type 0 → Type 0
+WhileHonest d promise = HasCleanDisk d → promise
+
+-- each content that a stop may leave is one of these
+abbrev pub StopLeaves : Database → (Trees → Type 0) → Type 0
+StopLeaves d P = WhileHonest d ((db : Trees) → d.may_leave db → P db)
+
+-- Each content that a stop may leave is the rows of a state after some of the calls, all that were answered among them,
+-- and one more at most.
+abbrev pub Leaves : State → List Call → ℕ → Database → Type 0
+Leaves s calls answered d = (db : Trees) → d.may_leave db
+    → (t : State) × AreTreesOf t db × IsAfterSome s calls answered t
+
+-- the first calls are answered as if nothing ever stopped, and so is what is held and what a stop leaves
+pub record IsSession (s : State) (calls : List Call) (replies : List Reply) (now : State → Type 0)
+    (d : Database) : Type 0 where
+  pub told : replies ≡ replies_to s (take (length replies) calls)
+  pub held : (t : State) × now t × IsAfterSome s calls (length replies) t
+  pub leaves : Leaves s calls (length replies) d
+
+-- ---- a session that serves connections
+
+-- the calls of all connections, in the order in which they were handled
+abbrev pub calls_handled : List (Step (Option ℕ) Timed) → List Call
+calls_handled steps = calls_among (handled steps)
+
+-- Each connection is served what its own messages ask for, up to where another is opened in its
+-- place.
+abbrev pub AllServed : Site → State → (ℕ → Talk) → List (Step (Option ℕ) Timed)
+    → (ℕ → Talk) → Type 0
+AllServed site s talks steps later = (c : ℕ) → IsSame c steps
+    → IsServed (server site) c s (talks c) steps (later c)
+
+-- All that was done to connections was done in these steps, and nothing else. They lead to the
+-- state of all their calls, each acting once; and this state alone is left.
+pub record IsPlayed (site : Site) (s : State) (done : List (ℕ × Happening (Option ℕ)))
+    (talks later : ℕ → Talk)
+    (now may_leave : State → Type 0) (d : Database) : Type 0 where
+  pub steps : List (Step (Option ℕ) Timed)
+  pub done_is : done_in steps ≡ done
+  pub run : Run (server site) s talks steps (after s (calls_handled steps)) later
+  pub served : AllServed site s talks steps later
+  pub at : IsAt (after s (calls_handled steps)) now may_leave
+  pub leaves : Leaves s (calls_handled steps) (length (calls_handled steps)) d
+
+-- The same up to the turn of a connection in which the store failed: the call of the message that
+-- was taken then, if it asked for one, may be left or not, and all before it are.
+pub record IsCut (site : Site) (s : State) (done : List (ℕ × Happening (Option ℕ)))
+    (talks later : ℕ → Talk)
+    (now may_leave : State → Type 0) (d : Database) : Type 0 where
+  pub steps : List (Step (Option ℕ) Timed)
+  pub middle : ℕ → Talk
+  pub place : ℕ
+  pub last : Happening (Option ℕ)
+  pub rest : List (ℕ × Happening (Option ℕ))
+  pub done_is : done_in steps ++ (place, last) ∷ rest ≡ done
+  pub run : Run (server site) s talks steps (after s (calls_handled steps)) middle
+  pub served : AllServed site s talks steps middle
+  -- what came of that turn; its first part is the message
+  pub failed : Stops site (after s (calls_handled steps)) last (middle place)
+      (later place) now may_leave
+  pub others : (c : ℕ) → (place == c) ≡ false → later c ≡ middle c
+  pub leaves : Leaves s (calls_handled steps ++ calls_at failed.0) (length (calls_handled steps)) d
+
+-- ---- sessions in a row
 
 -- Each session begins with the state that the one before left, tells the answers to the calls that were answered, and
 -- leaves the state after the calls that stand: all that were answered, and one more at most.
@@ -109,3 +198,93 @@ RestIsFree = (s : State) (calls : List Call) (xs : List Sending)
     (replies : List (List Reply)) (t : State)
     → SendsAll calls 0 xs → SendsRest 0 xs → Lives s xs replies t
     → WereKnown s (as_came xs) 0 (all_standing xs)
+
+-- ---- sessions that serve connections
+
+-- A session that serves connections: its page, what they hold when it begins, its steps, what they
+-- hold when it ends, and its calls as calls of a list.
+pub record Service : Type 0 where
+  pub site : Site
+  pub talks : ℕ → Talk
+  pub steps : List (Step (Option ℕ) Timed)
+  pub later : ℕ → Talk
+  pub sending : Sending
+
+abbrev pub sendings : List Service → List Sending
+sendings [] = []
+sendings (x ∷ xs) = x.sending ∷ sendings xs
+
+-- the replies to the calls of messages, each in the state that all messages before it, of whatever
+-- connection, led to
+abbrev pub replies_among : State → List Timed → List Reply
+replies_among s [] = []
+replies_among s (m ∷ ms) = replies_to s (calls_at m) ++ replies_among (after s (calls_at m)) ms
+
+-- the text that answers a message is made of the reply to the call that it asks for
+abbrev pub TellsReplies : Type 0
+TellsReplies = (site : Site) (s : State) (before : ℕ) (m : Timed) (call : Call)
+    → calls_at m ≡ call ∷ []
+    → (server site).text s before m
+    ≡ told_text (told_reply Json (reply s [] call)) (is_last m.received.closes before)
+    (takes_body m.received.message)
+
+-- The steps are a run of the server, over any connections in any turns. The calls that it handled,
+-- in that order, are the answered ones of those that are sent, and told these replies; they stand,
+-- and one more at most.
+pub record Serves (s : State) (x : Service) (replies : List Reply) : Type 0 where
+  pub end : State
+  pub run : Run (server x.site) s x.talks x.steps end x.later
+  pub answered : calls_handled x.steps ≡ take x.sending.answered (calls_of x.sending.sent)
+  pub told : replies ≡ replies_among s (handled x.steps)
+  pub low : x.sending.answered ≤ x.sending.stood
+  pub high : x.sending.stood ≤ x.sending.answered + 1
+
+-- the state that a session leaves
+abbrev pub left_by : State → Service → State
+left_by s x = after s (take x.sending.stood (calls_of x.sending.sent))
+
+-- the session of this page and these steps, which handled the first calls of those that are sent
+abbrev pub service_of : Site → (ℕ → Talk) → List (Step (Option ℕ) Timed) → (ℕ → Talk) → List Sent
+    → ℕ → Service
+service_of site talks steps later sent stood = record {
+  site = site;
+  talks = talks;
+  steps = steps;
+  later = later;
+  sending = record { sent = sent; answered = length (calls_handled steps); stood = stood };
+}
+
+-- Whatever is left of a session that serves connections, by what it promises (`leaves` of
+-- `IsPlayed` and `IsCut`), it is what such a session leaves.
+abbrev pub StopsJoin : Type 0
+StopsJoin = (site : Site) (s end t : State) (talks later : ℕ → Talk)
+    (steps : List (Step (Option ℕ) Timed)) (more : List Call)
+    (sent : List Sent) → Run (server site) s talks steps end later
+    → IsAfterSome s (calls_handled steps ++ more) (length (calls_handled steps)) t
+    → calls_of sent ≡ calls_handled steps ++ more
+    → (stood : ℕ) × Serves s (service_of site talks steps later sent stood)
+    (replies_among s (handled steps))
+    × (t ≡ left_by s (service_of site talks steps later sent stood))
+
+-- Each session begins with the state that the one before left, whenever that one stopped.
+abbrev pub ServeInTurn : State → List Service → List (List Reply) → State → Type 0
+ServeInTurn s [] [] t = t ≡ s
+ServeInTurn s [] (r ∷ rs) t = ⊥
+ServeInTurn s (x ∷ xs) [] t = ⊥
+ServeInTurn s (x ∷ xs) (r ∷ rs) t = Serves s x r × ServeInTurn (left_by s x) xs rs t
+
+-- in each session each connection is served what its own messages ask for
+abbrev pub ServedInTurn : State → List Service → Type 0
+ServedInTurn s [] = Unit {0}
+ServedInTurn s (x ∷ xs) = AllServed x.site s x.talks x.steps x.later × ServedInTurn (left_by s x) xs
+
+-- Sessions that serve connections, in which these send a list of calls, whatever turns they take,
+-- whenever the sessions stop and whatever comes again at whatever moment, lead where the list leads
+-- that is handled once; and the replies that the connections are told are those of that list.
+abbrev pub HeadlineOfConnections : Type 0
+HeadlineOfConnections =
+    (s : State) (calls : List Call) (xs : List Service) (replies : List (List Reply)) (t : State)
+    → IsGoodWorld s.world → SendsAll calls 0 (sendings xs)
+    → WereKnown s (as_came (sendings xs)) 0 (all_standing (sendings xs))
+    → ServeInTurn s xs replies t
+    → IsAsUnstopped s calls (sendings xs) replies t × ServedInTurn s xs

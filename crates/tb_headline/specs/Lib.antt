@@ -1,5 +1,3 @@
-pub mod Connections
 pub mod Headline
 pub mod ImportAgain
 pub mod Refusals
-pub mod Session

@@ -16,7 +16,7 @@ use Rattle.tb_sql_tables.specs.Failing.{HasFaulted, IsReady}
 use Rattle.tb_sql_tables.specs.Tables.{no_schema}
 use Rattle.tb_lookup.specs.Stored.{AreTreesOf}
 use Rattle.tb_lookup.specs.Migrating.{IsEmptyOrStored}
-use Rattle.tb_headline.specs.Session.{IsFileOf, WhileHonest}
+use Rattle.tb_headline.specs.Headline.{IsFileOf, WhileHonest}
 
 -- ---- a database that should be a store
 

@@ -1,6 +1,6 @@
 //! Laws over whole runs.
 
-ghost use Rattle.tb_headline.specs.Connections.{HeadlineOfConnections, StopsJoin, TellsReplies};
+ghost use Rattle.tb_headline.specs.Headline.{HeadlineOfConnections, StopsJoin, TellsReplies};
 ghost use Rattle.tb_headline.specs.Headline.{Headline, RestIsFree};
 ghost use Rattle.tb_headline.specs.ImportAgain.{ImportJsonAgain};
 

@@ -6,11 +6,11 @@ ghost use Rattle.sqlite.specs.State.{HasCleanDisk, IsLive, Opens};
 ghost use Rattle.tb_calls.specs.declared.fault.KeepFault.TheVariants.{Store};
 ghost use Rattle.tb_calls.specs.Call.{State, once, plain, opening};
 ghost use Rattle.tb_headline.specs.Refusals.{IsFilled, IsRefused, IsUnmade, Says};
-ghost use Rattle.tb_headline.specs.Session.{IsAt, IsCut, IsFileOf, IsPlayed, IsSession, StopLeaves, WhileHonest};
+ghost use Rattle.tb_headline.specs.Headline.{IsAt, IsCut, IsFileOf, IsPlayed, IsSession, StopLeaves, WhileHonest};
 ghost use Rattle.tb_keeper.specs.Versions.{version_taken};
 ghost use Rattle.tb_sql.specs.Opening.{has_tables, is_old, IsAsBefore};
 ghost use Rattle.tb_lookup.specs.Stored.{AreTreesOf};
-ghost use Rattle.tb_serve.specs.Happening.{done_at, talk_at};
+ghost use Rattle.tb_serve.specs.Server.{done_at, talk_at};
 
 use sqlite::{Alter, Connection};
 use std::alloc::Global;

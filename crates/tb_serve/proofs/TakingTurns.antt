@@ -7,7 +7,7 @@ use Rattle.tb_serve.specs.Laws.{AnyTurns, OneAlone, moments_of, received_of}
 use Rattle.tb_serve.specs.Server.{Timed, calls_among, calls_at, server}
 use Rattle.tb_serve.specs.Serving.{answer_to, answers}
 use Rattle.tb_serve.specs.Telling.{after}
-use Rattle.tb_serve.specs.Served.{IsSteady, handled, led_to, taken_on, texts}
+use Rattle.tb_serve.specs.Turns.{IsSteady, handled, led_to, taken_on, texts}
 use Rattle.tb_serve.proofs.Interleaved.{served, state_is}
 use Rattle.tb_serve.proofs.Alone.{alone}
 use Rattle.tb_site.specs.declared.site.Site.{Site}

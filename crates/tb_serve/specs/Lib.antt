@@ -1,9 +1,7 @@
 pub mod Telling
 pub mod Serving
 pub mod Turns
-pub mod Served
 pub mod Server
 pub mod Exchanging
 pub mod Following
-pub mod Happening
 pub mod Laws

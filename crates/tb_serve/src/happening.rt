@@ -3,7 +3,7 @@ ghost use Rattle.std.specs.Prelude.{◌≡◌, ◌<◌, length, IfErr, Err, None
 ghost use Rattle.tb_calls.specs.Call.{State};
 ghost use Rattle.tb_calls.specs.Leaving.{Only};
 ghost use Rattle.tb_serve.specs.Following.{Follows, has_stopped};
-ghost use Rattle.tb_serve.specs.Happening.{Comes, Happens, HappensTo, done_of, talk_at};
+ghost use Rattle.tb_serve.specs.Server.{Comes, Happens, HappensTo, done_of, talk_at};
 ghost use Rattle.tb_site.specs.declared.site.Site.{Site};
 ghost use Rattle.tb_serve.specs.Turns.{opens, comes, goes};
 

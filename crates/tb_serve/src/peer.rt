@@ -5,7 +5,7 @@ ghost use Rattle.tb_calls.specs.Leaving.{Only};
 ghost use Rattle.tb_http.specs.declared.begun.Begun.{Begun};
 ghost use Rattle.tb_http.specs.Inbox.{IsBegun};
 ghost use Rattle.tb_serve.specs.Following.{Follows, has_stopped};
-ghost use Rattle.tb_serve.specs.Happening.{HappensTo};
+ghost use Rattle.tb_serve.specs.Server.{HappensTo};
 ghost use Rattle.tb_serve.specs.Turns.{silent, turns};
 
 use crate::exchanging::{answer_whole, outcome, takes_no_more};

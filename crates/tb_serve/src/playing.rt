@@ -2,7 +2,7 @@
 ghost use Rattle.std.specs.Prelude.{◌≡◌, ◌∷◌, [], length, IfErr, IsErr, OnErr, OnOk, true};
 ghost use Rattle.tb_calls.specs.Call.{State};
 ghost use Rattle.tb_calls.specs.Leaving.{Only};
-ghost use Rattle.tb_serve.specs.Happening.{IsStopped, Plays, done_at, talk_at};
+ghost use Rattle.tb_serve.specs.Server.{IsStopped, Plays, done_at, talk_at};
 
 use crate::happening::{PeerEvent, happen, stops_all};
 use crate::peer::Peer;

@@ -1,7 +1,7 @@
 -- What a run of the connections says of the desk, and of each connection.
 use Rattle.std.proofs.Common.{Bool, List, subst}
 use Rattle.tb_calls.specs.Call.{State}
-use Rattle.tb_serve.specs.Happening.{talk_at}
+use Rattle.tb_serve.specs.Server.{talk_at}
 use Rattle.tb_serve.proofs.TakingTurns.{any_turns}
 use Rattle.tb_serve.specs.Telling.{StandsAt}
 use Rattle.tb_server.specs.Laws.{MakesTurns}

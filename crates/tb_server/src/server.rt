@@ -1,7 +1,7 @@
 //! The connections of a server over a desk.
 ghost use Rattle.std.specs.Prelude.{◌≡◌, ℕ, IfOk};
 ghost use Rattle.tb_event_loop.specs.History.{done_of as done_to};
-ghost use Rattle.tb_serve.specs.Happening.{done_of, talk_at};
+ghost use Rattle.tb_serve.specs.Server.{done_of, talk_at};
 ghost use Rattle.tb_server.specs.Serves.{IsTimed, Serves};
 ghost use Rattle.tb_server.specs.Joining.{serves_none, serves_then};
 ghost use Rattle.tb_serve.specs.Turns.{silent};

@@ -1,5 +1,5 @@
 use Rattle.tb_serve.proofs.Steps.{happens_at}
-use Rattle.tb_serve.specs.Happening.{done_of}
+use Rattle.tb_serve.specs.Server.{done_of}
 use Rattle.tb_serve.proofs.happening.happen.Goals as goal
 
 pub returns-clause-happens : goal.returns-clause-happens

@@ -1,6 +1,6 @@
 use Rattle.std.proofs.Common.{None, sym, subst}
 use Rattle.tb_serve.proofs.Following.{memory_follows, unchanged}
-use Rattle.tb_serve.specs.Happening.{Comes, done_of}
+use Rattle.tb_serve.specs.Server.{Comes, done_of}
 use Rattle.tb_serve.specs.declared.happening.PeerEvent.{PeerEvent}
 use Rattle.tb_serve.proofs.happening.happen_to.Goals as goal
 

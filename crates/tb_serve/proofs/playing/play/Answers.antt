@@ -2,7 +2,7 @@ use Rattle.std.proofs.Common.{◌≡◌, true, ◌+◌, ◌<◌, ◌≤◌, ◌�
 use Rattle.std.proofs.lemmas.List.{take_all}
 use Rattle.tb_calls.specs.Call.{State}
 use Rattle.tb_calls.specs.Leaving.{Only}
-use Rattle.tb_serve.specs.Happening.{IsStopped, Plays, done_at, talk_at}
+use Rattle.tb_serve.specs.Server.{IsStopped, Plays, done_at, talk_at}
 use Rattle.tb_serve.proofs.Steps.{done_more, done_split, on_err, plays_none, plays_stopped, plays_then}
 use Rattle.tb_serve.specs.Turns.{Happening}
 use Rattle.tb_serve.proofs.playing.play.Goals as goal

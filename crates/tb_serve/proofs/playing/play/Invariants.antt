@@ -1,7 +1,7 @@
 use Rattle.std.proofs.Common.{◌≡◌, length, take, true}
 use Rattle.tb_calls.specs.Call.{State}
 use Rattle.tb_calls.specs.Leaving.{Only}
-use Rattle.tb_serve.specs.Happening.{Plays, done_at, talk_at}
+use Rattle.tb_serve.specs.Server.{Plays, done_at, talk_at}
 use Rattle.tb_serve.proofs.playing.play.Given as goal
 
 -- so far a run of the server was made

@@ -1,5 +1,5 @@
 use Rattle.std.proofs.Common.{◌<◌, ◌≤◌, length, true, false, arith, sym, ◌∙◌}
-use Rattle.tb_serve.specs.Happening.{talk_at}
+use Rattle.tb_serve.specs.Server.{talk_at}
 use Rattle.tb_serve.proofs.Steps.{entry_passed, entry_plays}
 use Rattle.tb_serve.proofs.playing.play_one.Goals as goal
 

@@ -1,5 +1,5 @@
 use Rattle.std.proofs.Common.{◌≡◌, ℕ}
-use Rattle.tb_serve.specs.Happening.{talk_at}
+use Rattle.tb_serve.specs.Server.{talk_at}
 use Rattle.tb_serve.specs.Turns.{silent}
 use Rattle.tb_server.proofs.server.silent_peers.Given as goal
 

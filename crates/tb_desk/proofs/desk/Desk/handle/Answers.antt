@@ -10,7 +10,7 @@ pub returns-in_err-reply-clause-stands : goal.returns-in_err-reply-clause-stands
 returns-in_err-reply-clause-stands g c s held only =
     let was = subst (λ k. g.K.Keep.holds k s) (sym c.self.view_is) held in
     let alone = subst (λ k. Only s (g.K.Keep.after_stop k)) (sym c.self.view_is) only in
-    stands_as_was s _ _ _ _ _ c.in_err-reply.ensures.same was alone
+    stands_as_was s _ _ _ _ _ c.from_residual.result c.from_residual.ensures.0 c.in_err-reply.ensures.same was alone
 
 pub returns-in-Some-clause-left : goal.returns-in-Some-clause-left
 returns-in-Some-clause-left g c s held =

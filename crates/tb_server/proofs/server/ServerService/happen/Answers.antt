@@ -1,6 +1,6 @@
 use Rattle.std.proofs.Common.{rules, ◌≡◌, ◌<◌, ◌≤◌, List, [], ◌∷◌, length, true, false, arith, sym, ◌∙◌, subst}
 use Rattle.tb_event_loop.specs.History.{done_of as done_to}
-use Rattle.tb_serve.specs.Happening.{done_of}
+use Rattle.tb_serve.specs.Server.{done_of}
 use Rattle.tb_server.proofs.Steps.{given_back, one_served, passed}
 use Rattle.tb_server.specs.Serves.{Serves}
 use Rattle.tb_serve.specs.Turns.{Talk}
