@@ -6,9 +6,7 @@ use Rattle.tb_calls.specs.Call.{State, replies_to}
 use Rattle.tb_desk.specs.Sessions.{calls_of}
 use Rattle.tb_headline.proofs.Lives.{headline}
 use Rattle.tb_headline.proofs.Replies.{replies_are, replies_front}
-use Rattle.tb_headline.specs.Headline.{HeadlineOfConnections, ServeInTurn, ServedInTurn, Serves, Service, StopsJoin, left_by, sendings}
-use Rattle.tb_headline.specs.Headline.{Lives}
-use Rattle.tb_headline.specs.Headline.{calls_handled}
+use Rattle.tb_headline.specs.Headline.{HeadlineOfConnections, ServeInTurn, ServedInTurn, Serves, Service, StopsJoin, left_by, sendings, Lives, calls_handled}
 use Rattle.tb_serve.proofs.TakingTurns.{any_turns}
 use Rattle.tb_calls.specs.declared.reply.Reply.{Reply}
 use Rattle.tb_serve.specs.Telling.{after}

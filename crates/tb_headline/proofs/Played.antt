@@ -13,8 +13,7 @@ use Rattle.tb_keeper.specs.Holds.{Holds}
 use Rattle.tb_lookup.specs.Stored.{MayLeave}
 use Rattle.tb_serve.proofs.Following.{stands_behind}
 use Rattle.tb_serve.proofs.TakingTurns.{any_turns}
-use Rattle.tb_serve.specs.Server.{IsStopped, Plays, Stops}
-use Rattle.tb_serve.specs.Server.{calls_at, server}
+use Rattle.tb_serve.specs.Server.{IsStopped, Plays, Stops, calls_at, server}
 use Rattle.tb_serve.specs.Telling.{StandsAt, after}
 use Rattle.tb_serve.specs.Turns.{Happening, Run, Talk}
 use Rattle.tb_site.specs.declared.site.Site.{Site}

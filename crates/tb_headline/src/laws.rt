@@ -1,7 +1,6 @@
 //! Laws over whole runs.
 
-ghost use Rattle.tb_headline.specs.Headline.{HeadlineOfConnections, StopsJoin, TellsReplies};
-ghost use Rattle.tb_headline.specs.Headline.{Headline, RestIsFree};
+ghost use Rattle.tb_headline.specs.Headline.{HeadlineOfConnections, StopsJoin, TellsReplies, Headline, RestIsFree};
 ghost use Rattle.tb_headline.specs.ImportAgain.{ImportJsonAgain};
 
 /// Whenever sessions stop, and whatever is sent again at whatever moment: once every call of a list was answered, the boards and the

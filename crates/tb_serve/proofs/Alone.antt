@@ -1,8 +1,7 @@
 -- One connection alone.
 use Rattle.std.proofs.Common.{◌≡◌, ℕ, ◌+◌, true, false, true≢false, List, [], ◌∷◌, ◌++◌, refl, sym, ap}
 use Rattle.std.specs.Prelude.{◌==◌}
-use Rattle.tb_serve.specs.Turns.{Event, opened, came, gone, took, failed, refused, rested, went, Happening, Serving, Step}
-use Rattle.tb_serve.specs.Turns.{AllAt, AllWell, goes_well, taken_on, texts, told_on}
+use Rattle.tb_serve.specs.Turns.{Event, opened, came, gone, took, failed, refused, rested, went, Happening, Serving, Step, AllAt, AllWell, goes_well, taken_on, texts, told_on}
 
 alone_step : {S A M : Type 0} (v : Serving S A M) (c : ℕ) (s : S) (before : ℕ) (h : Happening A) (d : ℕ) (e : Event M) (ks : List (Step A M))
     → (d == c) ≡ true → goes_well e ≡ true

@@ -8,8 +8,7 @@ use Rattle.tb_http.specs.Inbox.{HasFault, IsUnfinished}
 use Rattle.tb_http.specs.Wire.{Faults}
 use Rattle.tb_http.specs.declared.fault.WireFault.{WireFault}
 use Rattle.tb_serve.specs.Exchanging.{outcome, takes_no_more}
-use Rattle.tb_serve.specs.Server.{Comes, HappensTo}
-use Rattle.tb_serve.specs.Server.{Timed}
+use Rattle.tb_serve.specs.Server.{Comes, HappensTo, Timed}
 use Rattle.tb_serve.specs.declared.serving.ServeFault.{ServeFault}
 use Rattle.tb_serve.specs.declared.serving.ServeFault.TheVariants as fault
 use Rattle.tb_serve.specs.Serving.{Sends, Turns, reads_one}

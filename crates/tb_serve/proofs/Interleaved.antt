@@ -1,8 +1,7 @@
 -- Whatever turns connections take, each is told what its own messages are told, and the state is the one that all messages lead to.
 use Rattle.std.proofs.Common.{◌≡◌, ℕ, ◌+◌, Bool, true, false, true≢false, if◌then◌else◌, List, [], ◌∷◌, ◌++◌, refl, sym, ap, ◌∙◌, subst, append_assoc, append-nil, inl, inr}
 use Rattle.std.specs.Prelude.{◌==◌}
-use Rattle.tb_serve.specs.Turns.{Event, opened, came, gone, took, failed, refused, rested, went, Happening, opens, comes, turns, goes, done_in, Fits, Moves, MovesIf, Run, Serving, Step, Talk, after_event, sent_of}
-use Rattle.tb_serve.specs.Turns.{Brings, IsSame, IsServed, IsSteady, NoneBehind, NoneGone, brought_by, brought_to, came_by, came_on, loses_bytes, handled, led_to, opens_one, taken_on, told_on, went_on}
+use Rattle.tb_serve.specs.Turns.{Event, opened, came, gone, took, failed, refused, rested, went, Happening, opens, comes, turns, goes, done_in, Fits, Moves, MovesIf, Run, Serving, Step, Talk, after_event, sent_of, Brings, IsSame, IsServed, IsSteady, NoneBehind, NoneGone, brought_by, brought_to, came_by, came_on, loses_bytes, handled, led_to, opens_one, taken_on, told_on, went_on}
 
 -- the state is the one that the messages lead to, in the order in which they were handled
 state_step : {S A M : Type 0} (v : Serving S A M) (s : S) (c : ℕ) (h : Happening A) (e : Event M) (ks : List (Step A M)) (end : S)

@@ -6,9 +6,8 @@ use Rattle.std.proofs.lemmas.Bool.{eqb-false, eqb-true, le-ltb, lt-ltb}
 use Rattle.tb_calls.specs.Call.{State}
 use Rattle.tb_calls.specs.Leaving.{Only}
 use Rattle.tb_serve.specs.Following.{has_stopped}
-use Rattle.tb_serve.specs.Server.{Comes, Happens, HappensTo, IsStopped, Plays, done_at, done_of, talk_at}
+use Rattle.tb_serve.specs.Server.{Comes, Happens, HappensTo, IsStopped, Plays, done_at, done_of, talk_at, Timed, server}
 use Rattle.tb_serve.specs.declared.happening.PeerEvent.{PeerEvent}
-use Rattle.tb_serve.specs.Server.{Timed, server}
 use Rattle.tb_serve.specs.declared.serving.ServeFault.{ServeFault}
 use Rattle.tb_serve.specs.declared.serving.ServeFault.TheVariants.{ReadFailed, WriteFailed, Store, Memory}
 use Rattle.tb_serve.specs.Turns as turns

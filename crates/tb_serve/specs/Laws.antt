@@ -5,9 +5,8 @@ use Rattle.tb_http.specs.Stream.{Received}
 use Rattle.tb_serve.specs.Server.{Timed, calls_among, server}
 use Rattle.tb_serve.specs.Serving.{answers}
 use Rattle.tb_serve.specs.Telling.{after}
-use Rattle.tb_serve.specs.Turns.{Run, Step, Talk}
+use Rattle.tb_serve.specs.Turns.{Run, Step, Talk, AllAt, AllWell, IsSame, IsServed, handled, taken_on, told_on}
 use Rattle.tb_site.specs.declared.site.Site.{Site}
-use Rattle.tb_serve.specs.Turns.{AllAt, AllWell, IsSame, IsServed, handled, taken_on, told_on}
 
 -- Whatever turns connections take: the state is the one that all their calls lead to, each acting once, in the order in
 -- which they were handled. The messages of each connection are those that its bytes bring, none behind one that closes

@@ -7,8 +7,7 @@ use Rattle.tb_calls.specs.Call.{State}
 use Rattle.tb_calls.specs.Leaving.{Only}
 use Rattle.tb_event_loop.specs.Done.{Done}
 use Rattle.tb_serve.specs.Following.{Follows, has_stopped}
-use Rattle.tb_serve.specs.Server.{Comes, Happens, Plays, talk_at}
-use Rattle.tb_serve.specs.Server.{Timed, server}
+use Rattle.tb_serve.specs.Server.{Comes, Happens, Plays, talk_at, Timed, server}
 use Rattle.tb_serve.proofs.Following as following
 use Rattle.tb_serve.proofs.Steps.{plays_none}
 use Rattle.tb_serve.specs.declared.serving.ServeFault.{ServeFault}

@@ -5,8 +5,7 @@ use Rattle.std.proofs.lemmas.List.Elements.{filter-append}
 use Rattle.tb_calls.specs.Call.{State}
 use Rattle.tb_calls.specs.Leaving.{Only}
 use Rattle.tb_event_loop.specs.Done.{Done}
-use Rattle.tb_serve.specs.Server.{Plays, talk_at}
-use Rattle.tb_serve.specs.Server.{server}
+use Rattle.tb_serve.specs.Server.{Plays, talk_at, server}
 use Rattle.tb_serve.proofs.Following as following
 use Rattle.tb_serve.proofs.Steps.{plays_none, plays_then}
 use Rattle.tb_server.specs.Serves.{AreTimed, Makes, Serves, at_places}

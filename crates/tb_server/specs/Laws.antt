@@ -3,12 +3,10 @@ use Rattle.std.specs.Prelude.{◌≡◌, ℕ, Bool, false, true, List, Option, l
 use Rattle.tb_calls.specs.Call.{State}
 use Rattle.tb_calls.specs.Leaving.{Only}
 use Rattle.tb_event_loop.specs.Done.{Done}
-use Rattle.tb_serve.specs.Server.{talk_at}
-use Rattle.tb_serve.specs.Server.{Timed, calls_among, server}
+use Rattle.tb_serve.specs.Server.{talk_at, Timed, calls_among, server}
 use Rattle.tb_serve.specs.Telling.{StandsAt, after}
 use Rattle.tb_server.specs.Serves.{Serves, at_places}
-use Rattle.tb_serve.specs.Turns.{IsSame, IsServed, handled}
-use Rattle.tb_serve.specs.Turns.{Step, Talk, done_in}
+use Rattle.tb_serve.specs.Turns.{IsSame, IsServed, handled, Step, Talk, done_in}
 use Rattle.tb_site.specs.declared.site.Site.{Site}
 
 -- Whatever was done to the connections of a server whose store didn't fail, and was honest to the end: steps came of

@@ -5,8 +5,7 @@ use Rattle.tb_calls.specs.Leaving.{Only}
 use Rattle.tb_event_loop.specs.Done as done
 use Rattle.tb_event_loop.specs.Done.{Done}
 use Rattle.tb_serve.specs.Following.{Follows}
-use Rattle.tb_serve.specs.Server.{Plays, Stops, talk_at}
-use Rattle.tb_serve.specs.Server.{Timed, server}
+use Rattle.tb_serve.specs.Server.{Plays, Stops, talk_at, Timed, server}
 use Rattle.tb_serve.specs.Turns.{Happening, Run, Step, Talk, done_in, opens, comes, turns, goes}
 use Rattle.tb_site.specs.declared.site.Site.{Site}
 
