@@ -8,17 +8,17 @@ use Rattle.tb_keeper.proofs.sql_keep.SqlKeep.first_person.Goals as goal
 pub returns-clause-answer : goal.returns-clause-answer
 returns-clause-answer g c is s held =
     let k = c.args.self.now in
-    settled_told k.failed k.people k.boards k.cache.entries k.cache.entries (state g.S.Store k.conn) (state g.S.Store c.find_first.new.conn) c.if-self.false c.find_first.ensures.same c.find_first.ensures.idle
-    (λ person s. person_at s.world 1 ≡ Some person) c.find_first.result _ c.settle.ensures.told c.find_first.ensures.found (rw c.settle.ensures.left at is) s held
+    settled_told k.failed k.people k.boards k.cache.entries k.cache.entries (state g.S.Store k.conn) (state g.S.Store c.find_first-end.new.conn) c.if-self.false c.find_first-end.ensures.same c.find_first-end.ensures.idle
+    (λ person s. person_at s.world 1 ≡ Some person) c.find_first-end.result _ c.settle.ensures.told c.find_first-end.ensures.found (rw c.settle.ensures.left at is) s held
 
 pub returns-clause-same : goal.returns-clause-same
 returns-clause-same g c =
     let k = c.args.self.now in
-    rw c.settle.ensures.left (settled_leaves k.failed k.people k.boards k.cache.entries k.cache.entries (state g.S.Store k.conn) (state g.S.Store c.find_first.new.conn) c.if-self.false c.find_first.ensures.same c.find_first.ensures.idle
-    c.find_first.result _ c.settle.ensures.told (same_at_hand k.cache.entries (state g.S.Store k.conn) (state g.S.Store c.find_first.new.conn)))
+    rw c.settle.ensures.left (settled_leaves k.failed k.people k.boards k.cache.entries k.cache.entries (state g.S.Store k.conn) (state g.S.Store c.find_first-end.new.conn) c.if-self.false c.find_first-end.ensures.same c.find_first-end.ensures.idle
+    c.find_first-end.result _ c.settle.ensures.told (same_at_hand k.cache.entries (state g.S.Store k.conn) (state g.S.Store c.find_first-end.new.conn)))
 
 pub returns-clause-failed : goal.returns-clause-failed
 returns-clause-failed g c = rw (c.settle.ensures.left, c.if-self.false) refl
 
 pub returns-clause-honest : goal.returns-clause-honest
-returns-clause-honest g c = rw c.settle.ensures.left (honest (state g.S.Store c.args.self.now.conn) (state g.S.Store c.find_first.new.conn) c.find_first.ensures.same.clean)
+returns-clause-honest g c = rw c.settle.ensures.left (honest (state g.S.Store c.args.self.now.conn) (state g.S.Store c.find_first-end.new.conn) c.find_first-end.ensures.same.clean)

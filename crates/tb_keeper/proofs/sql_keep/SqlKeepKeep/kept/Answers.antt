@@ -8,17 +8,17 @@ use Rattle.tb_keeper.proofs.sql_keep.SqlKeepKeep.kept.Goals as goal
 pub returns-clause-answer : goal.returns-clause-answer
 returns-clause-answer g c is s held =
     let k = c.args.self.now in
-    settled_told k.failed k.people k.boards k.cache.entries k.cache.entries (state g.S.Store k.conn) (state g.S.Store c.find_reply.new.conn) c.if-self.false c.find_reply.ensures.same c.find_reply.ensures.idle
-    (λ kept s. kept ≡ get s.kept (c.args.name.now, c.args.id)) c.find_reply.result _ c.settle.ensures.told c.find_reply.ensures.found (rw c.settle.ensures.left at is) s held
+    settled_told k.failed k.people k.boards k.cache.entries k.cache.entries (state g.S.Store k.conn) (state g.S.Store c.find_reply-end.new.conn) c.if-self.false c.find_reply-end.ensures.same c.find_reply-end.ensures.idle
+    (λ kept s. kept ≡ get s.kept (c.args.name.now, c.args.id)) c.find_reply-end.result _ c.settle.ensures.told c.find_reply-end.ensures.found (rw c.settle.ensures.left at is) s held
 
 pub returns-clause-same : goal.returns-clause-same
 returns-clause-same g c =
     let k = c.args.self.now in
-    rw c.settle.ensures.left (settled_leaves k.failed k.people k.boards k.cache.entries k.cache.entries (state g.S.Store k.conn) (state g.S.Store c.find_reply.new.conn) c.if-self.false c.find_reply.ensures.same c.find_reply.ensures.idle
-    c.find_reply.result _ c.settle.ensures.told (same_at_hand k.cache.entries (state g.S.Store k.conn) (state g.S.Store c.find_reply.new.conn)))
+    rw c.settle.ensures.left (settled_leaves k.failed k.people k.boards k.cache.entries k.cache.entries (state g.S.Store k.conn) (state g.S.Store c.find_reply-end.new.conn) c.if-self.false c.find_reply-end.ensures.same c.find_reply-end.ensures.idle
+    c.find_reply-end.result _ c.settle.ensures.told (same_at_hand k.cache.entries (state g.S.Store k.conn) (state g.S.Store c.find_reply-end.new.conn)))
 
 pub returns-clause-failed : goal.returns-clause-failed
 returns-clause-failed g c = rw (c.settle.ensures.left, c.if-self.false) refl
 
 pub returns-clause-honest : goal.returns-clause-honest
-returns-clause-honest g c = rw c.settle.ensures.left (honest (state g.S.Store c.args.self.now.conn) (state g.S.Store c.find_reply.new.conn) c.find_reply.ensures.same.clean)
+returns-clause-honest g c = rw c.settle.ensures.left (honest (state g.S.Store c.args.self.now.conn) (state g.S.Store c.find_reply-end.new.conn) c.find_reply-end.ensures.same.clean)

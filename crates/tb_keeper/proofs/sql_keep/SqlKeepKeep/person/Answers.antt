@@ -8,17 +8,17 @@ use Rattle.tb_keeper.proofs.sql_keep.SqlKeepKeep.person.Goals as goal
 pub returns-clause-answer : goal.returns-clause-answer
 returns-clause-answer g c is s held =
     let k = c.args.self.now in
-    settled_told k.failed k.people k.boards k.cache.entries k.cache.entries (state g.S.Store k.conn) (state g.S.Store c.find_key.new.conn) c.if-self.false c.find_key.ensures.same c.find_key.ensures.idle
-    (λ key s. key ≡ key_of s.world c.args.name.now) c.find_key.result _ c.settle.ensures.told c.find_key.ensures.found (rw c.settle.ensures.left at is) s held
+    settled_told k.failed k.people k.boards k.cache.entries k.cache.entries (state g.S.Store k.conn) (state g.S.Store c.find_key-end.new.conn) c.if-self.false c.find_key-end.ensures.same c.find_key-end.ensures.idle
+    (λ key s. key ≡ key_of s.world c.args.name.now) c.find_key-end.result _ c.settle.ensures.told c.find_key-end.ensures.found (rw c.settle.ensures.left at is) s held
 
 pub returns-clause-same : goal.returns-clause-same
 returns-clause-same g c =
     let k = c.args.self.now in
-    rw c.settle.ensures.left (settled_leaves k.failed k.people k.boards k.cache.entries k.cache.entries (state g.S.Store k.conn) (state g.S.Store c.find_key.new.conn) c.if-self.false c.find_key.ensures.same c.find_key.ensures.idle
-    c.find_key.result _ c.settle.ensures.told (same_at_hand k.cache.entries (state g.S.Store k.conn) (state g.S.Store c.find_key.new.conn)))
+    rw c.settle.ensures.left (settled_leaves k.failed k.people k.boards k.cache.entries k.cache.entries (state g.S.Store k.conn) (state g.S.Store c.find_key-end.new.conn) c.if-self.false c.find_key-end.ensures.same c.find_key-end.ensures.idle
+    c.find_key-end.result _ c.settle.ensures.told (same_at_hand k.cache.entries (state g.S.Store k.conn) (state g.S.Store c.find_key-end.new.conn)))
 
 pub returns-clause-failed : goal.returns-clause-failed
 returns-clause-failed g c = rw (c.settle.ensures.left, c.if-self.false) refl
 
 pub returns-clause-honest : goal.returns-clause-honest
-returns-clause-honest g c = rw c.settle.ensures.left (honest (state g.S.Store c.args.self.now.conn) (state g.S.Store c.find_key.new.conn) c.find_key.ensures.same.clean)
+returns-clause-honest g c = rw c.settle.ensures.left (honest (state g.S.Store c.args.self.now.conn) (state g.S.Store c.find_key-end.new.conn) c.find_key-end.ensures.same.clean)
