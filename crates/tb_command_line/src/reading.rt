@@ -208,7 +208,8 @@ fn kept_key(kept: &Option<Key>) -> Result<Key, WordsFault>
 
 /// Whether a new key is read, which `-` says.
 fn is_read_of(found: &ArgMatches<'_>) -> Result<bool, WordsFault>
-    ensures { Reads result (or_bad (is_read_in (first_of (codes "key") (rows_of (found_of found.now))))) }
+    ensures { Reads result
+        (or_bad (is_read_in (first_of (codes "key") (rows_of (found_of found.now))))) }
 {
     match text_of(found, "key") {
         Some("-") => Ok(true),
