@@ -50,8 +50,8 @@ class Line:
     def __init__(self, server):
         self.server, self.run, self.at, self.stop, self.count, self.posts = server, None, None, None, 0, 0
         self.edit, self.edits = None, 0
-        # How often a run looked at both sides, and whether one has the board's tasks and did nothing since.
-        self.looks, self.asked = 0, False
+        # How often a run looked at both sides, whether one has the board's tasks and did nothing since, and the looks of runs that were killed.
+        self.looks, self.asked, self.cut, self.before = 0, False, set(), 0
         self.listener = socket.create_server(("127.0.0.1", 0))
         self.port = self.listener.getsockname()[1]
         self.lock = threading.Lock()
@@ -77,6 +77,12 @@ class Line:
         """Counts a look of a run that has the board's tasks and goes on. One that asks for them again at once only named lines."""
         self.looks += self.asked
         self.asked = False
+
+    def end_run(self, is_killed):
+        """Counts the last look of a run, and remembers those of one that was killed."""
+        self.count_look()
+        self.cut |= set(range(self.before + 1, self.looks + 1)) if is_killed else set()
+        self.before = self.looks
 
     def pass_on(self, message):
         """The answer to a message; None where it is lost."""
@@ -178,7 +184,7 @@ class Runs:
 
     def finish(self, process, statuses=(0,)):
         said = process.communicate(timeout=600)[0]
-        self.line.count_look()
+        self.line.end_run(process.returncode == -9)
         self.said += said.splitlines()
         if process.returncode not in statuses:
             sys.exit(f"a run ended with {process.returncode}: {said[-2000:]}")

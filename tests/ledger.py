@@ -57,9 +57,9 @@ class Ledger:
     """What was edited since both sides were alike. An edit is lost where its value is neither there, nor was seen by a later edit, nor is
     kept as a note that names its side; but nobody can know what a side had at first, nor of a value that comes back between two looks."""
 
-    def __init__(self, looks):
-        # How often the bridge has looked at both sides.
-        self.looks = looks
+    def __init__(self, line):
+        # It knows how often the bridge has looked at both sides.
+        self.line = line
         self.values, self.added, self.removed, self.count = collections.defaultdict(list), set(), set(), 0
         self.conflicts = 0
 
@@ -69,7 +69,7 @@ class Ledger:
         if before == value:
             return
         self.count += 1
-        look = self.looks()
+        look = self.line.looks
         for edit in self.values[uuid, name]:
             edit["seen"] = edit["seen"] or edit["value"] == before and (edit["side"] == side or edit["look"] < look)
         # What was removed before the first look comes again from the side that has it.
@@ -82,22 +82,21 @@ class Ledger:
 
     def remove(self, uuid, kind, value):
         self.count += 1
-        if self.looks():
+        if self.line.looks:
             self.removed.add((uuid, kind, value))
         else:
             self.added.discard((uuid, kind, value))
 
-    @staticmethod
-    def came_back(edits, at):
-        """Whether an edit gives its side the value again that the bridge saw there at its last look, while the other side has a new one."""
-        edit, was = edits[at], edits[at]["before"]
-        for other in edits[at - 1 :: -1] if at else []:
-            if other["side"] != edit["side"]:
-                continue
-            if other["look"] != edit["look"] or other["value"] != was:
+    def came_back(self, edits, at):
+        """Whether an edit gives its side the value again that the bridge knows there. A killed run may have looked meanwhile, if nobody on
+        the other side saw another value of this side after that."""
+        edit, was, between = edits[at], edits[at]["before"], set()
+        for other in reversed([it for it in edits[:at] if it["side"] == edit["side"]]):
+            if other["value"] != was or set(range(other["look"] + 1, edit["look"] + 1)) - self.line.cut:
                 return False
+            between.add(was)
             if other["before"] == edit["value"]:
-                return True
+                return not any(it["side"] != edit["side"] and it["before"] in between and it["look"] > other["look"] for it in edits)
             was = other["before"]
         return False
 

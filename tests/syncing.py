@@ -137,7 +137,7 @@ class Week:
         self.line.edit = lambda: self.edit(3)
         self.words = [f"{CONTRIB}/taskwarrior-sync", "--key", "key", "--for", "20", "--state", "state.json", f"127.0.0.1:{self.line.port}", "ann", "1"]
         self.runs = Runs(self.words, self.line, {**os.environ, "PATH": f"{here}/bin:{os.environ['PATH']}"})
-        self.ledger, self.gone = Ledger(lambda: self.line.looks), set()
+        self.ledger, self.gone = Ledger(self.line), set()
         self.closed_edits, self.kinds = 0, in_turn(RANDOM, (*STOPS, *IMPORTS))
 
     # Edits of the user of Taskwarrior.

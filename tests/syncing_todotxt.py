@@ -93,7 +93,7 @@ class Week:
         self.line.edit = lambda: self.edit(3)
         command = [f"{CONTRIB}/todotxt-sync", "--key", "key", "--for", "60", "--state", "state.json", f"127.0.0.1:{self.line.port}", "ann", "1", "todo.txt"]
         self.runs = Runs(command, self.line, dict(os.environ))
-        self.ledger, self.gone, self.kinds = Ledger(lambda: self.line.looks), set(), in_turn(RANDOM, STOPS)
+        self.ledger, self.gone, self.kinds = Ledger(self.line), set(), in_turn(RANDOM, STOPS)
 
     # What both sides say.
 
