@@ -87,6 +87,16 @@ class Ledger:
         else:
             self.added.discard((uuid, kind, value))
 
+    @staticmethod
+    def saw(edits, side, values, look):
+        """Whether an edit after a look, on the side other than this, saw one of the values, and not as its own."""
+        own = None
+        for it in [it for it in edits if it["side"] != side]:
+            if it["look"] > look and it["before"] in values and own != it["before"]:
+                return True
+            own = it["value"]
+        return False
+
     def came_back(self, edits, at):
         """Whether an edit gives its side the value again that the bridge knows there. A killed run may have looked meanwhile, if nobody on
         the other side saw another value of this side after that."""
@@ -96,7 +106,7 @@ class Ledger:
                 return False
             between.add(was)
             if other["before"] == edit["value"]:
-                return not any(it["side"] != edit["side"] and it["before"] in between and it["look"] > other["look"] for it in edits)
+                return other["look"] == edit["look"] or not self.saw(edits, edit["side"], between, other["look"])
             was = other["before"]
         return False
 
