@@ -68,6 +68,24 @@ is_made "$again"
 [ "$made" != "$again" ] || fail "the same key was made twice"
 ends 1 "$unknown" list b.db ann "$made" 1
 
+# One that is made is the only one also where it can't be printed: nobody has seen it, and what is told says to give another.
+lost() {
+    expect "status of a key that can't be printed" 1 "$1"
+    expect "a key that can't be printed" "taskboard: WriteFailed" "$(head -n 1 told)"
+    grep -q 'Give another with `taskboard key`' told || fail "a key that can't be printed: nothing says to give another"
+    ends 1 "$unknown" list b.db ann "$again" 1
+    ends 0 "boards 1 tasks 2 faults 0" check b.db
+    again=$("$program" key b.db ann)
+    is_made "$again"
+    ends 0 "$("$program" todo b.db ann "$again" 1)" todo b.db ann "$again" 1
+}
+status=0
+"$program" key b.db ann >/dev/full 2>told || status=$?
+lost "$status"
+status=0
+"$program" key b.db ann >&- 2>told || status=$?
+lost "$status"
+
 # One that is read is the first line, without the white space at its end; what is no key changes nothing.
 for no_key in '' 'short' 'with a blank' "$(printf '\nann-key-3')"; do
     printf '%s' "$no_key" >input
@@ -77,6 +95,12 @@ ends 0 "$("$program" todo b.db ann "$again" 1)" todo b.db ann "$again" 1
 printf 'ann-key-2 \r\nand more\n' >input
 ends 0 '{"person":"ann"}' key b.db ann - <input
 ends 1 "$unknown" list b.db ann "$again" 1
+ends 0 "$("$program" todo b.db ann ann-key-2 1)" todo b.db ann ann-key-2 1
+status=0
+"$program" key b.db ann - <input >/dev/full 2>told || status=$?
+expect "status of a key that is read, and not told" 1 "$status"
+expect "a key that is read, and not told" "taskboard: WriteFailed" "$(head -n 1 told)"
+ends 0 '{"person":"ann"}' key b.db ann - <input
 ends 0 "$("$program" todo b.db ann ann-key-2 1)" todo b.db ann ann-key-2 1
 
 # Others too, also who has no key; who isn't there gets none.
