@@ -1,6 +1,7 @@
 pub mod Auditing
 pub mod Cutting
 pub mod Faults
+pub mod Identifier
 pub mod Input
 pub mod Items
 pub mod Message

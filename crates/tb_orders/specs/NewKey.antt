@@ -1,5 +1,5 @@
 -- The new key that an order is about, and in whose name the machine's owner gives it.
-use Rattle.std.specs.Prelude.{◌≡◌, ◌&&◌, ◌==◌, ◌⊎◌, ℕ, Bool, true, false, not, List, [], ◌∷◌, ◌++◌, codes, Option, Some, None, IfSome, option_and_then, if◌then◌else◌}
+use Rattle.std.specs.Prelude.{◌≡◌, ◌&&◌, ◌==◌, ◌<◌, ◌⊎◌, ℕ, Bool, true, false, not, List, [], ◌∷◌, ◌++◌, codes, length, Option, Some, None, IfSome, option_and_then, if◌then◌else◌}
 use Rattle.std.specs.List.{before_first}
 use Rattle.std.specs.Option.{option_map}
 use Rattle.std.specs.Str.{bytes_eq, trim_end}
@@ -13,12 +13,15 @@ use Rattle.tb_calls.specs.declared.call.Call.{Call}
 use Rattle.tb_command_line.specs.declared.order.KeyOrder.{KeyOrder}
 use Rattle.tb_core.specs.declared.command.Command.{Command}
 use Rattle.tb_core.specs.declared.command.Command.TheVariants.{OwnKey, SetKey}
+use Rattle.tb_orders.specs.Identifier.{IsRandom, random_id}
 use Rattle.tb_orders.specs.Orders.{ending_of, line_text}
 use Rattle.tb_orders.specs.declared.ending.Ending.{Ending}
 use Rattle.tb_orders.specs.declared.new_key.NewKey.{NewKey}
 use Rattle.tb_program.specs.declared.fault.Fault.{Fault}
 use Rattle.tb_program.specs.declared.fault.Fault.TheVariants.{Memory, NoClock, NoKey, NotOurs, ReadFailed, Store, WriteFailed}
 use Rattle.tb_calls.specs.declared.reply.Reply.{Reply}
+use Rattle.tb_task.specs.Limits.{longest_body}
+use Rattle.tb_task.specs.TaskId.{id_text}
 
 -- ---- which key it is
 
@@ -29,16 +32,45 @@ first_line text = before_first (λ byte. byte == 10) text
 abbrev pub key_in : List ℕ → Option (List ℕ)
 key_in input = option_and_then (λ text. read_key (trim_end (first_line text))) (text_in input)
 
+-- the characters of the identifier that random bytes make
+abbrev pub made_key : List ℕ → Option (List ℕ)
+made_key drawn = read_key (id_text (random_id drawn))
+
+-- 16 bytes make the key, whatever they are
+pub record IsMadeKey (key : List ℕ) : Type 0 where
+  pub form : is_key key ≡ true
+  pub drawn : List ℕ
+  pub long : length drawn ≡ 16
+  pub is : made_key drawn ≡ Some key
+
 -- the key is the one of an input, where it is read
 abbrev pub IsKeyFor : Bool → Option (List ℕ) → List ℕ → Type 0
 IsKeyFor true input key = IfSome input (λ text. key_in text ≡ Some key)
-IsKeyFor false input key = is_key key ≡ true
+IsKeyFor false input key = IsMadeKey key
+
+-- NoKey says of a key that is to be read that an input has none, or is too long
+abbrev pub IsUnkeyed : Fault → Bool → Option (List ℕ) → Type 0
+IsUnkeyed NoKey true input =
+    IfSome input (λ text. (key_in text ≡ None) ⊎ (longest_body < length text))
+IsUnkeyed NoKey false input = ⊥
+IsUnkeyed _ is_read input = Unit {0}
+
+-- an order's key under an identifier of 16 bytes that were drawn, at a moment
+abbrev pub new_key : KeyOrder → List ℕ → List ℕ → ℕ → NewKey
+new_key order key drawn at = record {
+  name = order.name;
+  key = key;
+  is_made = not order.is_read;
+  id = random_id drawn;
+  at = at;
+}
 
 -- what an order asks for with an input
 pub record IsAsked (order : KeyOrder) (input : Option (List ℕ)) (asked : NewKey) : Type 0 where
   pub name_is : asked.name ≡ order.name
   pub made_is : asked.is_made ≡ not order.is_read
   pub key_is : IsKeyFor order.is_read input asked.key
+  pub id_is : IsRandom asked.id
 
 -- ---- the call that gives it
 

@@ -1,9 +1,8 @@
 //! The new key that an order is about: read, or made of random bytes.
-ghost use Rattle.std.specs.Prelude.{◌≡◌, IfErr, IfOk, IfSome, true};
-ghost use Rattle.std.specs.Str.{trim_end};
-ghost use Rattle.tb_board.specs.Names.{is_key, read_key};
-ghost use Rattle.tb_orders.specs.NewKey.{IsAsked, IsKeyFor, first_line, is_of_new_keys, key_in};
+ghost use Rattle.std.specs.Prelude.{◌≡◌, ℕ, IfErr, IfOk, IfSome, List, Option, false, length, true};
+ghost use Rattle.tb_orders.specs.NewKey.{IsAsked, IsKeyFor, IsMadeKey, IsUnkeyed, first_line, is_of_new_keys, key_in, made_key, new_key};
 
+use crate::identifier::random_id;
 use std::alloc::{AllocError, Global};
 use std::io::Read;
 use std::random::RandomSource;
@@ -26,8 +25,10 @@ pub struct NewKey {
     pub at: Moment,
 }
 
-/// What an order asks for. A key that isn't read is made of random bytes. Errors: `NoKey` where the first line of the reader is no key,
-/// `ReadFailed` where the reader fails or there are no random bytes, `NoClock` and `Memory`.
+/// What an order asks for. A key that isn't read is made of random bytes, and others make the identifier of its call, whose moment is the
+/// clock's. Errors: `NoKey` where the first line of the reader is no key, `ReadFailed` where the reader fails or there are no random
+/// bytes, `NoClock` and `Memory`.
+#[tactic(auto, using(crate::proofs::NewKeys::asked_of))]
 pub fn new_key_of<R: Read + Drop>(
     alloc: Global,
     order: &KeyOrder,
@@ -36,17 +37,36 @@ pub fn new_key_of<R: Read + Drop>(
     clock: &impl Clock,
 ) -> Result<NewKey, Fault>
     ensures asked { IfOk result (IsAsked order.now (R.remaining reader)) }
+    ensures unkeyed { IfErr result
+        (λ fault. IsUnkeyed fault order.now.is_read (R.remaining reader)) }
     ensures fault { IfErr result (λ fault. is_of_new_keys fault ≡ true) }
 {
     let key = key_for(alloc, order.is_read, reader, source)?;
+    let Some(drawn) = drawn_from(source) else {
+        return Err(Fault::ReadFailed);
+    };
+    let Some(at) = machine_moment(clock) else {
+        return Err(Fault::NoClock);
+    };
+    Ok(new_key(alloc, order, key, drawn, at)?)
+}
+
+/// The key of an order, the identifier of the bytes that were drawn for it, and the moment.
+fn new_key(
+    alloc: Global,
+    order: &KeyOrder,
+    key: Key,
+    drawn: [u8; 16],
+    at: Moment,
+) -> Result<NewKey, AllocError>
+    ensures { IfOk result (λ asked. asked ≡ new_key order.now key drawn at) }
+{
     let name = order.name.duplicate()?;
-    let id = random_id(source)?;
-    let at = machine_moment(clock).ok_or(Fault::NoClock)?;
     Ok(NewKey {
         name,
         key,
         is_made: !order.is_read,
-        id,
+        id: random_id(drawn),
         at,
     })
 }
@@ -58,6 +78,7 @@ fn key_for<R: Read + Drop>(
     source: &impl RandomSource,
 ) -> Result<Key, Fault>
     ensures key { IfOk result (IsKeyFor is_read (R.remaining reader)) }
+    ensures unkeyed { IfErr result (λ fault. IsUnkeyed fault is_read (R.remaining reader)) }
     ensures fault { IfErr result (λ fault. is_of_new_keys fault ≡ true) }
 {
     if is_read {
@@ -70,6 +91,7 @@ fn key_for<R: Read + Drop>(
 /// The key that the first line of a reader is.
 fn read_key<R: Read + Drop>(alloc: Global, reader: R) -> Result<Key, Fault>
     ensures key { IfOk result (IsKeyFor true (R.remaining reader)) }
+    ensures unkeyed { IfErr result (λ fault. IsUnkeyed fault true (R.remaining reader)) }
     ensures fault { IfErr result (λ fault. is_of_new_keys fault ≡ true) }
 {
     match read_text(alloc, reader) {
@@ -78,7 +100,8 @@ fn read_key<R: Read + Drop>(alloc: Global, reader: R) -> Result<Key, Fault>
             None => Err(Fault::NoKey),
         },
         Err(Fault::BadBody) => Err(Fault::NoKey),
-        Err(fault) => Err(fault),
+        Err(Fault::Memory) => Err(Fault::Memory),
+        Err(_) => Err(Fault::ReadFailed),
     }
 }
 
@@ -102,25 +125,36 @@ fn first_line(text: &str) -> &str
 
 /// A key of the characters of a random identifier.
 fn make_key(alloc: Global, source: &impl RandomSource) -> Result<Key, Fault>
-    ensures key { IfOk result (λ key. is_key key ≡ true) }
+    ensures key { IfOk result IsMadeKey }
+    ensures unkeyed { (input : Option (List ℕ))
+        → IfErr result (λ fault. IsUnkeyed fault false input) }
     ensures fault { IfErr result (λ fault. is_of_new_keys fault ≡ true) }
 {
-    let text = random_id(source)?.text(alloc)?;
-    match Key::read(alloc, text.as_str())? {
+    let Some(drawn) = drawn_from(source) else {
+        return Err(Fault::ReadFailed);
+    };
+    match made_key(alloc, drawn)? {
         Some(key) => Ok(key),
         None => Err(Fault::ReadFailed), // Never: an identifier has the form of a key.
     }
 }
 
-/// A random identifier of version 4.
-fn random_id(source: &impl RandomSource) -> Result<TaskId, Fault>
-    ensures { IfErr result (λ fault. is_of_new_keys fault ≡ true) }
+/// The key of the characters of the identifier that these bytes make.
+fn made_key(alloc: Global, drawn: [u8; 16]) -> Result<Option<Key>, AllocError>
+    ensures { IfOk result (λ key. key ≡ made_key drawn) }
+{
+    let text = random_id(drawn).text(alloc)?;
+    Key::read(alloc, text.as_str())
+}
+
+/// 16 random bytes, where the source gives them.
+fn drawn_from(source: &impl RandomSource) -> Option<[u8; 16]>
+    ensures { IfSome result (λ drawn. length drawn ≡ 16) }
 {
     let mut bytes = [0u8; 16];
-    if source.fill_bytes(&mut bytes).is_err() {
-        return Err(Fault::ReadFailed);
+    if source.fill_bytes(&mut bytes).is_ok() {
+        Some(bytes)
+    } else {
+        None
     }
-    bytes[6] = bytes[6] & 0x0f | 0x40;
-    bytes[8] = bytes[8] & 0x3f | 0x80;
-    Ok(TaskId::of_bytes(bytes))
 }
