@@ -94,8 +94,10 @@ def functions_of(crate, texts, proved):
             names = changed_functions(it.read(), text)
         if not names:
             return []
-        inside = f"{crate.name}::{module_of(path)}::"
-        found += [it.removeprefix(f"{crate.name}::") for it in proved if it.startswith(inside) and it.split("::")[-1] in names]
+        # A method goes by the module of its type, wherever its block stands.
+        named = [it for it in proved if it.startswith(f"{crate.name}::") and it.split("::")[-1] in names]
+        inside = [it for it in named if it.startswith(f"{crate.name}::{module_of(path)}::")]
+        found += [it.removeprefix(f"{crate.name}::") for it in inside or named]
     return found
 
 
