@@ -1,7 +1,6 @@
 pub mod Beside
 pub mod Changing
 pub mod Faults
-pub mod Identifier
 pub mod Key
 pub mod Places
 pub mod Replies

@@ -1,9 +1,10 @@
 //! The identifier by which a server knows a call that is sent again.
 ghost use Rattle.std.specs.Prelude.{◌≡◌, IfSome, IsNone, IsSome};
-ghost use Rattle.tb_sending.specs.Identifier.{IsRandom, random_id};
+ghost use Rattle.tb_orders.specs.Identifier.{IsRandom};
 
 use std::random::RandomSource;
 use tb_command_line::SendOrder;
+use tb_orders::random_id;
 use tb_task::TaskId;
 
 /// Gives the call an identifier, if it has none: a random one of version 4. Where the machine gives no random bytes, it still has none.
@@ -28,14 +29,4 @@ pub(crate) fn new_id(rt: &HostRuntime) -> Option<TaskId>
     } else {
         None
     }
-}
-
-/// The identifier of version 4 that these bytes make.
-fn random_id(bytes: [u8; 16]) -> TaskId
-    ensures { result ≡ random_id bytes }
-{
-    let mut bytes = bytes;
-    bytes[6] = bytes[6] & 0x0f | 0x40;
-    bytes[8] = bytes[8] & 0x3f | 0x80;
-    TaskId::of_bytes(bytes)
 }

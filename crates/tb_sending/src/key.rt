@@ -1,6 +1,5 @@
 //! The key under which an order is sent.
-ghost use Rattle.std.specs.Prelude.{◌≡◌, IfNone, IfOk, IfSome, None, true};
-ghost use Rattle.tb_board.specs.Names.{is_key};
+ghost use Rattle.std.specs.Prelude.{◌≡◌, IfNone, IfOk, IfSome, None};
 ghost use Rattle.tb_sending.specs.Key.{IsKeyOf};
 
 use crate::key_folder::KeyFolder;
@@ -8,6 +7,7 @@ use std::alloc::AllocError;
 use std::env;
 use tb_board::Key;
 use tb_command_line::SendOrder;
+use tb_orders::kept_key;
 use tb_values::Duplicate;
 
 /// The environment that has the key, before the key file.
@@ -21,19 +21,6 @@ pub(crate) fn key_of(rt: &HostRuntime, order: &SendOrder) -> Result<Option<Key>,
     match &order.key {
         Some(key) => Ok(Some(key.duplicate()?)),
         None => kept_key(rt),
-    }
-}
-
-/// The key that is kept in the environment, or else in a file that its owner alone may read.
-fn kept_key(rt: &HostRuntime) -> Result<Option<Key>, AllocError>
-    ensures { IfOk result (λ found. IfSome found (λ key. is_key key ≡ true)) }
-{
-    if let Ok(text) = env::var(rt, KEY_VARIABLE) {
-        return Key::read(rt.alloc(), text.as_str());
-    }
-    match KeyFolder::at_home(rt) {
-        Some(folder) => folder.key(),
-        None => Ok(None),
     }
 }
 
