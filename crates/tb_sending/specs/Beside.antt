@@ -1,6 +1,7 @@
 -- What stands beside the key file while the key changes, and what is done about it before an order is sent.
-use Rattle.std.specs.Prelude.{◌≡◌, Bool, [], ◌∷◌, ◌++◌, codes, if◌then◌else◌}
+use Rattle.std.specs.Prelude.{◌≡◌, ◌<◌, ◌^◌, ℕ, Bool, true, [], ◌∷◌, ◌++◌, codes, Option, Some, None, option_and_then, if◌then◌else◌}
 use Rattle.std.specs.Str.{bytes_eq}
+use Rattle.tb_board.specs.Names.{is_key, read_key}
 use Rattle.tb_client.specs.Request.{Text}
 use Rattle.tb_command_line.specs.declared.order.SendOrder.{SendOrder}
 use Rattle.tb_sending.specs.declared.beside.Begun.{Begun}
@@ -8,7 +9,7 @@ use Rattle.tb_sending.specs.declared.beside.Beside.{Beside}
 use Rattle.tb_sending.specs.declared.beside.Beside.TheVariants.{Nothing, Others, Ours}
 use Rattle.tb_sending.specs.declared.beside.Step.{Step}
 use Rattle.tb_sending.specs.declared.beside.Step.TheVariants.{Begin, Finish, Send, Stop, Tidy}
-use Rattle.tb_task.specs.TaskId.{id_text}
+use Rattle.tb_task.specs.TaskId.{id_text, read_id}
 
 -- ---- the text of `key.new`
 
@@ -21,11 +22,30 @@ abbrev pub begun_text : SendOrder → Begun → Text
 begun_text order begun =
     begun.key ++ (10 ∷ (owner_text order ++ (10 ∷ (id_text begun.id ++ 10 ∷ []))))
 
--- a change of the order's own person at its server is one whose text this is
+-- a key that was read, with an identifier
+abbrev pub begun_with : ℕ → Option Text → Option Begun
+begun_with id None = None
+begun_with id (Some key) = Some (record { key = key; id = id })
+
+-- the line that says whose it is
+abbrev pub owner_line : SendOrder → Text
+owner_line order = owner_text order ++ 10 ∷ []
+
+-- the change of the key and the identifier that two texts are
+abbrev pub begun_of : Text → Text → Option Begun
+begun_of key id = option_and_then (λ number. begun_with number (read_key key)) (read_id id)
+
+-- a change whose text this is was found: no other key and no other identifier make it
+abbrev pub IsFound : SendOrder → Text → Option Begun → Type 0
+IsFound order text found = (begun : Begun) → is_key begun.key ≡ true → begun.id < 2 ^ 128
+    → text ≡ begun_text order begun → found ≡ Some begun
+
+-- a change of the order's own person at its server is one whose text this is; where no key and no identifier make this text, it is of others
+-- or of no form
 abbrev pub IsBeside : SendOrder → Text → Beside → Type 0
 IsBeside order text Nothing = ⊥
 IsBeside order text (Ours begun) = text ≡ begun_text order begun
-IsBeside order text Others = Unit {0}
+IsBeside order text Others = IsFound order text None
 
 -- ---- what is done
 

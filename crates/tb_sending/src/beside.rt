@@ -1,11 +1,12 @@
 //! What stands beside the key file while the key changes, and what is done about it before an order is sent.
-ghost use Rattle.std.specs.Prelude.{◌≡◌, IfOk, false};
-ghost use Rattle.tb_sending.specs.Beside.{IsBeside, begun_text, step_of, step_of_ours};
+ghost use Rattle.std.specs.Prelude.{◌≡◌, ◌++◌, ◌∷◌, ℕ, [], IfOk, IsSomeAnd, List, false, true};
+ghost use Rattle.tb_board.specs.Names.{is_key};
+ghost use Rattle.tb_sending.specs.Beside.{IsBeside, IsFound, begun_of, begun_text, owner_line, step_of, step_of_ours};
 
 use std::alloc::{AllocError, Global};
 use tb_board::Key;
 use tb_command_line::SendOrder;
-use tb_task::TaskId;
+use tb_task::{TaskId, ids_are_read};
 use tb_values::Text;
 
 /// A change of the own key: the new key, and the identifier of its call.
@@ -67,7 +68,7 @@ fn step_of_ours(key: &Key, begun: Begun) -> Step
 }
 
 /// What the text of `key.new` is to an order.
-#[tactic(auto, using(crate::proofs::Texts::is_begun))]
+#[tactic(auto, using(crate::proofs::Texts::is_begun, crate::proofs::Texts::is_other))]
 pub(crate) fn read_beside(
     alloc: Global,
     order: &SendOrder,
@@ -75,7 +76,7 @@ pub(crate) fn read_beside(
 ) -> Result<Beside, AllocError>
     ensures { IfOk result (IsBeside order.now text.now) }
 {
-    let Some(begun) = read_begun(alloc, text)? else {
+    let Some(begun) = read_begun(alloc, order, text)? else {
         return Ok(Beside::Others);
     };
     let written = begun_text(alloc, order, &begun)?;
@@ -86,20 +87,48 @@ pub(crate) fn read_beside(
     }
 }
 
-/// The key on the first line of a text, and the identifier on the third.
-fn read_begun(alloc: Global, text: &str) -> Result<Option<Begun>, AllocError> {
-    let Some((key, rest)) = text.split_once('\n') else {
+/// The only change whose text this may be.
+fn read_begun(alloc: Global, order: &SendOrder, text: &str) -> Result<Option<Begun>, AllocError>
+    ensures { IfOk result (IsFound order.now text.now) }
+{
+    ids_are_read();
+    let owner = owner_line(alloc, order)?;
+    match around(text, owner.as_str()) {
+        Some((key, id)) => begun_of(alloc, key, id),
+        None => Ok(None),
+    }
+}
+
+/// What stands on the line before the owner's, and on that behind it.
+fn around<'a>(text: &'a str, owner: &str) -> Option<(&'a str, &'a str)>
+    ensures { (key id : List ℕ) → is_key key ≡ true
+        → text.now ≡ key ++ (10 ∷ (owner.now ++ (id ++ 10 ∷ [])))
+        → IsSomeAnd result (λ found. (found.0.now ≡ key) × (found.1.now ≡ id)) }
+{
+    let (key, rest) = text.split_once('\n')?;
+    let id = behind(rest, owner)?;
+    Some((key, id))
+}
+
+/// The line behind the owner's.
+fn behind<'a>(text: &'a str, owner: &str) -> Option<&'a str>
+    ensures { (id : List ℕ) → text.now ≡ owner.now ++ (id ++ 10 ∷ [])
+        → IsSomeAnd result (λ found. found.now ≡ id) }
+{
+    let rest = text.strip_prefix(owner)?;
+    rest.strip_suffix('\n')
+}
+
+/// The change of the key and the identifier that two texts are.
+fn begun_of(alloc: Global, key: &str, id: &str) -> Result<Option<Begun>, AllocError>
+    ensures { IfOk result (λ found. found ≡ begun_of key.now id.now) }
+{
+    let Some(id) = TaskId::read(id) else {
         return Ok(None);
     };
-    let Some((_, rest)) = rest.split_once('\n') else {
-        return Ok(None);
-    };
-    let Some((id, _)) = rest.split_once('\n') else {
-        return Ok(None);
-    };
-    match (Key::read(alloc, key)?, TaskId::read(id)) {
-        (Some(key), Some(id)) => Ok(Some(Begun { key, id })),
-        _ => Ok(None),
+    match Key::read(alloc, key)? {
+        Some(key) => Ok(Some(Begun { key, id })),
+        None => Ok(None),
     }
 }
 
@@ -119,4 +148,15 @@ pub(crate) fn begun_text(
     let mut text = String::new(alloc);
     write!(text, "{key}\n{server} {member}\n{id}\n")?;
     Ok(Text::from_string(text))
+}
+
+/// The line of that text that says whose key changes.
+fn owner_line(alloc: Global, order: &SendOrder) -> Result<Text, AllocError>
+    ensures { IfOk result (λ line. line ≡ owner_line order.now) }
+{
+    let server = order.server.as_str();
+    let member = order.member.as_str();
+    let mut line = String::new(alloc);
+    write!(line, "{server} {member}\n")?;
+    Ok(Text::from_string(line))
 }
