@@ -4,6 +4,7 @@ use Rattle.std.specs.Str.{bytes_eq}
 use Rattle.tb_board.specs.Names.{is_key, read_key}
 use Rattle.tb_client.specs.Request.{Text}
 use Rattle.tb_command_line.specs.declared.order.SendOrder.{SendOrder}
+use Rattle.tb_orders.specs.Identifier.{IsRandom}
 use Rattle.tb_sending.specs.declared.beside.Begun.{Begun}
 use Rattle.tb_sending.specs.declared.beside.Beside.{Beside}
 use Rattle.tb_sending.specs.declared.beside.Beside.TheVariants.{Nothing, Others, Ours}
@@ -46,6 +47,21 @@ abbrev pub IsBeside : SendOrder → Text → Beside → Type 0
 IsBeside order text Nothing = ⊥
 IsBeside order text (Ours begun) = text ≡ begun_text order begun
 IsBeside order text Others = IsFound order text None
+
+-- ---- a change that begins
+
+-- to the key of the characters of an identifier, unless that is the old one
+abbrev pub new_change : ℕ → ℕ → Text → Option Begun
+new_change id random old = if bytes_eq (id_text random) old then None
+    else begun_with id (read_key (id_text random))
+
+-- under the order's identifier, to a key that random bytes make and that isn't the old one
+pub record IsNewChange (order : SendOrder) (old : Text) (begun : Begun) : Type 0 where
+  pub id : ℕ
+  pub random : ℕ
+  pub named : order.id ≡ Some id
+  pub drawn : IsRandom random
+  pub is : new_change id random old ≡ Some begun
 
 -- ---- what is done
 

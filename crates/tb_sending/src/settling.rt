@@ -2,6 +2,7 @@
 ghost use Rattle.std.specs.Io.KnownBytes.{Appends};
 ghost use Rattle.std.specs.Prelude.{◌≡◌, ◌++◌, ◌∷◌, [], IfErr, IfNone, IfOk, IfSome, false, true};
 ghost use Rattle.tb_orders.specs.declared.ending.Ending.TheVariants.{Accepted};
+ghost use Rattle.tb_sending.specs.Beside.{IsNewChange, new_change};
 ghost use Rattle.tb_sending.specs.Changing.{EndsBefore, IsSettled, IsUnsettled, asks_for_key, changed_body};
 ghost use Rattle.tb_sending.specs.Faults.{is_of_sending};
 
@@ -11,12 +12,14 @@ use crate::identifier::new_id;
 use crate::key::folder_of;
 use crate::key_folder::KeyFolder;
 use crate::printing::print_refusal;
+use std::alloc::{AllocError, Global};
 use std::io::Write;
 use tb_board::Key;
 use tb_client::{Line, Reply, is_own_key_alone};
 use tb_command_line::SendOrder;
 use tb_orders::Ending;
 use tb_program::{Fault, print_line};
+use tb_task::TaskId;
 
 const UNKNOWN: &str =
     "taskboard: The server knows you neither by the key in ~/.config/taskboard/key nor by the new one in key.new beside it. Both files are as they were. Have the first person give you a key, write it into key, and remove key.new.";
@@ -60,7 +63,7 @@ pub(crate) fn settle<L: Line, W: Write>(
         Step::Send => Ok(None),
         Step::Stop => Err(Fault::Store),
         Step::Begin => {
-            let begun = begin(rt, order, &folder)?;
+            let begun = begin(rt, order, &key, &folder)?;
             finish(rt, order, &folder, &key, &begun, line, writer)
         }
         Step::Finish(begun) => finish(rt, order, &folder, &key, &begun, line, writer),
@@ -72,19 +75,42 @@ pub(crate) fn settle<L: Line, W: Write>(
 }
 
 /// Makes a new key, and keeps its change beside the key file before it is sent.
-fn begin(rt: &HostRuntime, order: &SendOrder, folder: &KeyFolder<'_>) -> Result<Begun, Fault>
+fn begin(
+    rt: &HostRuntime,
+    order: &SendOrder,
+    key: &Key,
+    folder: &KeyFolder<'_>,
+) -> Result<Begun, Fault>
+    ensures begun { IfOk result (IsNewChange order.now key.now) }
     ensures fault { IfErr result (λ fault. is_of_sending fault ≡ true) }
 {
     let (Some(id), Some(random)) = (order.id, new_id(rt)) else {
         return Err(Fault::ReadFailed); // The machine gave no random bytes.
     };
-    let text = random.text(rt.alloc())?;
-    let Some(key) = Key::read(rt.alloc(), text.as_str())? else {
-        return Err(Fault::ReadFailed); // Never: 36 digits and hyphens are a key.
+    let Some(begun) = new_change(rt.alloc(), id, random, key)? else {
+        return Err(Fault::ReadFailed); // Never: the machine's random bytes made the old key again.
     };
-    let begun = Begun { key, id };
     folder.keep(order, &begun)?;
     Ok(begun)
+}
+
+/// The change to the key of the characters of a random identifier, unless that is the old one.
+fn new_change(
+    alloc: Global,
+    id: TaskId,
+    random: TaskId,
+    old: &Key,
+) -> Result<Option<Begun>, AllocError>
+    ensures { IfOk result (λ begun. begun ≡ new_change id random old.now) }
+{
+    let text = random.text(alloc)?;
+    if text.as_str() == old.as_str() {
+        return Ok(None);
+    }
+    match Key::read(alloc, text.as_str())? {
+        Some(key) => Ok(Some(Begun { key, id })),
+        None => Ok(None), // Never: 36 digits and hyphens are a key.
+    }
 }
 
 /// Sends a change that was begun, and moves the new key into place where it is accepted; then the order is to be sent, unless it asked
