@@ -5,7 +5,7 @@ use Rattle.tb_causes.specs.FileCause.{IsFileText}
 use Rattle.tb_causes.specs.Told.{Text}
 use Rattle.tb_causes.specs.Unanswered.{IsUnanswered}
 use Rattle.tb_causes.specs.WrongWord.{wrong_text}
-use Rattle.tb_causes.specs.declared.cause.TheConstants.{BAD, BAD_BODY, BAD_SEND, KEY_FILES, KEY_UNREAD, LOW_PORT, MEMORY, NOT_EMPTY, NOT_OURS, NO_ANSWER, NO_CLOCK, NO_KEY, NO_KEY_FILE, NO_LISTEN, NO_NEW_KEY, NO_PAGE, READ_FAILED, STORE, TAKEN_PORT, WRITE_FAILED, WRONG_VERSION}
+use Rattle.tb_causes.specs.declared.cause.TheConstants.{BAD, BAD_BODY, BAD_SEND, KEY_FILES, KEY_UNREAD, KEY_UNTOLD, LOW_PORT, MEMORY, NOT_EMPTY, NOT_OURS, NO_ANSWER, NO_CLOCK, NO_KEY, NO_KEY_FILE, NO_LISTEN, NO_NEW_KEY, NO_PAGE, READ_FAILED, STORE, TAKEN_PORT, WRITE_FAILED, WRONG_VERSION}
 use Rattle.tb_client.specs.OwnKey.{is_own_key_alone}
 use Rattle.tb_command_line.specs.declared.order.Order.{Order}
 use Rattle.tb_command_line.specs.declared.order.Order.TheVariants as order
@@ -75,9 +75,9 @@ key_text (order.Send sent) = if is_own_key_alone sent.words then NO_KEY_FILE.now
 key_text (order.Key given) = NO_NEW_KEY.now
 key_text _ = NO_KEY.now
 
--- of what couldn't be printed: a key that was made is lost then
+-- of what couldn't be printed: a key that was made is lost then, and one that was read is known
 abbrev pub written_text : Order → Text
-written_text (order.Key given) = KEY_UNREAD.now
+written_text (order.Key given) = if given.is_read then KEY_UNTOLD.now else KEY_UNREAD.now
 written_text _ = WRITE_FAILED.now
 
 abbrev pub IsCauseOfSilence : Order → Text → Type 0

@@ -76,7 +76,10 @@ const NO_NEW_KEY: &str =
     "The first line of standard input is no key: a key has 8 to 64 visible ASCII characters. Nothing was changed.";
 
 const KEY_UNREAD: &str =
-    "Standard output couldn't be written: the key may have been given, and nobody can read it. Give another with `taskboard key`.";
+    "Standard output couldn't be written: the key may have been changed to one that was made, which nobody has seen. Give another with `taskboard key`.";
+
+const KEY_UNTOLD: &str =
+    "Standard output couldn't be written: the key that was read may have been given. Run the same `taskboard key` again, which tells what came of it.";
 
 const LOW_PORT: &str =
     "Ports below 1,024 are the system's, or another program has this one: take a higher one, as 8080.";
@@ -170,11 +173,12 @@ fn key_text(order: &Order) -> &'static str
     }
 }
 
-/// Of what couldn't be printed: a key that was made is lost then.
+/// Of what couldn't be printed: a key that was made is lost then, and one that was read is known.
 fn written_text(order: &Order) -> &'static str
     ensures { result.now ≡ written_text order.now }
 {
     match order {
+        Order::Key(order) if order.is_read => KEY_UNTOLD,
         Order::Key(_) => KEY_UNREAD,
         _ => WRITE_FAILED,
     }
