@@ -76,7 +76,7 @@ def assign(office):
     office.go(board, "tasks", roof)
     browser.wait("return document.getElementById('task-facts').textContent.includes('bob')")
     browser.click("#edit")
-    browser.run("document.querySelector('#edit-fields select.assignee').value = 'ann'")
+    browser.run("const select = document.querySelector('#edit-fields select.assignee'); if (select.checkVisibility()) select.value = 'ann'")
     browser.click("#edit-save")
     browser.wait("return document.getElementById('task-facts').textContent.includes('Assigneeann')")
     browser.wait(ALL_ANSWERED)
