@@ -14,8 +14,9 @@ import { here, listen, state } from "./state.js";
 // How long Save waits for the freshest copy of the task, in milliseconds; without one it takes the copy that is shown.
 const PATIENCE = 5000;
 const LABELS = { description: "The description", project: "The project", priority: "The priority", assignee: "The assignee", due: "The due date", wait: "The date until which it waits", scheduled: "The scheduled date", until: "The date until which it repeats or counts", recur: "The repeat" };
-// The task in the form, its fields, what they said when the form was opened, and whether the task is to be reopened first.
-let [edited, fields, before, reopens] = [null, null, null, false];
+// The task in the form, its fields, what they said when the form was opened, and whether the task is to be reopened first; and the fields
+// that are being saved.
+let [edited, fields, before, reopens, saved] = [null, null, null, false, null];
 
 const isSame = (one, other) => JSON.stringify(one) === JSON.stringify(other);
 const tell = (text) => (find("edit-told").textContent = text);
@@ -27,7 +28,7 @@ function show(isShown) {
     tell("");
     fill(find("edit-conflicts"));
     find("edit-save").textContent = "Save";
-    find("edit-save").disabled = false;
+    find("edit-save").ariaDisabled = null;
 }
 
 // Opens the form as its draft left it, or with what the task says.
@@ -39,6 +40,7 @@ export function openEdit(task) {
     show(true);
     fill(find("edit-fields"), fields.elements);
     fields.description.focus();
+    fields.description.setSelectionRange(fields.description.value.length, fields.description.value.length);
 }
 
 export function closeEdit() {
@@ -121,18 +123,29 @@ function takeChoices(fresh) {
     fill(find("edit-conflicts"));
 }
 
+// One save at a time. The button keeps the focus meanwhile, so that a second Enter doesn't fall on Cancel beside it.
+async function saveOnce() {
+    if (saved === fields || !isWhole(find("edit-form"))) return;
+    saved = fields;
+    find("edit-save").ariaDisabled = true;
+    await save().finally(() => (saved = null));
+    find("edit-save").ariaDisabled = null;
+}
+
+function ask(choices) {
+    fill(find("edit-conflicts"), choices);
+    find("edit-conflicts").querySelector("input").focus();
+}
+
 async function save() {
-    if (!isWhole(find("edit-form"))) return;
     const [form, task] = [fields, edited];
-    find("edit-save").disabled = true;
     const now = await freshest(task);
     if (fields !== form) return;
-    find("edit-save").disabled = false;
     const fresh = new Fields(state.board, now);
     takeChoices(fresh);
     const [mine, theirs] = [fields.read(), fresh.read()];
     const { edits, conflicts } = merge(before, mine, theirs);
-    if (conflicts.length > 0) return fill(find("edit-conflicts"), conflicts.map((name) => choice(name, mine[name], theirs[name])));
+    if (conflicts.length > 0) return ask(conflicts.map((name) => choice(name, mine[name], theirs[name])));
     if (Object.keys(edits).length > 0 && !now.isOpen && !reopens) return askToReopen(now);
     const change = { ...changes.modify(state.number, now, edits), form: { before, typed: fields.typed() } };
     if (Object.keys(edits).length > 0) await keep(...(reopens ? [changes.act(state.number, now, "reopen")] : []), change);
@@ -148,6 +161,6 @@ function askToReopen(task) {
 export function beginEditing() {
     find("edit-form").addEventListener("input", keepEdit);
     find("cancel-edit").addEventListener("click", drop);
-    whenSent("edit-form", () => save().catch(tellFault));
+    whenSent("edit-form", () => saveOnce().catch(tellFault));
     listen("left", closeEdit);
 }

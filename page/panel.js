@@ -91,6 +91,13 @@ function drawChoices() {
     find("depend-told").textContent = text && found.length === 0 ? "No open task has these words." : told;
 }
 
+// The button that had the focus has it again, or the one that stands in its place, as Stop after Start: never Done, which nobody meant.
+function drawActions(one) {
+    const at = [...find("task-actions").children].indexOf(document.activeElement);
+    fill(find("task-actions"), actions(one));
+    if (at >= 0) [...find("task-actions").children].slice(0, at + 1).at(-1)?.focus();
+}
+
 // Fills what comes from the board, and leaves the forms alone in which someone may be typing.
 function drawTask(one) {
     const isUnanswered = waiting().some((change) => change.task === one.uuid);
@@ -104,9 +111,7 @@ function drawTask(one) {
     drawn = one;
     look = seen;
     fill(find("task-text"), linked(one.description));
-    const hadFocus = find("task-actions").contains(document.activeElement);
-    fill(find("task-actions"), actions(one));
-    if (hadFocus) find("task-actions").firstChild.focus();
+    drawActions(one);
     fill(find("task-facts"), facts(one));
     fill(find("task-notes"), one.notes.map((note) => noteRow(one, note)));
     fill(find("task-ahead"), ahead.map((id) => aheadRow(one, id)));

@@ -143,6 +143,32 @@ def by_keys(office):
     gone_by_keys(office, board, first)
 
 
+def keeps_its_button(office):
+    """What is done by a button of the open task leaves the focus where it was, and never on one that completes or gives up; Undo ends with Reopen."""
+    browser, board = office.browser, new_board("Buttons")
+    task = add(board, description="Slowly")
+    office.begin(board)
+    office.go(board, "tasks", task)
+    focused = "return document.activeElement.textContent"
+    at_button = "[...document.querySelectorAll('#task-actions button')].find((button) => button.textContent === arguments[0])"
+    for label, after in (("Start", "Stop"), ("Stop", "Start"), ("Delete", "Reopen"), ("Reopen", "Done")):
+        browser.wait(f"const found = {at_button}; found?.focus(); return Boolean(found)", label)
+        browser.press(ENTER)
+        browser.wait(f"return Boolean({at_button})", after)
+        browser.wait(ALL_ANSWERED)
+        expect(f"focus after {label}", after, browser.run(focused))
+    expect("a way back from what is back", "", browser.run("return document.getElementById('toast').textContent"))
+    browser.click("#edit")
+    browser.press(*" but well", ENTER)
+    expect("typed behind the text", "Slowly but well\n", browser.run("return document.activeElement.value"))
+    browser.run("document.getElementById('edit-save').focus()")
+    browser.press(ENTER)
+    browser.wait("return document.getElementById('task-text').textContent === 'Slowly but well' && document.getElementById('edit-form').hidden")
+    browser.wait(ALL_ANSWERED)
+    expect("focus after Save", "Edit", browser.run(focused))
+    expect("saved", ["Slowly but well", "pending"], [tasks(board)[0][name] for name in ("description", "status")])
+
+
 def gone_by_keys(office, board, task):
     """What takes the key that it was pressed with away: the focus goes to what stands near."""
     browser = office.browser
@@ -268,4 +294,4 @@ def asked_seldom(office):
     expect("asked after 16 s in which nobody acts", before, times_asked())
 
 
-SCENES = (asked_seldom, without_a_line, newer_version, by_keys, on_paper, on_a_phone, for_readers)
+SCENES = (asked_seldom, without_a_line, newer_version, by_keys, keeps_its_button, on_paper, on_a_phone, for_readers)

@@ -309,6 +309,7 @@ def two_edit_one_task(office):
         browser.wait("return document.querySelectorAll('#edit-conflicts fieldset').length === 1")
         sides = browser.run("return [...document.querySelectorAll('#edit-conflicts bdi')].map((side) => side.textContent)")
         expect("beside each other", ["Paint the fence white", "Paint the fence green"], sides)
+        expect("what has the focus", "mine", browser.run("return document.activeElement.value"))
         expect("before the choice", "Paint the fence green", one_of(board, task)["description"])
         office.shot("two-edits")
         browser.click("#edit-conflicts input[value=mine]")
