@@ -34,6 +34,13 @@ function withEdits(told, edits) {
     return ["pending", "waiting"].includes(told.status) ? settled(edited) : edited;
 }
 
+// (a board that was asked for before a change was answered may have it already)
+function withNote(told, { description }) {
+    const notes = told.annotations ?? [];
+    if (notes.some((note) => note.description === description)) return told;
+    return { ...told, annotations: [...notes, { entry: momentOf(now()), description }] };
+}
+
 function withoutNote(told, text) {
     const at = (told.annotations ?? []).findIndex(({ description }) => description === text);
     return { ...told, annotations: (told.annotations ?? []).filter((_, place) => place !== at) };
@@ -48,9 +55,9 @@ const CALLS = {
     start: (told) => ({ ...told, start: momentOf(now()) }),
     stop: (told) => without(told, "start"),
     modify: withEdits,
-    annotate: (told, { description }) => ({ ...told, annotations: [...(told.annotations ?? []), { entry: momentOf(now()), description }] }),
+    annotate: withNote,
     denotate: (told, { description }) => withoutNote(told, description),
-    depend: (told, { on }) => ({ ...told, depends: [...(told.depends ?? []), on] }),
+    depend: (told, { on }) => ({ ...told, depends: [...new Set([...(told.depends ?? []), on])] }),
     undepend: (told, { on }) => ({ ...told, depends: (told.depends ?? []).filter((id) => id !== on) }),
 };
 

@@ -142,9 +142,11 @@ def refused_keep_text(office):
     browser.wait("return document.querySelectorAll('#notices .refused').length === 2")
     press(browser, "Edit and send again")
     browser.wait(HAS_VALUE, "#note-text", "Two tins, not three")
-    browser.type("#note-text", ENTER)
+    browser.wait(HAS_FOCUS, "note-text")
+    browser.press(ENTER)
     press(browser, "Edit and send again")
     browser.wait(HAS_VALUE, "#add-line", "Sand the door +House")
+    browser.wait(HAS_FOCUS, "add-line")
     expect("a field", "saturday", browser.run(VALUE, "#add-fields input[placeholder='phone mail']"))
     browser.type("#add-line", ENTER)
     browser.wait("return document.querySelectorAll('#notices .refused').length === 0")
@@ -453,6 +455,30 @@ def signing_out(office):
     expect("people", ["ann", "erin-keep"], [one["name"] for one in json.loads(ask(f"/boards/{board}/people"))["people"]])
 
 
+def unsent_stands_once(office):
+    """A note and a link that the server has, though their answers were lost, stand in the task once."""
+    browser, relay = office.browser, office.relay
+    board = new_board("Once")
+    task, other = add_task(board, description="Paint the fence"), add_task(board, description="Buy paint")
+    office.begin(board)
+    open_task(office, board, task)
+    relay.break_off(LOSES_ANSWERS)
+    browser.type("#note-text", "Two tins" + ENTER)
+    browser.wait(IS_TOLD, "1 change isn't answered yet")
+    relay.lost.wait(browser.patience)
+    tell(f"/boards/{board}/tasks/{task}/depend", on=other)
+    browser.type("#depend-text", "Buy")
+    browser.wait("return document.querySelectorAll('#depend-choices button').length === 1")
+    browser.type("#depend-text", ENTER)
+    browser.wait(IS_TOLD, "2 changes aren't answered yet")
+    tell(f"/boards/{board}/tasks/{task}/modify", project="House")
+    browser.wait("dispatchEvent(new Event('focus')); return document.getElementById('task-facts').textContent.includes('House')")
+    counts = "return ['notes', 'ahead'].map((part) => document.querySelectorAll(`#task-${part} li`).length)"
+    expect("notes and links before the answers", [1, 1], browser.run(counts))
+    heal(office)
+    expect("and after them", [1, 1], browser.run(counts))
+
+
 def unsent_looks_done(office):
     """While changes are on their way their tasks look as they will be, also a new one that is completed before it is there; each acts once."""
     browser, relay = office.browser, office.relay
@@ -480,4 +506,4 @@ def unsent_looks_done(office):
     expect("the first", task, stored["Slow one"]["uuid"])
 
 
-SCENES = (refused_keep_text, refused_person, refused_board, told_before, drafts_stay, two_edit_one_task, two_complete_one_task, changed_while_waiting, edited_before_sending, new_key_without_tls, signing_out, unsent_looks_done)
+SCENES = (refused_keep_text, refused_person, refused_board, told_before, drafts_stay, two_edit_one_task, two_complete_one_task, changed_while_waiting, edited_before_sending, new_key_without_tls, signing_out, unsent_stands_once, unsent_looks_done)
