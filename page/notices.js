@@ -10,14 +10,20 @@ import { listen } from "./state.js";
 const [TOLD_FOR, LATE, MOST_SHOWN] = [10000, 400, 20];
 const WAYS_BACK = { done: "Completed", delete: "Deleted" };
 const DONE_BEFORE = { done: "completed", delete: "deleted", reopen: "reopened", start: "started", stop: "stopped" };
-let [isThere, timer, look] = [true, 0, ""];
+// Whether the server answers, when the toast ends, what the notices show, and the task of which the toast offers a way back.
+let [isThere, timer, look, offered] = [true, 0, "", ""];
 
-const endToast = () => fill(find("toast"));
+function endToast() {
+    offered = "";
+    fill(find("toast"));
+}
+
 const quoted = (text) => make("q", {}, said(text, 120));
 const about = (change) => [`${change.verb} `, quoted(change.subject)];
 
 export function toast(...children) {
-    fill(find("toast"), ...children, button("Close", endToast, { class: "quiet" }));
+    offered = "";
+    fill(find("toast"), ...children, button("Close", () => {}, { class: "quiet" }));
     clearTimeout(timer);
     timer = setTimeout(endToast, TOLD_FOR);
 }
@@ -142,19 +148,21 @@ function drawNotices() {
 
 const draw = () => [drawState, drawUnanswered, drawNotices].forEach((part) => part());
 
-// Offers a way back from what closed a task.
+// Offers a way back from what closed a task, until the task is open again.
 function offerBack({ change, status }) {
-    const word = WAYS_BACK[change.path.split("/").at(-1)];
+    const action = change.path.split("/").at(-1);
+    if (action === "reopen" && change.task === offered) endToast();
+    const word = WAYS_BACK[action];
     if (status !== 200 || !word || document.hidden || change.isOneOfMany) return;
     const task = { uuid: change.task, description: change.subject };
-    const undo = button("Undo", () => {
-        endToast();
-        keep(changes.act(change.board, task, "reopen")).catch(tellFault);
-    });
+    const undo = button("Undo", () => keep(changes.act(change.board, task, "reopen")).catch(tellFault));
     toast(make("span", {}, `${word} `, quoted(change.subject)), undo);
+    offered = change.task;
 }
 
 export function beginNotices() {
+    // (each button of the toast ends it: a second Undo would be refused)
+    find("toast").addEventListener("click", ({ target }) => target.closest("button") && endToast());
     find("state").addEventListener("click", () => {
         find("unanswered").hidden = !find("unanswered").hidden;
         draw();

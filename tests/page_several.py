@@ -54,6 +54,7 @@ def several(office):
     browser.wait(ARE_LISTED, shown)
     browser.wait(ALL_ANSWERED)
     expect("taken back", ["pending"] * 4, of_all(board, "status"))
+    expect("the way back afterwards", "", browser.run("return document.getElementById('toast').textContent"))
     pick(browser, "Alpha", "Beta")
     browser.run(CHANGE, "bulk-assign", "bob")
     browser.wait(IS_TOLD, "Assigned to bob: 2 tasks")
