@@ -6,7 +6,7 @@ import { tellFault } from "./notices.js";
 import { STEPS } from "./recurrence.js";
 import { faultInPair, faultInStep } from "./rules.js";
 import { keep } from "./sending.js";
-import { here, listen, state } from "./state.js";
+import { go, here, listen, state } from "./state.js";
 
 // What is of the one task and not of those that follow it.
 const ITS_OWN = ["uuid", "status", "entry", "modified", "start", "end"];
@@ -29,12 +29,15 @@ function faultInRepeat(text) {
     return faultInStep(step) || faultInPair(step, task()?.told.due);
 }
 
-// Where the repeating task is refused, the other one stays.
+// Where the repeating task is refused, the other one stays. What is shown is the repeating task: a way back from the deletion alone would
+// leave both.
 async function repeat(form) {
     const one = task();
     if (!one || !isWhole(form)) return;
     const kept = Object.fromEntries(Object.entries(one.told).filter(([name]) => !ITS_OWN.includes(name)));
-    await keep(changes.add(state.number, { ...kept, recur: find("repeat-step").value.trim() }), changes.act(state.number, one, "delete"));
+    const made = changes.add(state.number, { ...kept, recur: find("repeat-step").value.trim() });
+    await keep(made, { ...changes.act(state.number, one, "delete"), isOneOfMany: true });
+    go(made.board, "repeating", made.task);
 }
 
 export function beginBecoming() {

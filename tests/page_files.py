@@ -126,6 +126,8 @@ def made_to_repeat(office):
     browser.type("#repeat-step", "ly" + ENTER)
     browser.wait("return !document.getElementById('repeat-part').checkVisibility()")
     browser.wait(ALL_ANSWERED)
+    browser.wait("return document.getElementById('task-status').textContent.startsWith('repeating')")
+    expect("a way back from the deletion alone", "", browser.run("return document.getElementById('toast').textContent"))
     stored = [task for task in tasks(board) if task["description"] == "Water the plants"]
     expect("statuses", ["deleted", "recurring", "pending"], [task["status"] for task in stored])
     members = ("recur", "due", "scheduled", "until", "assignee", "depends")
