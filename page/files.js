@@ -50,7 +50,7 @@ function drawPlan() {
     fill(
         find("import-details"),
         tasksTold(`${plural(faults.length, "task")} can't be taken`, faults, true),
-        tasksTold(`${plural(spelled.length, "task")} will be spelled as this server reads it`, spelled),
+        tasksTold(`${plural(spelled.length, "task")} will be spelled as this server reads them`, spelled),
         tasksTold(`${plural(losses.length, "task")} will lose something`, losses),
     );
     find("import-send").textContent = faults.length > 0 && count > 0 ? `Import the other ${counted(count)}` : "Import";

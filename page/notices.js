@@ -124,11 +124,12 @@ function question(change) {
 // What the parts of an import did together, those that are answered.
 function report(parts) {
     const sum = (name) => parts.reduce((total, part) => total + (part.answer[name] ?? 0), 0);
+    const lost = (name, one, many) => sum(name) > 0 && `${counted(sum(name))} ${sum(name) === 1 ? one : many}`;
     const told = [
         `${counted(sum("new"))} new; ${counted(sum("known"))} known already, which stay as they are`,
-        "dropped" in parts[0].answer && `${counted(sum("dropped"))} members dropped that a task can't keep`,
-        sum("orphans") && `${counted(sum("orphans"))} instances without their template, now plain tasks`,
-        sum("unlinked") && `${counted(sum("unlinked"))} links to unknown tasks dropped`,
+        lost("dropped", "member dropped that a task can't keep", "members dropped that a task can't keep"),
+        lost("orphans", "instance without its template, now a plain task", "instances without their template, now plain tasks"),
+        lost("unlinked", "link to an unknown task dropped", "links to unknown tasks dropped"),
     ].filter(Boolean);
     const soFar = parts[0].parts > 1 ? ` (${parts.length} of ${parts[0].parts} parts)` : "";
     const text = make("p", {}, make("strong", {}, "Imported "), quoted(parts[0].file), `${soFar}: ${told.join("; ")}.`);

@@ -6,7 +6,8 @@ const WEEKDAYS = "sunday monday tuesday wednesday thursday friday saturday".spli
 const MOMENTS = ["due", "wait", "scheduled", "until"];
 const NAMES = [...MOMENTS, "priority", "project", "tag", "for", "assignee"];
 // Names that are meant as such words by Taskwarrior or todo.txt, though the line doesn't take them.
-const OTHERS = ["recur", "rec", "repeat", "start", "end", "entry", "depends", "dep", "status", "uuid", "t", "pr"];
+const REPEATS = ["recur", "rec", "repeat"];
+const OTHERS = [...REPEATS, "start", "end", "entry", "depends", "dep", "status", "uuid", "t", "pr"];
 const DAYS = "today, tomorrow, friday, 2026-12-01 or 2026-12-01T14:00";
 
 export function isDay(text) {
@@ -53,6 +54,7 @@ const nameIn = (value, people, me) => (value === "me" && !people?.includes("me")
 export function readWord(word, people, me) {
     const { name, value } = partsOf(word);
     if (name === undefined) return {};
+    if (REPEATS.includes(name)) return { misread: "isn't understood in this line: Details has a field for it, Repeat" };
     if (OTHERS.includes(name)) return { misread: "isn't understood in this line" };
     if (value === "") return { misread: MOMENTS.includes(name) ? `needs a day: ${DAYS}` : `needs something after ${name}:` };
     if (name === "priority") return readPriority(value) ? { member: name, value: readPriority(value) } : { misread: "isn't a priority: H, M or L" };

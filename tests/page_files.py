@@ -46,7 +46,7 @@ def the_rest(office):
     expect("faults", "5 tasks can't be taken", faults[0])
     for name, why in (("By the hour", "PT1H"), ("Two words", "a tag"), ("One of two", "in a circle"), ("Two of two", "in a circle"), ("Long", "too long")):
         expect(f"the reason of {name}", 1, len([line for line in faults[1] if name in line and why in line]))
-    expect("spelled anew", "3 tasks will be spelled as this server reads it", spelled[0])
+    expect("spelled anew", "3 tasks will be spelled as this server reads them", spelled[0])
     expect("a step", 1, len([line for line in spelled[1] if "Template" in line and '"2wks" is "biweekly"' in line]))
     expect("losses", "2 tasks will lose something", losses[0])
     expect("what is lost", [True, True], ["priority X" in losses[1][0] and "estimate" in losses[1][0], "1 link" in losses[1][1]])
@@ -54,7 +54,7 @@ def the_rest(office):
     expect("what is offered", "Import the other 5", browser.run("return document.getElementById('import-send').textContent"))
     browser.click("#import-send")
     browser.wait(ALL_ANSWERED)
-    browser.wait(IS_TOLD, "5 new; 0 known")
+    browser.wait(IS_TOLD, "5 new; 0 known already, which stay as they are; 2 members dropped that a task can't keep; 1 link to an unknown task dropped.")
     browser.wait(IS_TOLD, "Which tasks lost what")
     stored = {task["description"]: task for task in tasks(board)}
     expect("taken", {"Instance", "Template", "Tab\there", "Waits for the circle", "Sound"}, set(stored))
