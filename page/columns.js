@@ -178,9 +178,10 @@ export function beginColumns() {
     place.addEventListener("keydown", steer);
     beginDragging(place);
     listen("kept", () => find("columns").hidden || dragged || draw());
+    // (closed first, so that the card has the focus again before it is drawn in another column)
     whenSent("wait-form", () => {
-        whenDated();
         find("wait-dialog").close();
+        whenDated();
     });
     find("cancel-wait").addEventListener("click", () => find("wait-dialog").close());
 }

@@ -135,7 +135,7 @@ def columns(office):
     press(browser, "w")
     wait_until(browser, day(8))
     expect("waits by a key", ["waiting", moment(8)], status(1, "status", "wait"))
-    browser.run(f"{CARD}.querySelector('.open').focus()", "Begun")
+    browser.wait("return document.activeElement.textContent === 'Begun'")
     press(browser, LEFT, LEFT, held=SHIFT)
     browser.wait(HAS_CARDS, {"todo": ["Begun"], "waiting": ["Waits"]})
     browser.wait(ALL_ANSWERED)
