@@ -6,6 +6,8 @@ import { find } from "./dom.js";
 import { bodyOf, forget } from "./sending.js";
 import { announce, go, state } from "./state.js";
 
+// What has the focus in a form without a task of its own, or beside one; the form that changes a task takes it itself.
+const FIELDS = { add: "add-line", note: "note-text" };
 const REPLACES = "Something else stands in this form and isn't sent. Replace it?";
 
 // Puts the text where its form looks for a draft, and shows that form. Gives whether it stands there.
@@ -15,6 +17,8 @@ function openDraft({ board, view, task, kind, content }) {
     if (!keepDraft(kind, task, content, board)) return false;
     go(board, view, task);
     announce("draft");
+    // (once the address is read, which shows the form)
+    setTimeout(() => find(FIELDS[kind])?.focus());
     return true;
 }
 

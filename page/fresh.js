@@ -158,5 +158,6 @@ export function beginLooking() {
     listen("route", drawAge);
     listen("kept", () => state.board?.relay() && announce("board", true));
     listen("rekeyed", () => lookAgain(true));
-    listen("answered", ({ change }) => document.hidden || lookAgain(change.board === 0 || changesBoards(change)));
+    // (a refusal may mean that one's role is another by now)
+    listen("answered", ({ change, status }) => document.hidden || lookAgain(status !== 200 || change.board === 0 || changesBoards(change)));
 }

@@ -11,6 +11,7 @@ from webdriver import STRANGER, Browser
 SENT = "dispatchEvent(new Event('online')); " + ALL_ANSWERED
 OPENED = "return document.getElementById('task-text').textContent === arguments[0] && !document.getElementById('panel').hidden"
 VALUE = "return document.querySelector(arguments[0]).value"
+HAS_FOCUS = "return document.activeElement.id === arguments[0]"
 HAS_VALUE = "return document.querySelector(arguments[0])?.value === arguments[1]"
 EDITED = "return document.getElementById('edit-form').offsetParent && document.querySelector('#edit-fields textarea').value === arguments[0]"
 IS_SHOWN = "return Boolean(document.querySelector(arguments[0])?.offsetParent)"
