@@ -62,6 +62,12 @@ function drawBoards() {
     document.title = title ? `${oneLine(title, 60)} · taskboard` : "taskboard";
 }
 
+// In a narrow window the link of the view that is shown may stand beyond the edge.
+function showLink(link) {
+    const nav = link.parentElement;
+    nav.scrollLeft = link.offsetLeft - nav.offsetLeft - (nav.clientWidth - link.offsetWidth) / 2;
+}
+
 async function showRoute() {
     const before = `${state.number} ${state.view}`;
     readRoute();
@@ -72,6 +78,7 @@ async function showRoute() {
         find(`to-${view}`).href = view === "day" ? "#/day" : `#/${state.number || (state.boards[0]?.board ?? 0)}/${view}`;
         find(`to-${view}`).ariaCurrent = view === state.view ? "page" : null;
     }
+    showLink(find(`to-${state.view}`));
     if (!state.who) return;
     if (state.boards.length > 0) drawBoards();
     announce("route");

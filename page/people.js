@@ -65,7 +65,7 @@ function row({ name, role }, isFirst) {
     const end = button(word, () => confirm(question) && set(null), { class: "quiet", "aria-label": `${word} ${name}` });
     const select = make("select", { "aria-label": `Role of ${name}`, change: (event) => set(event.target.value) }, choices(role));
     const keys = isFirst && !isMine ? keyButtons(name) : [];
-    return make("li", {}, span("person", said(name), isMine ? span("about", " (you)") : ""), ...keys, ...(isOwner() ? [select, end] : [span("chip", said(role))]));
+    return make("li", {}, span("person", said(name), isMine ? span("about", " (you)") : ""), ...(isOwner() ? [select, ...keys, end] : [span("chip", said(role)), ...keys]));
 }
 
 // A view that isn't answered is asked for again at the next look. What was refused is shown anew as it is on the server.

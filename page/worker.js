@@ -3,7 +3,7 @@
 //
 // A browser asks for the worker at each start, and installs it anew where a byte of it differs. The next line, made by tests/page_content.py,
 // differs with every other file, so a new version is found at the next start, also where its files are as long as before.
-// Content of the other files: 63ab1cf6924d59acd1ca46134c4c9e334cda8442acd4cb7e3b7ac0b2e3076096
+// Content of the other files: 23c0912f66fa6e1b6c00310ff0e2d375be164e71f217cb7713d6285bcfadf308
 
 const VERSION = "taskboard ";
 const FILE = /^\/(?:[a-z0-9_.-]+\.(?:html|css|js|svg|png|ico))?$/;
