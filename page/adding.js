@@ -3,15 +3,16 @@ import { PRIORITIES } from "./board.js";
 import { changes } from "./changes.js";
 import { check, isWhole } from "./checking.js";
 import { names } from "./crew.js";
-import { fill, find, make, said, span, whenSent } from "./dom.js";
+import { button, fill, find, make, said, span, whenSent } from "./dom.js";
 import { keepDraft, readDraft } from "./drafts.js";
 import { Fields } from "./fields.js";
+import { shown } from "./filters.js";
 import { inFull, seconds } from "./moments.js";
-import { tellFault } from "./notices.js";
+import { tellFault, toast } from "./notices.js";
 import { isMeant } from "./repeatpreview.js";
 import { faultInText } from "./rules.js";
 import { keep } from "./sending.js";
-import { listen, state } from "./state.js";
+import { go, listen, state } from "./state.js";
 import { readLine } from "./todotxt.js";
 
 // The fields of the form, and the line that was asked about since something in it isn't understood.
@@ -79,6 +80,15 @@ function fillAdding(draft) {
     keepTyped();
 }
 
+// Tells of a new task that isn't among those that are shown, so that nobody takes it for lost. What repeats is shown by its instances.
+function tellHidden({ board: number, task, subject }, { recur }) {
+    const { board, filter, who } = state;
+    if (recur || board?.number !== number || !board.byId.has(task)) return;
+    const wanted = filter.as === "columns" ? { ...filter, status: "all" } : filter;
+    if (shown(board, wanted, who.name).some(({ uuid }) => uuid === task)) return;
+    toast(make("span", {}, "Added ", make("q", {}, said(subject, 120)), ", which the filters hide."), button("Show it", () => go(number, "tasks", task)));
+}
+
 // What is added leaves the form at once, so that a second Enter adds nothing; where the device can't keep it, it is there again.
 async function add() {
     const task = newTask();
@@ -86,10 +96,12 @@ async function add() {
     const form = typed();
     fillAdding({ isShown: isShown() });
     find("add-line").focus();
-    await keep({ ...changes.add(state.number, task), form }).catch((fault) => {
+    const made = changes.add(state.number, task);
+    await keep({ ...made, form }).catch((fault) => {
         fillAdding(form);
         throw fault;
     });
+    tellHidden(made, task);
 }
 
 function showFields(isShown, typed) {

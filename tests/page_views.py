@@ -58,6 +58,23 @@ def add_words(office):
     expect("in the description", "One", tasks(board)[2]["project"])
 
 
+def added_aside(office):
+    """A new task that the filters hide is told of, and can be shown; of one that is in sight nothing is told."""
+    browser, board = office.browser, new_board("Aside", bob="member")
+    office.begin(board)
+    browser.wait("return [...document.querySelectorAll('#filter-assignee option')].some((option) => option.value === 'bob')")
+    choose(browser, assignee="@me")
+    browser.type("#add-line", "Mine for:me" + ENTER)
+    browser.wait(IS_LISTED, "Mine")
+    expect("told of what is in sight", "", browser.run("return document.getElementById('toast').textContent"))
+    browser.type("#add-line", "Bob's for:bob" + ENTER)
+    browser.wait(IS_TOLD, "Added Bob's, which the filters hide.")
+    browser.run("document.querySelector('#toast button').click()")
+    browser.wait("return document.getElementById('task-text').textContent === \"Bob's\"")
+    browser.wait(ALL_ANSWERED)
+    browser.click("#close-panel")
+
+
 def assign(office):
     """A task's assignee in its row and its form, filters by person, and one who has no role any more."""
     browser = office.browser
@@ -178,4 +195,4 @@ def addresses(office):
     browser.wait(ARE_LISTED, both)
 
 
-SCENES = (add_words, assign, when, addresses)
+SCENES = (add_words, added_aside, assign, when, addresses)
