@@ -37,6 +37,8 @@ function enter(who) {
     Object.assign(state, { who, board: null, boards: [] });
     find("sign-in").hidden = true;
     find("app").hidden = false;
+    // (in the list of boards, where it would go by itself, letters and arrows choose another board)
+    find("app").focus({ preventScroll: true });
     find("who").textContent = who.name;
     announce("signed");
     showRoute();

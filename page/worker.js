@@ -3,7 +3,7 @@
 //
 // A browser asks for the worker at each start, and installs it anew where a byte of it differs. The next line, made by tests/page_content.py,
 // differs with every other file, so a new version is found at the next start, also where its files are as long as before.
-// Content of the other files: c0597e53ff2cabb267275d40acccfc65587ff1f3b3142c42b5856f2f9114f20e
+// Content of the other files: 7970fc6540a8591d277e0e4e896aea8c0bbf7dd4263986bd3851e7faabf3154b
 
 const VERSION = "taskboard ";
 const FILE = /^\/(?:[a-z0-9_.-]+\.(?:html|css|js|svg|png|ico))?$/;

@@ -70,6 +70,8 @@ def first_steps(office):
     browser.wait(IS_TOLD, "doesn't know this name with this key")
     office.shot("sign-in")
     office.enter("ann")
+    browser.press("n")
+    expect("where a key leads after signing in", "add-line", browser.run("return document.activeElement.id"))
     for line in ("(A) Call Mom +Family @phone due:2026-01-31", "Buy milk @shop", "Paint the fence"):
         browser.type("#add-line", line + ENTER + ENTER)
         browser.wait(ALL_ANSWERED)
