@@ -71,13 +71,17 @@ def overdue(office):
         there = (now + datetime.timedelta(hours=hours)).date()
         for name, day in ((f"Today {hours}", there), (f"Yesterday {hours}", there - datetime.timedelta(days=1))):
             add(board, description=name, due=f"{day:%Y%m%d}T000000Z")
+        noon = datetime.datetime.combine(there, datetime.time(12, 34)) - datetime.timedelta(hours=hours)
+        add(board, description=f"Timed {hours}", due=f"{noon:%Y%m%dT%H%M%SZ}")
     for zone, hours in (("Etc/GMT+12", -12), ("Etc/GMT-14", 14)):
         at(office, zone, board)
         browser.wait(IS_LISTED, "Today 14")
-        shown = {name: [due.split()[-1], late] for name, due, late in browser.run(DUE)}
+        listed = browser.run(DUE)
+        shown = {name: [due.split()[-1], late] for name, due, late in listed}
         # Past midnight the days have moved on since they were reckoned.
         if (datetime.datetime.now(datetime.timezone.utc) + datetime.timedelta(hours=hours)).date() == (now + datetime.timedelta(hours=hours)).date():
             expect(f"{hours} hours from UTC", [["today", False], ["yesterday", True]], [shown[f"{name} {hours}"] for name in ("Today", "Yesterday")])
+            expect(f"a time {hours} hours from UTC", [True], [due.endswith("today, 12:34") for name, due, _ in listed if name == f"Timed {hours}"])
 
 
 def repeats(office):
