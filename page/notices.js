@@ -5,7 +5,7 @@ import { changes, isOwnKey, reason } from "./changes.js";
 import { button, counted, fill, find, make, said, span, tasksTold } from "./dom.js";
 import { ago } from "./moments.js";
 import { forget, keep, sendAgain, sendAllTheSame, sendHidden, sendNow, settled, vainTries, waiting } from "./sending.js";
-import { listen } from "./state.js";
+import { listen, state } from "./state.js";
 
 const [TOLD_FOR, LATE, MOST_SHOWN] = [10000, 400, 20];
 const WAYS_BACK = { done: "Completed", delete: "Deleted" };
@@ -147,7 +147,8 @@ function drawNotices() {
     fill(find("notices"), of("asks").map(question), of("refused").map(refusal), of("already").map(already), Object.values(imports).map(report));
 }
 
-const draw = () => [drawState, drawUnanswered, drawNotices].forEach((part) => part());
+// (a message that was on its way when its person left fails after that, and nothing of it is told any more)
+const draw = () => state.who && [drawState, drawUnanswered, drawNotices].forEach((part) => part());
 
 // Offers a way back from what closed a task, until the task is open again.
 function offerBack({ change, status }) {
