@@ -72,6 +72,7 @@ export class Fields {
             this.scheduled.element,
             this.until.element,
             !task || isTemplate ? labelled("Repeat", ...suggesting(this.recur, STEPS)) : "",
+            isTemplate ? make("p", { class: "preview about" }, "What you change holds for the tasks that come. Those that are there stay as they are.") : "",
             (this.preview = make("div", { class: "preview about", role: "status" })),
         ];
         this.#check();

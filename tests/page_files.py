@@ -128,6 +128,9 @@ def made_to_repeat(office):
     browser.wait(ALL_ANSWERED)
     browser.wait("return document.getElementById('task-status').textContent.startsWith('repeating')")
     expect("a way back from the deletion alone", "", browser.run("return document.getElementById('toast').textContent"))
+    browser.click("#edit")
+    browser.wait(IS_TOLD, "Those that are there stay as they are.")
+    browser.click("#cancel-edit")
     stored = [task for task in tasks(board) if task["description"] == "Water the plants"]
     expect("statuses", ["deleted", "recurring", "pending"], [task["status"] for task in stored])
     members = ("recur", "due", "scheduled", "until", "assignee", "depends")
