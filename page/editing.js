@@ -128,8 +128,12 @@ async function saveOnce() {
     if (saved === fields || !isWhole(find("edit-form"))) return;
     saved = fields;
     find("edit-save").ariaDisabled = true;
-    await save().finally(() => (saved = null));
-    find("edit-save").ariaDisabled = null;
+    try {
+        await save();
+    } finally {
+        saved = null;
+        find("edit-save").ariaDisabled = null;
+    }
 }
 
 function ask(choices) {

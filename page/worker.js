@@ -3,7 +3,7 @@
 //
 // A browser asks for the worker at each start, and installs it anew where a byte of it differs. The next line, made by tests/page_content.py,
 // differs with every other file, so a new version is found at the next start, also where its files are as long as before.
-// Content of the other files: 93aee0444d638c16be0e847e497d89d6ec5177c70c5a0f0ddf460d70ea1a02af
+// Content of the other files: 365cfddd83896c6c595d3fcc629398080979a47815d77d5f37882d71c4641dcc
 
 const VERSION = "taskboard ";
 const FILE = /^\/(?:[a-z0-9_.-]+\.(?:html|css|js|svg|png|ico))?$/;
