@@ -6,6 +6,7 @@ import { isWhole } from "./checking.js";
 import { keepDraft, readDraft } from "./drafts.js";
 import { fill, find, make, whenSent } from "./dom.js";
 import { Fields } from "./fields.js";
+import { lookAgain } from "./fresh.js";
 import { inFull, seconds } from "./moments.js";
 import { tellFault } from "./notices.js";
 import { keep, waiting } from "./sending.js";
@@ -139,12 +140,15 @@ async function saveOnce() {
 function ask(choices) {
     fill(find("edit-conflicts"), choices);
     find("edit-conflicts").querySelector("input").focus();
+    find("edit-conflicts").scrollIntoView({ block: "nearest" });
 }
 
 async function save() {
     const [form, task] = [fields, edited];
     const now = await freshest(task);
     if (fields !== form) return;
+    // (what somebody else changed is shown, whatever comes of this)
+    if (!isSame(now.told, state.board.byId.get(task.uuid)?.told)) lookAgain();
     const fresh = new Fields(state.board, now);
     takeChoices(fresh);
     const [mine, theirs] = [fields.read(), fresh.read()];

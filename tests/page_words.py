@@ -327,6 +327,7 @@ def two_edit_one_task(office):
         bobs.browser.click("#edit-conflicts input[value=theirs]")
         save(bobs.browser)
         expect("theirs is chosen", "Paint the fence white", one_of(board, task)["description"])
+        bobs.browser.wait(OPENED, "Paint the fence white")
 
 
 def two_complete_one_task(office):
