@@ -3,7 +3,7 @@
 //
 // A browser asks for the worker at each start, and installs it anew where a byte of it differs. The next line, made by tests/page_content.py,
 // differs with every other file, so a new version is found at the next start, also where its files are as long as before.
-// Content of the other files: a8ccf2960aee85e82fff16c622f9ed5849e4558c275bc26b786e0a3ba636ddaa
+// Content of the other files: 20a3c2973ca40628f6bfef69d2f00949df02bd896a5237fbc445f84de039e306
 
 const VERSION = "taskboard ";
 const FILE = /^\/(?:[a-z0-9_.-]+\.(?:html|css|js|svg|png|ico))?$/;

@@ -6,7 +6,7 @@ import shutil
 import time
 
 import page_content
-from office import ALL_ANSWERED, ENTER, ESCAPE, IS_LISTED, IS_TOLD, PAGE, SHOTS, TAB, add, ask, descriptions, expect, new_board, tasks, tell
+from office import ALL_ANSWERED, ENTER, ESCAPE, IS_LISTED, IS_TOLD, KEYS, PAGE, SHOTS, TAB, add, ask, descriptions, expect, know, new_board, tasks, tell
 
 # The names of what the worker keeps, and the paths of the files in it.
 KEPT = """return caches.keys().then(async (names) => {
@@ -242,6 +242,20 @@ def for_readers(office):
     browser.to_tab(anns)
 
 
+def on_no_board(office):
+    """Who is on no board is told what to do, and has no empty list of boards."""
+    browser = office.browser
+    KEYS["lea"] = "lea-key-00"
+    know("lea")
+    [anns] = browser.tabs()
+    browser.new_tab()
+    office.sign_in("lea")
+    browser.wait(IS_TOLD, "You are on no board")
+    expect("an empty list", False, browser.run("return document.getElementById('board').checkVisibility()"))
+    browser.call("DELETE", "/window")
+    browser.to_tab(anns)
+
+
 # The buttons that are cut off, by their text, and those that stand upon a text of the same message.
 CUT = """const isCut = (button) => {
     const [own, around] = [button, button.closest(".switch") ?? button].map((one) => one.getBoundingClientRect());
@@ -294,4 +308,4 @@ def asked_seldom(office):
     expect("asked after 16 s in which nobody acts", before, times_asked())
 
 
-SCENES = (asked_seldom, without_a_line, newer_version, by_keys, keeps_its_button, on_paper, on_a_phone, for_readers)
+SCENES = (asked_seldom, without_a_line, newer_version, by_keys, keeps_its_button, on_paper, on_a_phone, for_readers, on_no_board)
