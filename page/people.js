@@ -7,13 +7,14 @@ import { tellFault } from "./notices.js";
 import { drawOwning, showBoardsOf } from "./owning.js";
 import { faultInKey, faultInName } from "./rules.js";
 import { lookOrSeen } from "./seen.js";
-import { keep } from "./sending.js";
+import { keep, waiting } from "./sending.js";
 import { newKey } from "./session.js";
 import { here, listen, state } from "./state.js";
 
 // The roles that are known here, and those that the server tells of.
 const roles = new Set(["owner", "member", "reader"]);
-let shown = "";
+// The people that are shown, and whose key is told.
+let [shown, keyed] = ["", ""];
 
 // Set once the server said that someone isn't the first person.
 const refusedTo = (name) => `taskboard.adds-nobody ${name}`;
@@ -36,9 +37,17 @@ function noteRefusal({ change, status }) {
 // Says a key, once: the page keeps it nowhere where it could be read again.
 function tellKey(name, key) {
     const told = [said(name), " signs in with the key ", make("code", {}, key), ". Hand it over so that nobody else reads it; it isn't shown again."];
-    fill(find("person-told"), "Once this is answered, ", ...told);
+    keyed = name;
+    fill(find("person-told"), span("until", "Once this is answered, "), ...told);
+    drawUntil();
     find("person-told").hidden = false;
     find("person-told").scrollIntoView({ block: "center" });
+}
+
+// A key that is told holds once the change that sets it is answered.
+function drawUntil() {
+    const until = find("person-told").querySelector(".until");
+    if (until) until.hidden = !waiting().some(({ isSecret, subject }) => isSecret && subject === keyed);
 }
 
 // Gives someone another key: whoever lost it, whose key others know, or who was let go and comes back.
@@ -128,4 +137,5 @@ export function beginPeople() {
     listen("boards", () => draw(true));
     listen("answered", ({ change }) => change.path.endsWith("/roles") && draw(true));
     listen("answered", noteRefusal);
+    listen("kept", drawUntil);
 }

@@ -415,6 +415,7 @@ def give_key(browser, selector):
     key = browser.wait("return document.getElementById('person-told').checkVisibility() && document.querySelector('#person-told code').textContent")
     expect("in sight", True, browser.run(IN_SIGHT, "person-told"))
     browser.wait(ALL_ANSWERED)
+    browser.wait("return !document.getElementById('person-told').innerText.includes('Once this is answered')")
     return key
 
 

@@ -107,6 +107,7 @@ def add_person_unheard(office, board, name, key):
     browser.type("#person-name", name)
     browser.type("#person-key", key + ENTER)
     browser.wait(IS_TOLD, "2 changes aren't answered yet")
+    browser.wait(IS_TOLD, f"Once this is answered, {name} signs in with the key")
 
 
 def refused_keep_text(office):
