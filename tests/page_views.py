@@ -107,6 +107,18 @@ def assign(office):
     office.shot("assigned")
 
 
+# The filters that are narrower than what they say.
+CUT_OFF = """return [...document.querySelectorAll('#filter-fields select')].filter((select) => {
+    const copy = select.cloneNode(true);
+    copy.value = select.value;
+    copy.style.cssText = 'position: absolute; width: max-content; max-width: none; field-sizing: content; visibility: hidden';
+    select.parentElement.append(copy);
+    const isCut = copy.offsetWidth > select.offsetWidth + 1;
+    copy.remove();
+    return isCut;
+}).map((select) => select.selectedOptions[0].textContent)"""
+
+
 def when(office):
     """Groups and filters by due date, orders, and the words of a search."""
     browser = office.browser
@@ -133,7 +145,12 @@ def when(office):
     for due, wanted in (("overdue", "Pay the tax"), ("today", "Order paper"), ("week", "Close the books"), ("none", "Any time")):
         choose(browser, due=due)
         browser.wait(ARE_LISTED, [wanted])
-    choose(browser, due="", project="Finance", group="")
+    office.go(board, "tasks", tasks(board)[0]["uuid"])
+    browser.wait("return document.querySelector('.with-panel')")
+    for group in ("project", "assignee"):
+        choose(browser, sort="changed", group=group)
+        expect("filters that are cut off beside a task", [], browser.run(CUT_OFF))
+    choose(browser, due="", sort="due", project="Finance", group="")
     browser.wait(ARE_LISTED, ["Pay the tax", "Close the books"])
     choose(browser, project="")
     search(browser, "+finance", "Pay the tax", "Close the books")
