@@ -32,10 +32,11 @@ function draw(isAsked) {
     find("columns").hidden = !isShown || filter.as !== "columns";
     find("list").classList.toggle("assigned", isShown && board.assignees.length > 0);
     const count = isShown ? show(isAsked === true) : 0;
-    const all = isShown ? board.tasks.length : 0;
+    // (what repeats is in a view of its own)
+    const all = isShown ? board.tasks.length - board.templates.length : 0;
     find("count").textContent = isShown ? `${counted(count)} of ${counted(all)} tasks` : "";
     const first = here()?.role === "reader" ? "Nothing is here yet." : "Nothing is here yet. Add the first task above, or import some.";
-    const hint = all > 0 ? "No task passes the filters." : first;
+    const hint = isShown && board.tasks.length > 0 ? "No task passes the filters." : first;
     fill(find("nothing"), isShown && count === 0 ? hint : "");
     find("unknown-task").hidden = !isShown || !state.chosen || board.byId.has(state.chosen);
 }

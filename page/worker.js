@@ -3,7 +3,7 @@
 //
 // A browser asks for the worker at each start, and installs it anew where a byte of it differs. The next line, made by tests/page_content.py,
 // differs with every other file, so a new version is found at the next start, also where its files are as long as before.
-// Content of the other files: a19ddaca4230b365ead0460557dc8a4b7f584397a57cccc7b2788992d4de4de4
+// Content of the other files: 315f9dad8c464660e9f1ba6e27d53c96e7b57e73ee26ff3cd6741038b00d6716
 
 const VERSION = "taskboard ";
 const FILE = /^\/(?:[a-z0-9_.-]+\.(?:html|css|js|svg|png|ico))?$/;
