@@ -1,10 +1,12 @@
 // The board's tasks in columns. A card that is moved, by the mouse or by keys, is started, stopped, completed or reopened.
 import { changes } from "./changes.js";
+import { isWhole } from "./checking.js";
 import { isGone } from "./crew.js";
 import { button, counted, fill, find, make, said, span, whenSent } from "./dom.js";
 import { MomentField } from "./fields.js";
 import { momentOf, now, seconds } from "./moments.js";
 import { tellFault } from "./notices.js";
+import { faultInWait } from "./rules.js";
 import { assigneeOf, chipsOf, dueOf, lookOf, nameOf, shownBoard } from "./rows.js";
 import { keep } from "./sending.js";
 import { go, listen, state } from "./state.js";
@@ -32,7 +34,7 @@ function hold(task, steps) {
 
 // Asks until when a task waits.
 function askToWait(task, steps) {
-    const field = new MomentField("Wait until");
+    const field = new MomentField("Wait until", undefined, false, faultInWait);
     field.day.required = true;
     fill(find("wait-fields"), field.element);
     whenDated = () => hold(task, [...steps, { wait: field.read() }]);
@@ -179,7 +181,8 @@ export function beginColumns() {
     beginDragging(place);
     listen("kept", () => find("columns").hidden || dragged || draw());
     // (closed first, so that the card has the focus again before it is drawn in another column)
-    whenSent("wait-form", () => {
+    whenSent("wait-form", (form) => {
+        if (!isWhole(form)) return;
         find("wait-dialog").close();
         whenDated();
     });

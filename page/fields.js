@@ -27,15 +27,15 @@ listen("people", () => document.querySelectorAll("select.assignee").forEach((sel
 
 export const tagsIn = (text) => [...new Set(text.split(/[\s,]+/).filter(Boolean).map((tag) => tag.replace(/^@/, "")))].sort();
 
-// A day and a time; the time may be left empty.
+// A day and a time; the time may be left empty. A rule says what else is wrong with the moment.
 export class MomentField {
-    constructor(label, second, disabled) {
+    constructor(label, second, disabled, rule = () => "") {
         const { day, time } = toFields(second);
         this.day = make("input", { type: "date", value: day, min: "1970-01-01", max: "9999-12-31", disabled, "aria-label": `${label}: day` });
         this.time = make("input", { type: "time", value: time, disabled, "aria-label": `${label}: time, which may be left empty` });
         const both = make("div", { class: "moment" }, this.day, this.time);
         this.element = make("div", { class: "field" }, make("span", {}, label), both);
-        check(this.day, (day) => faultInMoment(day, this.time.value, this.read()), both);
+        check(this.day, (day) => faultInMoment(day, this.time.value, this.read()) || rule(this.read()), both);
         this.time.addEventListener("input", () => this.day.dispatchEvent(new Event("input")));
     }
 

@@ -1,6 +1,7 @@
 // What the server takes, so that the page can say what is wrong before it sends anything. The server decides: where a rule here is missing,
 // its refusal is shown. Each rule names the refusal that it foretells, by the number or status and the name in docs/HTTP.md.
 import { counted } from "./dom.js";
+import { now, seconds } from "./moments.js";
 import { stepOf } from "./recurrence.js";
 
 const LONGEST = { text: 16384, title: 200, name: 32, key: 64 };
@@ -45,6 +46,9 @@ export function faultInMoment(day, time, moment) {
     if (!day && time) return "A time needs its day. Choose one, or take the time out.";
     return moment && !/^(19[7-9]|[2-9]\d\d)\d{5}T\d{6}Z$/.test(moment) ? "Days go from 1970 to 9999." : "";
 }
+
+// No refusal: a task whose wait is over doesn't wait.
+export const faultInWait = (moment) => (moment && seconds(moment) <= now() ? "This is past, so the task wouldn't wait. Choose a later day, or a later time." : "");
 
 // 400 BadBody: the name of a person.
 export function faultInName(text) {

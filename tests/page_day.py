@@ -86,8 +86,10 @@ def drag(browser, text, column):
 def wait_until(browser, when):
     """Says in the dialog until when the card waits that was moved: the second of its column."""
     browser.wait("return document.getElementById('wait-dialog').open")
-    browser.run("document.querySelector('#wait-fields input').value = arguments[0]", str(when))
-    browser.click("#wait-form .primary")
+    for text in (str(day(-1)), str(when)):
+        browser.run("const field = document.querySelector('#wait-fields input'); field.value = arguments[0]; field.dispatchEvent(new Event('input'))", text)
+        browser.click("#wait-form .primary")
+        browser.wait("return document.getElementById('wait-fields').textContent.includes(\"wouldn't wait\") === arguments[0]", text != str(when))
     browser.wait("return document.querySelectorAll('#column-waiting .card').length === 2")
     browser.wait(ALL_ANSWERED)
 
