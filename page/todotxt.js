@@ -1,5 +1,5 @@
 // A line of todo.txt as a task: marks from the left (`x`, `(A)`, dates), then words, of which some are attributes.
-import { isDay, readWord } from "./words.js";
+import { faultInTime, isDay, readWord } from "./words.js";
 
 const PRIORITIES = { A: "H", B: "M", C: "L" };
 
@@ -15,14 +15,17 @@ function takeMark(rest, test) {
 
 function takeWords(task, text, people, me) {
     const [plain, misread] = [[], []];
+    let before = {};
     for (const word of text.split(/[ \t]+/).filter(Boolean)) {
-        const { member, value, misread: why } = readWord(word, people, me);
+        const read = readWord(word, people, me);
+        const { member, value, misread: why = faultInTime(word, before) } = read;
+        before = read;
         if (/^uuid:[0-9a-f]{8}(-[0-9a-f]{4}){3}-[0-9a-f]{12}$/i.test(word) && !task.uuid) task.uuid = word.slice(5).toLowerCase();
         else if (member === "tag") task.tags.push(value);
         else if (member && !task[member]) task[member] = value;
         else {
             plain.push(word);
-            if (member || why) misread.push([word, why ?? "is a second one, and a task has one"]);
+            if (member || why) misread.push([word, why || "is a second one, and a task has one"]);
         }
     }
     task.description = plain.join(" ") || text;

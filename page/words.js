@@ -1,6 +1,6 @@
 // The words that say something of a task, in the line that adds one and in a search: +project, @tag, for:bob, due:friday, priority:H.
 import { DUES, PRIORITIES } from "./board.js";
-import { dayAhead, dayOf, fromFields, seconds } from "./moments.js";
+import { dayAhead, dayOf, fromFields, isTimed, seconds, toFields } from "./moments.js";
 
 const WEEKDAYS = "sunday monday tuesday wednesday thursday friday saturday".split(" ");
 const MOMENTS = ["due", "wait", "scheduled", "until"];
@@ -65,6 +65,13 @@ export function readWord(word, people, me) {
     if (!MOMENTS.includes(name)) return { member: name, value };
     const day = readDay(value);
     return day ? { member: name, value: fromFields(day) } : { misread: `isn't a day: ${DAYS}` };
+}
+
+// What is wrong with a time that stands behind a word of a day, as 14:00 behind due:today: it belongs to that word. Nothing of another word.
+export function faultInTime(word, { member, value }) {
+    const [, hour, minute] = /^(\d|[01]\d|2[0-3]):([0-5]\d)$/.exec(word) ?? [];
+    if (!hour || !MOMENTS.includes(member) || isTimed(seconds(value))) return "";
+    return `isn't understood by itself: write ${member}:${toFields(seconds(value)).day}T${hour.padStart(2, "0")}:${minute}`;
 }
 
 // Those of the texts that are meant: the one itself and its parts, or else those that begin so, as while someone types.

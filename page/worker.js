@@ -3,7 +3,7 @@
 //
 // A browser asks for the worker at each start, and installs it anew where a byte of it differs. The next line, made by tests/page_content.py,
 // differs with every other file, so a new version is found at the next start, also where its files are as long as before.
-// Content of the other files: 3bdb12819f1ae611750e1d8ba4fc93ecaa2bc7bf9f9a172fddf515533c583a4b
+// Content of the other files: 392ecb8458392a089846d564dcf222c813b2687429258fb005d8654f920512c7
 
 const VERSION = "taskboard ";
 const FILE = /^\/(?:[a-z0-9_.-]+\.(?:html|css|js|svg|png|ico))?$/;

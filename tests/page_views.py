@@ -47,6 +47,9 @@ def add_words(office):
     friday = next(ahead for ahead in range(1, 8) if day(ahead).weekday() == 4)
     local = datetime.datetime.combine(day(9), datetime.time(14, 30)).astimezone(datetime.timezone.utc)
     expect("words with times", {"assignee": "ann", "due": f"{local:%Y%m%dT%H%M%SZ}", "wait": moment(friday)}, members(meet, "assignee", "due", "wait"))
+    browser.type("#add-line", "Lunch due:today 9:30")
+    browser.wait(IS_TOLD, f"isn't understood by itself: write due:{day(0)}T09:30")
+    browser.run("const line = document.getElementById('add-line'); line.value = ''; line.dispatchEvent(new Event('input', { bubbles: true }))")
     browser.type("#add-line", "Rest due:tomorow for:zoe pri:X +One +Two at 10:30" + ENTER)
     for told in ("due:tomorow isn't a day", "for:zoe names nobody", "pri:X isn't a priority", "+Two is a second one", "press Enter again"):
         browser.wait(IS_TOLD, told)
