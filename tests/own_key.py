@@ -10,6 +10,7 @@ import subprocess
 import sys
 import threading
 
+from bridging import whole
 from connecting import connected
 from drawing import seeded
 from tracing import counted, injected
@@ -40,13 +41,8 @@ class Line(threading.Thread):
                 self.pass_on(client)
 
     def pass_on(self, client):
-        message = b""
-        while not is_whole(message):
-            more = client.recv(65536)
-            if not more:
-                return
-            message += more
-        if message.startswith(b"POST") and self.loses:
+        message = whole(client)
+        if not message or message.startswith(b"POST") and self.loses:
             return
         with connected(PORT, 10) as server:
             server.sendall(message)
@@ -58,12 +54,6 @@ class Line(threading.Thread):
             if self.left is not None:
                 answer = answer[: self.left]
         client.sendall(answer)
-
-
-def is_whole(message):
-    head, found, body = message.partition(b"\r\n\r\n")
-    sizes = [int(line.split(b":")[1]) for line in head.split(b"\r\n") if line.startswith(b"content-length")]
-    return bool(found) and len(body) == (sizes[0] if sizes else 0)
 
 
 def send(*words, before=(), key="-", member="ann", options=(), **more):
