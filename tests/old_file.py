@@ -1,12 +1,14 @@
 """Opens files that earlier programs made, each of which was killed while it served: old_file.py PROGRAM
 
 A folder of `data` has a file and its log, packed, the calls that were answered, and what each board exported then (`keep_file.py` makes one).
-Each order that opens a file of version 1 makes it one of version 2 and says so, once. A file has no faults then, exports the same, and each call
-that comes again gets its first answer, or the one that its record names, and changes nothing."""
+Each order that opens a file of version 1 makes it one of version 2 and says so, once; a file of version 2 that has no history gets one, and that
+is said too. A file has no faults then, exports the same, and each call that comes again gets its first answer, or the one that its record
+names, and changes nothing. Where strace is there, the first opening is killed at each of its writes, and the next one finds all there."""
 import json
 import lzma
 import os
 import pathlib
+import shutil
 import subprocess
 import sys
 import tempfile
@@ -14,11 +16,15 @@ from typing import NamedTuple
 
 from connecting import free_port
 from talking import Server, answer_to, body_of, message, status_of
+from tracing import counted, injected
 
 program = os.path.abspath(sys.argv[1])
 data = pathlib.Path(__file__).resolve().parent / "data"
 FILES = ("b.db", "b.db-wal")
-MIGRATED = "taskboard: b.db is now of version 2\n"
+HISTORY = "taskboard: b.db has a history from now on, and programs before this one refuse it\n"
+MIGRATED = "taskboard: b.db is now of version 2\n" + HISTORY
+CHANGING = ("pwrite64", "ftruncate", "fdatasync")  # system calls that change the files
+WRITES = 3  # that an opening makes at least, which changes the tables
 TODO = "00000000-0000-4000-8000-000000009999"
 
 
@@ -47,7 +53,7 @@ class Old(NamedTuple):
 
 OLD = [
     Old("version_1", {"ann": "ann-key-1", "bob": "bob-key-01"}, "ann-key-1", MIGRATED, "boards 3 tasks 62 faults 0\n", 3),
-    Old("version_2", {}, "ann-key-2", "", "boards 4 tasks 69 faults 0\n", 4),
+    Old("version_2", {}, "ann-key-2", HISTORY, "boards 4 tasks 69 faults 0\n", 4),
 ]
 
 
@@ -96,6 +102,38 @@ def send_all_again(old, calls):
     expect("serve, standard error", old.told, pathlib.Path("errors").read_text().partition("taskboard: serving")[0])
 
 
+def has_died(way, old):
+    """Opens the file for the first time, killed in this way. Gives whether it was killed."""
+    unpack(old)
+    ran = subprocess.run([*way, program, "check", "b.db"], capture_output=True, text=True)
+    if ran.stdout != old.checked and (ran.returncode == 0 or ran.stdout):
+        sys.exit(f"an opening of {old.name}: {ran}")
+    return ran.returncode != 0
+
+
+def kill_openings(old):
+    if subprocess.run(["strace", "-qq", "-o", "/dev/null", "true"], stderr=subprocess.DEVNULL).returncode:
+        print(f"kills in the opening of a file of {old.name}: skipped, since strace may not trace")
+        return
+    unpack(old)
+    counts = counted(lambda words: subprocess.run([*words, program, "check", "b.db"], check=True, capture_output=True))
+    ways = [injected((call,), "signal=SIGKILL", count) for call in CHANGING for count in range(1, counts[call] + 1)]
+    kills = sum(has_died_and_opens(way, old) for way in ways)
+    if kills < WRITES:
+        sys.exit(f"the opening of a file of {old.name} was killed {kills} times only")
+    print(f"a file of {old.name}: {kills} openings were killed at each of their writes, and the next one found all there")
+
+
+def has_died_and_opens(way, old):
+    died = has_died(way, old)
+    ran = subprocess.run([program, "check", "b.db"], check=True, capture_output=True, text=True)
+    expect("check behind it", old.checked, ran.stdout)
+    if ran.stderr not in ("", old.told):
+        sys.exit(f"check behind it told {ran.stderr!r}")
+    look_through(old)
+    return died
+
+
 def try_file(old):
     calls = json.loads((old.folder() / "calls.json").read_text())
     send_all_again(old, calls)
@@ -105,6 +143,10 @@ def try_file(old):
     look_through(old)
     for words, text in old.orders():
         open_by(old, words, text)
+    if shutil.which("strace"):
+        kill_openings(old)
+    else:
+        print(f"kills in the opening of a file of {old.name}: skipped, since strace isn't there")
     print(f"a file of {old.name}: {len(calls)} calls that came again got the answers of then, and {old.boards} boards are the same")
 
 

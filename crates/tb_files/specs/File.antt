@@ -13,7 +13,6 @@ use Rattle.sqlite_wal.specs.Reads.{AreClean}
 use Rattle.tb_calls.specs.Call.{State}
 use Rattle.tb_headline.specs.Refusals.{IsRefused}
 use Rattle.tb_headline.specs.Headline.{IsAt, IsFileOf}
-use Rattle.tb_keeper.specs.Versions.{version_taken}
 use Rattle.tb_program.specs.declared.fault.Fault.{Fault}
 use Rattle.tb_program.specs.declared.fault.Fault.TheVariants as fault
 use Rattle.tb_sql.specs.Opening.{has_tables}
@@ -29,7 +28,7 @@ module _ {D : Type 0} {d : DiskGhosts D} (g : Ghosts (SqlKeep (FileStore D d))) 
   -- a connection found the tables of a version, and where their rows are those of a state, the keeper over it is at that state
   pub record IsBegun (keep : SqlKeep (FileStore D d)) : Type 0 where
     pub found : Held (FileStore D d)
-    pub ours : has_tables (version_taken keep.migrated) (file_state found).now.schema ≡ true
+    pub ours : has_tables keep.found (file_state found).now.schema ≡ true
     pub at : HasCleanDisk (file_state found) → (s : State) → IsFileOf s (file_state found).now.trees
         → IsAt s (g.holds keep) (g.after_stop keep)
 

@@ -1,9 +1,9 @@
--- What is told of a file that was of the first version.
+-- What is told of a file that was of a version before.
 use Rattle.std.specs.Prelude.{ℕ, List, [], ◌∷◌, ◌++◌, codes}
 
-abbrev pub version_line : List ℕ → List ℕ
-version_line path = path ++ (codes " is now of version 2" ++ 10 ∷ [])
+abbrev pub rest_of_notice : List ℕ → List ℕ → List ℕ
+rest_of_notice path what = path ++ (what ++ 10 ∷ [])
 
--- `taskboard: FILE is now of version 2`
-abbrev pub migrated_line : List ℕ → List ℕ
-migrated_line path = codes "taskboard: " ++ version_line path
+-- `taskboard: FILE is now of version 2`, or what else has become of it
+abbrev pub notice : List ℕ → List ℕ → List ℕ
+notice path what = codes "taskboard: " ++ rest_of_notice path what

@@ -4,7 +4,7 @@ ghost use Rattle.sqlite.specs.State.{HasCleanDisk, Opens};
 ghost use Rattle.std.specs.Io.KnownBytes.{Appends};
 ghost use Rattle.std.specs.Prelude.{◌≡◌, false, IfErr, IfOk, Ok, OnErr, OnOk, true};
 ghost use Rattle.tb_files.specs.File.{IsBegun, IsSaved, IsUnopened};
-ghost use Rattle.tb_files.specs.Notice.{migrated_line, version_line};
+ghost use Rattle.tb_files.specs.Notice.{notice, rest_of_notice};
 ghost use Rattle.tb_orders.specs.Faults.{is_of_files, is_of_opening};
 ghost use Rattle.tb_program.specs.declared.fault.Fault.TheVariants.{Store, WriteFailed};
 ghost use Rattle.tb_values.specs.Appends.{AppendsFront};
@@ -19,10 +19,17 @@ use tb_headline::session::resume;
 use tb_keeper::SqlKeep;
 use tb_orders::fault_of_opening;
 use tb_program::{Fault, print_line, print_text};
+use tb_sql::opening::Version;
 use tb_wal::find_log_fault;
 
 /// The mode of a file that its owner alone may read and write.
 const PRIVATE: u32 = 0o600;
+
+/// What became of a file of version 1.
+const IS_OF_VERSION_TWO: &str = " is now of version 2";
+
+/// What became of a file that had no history.
+const HAS_A_HISTORY: &str = " has a history from now on, and programs before this one refuse it";
 
 /// The store of a real file.
 pub type RealFile = FileStore<File>;
@@ -91,7 +98,7 @@ pub fn open_desk(rt: &HostRuntime, path: &str) -> Result<Desk<SqlKeep<RealFile>>
     }
 }
 
-/// The desk. Where its file was of version 1, that is told on standard error.
+/// The desk. Where its file was of a version before, what became of it is told on standard error.
 fn with_notice(
     rt: &HostRuntime,
     path: &str,
@@ -100,35 +107,39 @@ fn with_notice(
     ensures { result ≡ desk }
 {
     let keep = desk.into_keep();
-    if keep.has_migrated() {
-        let _ = tell_migrated(&mut rt.stderr(), path);
+    let found = keep.found();
+    if found == Version::First {
+        let _ = tell(&mut rt.stderr(), path, IS_OF_VERSION_TWO);
+    }
+    if found != Version::Third {
+        let _ = tell(&mut rt.stderr(), path, HAS_A_HISTORY);
     }
     Desk::new(keep)
 }
 
-/// Tells of a file that it is of version 2 from now on.
-fn tell_migrated<W: Write>(writer: &mut W, path: &str) -> Result<(), Fault>
+/// Tells what became of a file.
+fn tell<W: Write>(writer: &mut W, path: &str, what: &str) -> Result<(), Fault>
     ensures whole { OnOk result
-        (Appends (W.contents writer.old) (W.contents writer.new) (migrated_line path.now)) }
+        (Appends (W.contents writer.old) (W.contents writer.new) (notice path.now what.now)) }
     ensures front { OnErr result
-        (AppendsFront (W.contents writer.old) (W.contents writer.new) (migrated_line path.now)) }
+        (AppendsFront (W.contents writer.old) (W.contents writer.new) (notice path.now what.now)) }
     ensures fault { IfErr result (λ fault. fault ≡ WriteFailed) }
 {
     match print_text(writer, "taskboard: ") {
-        Ok(()) => tell_version(writer, path),
+        Ok(()) => tell_rest(writer, path, what),
         Err(fault) => Err(fault),
     }
 }
 
-fn tell_version<W: Write>(writer: &mut W, path: &str) -> Result<(), Fault>
-    ensures whole { OnOk result
-        (Appends (W.contents writer.old) (W.contents writer.new) (version_line path.now)) }
-    ensures front { OnErr result
-        (AppendsFront (W.contents writer.old) (W.contents writer.new) (version_line path.now)) }
+fn tell_rest<W: Write>(writer: &mut W, path: &str, what: &str) -> Result<(), Fault>
+    ensures whole { OnOk result (Appends (W.contents writer.old) (W.contents writer.new)
+        (rest_of_notice path.now what.now)) }
+    ensures front { OnErr result (AppendsFront (W.contents writer.old) (W.contents writer.new)
+        (rest_of_notice path.now what.now)) }
     ensures fault { IfErr result (λ fault. fault ≡ WriteFailed) }
 {
     match print_text(writer, path) {
-        Ok(()) => print_line(writer, " is now of version 2"),
+        Ok(()) => print_line(writer, what),
         Err(fault) => Err(fault),
     }
 }

@@ -57,7 +57,8 @@ module _ (failed : Bool) (people boards : ℕ) (es : List (ℕ × Board)) (d : D
   pub held_file : (s : State) (db : Trees) → IsFileOf s db → (HasCleanDisk d → AreTreesOf s db → now s)
       → (HasCleanDisk d → AreOldTreesOf s db → now s) → now s
   held_file s db (inl rows) held migrated = held_clean s rows.rows.good (λ clean. held clean rows)
-  held_file s db (inr rows) held migrated = held_clean s rows.rows.rows.good (λ clean. migrated clean rows)
+  held_file s db (inr (inl rows)) held migrated = held_clean s rows.rows.rows.good (λ clean. migrated clean (inl rows))
+  held_file s db (inr (inr rows)) held migrated = held_clean s rows.rows.good (λ clean. migrated clean (inr rows))
 
   -- what a stop leaves of a store that hasn't failed
   pub stays : (s : State) → now s → failed ≡ false → StopLeaves d (AreTreesOf s)

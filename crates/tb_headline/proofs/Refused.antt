@@ -12,9 +12,9 @@ use Rattle.tb_keeper.specs.declared.creating.CreateFault.TheVariants.{NotEmpty, 
 use Rattle.tb_sql.specs.declared.opening.OpenFault.{OpenFault}
 use Rattle.tb_sql.specs.declared.opening.OpenFault.TheVariants.{NotOurs, WrongVersion, Store, Memory}
 use Rattle.tb_sql.specs.declared.opening.Version.{Version}
-use Rattle.tb_sql.specs.declared.opening.Version.TheVariants.{First, Second}
-use Rattle.tb_sql.specs.Opening.{IsAnswered, are_old, are_ours, are_tables, has_key_indexes, has_meta, has_tables, is_meta, is_person, is_board, is_role, is_task, is_link, is_instance, is_gone, is_kept, is_horizon}
-use Rattle.tb_sql_tables.specs.Content.{AreOldRows, AreRows, Content}
+use Rattle.tb_sql.specs.declared.opening.Version.TheVariants.{First, Second, Third}
+use Rattle.tb_sql.specs.Opening.{IsAnswered, are_old, are_ours, are_second, are_tables, has_key_indexes, has_meta, has_tables, is_meta, is_person, is_board, is_role, is_task, is_link, is_instance, is_gone, is_kept, is_horizon, is_history}
+use Rattle.tb_sql_tables.specs.Content.{AreRows, AreVersionRows, Content}
 use Rattle.tb_sql_tables.specs.Standing.{StandsEmpty}
 use Rattle.tb_sql_tables.specs.Failing.{FailsByFault}
 use Rattle.tb_lookup.specs.Migrating.{IsEmptyOrStored}
@@ -31,14 +31,17 @@ first_of : (tests : List (Table → Bool)) (tables : List Table) → are_tables 
 first_of tests [] is = is
 first_of tests (table ∷ tables) is = first_true (is_meta table) _ is
 
--- it is among the tables of a store of either version
+-- it is among the tables of a store of each version
 pub has_first : (version : Version) (schema : Schema) → has_tables version schema ≡ true → has_meta schema.tables ≡ true
 has_first First schema is =
     first_of (is_person ∷ is_board ∷ is_role ∷ is_task ∷ is_link ∷ is_instance ∷ is_gone ∷ is_kept ∷ []) schema.tables
-    (first_true (are_old schema.tables) (has_key_indexes schema) is)
+    (first_true (are_old schema.tables) (has_key_indexes 9 schema) is)
 has_first Second schema is =
     first_of (is_person ∷ is_board ∷ is_role ∷ is_task ∷ is_link ∷ is_instance ∷ is_gone ∷ is_kept ∷ is_horizon ∷ []) schema.tables
-    (first_true (are_ours schema.tables) (has_key_indexes schema) is)
+    (first_true (are_second schema.tables) (has_key_indexes 9 schema) is)
+has_first Third schema is =
+    first_of (is_person ∷ is_board ∷ is_role ∷ is_task ∷ is_link ∷ is_instance ∷ is_gone ∷ is_kept ∷ is_horizon ∷ is_history ∷ []) schema.tables
+    (first_true (are_ours schema.tables) (has_key_indexes 11 schema) is)
 
 -- only what isn't ours may lack it
 marked : (b : Bool) (fault : OpenFault) → (b ≡ false → fault ≡ NotOurs) → (fault ≡ NotOurs → ⊥) → b ≡ true
@@ -58,14 +61,15 @@ module _ {S : Type 0} (g : Ghosts S) (conn : Held S) where
   said answer held room (inr (inl is)) = absurd (held is)
   said answer held room (inr (inr is)) = absurd (room is)
 
-  no_state : ((content : Content) → AreRows content (state g conn).now.trees ⊎ AreOldRows content (state g conn).now.trees → ⊥)
+  no_state : ((content : Content) → AreVersionRows content (state g conn).now.trees → ⊥)
       → (s : State) → IsFileOf s (state g conn).now.trees → ⊥
   no_state foreign s (inl rows) = foreign rows.content (inl rows.stored)
-  no_state foreign s (inr rows) = foreign rows.content (inr rows.stored)
+  no_state foreign s (inr (inl rows)) = foreign rows.content (inr (inr rows.stored))
+  no_state foreign s (inr (inr rows)) = foreign rows.content (inr (inl rows.stored))
 
   pub refused : (new : Database) (fault : OpenFault)
       → (IsForeign fault → HasCleanDisk new → Opens (state g conn)
-      → (content : Content) → AreRows content (state g conn).now.trees ⊎ AreOldRows content (state g conn).now.trees → ⊥)
+      → (content : Content) → AreVersionRows content (state g conn).now.trees → ⊥)
       → (has_meta (state g conn).now.schema.tables ≡ false → fault ≡ NotOurs)
       → (IsForeign fault → HasCleanDisk new → HasMeta g conn → IsAnswered g conn (Err fault))
       → (fault ≡ Store → Opens (state g conn) → FailsByFault (state g conn) new (λ content. AreRows content (state g conn).now.trees))

@@ -18,7 +18,8 @@ use Rattle.tb_http.specs.declared.answer.ContentType.TheVariants.{Json}
 use Rattle.tb_http.specs.Message.{takes_body}
 use Rattle.tb_http.specs.Wire.{is_last}
 
--- The trees are all rows of the state: in the tables of this version, or in those of the first, where each board looks one ahead.
+-- The trees are all rows of the state: in the tables of this version, in those of the second, or in those of the first, where each
+-- board looks one ahead.
 abbrev pub IsFileOf : State → Trees → Type 0
 IsFileOf s db = AreTreesOf s db ⊎ AreOldTreesOf s db
 

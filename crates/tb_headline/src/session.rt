@@ -7,8 +7,7 @@ ghost use Rattle.tb_calls.specs.declared.fault.KeepFault.TheVariants.{Store};
 ghost use Rattle.tb_calls.specs.Call.{State, once, plain, opening};
 ghost use Rattle.tb_headline.specs.Refusals.{IsFilled, IsRefused, IsUnmade, Says};
 ghost use Rattle.tb_headline.specs.Headline.{IsAt, IsCut, IsFileOf, IsPlayed, IsSession, StopLeaves, WhileHonest};
-ghost use Rattle.tb_keeper.specs.Versions.{version_taken};
-ghost use Rattle.tb_sql.specs.Opening.{has_tables, is_old, IsAsBefore};
+ghost use Rattle.tb_sql.specs.Opening.{has_tables, is_old, is_second, IsAsBefore};
 ghost use Rattle.tb_lookup.specs.Stored.{AreTreesOf};
 ghost use Rattle.tb_serve.specs.Server.{done_at, talk_at};
 
@@ -44,7 +43,7 @@ pub fn make<S: Alter>(
     }
 }
 
-/// Begins a session over the store that a database is. One of the first version becomes one of this version then; whenever a stop
+/// Begins a session over the store that a database is. One of a version before becomes one of this version then; whenever a stop
 /// comes, all of it is there in the tables of one of the two, and either opens as the same.
 pub fn resume<S: Alter>(
     alloc: Global,
@@ -58,13 +57,14 @@ pub fn resume<S: Alter>(
         → IsFileOf s (state S.Store conn).now.trees
         → MatchResult result (λ desk. StopLeaves (state S.Store desk.conn) (AreTreesOf s))
         (λ e. StopLeaves (state S.Store e.0) (IsFileOf s)) }
-    ensures ours { IfOk result (λ desk.
-        has_tables (version_taken desk.migrated) (state S.Store conn).now.schema ≡ true) }
+    ensures ours { IfOk result
+        (λ desk. has_tables desk.found (state S.Store conn).now.schema ≡ true) }
     ensures said { IfOk result (λ desk. WhileHonest (state S.Store desk.conn)
-        (Says S.Store conn (Ok (version_taken desk.migrated)))) }
+        (Says S.Store conn (Ok desk.found))) }
     ensures refused { IfErr result (λ e. IsRefused S.Store conn (state S.Store e.0) e.1) }
     ensures same { IfErr result (λ e.
-        (e.1 ≢ OpenFault.Store) ⊎ (is_old (state S.Store conn).now.schema ≡ false)
+        (e.1 ≢ OpenFault.Store) ⊎ ((is_old (state S.Store conn).now.schema ≡ false)
+        × (is_second (state S.Store conn).now.schema ≡ false))
         → IsAsBefore (state S.Store conn) (state S.Store e.0)) }
     ensures idle { IfErr result (λ e. e.0.in_transaction ≡ false) }
 {

@@ -79,7 +79,7 @@ module _ (s : State) (changes : List Change) (call : Call) (reply : Reply) (rows
       let rest = with_reply_rows s.world later may.extends.people s.kept (name_of call) (kept_of call reply) of_s.people may.known may.new content.kept of_s.same.kept in
       let all : List KeptRow = map (kept_row later) (entries (insert s.kept (name_of call) (kept_of call reply))) in
       let kept_rows = subst (λ (k : KeptRow). IsPermutation (k ∷ content.kept) all) (sym row) rest in
-      let same : IsSameContent (written rows kept content) (state_rows (with_reply s changes call reply)) = record { tables = of_state s changes call reply (written rows kept content) effect; kept = subst (λ (l : List KeptRow). IsPermutation l all) (sym (follow.kept (with_kept kept content))) kept_rows } in
+      let same : IsSameContent (written rows kept content) (state_rows (with_reply s changes call reply)) = record { tables = of_state s changes call reply (written rows kept content) effect; kept = subst (λ (l : List KeptRow). IsPermutation l all) (sym (follow.kept (with_kept kept content))) kept_rows; history = rw (follow.history (with_kept kept content)) of_s.same.history } in
       record {
         apart = of_s.apart;
         good = may.good;

@@ -47,12 +47,12 @@ first_rows apart name key content named keyed same = record {
     }
 
     rows_of_first : IsSameContent (world_rows (opening_world name key)) (state_rows (opening name key))
-    rows_of_first = record { tables = tables; kept = subst (λ l. IsPermutation [] (map (kept_row (opening_world name key)) l)) (sym no_entries) (IsPermutation-refl []) }
+    rows_of_first = record { tables = tables; kept = subst (λ l. IsPermutation [] (map (kept_row (opening_world name key)) l)) (sym no_entries) (IsPermutation-refl []); history = IsPermutation-refl [] }
 
 -- the same of the rows without how far ahead the board looks
 pub first_old_rows : AreApart → (name key : List ℕ) (content : Content) → is_name name ≡ true → is_key key ≡ true → content ≡ without_horizon (world_rows (opening_world name key)) → AreOldRowsOf (opening name key) content
 first_old_rows apart name key content named keyed same = record {
   one_ahead = (refl, tt);
   horizon = (world_rows (opening_world name key)).horizon;
-  rows = first_rows apart name key _ named keyed (ap (λ (c : Content). let whole : Content = record c { horizon = (world_rows (opening_world name key)).horizon } in whole) same);
+  rows = first_rows apart name key _ named keyed (ap (λ (c : Content). let whole : Content = record c { horizon = (world_rows (opening_world name key)).horizon; history = [] } in whole) same);
 }

@@ -17,7 +17,7 @@ use tb_cache::BoardCache;
 use tb_rows::laws::rows_are_apart;
 use tb_rows::opening_rows;
 use tb_sql::changes::RowChange;
-use tb_sql::opening::is_empty;
+use tb_sql::opening::{Version, is_empty};
 use tb_sql::store::{StoreFault, create};
 use tb_values::Items;
 
@@ -69,7 +69,7 @@ impl<S: Alter> SqlKeep<S> {
                 boards: 1,
                 cache: first.cache,
                 failed: false,
-                migrated: false,
+                found: Version::Third,
             }),
             Err(StoreFault::Memory) => Err((conn, CreateFault::Memory)),
             Err(StoreFault::Store) => Err((conn, CreateFault::Store)),

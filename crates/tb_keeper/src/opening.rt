@@ -2,14 +2,14 @@ ghost use Rattle.std.specs.Prelude.{◌≡◌, ◌≢◌, ◌⊎◌, Err, IfErr,
 ghost use Rattle.sqlite.specs.Held.{state};
 ghost use Rattle.sqlite.specs.State.{HasCleanDisk, Opens};
 ghost use Rattle.tb_calls.specs.Call.{State};
-ghost use Rattle.tb_sql.specs.Opening.{has_meta, has_tables, is_old, IsAnswered, IsAsBefore};
-ghost use Rattle.tb_sql_tables.specs.Content.{AreOldRows, AreRows, Content, Stands};
+ghost use Rattle.tb_sql.specs.Opening.{has_meta, has_tables, is_old, is_second, IsAnswered, IsAsBefore};
+ghost use Rattle.tb_sql_tables.specs.Content.{AreRows, AreVersionRows, Content, Stands};
 ghost use Rattle.tb_sql_tables.specs.Failing.{FailsByFault, KeepsFaults};
 ghost use Rattle.tb_lookup.specs.Reopening.{OfState};
 ghost use Rattle.tb_lookup.specs.Stored.{AreOldTreesOf, AreTreesOf};
-ghost use Rattle.tb_lookup.specs.Migrating.{IsStoredInEither, IsStoredOld};
+ghost use Rattle.tb_lookup.specs.Migrating.{IsStoredInEither, IsStoredInFirst, IsStoredInSecond, IsStoredOld, IsStoredSecond};
 ghost use Rattle.tb_keeper.specs.Holds.{Holds, IsAtHand};
-ghost use Rattle.tb_keeper.specs.Versions.{OfOldState, version_taken};
+ghost use Rattle.tb_keeper.specs.Versions.{OfFirstState, OfSecondState};
 
 use crate::sql_keep::SqlKeep;
 use sqlite::{Alter, Connection};
@@ -20,10 +20,11 @@ use tb_lookup::people::count_people;
 use tb_sql::migrating::migrate;
 use tb_sql::opening::{OpenFault, Version, accept};
 use tb_sql::store::StoreFault;
+use tb_sql::widening::widen;
 
 impl<S: Alter> SqlKeep<S> {
-    /// Takes a database as the store that it is. Of its rows it looks at some of the numbers of people and boards alone. A store of the
-    /// first version it makes one of the second, at once and last of all; where that fails as `Store`, either is there, whole.
+    /// Takes a database as the store that it is. Of its rows it looks at some of the numbers of people and boards alone. A store of a
+    /// version before it makes one of today's, at once and last of all; where that fails as `Store`, either is there, whole.
     pub fn open(
         alloc: Global,
         mut conn: Connection<S>,
@@ -31,13 +32,12 @@ impl<S: Alter> SqlKeep<S> {
         requires { conn.in_transaction ≡ false }
         ensures fresh { IfOk result (λ keep. keep.failed ≡ false) }
         ensures tables { IfOk result
-            (λ keep. has_tables (version_taken keep.migrated)
-            (state S.Store conn).now.schema ≡ true) }
+            (λ keep. has_tables keep.found (state S.Store conn).now.schema ≡ true) }
         ensures version { has_meta (state S.Store conn).now.schema.tables ≡ true
             → IfOk result (λ keep. HasCleanDisk (state S.Store keep.conn)
-            → IsAnswered S.Store conn (Ok (version_taken keep.migrated))) }
+            → IsAnswered S.Store conn (Ok keep.found)) }
         ensures holds { IfOk result
-            (λ keep. keep.migrated ≡ false → OfState (state S.Store conn) (state S.Store keep.conn)
+            (λ keep. keep.found ≡ Version.Third → OfState (state S.Store conn) (state S.Store keep.conn)
             (λ s. Holds keep.failed keep.people keep.boards keep.cache.entries
             (state S.Store keep.conn) s)) }
         ensures opened { IfOk result
@@ -51,10 +51,11 @@ impl<S: Alter> SqlKeep<S> {
             → Holds keep.failed keep.people keep.boards keep.cache.entries
             (state S.Store keep.conn) s) }
         ensures same { IfOk result
-            (λ keep. keep.migrated ≡ false
+            (λ keep. keep.found ≡ Version.Third
             → IsAsBefore (state S.Store conn) (state S.Store keep.conn)) }
         ensures refused { IfErr result
-            (λ e. (e.1 ≢ OpenFault.Store) ⊎ (is_old (state S.Store conn).now.schema ≡ false)
+            (λ e. (e.1 ≢ OpenFault.Store) ⊎ ((is_old (state S.Store conn).now.schema ≡ false)
+            × (is_second (state S.Store conn).now.schema ≡ false))
             → IsAsBefore (state S.Store conn) (state S.Store e.0)) }
         ensures stopped { IfErr result
             (λ e. Opens (state S.Store conn) → (s : State)
@@ -63,9 +64,7 @@ impl<S: Alter> SqlKeep<S> {
         ensures foreign { IfErr result
             (λ e. (e.1 ≡ OpenFault.NotOurs) ⊎ (e.1 ≡ OpenFault.WrongVersion)
             → HasCleanDisk (state S.Store e.0) → Opens (state S.Store conn)
-            → (content : Content)
-            → AreRows content (state S.Store conn).now.trees
-            ⊎ AreOldRows content (state S.Store conn).now.trees → ⊥) }
+            → (content : Content) → AreVersionRows content (state S.Store conn).now.trees → ⊥) }
         ensures unmarked { has_meta (state S.Store conn).now.schema.tables ≡ false
             → MatchResult result (λ keep. ⊥) (λ e. e.1 ≡ OpenFault.NotOurs) }
         ensures shown { IfErr result
@@ -85,37 +84,28 @@ impl<S: Alter> SqlKeep<S> {
         };
         match version {
             Version::First => match migrated(alloc, &mut conn) {
-                Ok(hand) => Ok(SqlKeep {
-                    conn,
-                    people: hand.people,
-                    boards: hand.boards,
-                    cache: hand.cache,
-                    failed: false,
-                    migrated: true,
-                }),
+                Ok(hand) => Ok(hand.into_keep(conn, version)),
                 Err(StoreFault::Memory) => Err((conn, OpenFault::Memory)),
                 Err(StoreFault::Store) => Err((conn, OpenFault::Store)),
             },
-            Version::Second => match at_hand(alloc, &mut conn) {
-                Ok(hand) => Ok(SqlKeep {
-                    conn,
-                    people: hand.people,
-                    boards: hand.boards,
-                    cache: hand.cache,
-                    failed: false,
-                    migrated: false,
-                }),
+            Version::Second => match widened(alloc, &mut conn) {
+                Ok(hand) => Ok(hand.into_keep(conn, version)),
+                Err(StoreFault::Memory) => Err((conn, OpenFault::Memory)),
+                Err(StoreFault::Store) => Err((conn, OpenFault::Store)),
+            },
+            Version::Third => match at_hand(alloc, &mut conn) {
+                Ok(hand) => Ok(hand.into_keep(conn, version)),
                 Err(StoreFault::Memory) => Err((conn, OpenFault::Memory)),
                 Err(StoreFault::Store) => Err((conn, OpenFault::Store)),
             },
         }
     }
 
-    /// Whether it was a store of the first version before it was opened.
-    pub fn has_migrated(&self) -> bool
-        ensures { result ≡ self.now.migrated }
+    /// The version that the store was of before it was opened.
+    pub fn found(&self) -> Version
+        ensures { result ≡ self.now.found }
     {
-        self.migrated
+        self.found
     }
 }
 
@@ -125,6 +115,29 @@ struct AtHand {
     people: usize,
     boards: usize,
     cache: BoardCache,
+}
+
+impl AtHand {
+    /// The keeper that has this at hand, of a store that was of this version.
+    fn into_keep<S: Alter>(self, conn: Connection<S>, found: Version) -> SqlKeep<S>
+        ensures { result ≡ record {
+          conn = conn;
+          people = self.people;
+          boards = self.boards;
+          cache = self.cache;
+          failed = false;
+          found = found;
+        } }
+    {
+        SqlKeep {
+            conn,
+            people: self.people,
+            boards: self.boards,
+            cache: self.cache,
+            failed: false,
+            found,
+        }
+    }
 }
 
 fn at_hand<S: Alter>(alloc: Global, conn: &mut Connection<S>) -> Result<AtHand, StoreFault>
@@ -150,15 +163,15 @@ fn at_hand<S: Alter>(alloc: Global, conn: &mut Connection<S>) -> Result<AtHand, 
     })
 }
 
-/// Makes a store of the first version one of the second. All that is needed of memory is taken before that is done.
+/// Makes a store of the first version one of today's. All that is needed of memory is taken before that is done.
 fn migrated<S: Alter>(alloc: Global, conn: &mut Connection<S>) -> Result<AtHand, StoreFault>
     requires { conn.old.in_transaction ≡ false }
     ensures idle { conn.new.in_transaction ≡ false }
     ensures clean { HasCleanDisk (state S.Store conn.new) → HasCleanDisk (state S.Store conn.old) }
-    ensures held { IfOk result (λ hand. OfOldState (state S.Store conn.old) (state S.Store conn.new)
+    ensures held { IfOk result (λ hand. OfFirstState (state S.Store conn.old) (state S.Store conn.new)
         (λ s. Holds false hand.people hand.boards hand.cache.entries (state S.Store conn.new) s)) }
     ensures store { result ≡ Err StoreFault.Store → (s : State)
-        → IsStoredOld s (state S.Store conn.old) → IsStoredInEither s (state S.Store conn.new) }
+        → IsStoredOld s (state S.Store conn.old) → IsStoredInFirst s (state S.Store conn.new) }
     ensures memory { result ≡ Err StoreFault.Memory
         → IsAsBefore (state S.Store conn.old) (state S.Store conn.new) }
 {
@@ -166,6 +179,29 @@ fn migrated<S: Alter>(alloc: Global, conn: &mut Connection<S>) -> Result<AtHand,
         return Err(StoreFault::Memory);
     };
     let counts = migrate(alloc, conn)?;
+    Ok(AtHand {
+        people: counts.people,
+        boards: counts.boards,
+        cache,
+    })
+}
+
+/// Makes a store of the second version one of today's. All that is needed of memory is taken before that is done.
+fn widened<S: Alter>(alloc: Global, conn: &mut Connection<S>) -> Result<AtHand, StoreFault>
+    requires { conn.old.in_transaction ≡ false }
+    ensures idle { conn.new.in_transaction ≡ false }
+    ensures clean { HasCleanDisk (state S.Store conn.new) → HasCleanDisk (state S.Store conn.old) }
+    ensures held { IfOk result (λ hand. OfSecondState (state S.Store conn.old) (state S.Store conn.new)
+        (λ s. Holds false hand.people hand.boards hand.cache.entries (state S.Store conn.new) s)) }
+    ensures store { result ≡ Err StoreFault.Store → (s : State)
+        → IsStoredSecond s (state S.Store conn.old) → IsStoredInSecond s (state S.Store conn.new) }
+    ensures memory { result ≡ Err StoreFault.Memory
+        → IsAsBefore (state S.Store conn.old) (state S.Store conn.new) }
+{
+    let Ok(cache) = BoardCache::new(alloc) else {
+        return Err(StoreFault::Memory);
+    };
+    let counts = widen(conn)?;
     Ok(AtHand {
         people: counts.people,
         boards: counts.boards,

@@ -20,6 +20,7 @@ use tb_board::{Board, Change, Key, Name};
 use tb_cache::BoardCache;
 use tb_calls::{BoardRole, Call, Keep, KeepFault, KeptReply, PersonRole, Reply};
 use tb_core::{Command, Seen};
+use tb_sql::opening::Version;
 use tb_sql::store::StoreFault;
 use tb_task::TaskId;
 use tb_values::Items;
@@ -33,7 +34,7 @@ pub struct SqlKeep<S: Alter> {
     pub(crate) boards: usize,
     pub(crate) cache: BoardCache,
     pub(crate) failed: bool,
-    pub(crate) migrated: bool,
+    pub(crate) found: Version,
 }
 
 impl<S: Alter> SqlKeep<S> {

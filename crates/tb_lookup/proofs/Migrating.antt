@@ -39,5 +39,6 @@ migrated_rows s content old =
           horizon = horizon;
         };
         kept = was.same.kept;
+        history = was.same.history;
       };
     }

@@ -1,10 +1,11 @@
 -- Trees that are the rows of two contents: these have the same rows in any order.
-use Rattle.std.proofs.Common.{◌≡◌, ◌<◌, ◌^◌, ℕ, List, [], ◌∷◌, map, Option, Some, None, refl, ap₂, subst, IsPermutation}
+use Rattle.std.proofs.Common.{◌≡◌, ◌<◌, ◌^◌, ℕ, pos, List, [], ◌∷◌, map, Option, Some, None, refl, ap₂, subst, IsPermutation}
 use Rattle.std.specs.List.{AllByRecursion}
 use Rattle.std.proofs.lemmas.List.Sorted.{IsPermutation-map, IsPermutation-sym, IsPermutation-trans}
 use Rattle.uuid.proofs.OrderLemmas.{from_be_bytes-to_be_bytes_16}
 use Rattle.sqlite.specs.Values.{or_null}
-use Rattle.sqlite_value.specs.declared.value.Value.TheVariants.{Text as Words}
+use Rattle.sqlite_value.specs.declared.value.Value.TheVariants.{Int, Text as Words}
+use Rattle.sqlite_value.specs.declared.value.Value.{Value}
 use Rattle.sqlite_value.specs.Order.{Row, column}
 use Rattle.sqlite_trees.specs.Tree.{Trees}
 use Rattle.tb_rows.specs.Rows.{HaveSameRows, IsSameContent}
@@ -13,9 +14,10 @@ use Rattle.tb_sql_tables.specs.declared.rows.BoardRow.{BoardRow}
 use Rattle.tb_sql_tables.specs.declared.rows.TaskRow.{TaskRow}
 use Rattle.tb_sql_tables.specs.declared.rows.KeptRow.{KeptRow}
 use Rattle.tb_sql_tables.specs.declared.rows.HorizonRow.{HorizonRow}
+use Rattle.tb_sql_tables.specs.declared.rows.HistoryRow.{HistoryRow}
 use Rattle.tb_sql_tables.specs.Content.{AreRows, Content, HasKeyed, HasRows}
-use Rattle.tb_sql_tables.specs.Read.{number_of, words_of, mask_of, role_of, task_of, link_of, instance_of, gone_of, kept_of}
-use Rattle.tb_sql_tables.specs.Rows.{person_row, board_row, role_row, task_row, link_row, instance_row, gone_row, kept_row, horizon_row}
+use Rattle.tb_sql_tables.specs.Read.{identifier_of, number_of, words_of, mask_of, role_of, task_of, link_of, instance_of, gone_of, kept_of}
+use Rattle.tb_sql_tables.specs.Rows.{person_row, board_row, role_row, task_row, link_row, instance_row, gone_row, kept_row, horizon_row, history_row}
 use Rattle.tb_sql_tables.proofs.Effects.{each, each_of}
 
 abbrev person_from : Row → PersonRow
@@ -39,6 +41,31 @@ task_back task low = λ i.
 kept_back : (kept : KeptRow) → kept.id < 2 ^ 128 → kept_of (kept_row kept) ≡ kept
 kept_back kept low = λ i.
     let read : KeptRow = record { person = kept.person; id = from_be_bytes-to_be_bytes_16 kept.id low i; content = kept.content; number = kept.number; status = kept.status; body = kept.body } in
+    read
+
+abbrev place_of : Value → Option ℕ
+place_of (Int (pos place)) = Some place
+place_of _ = None
+
+place_back : (place : Option ℕ) → place_of (or_null (λ n. Int (pos n)) place) ≡ place
+place_back None = refl
+place_back (Some place) = refl
+
+abbrev history_of : Row → HistoryRow
+history_of cells = record {
+  board = number_of (column cells 0);
+  number = number_of (column cells 1);
+  moment = number_of (column cells 2);
+  person = number_of (column cells 3);
+  call = identifier_of (column cells 4);
+  what = number_of (column cells 5);
+  task = place_of (column cells 6);
+}
+
+history_back : (row : HistoryRow) → row.call < 2 ^ 128 → history_of (history_row row) ≡ row
+history_back row low = λ i.
+    let read : HistoryRow =
+    record { board = row.board; number = row.number; moment = row.moment; person = row.person; call = from_be_bytes-to_be_bytes_16 row.call low i; what = row.what; task = place_back row.task i } in
     read
 
 module _ {X : Type 0} (row_of : X → Row) (read : Row → X) where
@@ -74,4 +101,8 @@ same_contents a b db is_a is_b =
       gone = same_cells gone_row gone_of _ _ _ (each (λ row. refl) _) (each (λ row. refl) _) of_a.gone of_b.gone;
       horizon = same_keyed horizon_row horizon_from _ _ _ (each (λ row. refl) _) (each (λ row. refl) _) of_a.horizon of_b.horizon;
     } in
-    record { tables = tables; kept = same_cells kept_row kept_of _ _ _ (each_of kept_back _ of_a.kept_identifiers) (each_of kept_back _ of_b.kept_identifiers) of_a.kept of_b.kept }
+    record {
+      tables = tables;
+      kept = same_cells kept_row kept_of _ _ _ (each_of kept_back _ of_a.kept_identifiers) (each_of kept_back _ of_b.kept_identifiers) of_a.kept of_b.kept;
+      history = same_cells history_row history_of _ _ _ (each_of history_back _ of_a.history_identifiers) (each_of history_back _ of_b.history_identifiers) of_a.history of_b.history;
+    }

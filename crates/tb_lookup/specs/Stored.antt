@@ -1,5 +1,5 @@
 -- When the tables are the rows of a state, and what a stop may leave.
-use Rattle.std.specs.Prelude.{◌≡◌, ◌-◌, false, List, map, IsSome}
+use Rattle.std.specs.Prelude.{◌≡◌, ◌-◌, ◌⊎◌, false, List, map, IsSome}
 use Rattle.std.specs.List.{AllByRecursion}
 use Rattle.std.specs.Option.{unwrap_or}
 use Rattle.std.specs.FinMap.{entries}
@@ -16,7 +16,7 @@ use Rattle.tb_rows.specs.Laws.{AreApart}
 use Rattle.tb_rows.specs.Rows.{world_rows, IsSameContent}
 use Rattle.tb_sql_tables.specs.declared.rows.HorizonRow.{HorizonRow}
 use Rattle.tb_sql_tables.specs.declared.rows.KeptRow.{KeptRow}
-use Rattle.tb_sql_tables.specs.Content.{AreOldRows, AreRows, Content, Stands, StandsAsEither}
+use Rattle.tb_sql_tables.specs.Content.{without_history, AreOldRows, AreRows, AreSecondRows, Content, Stands, StandsAsEither}
 
 -- ---- the rows of a state
 
@@ -87,19 +87,32 @@ pub record MayLeave (d : Database) (t : State) : Type 0 where
   pub left : d.may_leave trees
   pub stored : AreTreesOf t trees
 
--- ---- rows in the tables of the first version
+-- ---- rows in the tables of the first version, and of the second
 
 -- each board looks one ahead, as all did in the first version
 abbrev pub LookOneAhead : State → Type 0
 LookOneAhead s = AllByRecursion (λ (b : Board). b.ahead ≡ 1) s.world.boards
 
--- the content but for how far ahead the boards look is the rows of such a state
+-- the content but for how far ahead the boards look, and without a history, is the rows of such a state
 pub record AreOldRowsOf (s : State) (content : Content) : Type 0 where
   pub one_ahead : LookOneAhead s
   pub horizon : List HorizonRow
-  pub rows : AreRowsOf s (record content { horizon = horizon })
+  pub rows : AreRowsOf s (without_history (record content { horizon = horizon }))
 
-pub record AreOldTreesOf (s : State) (db : Trees) : Type 0 where
+-- the content without a history is the rows of the state
+abbrev pub AreSecondRowsOf : State → Content → Type 0
+AreSecondRowsOf s content = AreRowsOf s (without_history content)
+
+pub record AreFirstTreesOf (s : State) (db : Trees) : Type 0 where
   pub content : Content
   pub rows : AreOldRowsOf s content
   pub stored : AreOldRows content db
+
+pub record AreSecondTreesOf (s : State) (db : Trees) : Type 0 where
+  pub content : Content
+  pub rows : AreSecondRowsOf s content
+  pub stored : AreSecondRows content db
+
+-- the trees are the rows of the state in the tables of a version before
+abbrev pub AreOldTreesOf : State → Trees → Type 0
+AreOldTreesOf s db = AreFirstTreesOf s db ⊎ AreSecondTreesOf s db

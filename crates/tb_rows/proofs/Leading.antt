@@ -30,7 +30,7 @@ use Rattle.tb_rows.proofs.Kept.{are_kept, IsLater}
 use Rattle.tb_rows.proofs.PeopleAndRoles.{inert-people, inert-roles, people_turn, roles_turn}
 use Rattle.tb_rows.proofs.Places.{IsElsewhere, Matches, turns_boards}
 use Rattle.tb_rows.proofs.Staying.{all_at, front_at, front_length, matches_from}
-use Rattle.tb_rows.proofs.Tables.{board_by, boards_by, boards_unordered, gone_all_by, gone_by, gone_unordered, horizon_by, horizons_by, horizons_unordered, instance_by, instances_by, instances_unordered, kept_same, link_by, links_by, links_unordered, people_by, person_by, role_by, roles_by, task_by, tasks_by, tasks_unordered}
+use Rattle.tb_rows.proofs.Tables.{board_by, boards_by, boards_unordered, gone_all_by, gone_by, gone_unordered, history_same, horizon_by, horizons_by, horizons_unordered, instance_by, instances_by, instances_unordered, kept_same, link_by, links_by, links_unordered, people_by, person_by, role_by, roles_by, task_by, tasks_by, tasks_unordered}
 use Rattle.tb_rows.proofs.Turning.{all_by, all_by-append, inert-append, inert_then_turns, IsInert, IsUnordered, Turns, turns_all, turns_then_inert}
 
 -- what each row of a board's items has in common
@@ -157,4 +157,5 @@ module _ (w v : World) (cs : List Change) (good_before : IsGoodWorld w) (good_af
           horizon = rw (horizons_by (world_changes w v cs) c) (horizons_table c.horizon same.horizon);
         };
         kept = kept_same (world_changes w v cs);
+        history = history_same (world_changes w v cs);
       }

@@ -78,6 +78,10 @@ one_kept : (x : RowChange) (c : Content) → (changed_by x c).kept ≡ c.kept
 one_kept (AddPerson r) c = refl
 one_kept _ c = refl
 
+one_history : (x : RowChange) (c : Content) → (changed_by x c).history ≡ c.history
+one_history (AddPerson r) c = refl
+one_history _ c = refl
+
 pub people_by : (xs : List RowChange) (c : Content) → (changed_by_all xs c).people ≡ all_by person_by xs c.people
 people_by [] c = refl
 people_by (x ∷ xs) c = people_by xs (changed_by x c) ∙ ap (all_by person_by xs) (one_person x c)
@@ -113,6 +117,10 @@ horizons_by (x ∷ xs) c = horizons_by xs (changed_by x c) ∙ ap (all_by horizo
 pub kept_same : (xs : List RowChange) (c : Content) → (changed_by_all xs c).kept ≡ c.kept
 kept_same [] c = refl
 kept_same (x ∷ xs) c = kept_same xs (changed_by x c) ∙ one_kept x c
+
+pub history_same : (xs : List RowChange) (c : Content) → (changed_by_all xs c).history ≡ c.history
+history_same [] c = refl
+history_same (x ∷ xs) c = history_same xs (changed_by x c) ∙ one_history x c
 
 -- ---- the order of rows doesn't matter
 

@@ -121,7 +121,7 @@ board_instances b = rows_from (instance_rows b) 1 b.tasks
 abbrev pub board_gone : Board → List GoneRow
 board_gone b = map (gone_row b) b.gone
 
--- ---- the rows of a world, which keeps no replies
+-- ---- the rows of a world, which keeps no replies and has no history
 
 abbrev pub world_rows : World → Content
 world_rows w = record {
@@ -134,9 +134,10 @@ world_rows w = record {
   gone = flat_map board_gone w.boards;
   kept = [];
   horizon = map horizon_row w.boards;
+  history = [];
 }
 
--- each table but the kept replies has the same rows, in any order
+-- each table but the kept replies and the history has the same rows, in any order
 pub record HaveSameRows (c d : Content) : Type 0 where
   pub people : IsPermutation c.people d.people
   pub boards : IsPermutation c.boards d.boards
@@ -151,3 +152,4 @@ pub record HaveSameRows (c d : Content) : Type 0 where
 pub record IsSameContent (c d : Content) : Type 0 where
   pub tables : HaveSameRows c d
   pub kept : IsPermutation c.kept d.kept
+  pub history : IsPermutation c.history d.history

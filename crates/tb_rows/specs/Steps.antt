@@ -173,3 +173,4 @@ pub record Leads (rows : List RowChange) (w v : World) : Type 0 where
   pub tables : (c : Content) → HaveSameRows c (world_rows w)
       → HaveSameRows (changed_by_all rows c) (world_rows v)
   pub kept : (c : Content) → (changed_by_all rows c).kept ≡ c.kept
+  pub history : (c : Content) → (changed_by_all rows c).history ≡ c.history

@@ -18,10 +18,10 @@ use Rattle.sqlite.specs.declared.error.ErrorCode.TheVariants.{OutOfMemory}
 use Rattle.sqlite.specs.State.{FailsToQuery, IsTooLate, State, Shown}
 use Rattle.sqlite.proofs.Callers.{one_permutation}
 use Rattle.tb_sql_tables.specs.declared.rows.MetaRow.{MetaRow}
-use Rattle.tb_sql_tables.specs.Tables.{meta_plain, meta_tree, old_schema}
+use Rattle.tb_sql_tables.specs.Tables.{meta_plain, meta_tree, old_schema, second_schema}
 use Rattle.tb_sql_tables.specs.Rows.{version_row}
 use Rattle.tb_sql_tables.specs.Read.{meta_of, IsMetaRow}
-use Rattle.tb_sql_tables.specs.Content.{Content, AreTables, HasKeyed, IsContent}
+use Rattle.tb_sql_tables.specs.Content.{Content, AreTables, HasKeyed, HasRows, IsContent}
 use Rattle.tb_sql_tables.specs.Statements.{Finds, Ran, Turns}
 use Rattle.tb_sql_tables.specs.Standing.{IsHalfway}
 use Rattle.tb_sql_tables.specs.Failing.{IsExcused}
@@ -32,7 +32,7 @@ use Rattle.tb_sql_tables.proofs.Inside.{shown_open}
 use Rattle.tb_sql_tables.proofs.Queries.{query_of, program_of, output_at}
 use Rattle.tb_sql_tables.proofs.Statements.{Asks, AsksIn, Means}
 use Rattle.tb_sql.specs.Opening.{our_meta, row_of_meta, meta_text, AreMetas, AreShown}
-use Rattle.tb_sql.specs.Migrating.{without_horizon}
+use Rattle.tb_sql.specs.Migrating.{first_part}
 
 abbrev shown_terms : List Term
 shown_terms = col 1 2 ∷ col 1 3 ∷ []
@@ -44,6 +44,10 @@ asks = record { names = codes "kind" ∷ codes "version" ∷ []; means = record 
 old_asks : AsksIn old_schema meta_text meta_tree [] shown_terms []
 unfolding understood everything
 old_asks = record { names = codes "kind" ∷ codes "version" ∷ []; means = record { is = refl; bare = (refl, refl) }; unlisted = refl }
+
+second_asks : AsksIn second_schema meta_text meta_tree [] shown_terms []
+unfolding understood everything
+second_asks = record { names = codes "kind" ∷ codes "version" ∷ []; means = record { is = refl; bare = (refl, refl) }; unlisted = refl }
 
 abbrev out : MetaRow → Output
 out meta = output_at meta_tree refl [] shown_terms [] [] (row_of_meta meta)
@@ -62,7 +66,10 @@ pub all_metas : (old new : State) (rows : List Row) → Shown meta_text [] old n
 all_metas old new rows shown (inl schema) metas stored =
     let answer = keyed_shown row_of_meta (λ row. true) metas meta_tree refl meta_text [] shown_terms [] asks old new [] rows schema shown (each (λ row. refl) _) stored in
     subst (λ all. IsPermutation all (map meta_of rows)) (all_left metas) (found_same meta_of (query_of meta_tree [] shown_terms []) out _ rows (each (λ row. refl) _) answer)
-all_metas old new rows shown (inr schema) metas stored =
+all_metas old new rows shown (inr (inl schema)) metas stored =
+    let answer = keyed_shown_in second_schema row_of_meta (λ row. true) metas meta_tree refl meta_text [] shown_terms [] second_asks old new [] rows schema shown (each (λ row. refl) _) stored in
+    subst (λ all. IsPermutation all (map meta_of rows)) (all_left metas) (found_same meta_of (query_of meta_tree [] shown_terms []) out _ rows (each (λ row. refl) _) answer)
+all_metas old new rows shown (inr (inr schema)) metas stored =
     let answer = keyed_shown_in old_schema row_of_meta (λ row. true) metas meta_tree refl meta_text [] shown_terms [] old_asks old new [] rows schema shown (each (λ row. refl) _) stored in
     subst (λ all. IsPermutation all (map meta_of rows)) (all_left metas) (found_same meta_of (query_of meta_tree [] shown_terms []) out _ rows (each (λ row. refl) _) answer)
 
@@ -110,10 +117,13 @@ updates : Means update_text (Update 0 (program_of (query_of meta_tree [] replace
 unfolding understood everything
 updates = record { is = refl; bare = (refl, refl) }
 
-no_rows : HasKeyed [] []
+no_keyed : HasKeyed [] []
+no_keyed = record { shaped = (tt, tt); same = IsPermutation-refl [] }
+
+no_rows : HasRows [] []
 no_rows = record { shaped = (tt, tt); same = IsPermutation-refl [] }
 
-pub update_version : (old new : State) → Ran update_text [] old new → (content : Content) → Turns (IsHalfway content) (IsContent (without_horizon content)) old new
+pub update_version : (old new : State) → Ran update_text [] old new → (content : Content) → Turns (IsHalfway content) (IsContent (first_part content)) old new
 update_version old new ran content = record {
   shown = ran.1.1;
   made = λ is.
@@ -122,7 +132,7 @@ update_version old new ran content = record {
       let was = is.tables in
       let e = effect.1 in
       let o = e.others in
-      let tables : AreTables (without_horizon content) new.now.trees = record {
+      let tables : AreTables (first_part content) new.now.trees = record {
         meta = effect.0;
         people = rw (o.1.0 (omega arith)) was.people;
         boards = rw (o.1.1.0 (omega arith)) was.boards;
@@ -132,9 +142,11 @@ update_version old new ran content = record {
         instances = rw (o.1.1.1.1.1.1.0 (omega arith)) was.instances;
         gone = rw (o.1.1.1.1.1.1.1.0 (omega arith)) was.gone;
         kept = rw (o.1.1.1.1.1.1.1.1.0 (omega arith)) was.kept;
-        horizon = rw (o.1.1.1.1.1.1.1.1.1.0 (omega arith) ∙ is.empty) no_rows;
+        horizon = rw (o.1.1.1.1.1.1.1.1.1.0 (omega arith) ∙ is.no_horizon) no_keyed;
+        history = rw (o.1.1.1.1.1.1.1.1.1.1.0 (omega arith) ∙ is.no_history) no_rows;
         task_identifiers = was.task_identifiers;
         kept_identifiers = was.kept_identifiers;
+        history_identifiers = tt;
       } in
       record { schema = e.schema; rows = record { sound = e.sound; tables = tables } };
 }

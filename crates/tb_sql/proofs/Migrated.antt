@@ -7,15 +7,15 @@ use Rattle.sqlite.specs.State.{KeepsCommit, State}
 use Rattle.tb_sql_tables.specs.declared.rows.BoardRow.{BoardRow}
 use Rattle.tb_sql_tables.specs.declared.rows.HorizonRow.{HorizonRow}
 use Rattle.tb_sql_tables.specs.declared.rows.PersonRow.{PersonRow}
-use Rattle.tb_sql_tables.specs.Content.{Content, IsContent}
+use Rattle.tb_sql_tables.specs.Content.{without_history, Content, IsContent}
 use Rattle.tb_sql_tables.specs.Statements.{Changes, Finds, Turns}
-use Rattle.tb_sql_tables.specs.Standing.{IsOldContent}
+use Rattle.tb_sql_tables.specs.Standing.{IsOldContent, IsSecondContent}
 use Rattle.tb_sql_tables.specs.Found.{AreFound}
 use Rattle.tb_sql_tables.proofs.Changing.{changes_then}
 use Rattle.tb_sql_tables.proofs.Reordered.{reordered, AreReordered}
 use Rattle.tb_sql.specs.declared.migrating.Counts.{Counts}
 use Rattle.tb_sql.specs.Changes.{IsBoardBefore, IsPersonBefore}
-use Rattle.tb_sql.specs.Migrating.{first_horizon, horizon_changes, migrated, without_horizon, IsMigrated}
+use Rattle.tb_sql.specs.Migrating.{first_horizon, first_part, horizon_changes, migrated, IsMigrated, IsWidened}
 use Rattle.tb_sql.specs.Writing.{changed_by_all}
 
 -- the rows of boards go in one after the other
@@ -32,9 +32,9 @@ all_in [] rows = IsPermutation-refl rows
 all_in (board ∷ boards) rows =
     IsPermutation-trans _ _ _ (all_in boards (first_horizon board ∷ rows)) (IsPermutation-middle (map first_horizon boards) (first_horizon board) rows)
 
-in_any_order : (content : Content) (boards : List BoardRow) → IsPermutation content.boards boards → AreReordered (changed_by_all (horizon_changes boards) (without_horizon content)) (migrated content)
+in_any_order : (content : Content) (boards : List BoardRow) → IsPermutation content.boards boards → AreReordered (changed_by_all (horizon_changes boards) (first_part content)) (migrated content)
 in_any_order content boards same =
-    let bare = without_horizon content in
+    let bare = first_part content in
     let put : IsPermutation (rows_before boards []) (map first_horizon boards) = subst (IsPermutation (rows_before boards [])) (append-nil (map first_horizon boards)) (all_in boards []) in
     let rows = IsPermutation-trans _ _ _ put (IsPermutation-map first_horizon _ _ (IsPermutation-sym content.boards boards same)) in
     subst (λ c. AreReordered c (migrated content)) (sym (horizons_in boards bare)) (record {
@@ -47,15 +47,16 @@ in_any_order content boards same =
       gone = IsPermutation-refl content.gone;
       kept = IsPermutation-refl content.kept;
       horizon = rows;
+      history = IsPermutation-refl [];
     })
 
 module _ (a b c d : State) (content : Content) (people : List PersonRow) (boards : List BoardRow) (counts : Counts) where
   pub filled : Changes (λ x. x) a b → Finds (λ x. AreFound IsPersonBefore x.people people) a → Changes (λ x. x) b c → Finds (λ x. AreFound IsBoardBefore x.boards boards) b
-      → Changes (changed_by_all (horizon_changes boards)) c d → counts.people ≡ length people → counts.boards ≡ length boards → Turns (IsContent (without_horizon content)) (IsMigrated content counts) a d
+      → Changes (changed_by_all (horizon_changes boards)) c d → counts.people ≡ length people → counts.boards ≡ length boards → Turns (IsContent (first_part content)) (IsMigrated content counts) a d
   filled first people_found second boards_found put people_are boards_are = record {
     shown = (changes_then (λ x. x) (changed_by_all (horizon_changes boards)) a c d (changes_then (λ x. x) (λ x. x) a b c first second) put).shown;
     made = λ is.
-        let bare = without_horizon content in
+        let bare = first_part content in
         let at_b = first.content bare is in
         let at_d = put.content bare (second.content bare at_b) in
         let of_people = people_found.found bare is in
@@ -67,7 +68,25 @@ module _ (a b c d : State) (content : Content) (people : List PersonRow) (boards
         };
   }
 
+module _ (a b c : State) (content : Content) (people : List PersonRow) (boards : List BoardRow) (counts : Counts) where
+  pub counted : Changes (λ x. x) a b → Finds (λ x. AreFound IsPersonBefore x.people people) a → Changes (λ x. x) b c → Finds (λ x. AreFound IsBoardBefore x.boards boards) b
+      → counts.people ≡ length people → counts.boards ≡ length boards → Turns (IsContent (without_history content)) (IsWidened content counts) a c
+  counted first people_found second boards_found people_are boards_are = record {
+    shown = (changes_then (λ x. x) (λ x. x) a b c first second).shown;
+    made = λ is.
+        let bare = without_history content in
+        let at_b = first.content bare is in
+        record {
+          is = second.content bare at_b;
+          people = people_are ∙ length_permutation _ _ (people_found.found bare is).same;
+          boards = boards_are ∙ length_permutation _ _ (boards_found.found bare at_b).same;
+        };
+  }
+
 -- of what is made the rows alone
+pub only_rows : (content : Content) (counts : Counts) (old new : State) → Turns (IsSecondContent content) (IsWidened content counts) old new → Turns (IsSecondContent content) (IsContent (without_history content)) old new
+only_rows content counts old new turn = record { shown = turn.shown; made = λ is. (turn.made is).is }
+
 pub only_content : (content : Content) (counts : Counts) (old new : State) → Turns (IsOldContent content) (IsMigrated content counts) old new → Turns (IsOldContent content) (IsContent (migrated content)) old new
 only_content content counts old new turn = record { shown = turn.shown; made = λ is. (turn.made is).is }
 

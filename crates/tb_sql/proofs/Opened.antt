@@ -1,5 +1,5 @@
 -- What a connection that has just been opened shows.
-use Rattle.std.proofs.Common.{◌≡◌, ◌∙◌, ◌⊎◌, ◌&&◌, ◌==◌, Bool, List, [], ◌∷◌, codes, bytes_eq, cond, length, Result, IsPermutation, IsTrue, true, false, true≢false, Ok, Err, arith, inl, inr, refl, sym, ap, subst}
+use Rattle.std.proofs.Common.{◌≡◌, ◌∙◌, ◌⊎◌, ◌&&◌, ◌==◌, Bool, List, [], ◌∷◌, codes, bytes_eq, cond, length, Result, IfOk, IsPermutation, IsTrue, true, false, true≢false, Ok, Err, arith, inl, inr, refl, sym, ap, subst}
 use Rattle.std.proofs.lemmas.List.Sorted.{length_permutation, All-permutation}
 use Rattle.std.proofs.lemmas.List.Elements.{All-from_recursion, recursion_from_All}
 use Rattle.sqlite_trees.specs.Tree.{Trees}
@@ -9,18 +9,20 @@ use Rattle.sqlite_catalog.specs.Listing.{IsSound}
 use Rattle.sqlite.specs.Effect.{Database}
 use Rattle.sqlite.proofs.Callers.{one_permutation}
 use Rattle.sqlite.specs.State.{State, HasCleanDisk, Opens, IsLive, KeepsCommit, IsRolledBack, Survives}
-use Rattle.tb_sql_tables.specs.Tables.{no_schema, old_schema, store_schema}
-use Rattle.tb_sql_tables.specs.Content.{Content, AreOldRows, AreRows, IsContent, Stands, StandsBy}
-use Rattle.tb_sql_tables.specs.Standing.{IsOldContent, StandsEmpty, StandsOld}
+use Rattle.tb_sql_tables.specs.Tables.{no_schema, old_schema, second_schema, store_schema}
+use Rattle.tb_sql_tables.specs.Content.{Content, AreOldRows, AreRows, AreSecondRows, AreVersionRows, IsContent, Stands, StandsBy}
+use Rattle.tb_sql_tables.specs.Standing.{IsOldContent, IsSecondContent, StandsEmpty, StandsOld, StandsSecond}
 use Rattle.tb_sql_tables.proofs.Once.{schema_once}
 use Rattle.tb_sql_tables.specs.declared.rows.MetaRow.{MetaRow}
 use Rattle.tb_sql.specs.declared.opening.OpenFault.{OpenFault}
 use Rattle.tb_sql.specs.declared.opening.OpenFault.TheVariants.{Memory, NotOurs, Store, WrongVersion}
 use Rattle.tb_sql.specs.declared.opening.Version.{Version}
-use Rattle.tb_sql.specs.declared.opening.Version.TheVariants.{First, Second}
+use Rattle.tb_sql.specs.declared.opening.Version.TheVariants.{First, Second, Third}
+use Rattle.tb_sql.specs.declared.opening.Number.{Number}
+use Rattle.tb_sql.specs.declared.opening.Number.TheVariants.{One, Two}
 use Rattle.tb_sql.specs.declared.store.StoreFault.{StoreFault}
 use Rattle.tb_sql.specs.declared.store.StoreFault.TheVariants.{Memory as StoreMemory, Store as StoreFailed}
-use Rattle.tb_sql.specs.Opening.{are_tables, by_version, has_meta, has_tables, if_there, is_old, is_ours, judged, old_meta, our_meta, taken, AreMetas, IsAsBefore, IsOfStore, is_meta, is_person, is_board, is_role, is_task, is_link, is_instance, is_gone, is_kept, is_horizon}
+use Rattle.tb_sql.specs.Opening.{are_tables, by_version, chosen, has_meta, has_tables, if_there, is_old, is_ours, is_second, judged, old_meta, our_meta, taken, AreMetas, IsAsBefore, IsOfStore, is_meta, is_person, is_board, is_role, is_task, is_link, is_instance, is_gone, is_kept, is_horizon, is_history}
 
 -- rows of a content make the schema that of a store
 pub opened_content : (s : State) (content : Content) → Opens s → IsLive s → AreRows content s.now.trees → IsContent content s.now
@@ -28,6 +30,9 @@ opened_content s content opened live rows = record { schema = sym (schema_once s
 
 pub opened_old : (s : State) (content : Content) → Opens s → IsLive s → AreOldRows content s.now.trees → IsOldContent content s.now
 opened_old s content opened live rows = record { schema = sym (schema_once old_schema s.now.schema s.now.trees refl rows.sound (live opened.is_open).0); rows = rows }
+
+pub opened_second : (s : State) (content : Content) → Opens s → IsLive s → AreSecondRows content s.now.trees → IsSecondContent content s.now
+opened_second s content opened live rows = record { schema = sym (schema_once second_schema s.now.schema s.now.trees refl rows.sound (live opened.is_open).0); rows = rows }
 
 module _ (s : State) (settled : (db : Trees) → IsTrue s.is_open → s.may_leave db → db ≡ s.committed.trees) where
   at_rest : (Seen : Database → Type 0) (Left : Trees → Type 0) → Opens s → Seen s.now → Left s.now.trees → StandsBy Seen Left s
@@ -44,6 +49,9 @@ module _ (s : State) (settled : (db : Trees) → IsTrue s.is_open → s.may_leav
   pub opened_stands_old : (content : Content) → Opens s → IsLive s → AreOldRows content s.now.trees → StandsOld content s
   opened_stands_old content opened live rows = at_rest (IsOldContent content) (AreOldRows content) opened (opened_old s content opened live rows) rows
 
+  pub opened_stands_second : (content : Content) → Opens s → IsLive s → AreSecondRows content s.now.trees → StandsSecond content s
+  opened_stands_second content opened live rows = at_rest (IsSecondContent content) (AreSecondRows content) opened (opened_second s content opened live rows) rows
+
   pub opened_empty : Opens s → IsLive s → s.now.schema ≡ no_schema → StandsEmpty s
   opened_empty opened live none = at_rest (λ db. db.schema ≡ no_schema) (IsSound no_schema) opened none (subst (λ schema. IsSound schema s.now.trees) none (live opened.is_open).0)
 
@@ -58,78 +66,109 @@ other_length (p ∷ tests) (t ∷ tables) other = last (p t) (other_length tests
     last true e = e
     last false e = refl
 
--- ---- rows of a content, in the tables of either version
+-- ---- rows of a content, in the tables of one of the versions
 
 our_first : has_meta store_schema.tables ≡ true
 unfolding Rattle.sqlite_schema.specs.Names.same_name is_meta
 our_first = refl
 
+second_first : has_meta second_schema.tables ≡ true
+unfolding Rattle.sqlite_schema.specs.Names.same_name is_meta
+second_first = refl
+
 old_first : has_meta old_schema.tables ≡ true
 unfolding Rattle.sqlite_schema.specs.Names.same_name is_meta
 old_first = refl
 
-ours_taken : taken store_schema (our_meta ∷ []) ≡ Ok Second
-unfolding Rattle.sqlite_schema.specs.Names.same_name is_meta is_person is_board is_role is_task is_link is_instance is_gone is_kept is_horizon
+ours_taken : taken store_schema (our_meta ∷ []) ≡ Ok Third
+unfolding Rattle.sqlite_schema.specs.Names.same_name is_meta is_person is_board is_role is_task is_link is_instance is_gone is_kept is_horizon is_history
 ours_taken = refl
 
+second_taken : taken second_schema (our_meta ∷ []) ≡ Ok Second
+unfolding Rattle.sqlite_schema.specs.Names.same_name is_meta is_person is_board is_role is_task is_link is_instance is_gone is_kept is_horizon is_history
+second_taken = refl
+
 old_taken : taken old_schema (old_meta ∷ []) ≡ Ok First
-unfolding Rattle.sqlite_schema.specs.Names.same_name is_meta is_person is_board is_role is_task is_link is_instance is_gone is_kept
+unfolding Rattle.sqlite_schema.specs.Names.same_name is_meta is_person is_board is_role is_task is_link is_instance is_gone is_kept is_horizon is_history
 old_taken = refl
 
+has_first_table : (schema known : Schema) → schema ≡ known → has_meta known.tables ≡ true → has_meta schema.tables ≡ false → ⊥
+has_first_table schema known is first other = absurd (true≢false (sym first ∙ ap (λ x. has_meta x.tables) (sym is) ∙ other))
+
 pub store_has_meta : (schema : Schema) → IsOfStore schema → has_meta schema.tables ≡ false → ⊥
-store_has_meta schema (inl is) other =
-    let first : has_meta schema.tables ≡ true = subst (λ x. has_meta x.tables ≡ true) (sym is) our_first in
-    cc
-store_has_meta schema (inr is) other =
-    let first : has_meta schema.tables ≡ true = subst (λ x. has_meta x.tables ≡ true) (sym is) old_first in
-    cc
+store_has_meta schema (inl is) other = has_first_table schema store_schema is our_first other
+store_has_meta schema (inr (inl is)) other = has_first_table schema second_schema is second_first other
+store_has_meta schema (inr (inr is)) other = has_first_table schema old_schema is old_first other
 
--- the rows of a content, in the tables of a store or of one of the first version
-abbrev pub AreEither : Content → Trees → Type 0
-AreEither content db = AreRows content db ⊎ AreOldRows content db
+of_store : (s : State) (content : Content) → Opens s → IsLive s → AreVersionRows content s.now.trees → IsOfStore s.now.schema
+of_store s content opened live (inl rows) = inl (opened_content s content opened live rows).schema
+of_store s content opened live (inr (inl rows)) = inr (inl (opened_second s content opened live rows).schema)
+of_store s content opened live (inr (inr rows)) = inr (inr (opened_old s content opened live rows).schema)
 
-pub either_of_store : (s : State) (content : Content) → Opens s → IsLive s → AreEither content s.now.trees → IsOfStore s.now.schema
-either_of_store s content opened live (inl rows) = inl (opened_content s content opened live rows).schema
-either_of_store s content opened live (inr rows) = inr (opened_old s content opened live rows).schema
-
-pub first_refused : (s : State) (content : Content) → Opens s → IsLive s → has_meta s.now.schema.tables ≡ false → AreEither content s.now.trees → ⊥
-first_refused s content opened live other rows = store_has_meta s.now.schema (either_of_store s content opened live rows) other
+pub first_refused : (s : State) (content : Content) → Opens s → IsLive s → has_meta s.now.schema.tables ≡ false → AreVersionRows content s.now.trees → ⊥
+first_refused s content opened live other rows = store_has_meta s.now.schema (of_store s content opened live rows) other
 
 ours_not_old : is_old store_schema ≡ false
-unfolding Rattle.sqlite_schema.specs.Names.same_name is_meta is_person is_board is_role is_task is_link is_instance is_gone is_kept is_horizon
+unfolding Rattle.sqlite_schema.specs.Names.same_name is_meta is_person is_board is_role is_task is_link is_instance is_gone is_kept is_horizon is_history
 ours_not_old = refl
 
+ours_not_second : is_second store_schema ≡ false
+unfolding Rattle.sqlite_schema.specs.Names.same_name is_meta is_person is_board is_role is_task is_link is_instance is_gone is_kept is_horizon is_history
+ours_not_second = refl
+
+second_not_old : is_old second_schema ≡ false
+unfolding Rattle.sqlite_schema.specs.Names.same_name is_meta is_person is_board is_role is_task is_link is_instance is_gone is_kept is_horizon is_history
+second_not_old = refl
+
+second_not_ours : is_ours second_schema ≡ false
+unfolding Rattle.sqlite_schema.specs.Names.same_name is_meta is_person is_board is_role is_task is_link is_instance is_gone is_kept is_horizon is_history
+second_not_ours = refl
+
+old_not_second : is_second old_schema ≡ false
+unfolding Rattle.sqlite_schema.specs.Names.same_name is_meta is_person is_board is_role is_task is_link is_instance is_gone is_kept is_horizon is_history
+old_not_second = refl
+
 old_not_ours : is_ours old_schema ≡ false
-unfolding Rattle.sqlite_schema.specs.Names.same_name is_meta is_person is_board is_role is_task is_link is_instance is_gone is_kept is_horizon
+unfolding Rattle.sqlite_schema.specs.Names.same_name is_meta is_person is_board is_role is_task is_link is_instance is_gone is_kept is_horizon is_history
 old_not_ours = refl
 
 -- the version is that of the tables which have the rows
-pub rows_second : (s : State) (content : Content) (version : Version) → Opens s → IsLive s → has_tables version s.now.schema ≡ true → AreRows content s.now.trees → version ≡ Second
+pub rows_third : (s : State) (content : Content) (version : Version) → Opens s → IsLive s → has_tables version s.now.schema ≡ true → AreRows content s.now.trees → version ≡ Third
+rows_third s content Third opened live has rows = refl
+rows_third s content Second opened live has rows = absurd (true≢false (sym has ∙ ap (λ x. is_second x) (opened_content s content opened live rows).schema ∙ ours_not_second))
+rows_third s content First opened live has rows = absurd (true≢false (sym has ∙ ap (λ x. is_old x) (opened_content s content opened live rows).schema ∙ ours_not_old))
+
+pub rows_second : (s : State) (content : Content) (version : Version) → Opens s → IsLive s → has_tables version s.now.schema ≡ true → AreSecondRows content s.now.trees → version ≡ Second
 rows_second s content Second opened live has rows = refl
-rows_second s content First opened live has rows =
-    let none : is_old s.now.schema ≡ false = ap (λ x. is_old x) (opened_content s content opened live rows).schema ∙ ours_not_old in
-    absurd (true≢false (sym has ∙ none))
+rows_second s content Third opened live has rows = absurd (true≢false (sym has ∙ ap (λ x. is_ours x) (opened_second s content opened live rows).schema ∙ second_not_ours))
+rows_second s content First opened live has rows = absurd (true≢false (sym has ∙ ap (λ x. is_old x) (opened_second s content opened live rows).schema ∙ second_not_old))
 
 pub rows_first : (s : State) (content : Content) (version : Version) → Opens s → IsLive s → has_tables version s.now.schema ≡ true → AreOldRows content s.now.trees → version ≡ First
 rows_first s content First opened live has rows = refl
-rows_first s content Second opened live has rows =
-    let none : is_ours s.now.schema ≡ false = ap (λ x. is_ours x) (opened_old s content opened live rows).schema ∙ old_not_ours in
-    absurd (true≢false (sym has ∙ none))
+rows_first s content Second opened live has rows = absurd (true≢false (sym has ∙ ap (λ x. is_second x) (opened_old s content opened live rows).schema ∙ old_not_second))
+rows_first s content Third opened live has rows = absurd (true≢false (sym has ∙ ap (λ x. is_ours x) (opened_old s content opened live rows).schema ∙ old_not_ours))
 
 -- they are taken as a store of one of the versions
-either_taken : (s : State) (content : Content) (metas : List MetaRow) → Opens s → IsLive s → AreMetas s.now metas → AreEither content s.now.trees → (version : Version) × (taken s.now.schema metas ≡ Ok version)
-either_taken s content metas opened live told (inl rows) =
-    let schema = (opened_content s content opened live rows).schema in
-    let one : metas ≡ our_meta ∷ [] = one_permutation our_meta metas (told (inl schema) (our_meta ∷ []) rows.tables.meta) in
-    (Second, ap (λ x. taken x metas) schema ∙ ap (taken store_schema) one ∙ ours_taken)
-either_taken s content metas opened live told (inr rows) =
-    let schema = (opened_old s content opened live rows).schema in
-    let one : metas ≡ old_meta ∷ [] = one_permutation old_meta metas (told (inr schema) (old_meta ∷ []) rows.tables.meta) in
-    (First, ap (λ x. taken x metas) schema ∙ ap (taken old_schema) one ∙ old_taken)
+known_taken : (schema known : Schema) (metas : List MetaRow) (meta : MetaRow) (version : Version) → schema ≡ known → metas ≡ meta ∷ [] → taken known (meta ∷ []) ≡ Ok version → taken schema metas ≡ Ok version
+known_taken schema known metas meta version is one known_is = ap (λ x. taken x metas) is ∙ ap (taken known) one ∙ known_is
 
-pub never_refused : (s : State) (content : Content) (metas : List MetaRow) (fault : OpenFault) → Opens s → IsLive s → AreMetas s.now metas → AreEither content s.now.trees → Err fault ≡ taken s.now.schema metas → ⊥
+one_taken : (s : State) (content : Content) (metas : List MetaRow) → Opens s → IsLive s → AreMetas s.now metas → AreVersionRows content s.now.trees → (version : Version) × (taken s.now.schema metas ≡ Ok version)
+one_taken s content metas opened live told (inl rows) =
+    let schema = (opened_content s content opened live rows).schema in
+    let one = one_permutation our_meta metas (told (inl schema) (our_meta ∷ []) rows.tables.meta) in
+    (Third, known_taken s.now.schema store_schema metas our_meta Third schema one ours_taken)
+one_taken s content metas opened live told (inr (inl rows)) =
+    let schema = (opened_second s content opened live rows).schema in
+    let one = one_permutation our_meta metas (told (inr (inl schema)) (our_meta ∷ []) rows.tables.meta) in
+    (Second, known_taken s.now.schema second_schema metas our_meta Second schema one second_taken)
+one_taken s content metas opened live told (inr (inr rows)) =
+    let schema = (opened_old s content opened live rows).schema in
+    let one = one_permutation old_meta metas (told (inr (inr schema)) (old_meta ∷ []) rows.tables.meta) in
+    (First, known_taken s.now.schema old_schema metas old_meta First schema one old_taken)
+
+pub never_refused : (s : State) (content : Content) (metas : List MetaRow) (fault : OpenFault) → Opens s → IsLive s → AreMetas s.now metas → AreVersionRows content s.now.trees → Err fault ≡ taken s.now.schema metas → ⊥
 never_refused s content metas fault opened live told rows is =
-    let version = either_taken s content metas opened live told rows in
+    let version = one_taken s content metas opened live told rows in
     let none : Err fault ≡ Ok version.0 = is ∙ version.1 in
     cc
 
@@ -192,15 +231,32 @@ taken_same schema rows metas same = ap (if_there schema) (judged_same rows metas
 pub refused_taken : (schema : Schema) (metas : List MetaRow) (fault : OpenFault) → Err fault ≡ judged metas → Err fault ≡ taken schema metas
 refused_taken schema metas fault is = ap (if_there schema) is
 
-pub there_taken : (schema : Schema) (metas : List MetaRow) (version : Version) → by_version version (is_old schema) (is_ours schema) ≡ true → Ok version ≡ judged metas → Ok version ≡ taken schema metas
-there_taken schema metas version there is =
-    let one : Ok version ≡ if_there schema (Ok version) = subst (λ b. Ok version ≡ cond b (Ok version) (Err NotOurs)) (sym there) refl in
-    one ∙ ap (if_there schema) is
+chosen_tables : (number : Number) (first second third : Bool) (version : Version) → chosen number first second third ≡ Ok version → by_version version first second third ≡ true
+chosen_tables One true second third First is = refl
+chosen_tables One true second third Second is = absurd (cc)
+chosen_tables One true second third Third is = absurd (cc)
+chosen_tables One false second third version is = absurd (cc)
+chosen_tables Two first second true Third is = refl
+chosen_tables Two first second true First is = absurd (cc)
+chosen_tables Two first second true Second is = absurd (cc)
+chosen_tables Two first true false Second is = refl
+chosen_tables Two first true false First is = absurd (cc)
+chosen_tables Two first true false Third is = absurd (cc)
+chosen_tables Two first false false version is = absurd (cc)
 
-pub others_taken : (schema : Schema) (metas : List MetaRow) (version : Version) → by_version version (is_old schema) (is_ours schema) ≡ false → Ok version ≡ judged metas → Err NotOurs ≡ taken schema metas
-others_taken schema metas version other is =
-    let none : Err NotOurs ≡ if_there schema (Ok version) = subst (λ b. Err NotOurs ≡ cond b (Ok version) (Err NotOurs)) (sym other) refl in
-    none ∙ ap (if_there schema) is
+-- a store that is taken has the tables of its version
+pub taken_tables : (schema : Schema) (metas : List MetaRow) (version : Version) → taken schema metas ≡ Ok version → has_tables version schema ≡ true
+taken_tables schema metas version = go (judged metas)
+  where
+    go : (said : Result Number OpenFault) → if_there schema said ≡ Ok version → has_tables version schema ≡ true
+    go (Ok number) is = chosen_tables number (is_old schema) (is_second schema) (is_ours schema) version is
+    go (Err fault) is = absurd (cc)
+
+-- ---- what holds of a call that succeeds
+
+pub on_ok : {A E : Type 0} (P : A → Type 0) (result : Result A E) → ((value : A) → result ≡ Ok value → P value) → IfOk result P
+on_ok P (Ok value) step = step value refl
+on_ok P (Err e) step = tt
 
 -- ---- why the store is told to have failed
 
@@ -213,9 +269,26 @@ pub never_judged : (metas : List MetaRow) → judged metas ≡ Err Store → ⊥
 never_judged [] is = absurd (cc)
 never_judged (meta ∷ []) is = go (bytes_eq meta.kind (codes "taskboard")) (meta.version == 2) (meta.version == 1) is
   where
-    go : (kind second first : Bool) → ◌≡◌ {A = Result Version OpenFault} (cond kind (cond second (Ok Second) (cond first (Ok First) (Err WrongVersion))) (Err NotOurs)) (Err Store) → ⊥
+    go : (kind second first : Bool) → ◌≡◌ {A = Result Number OpenFault} (cond kind (cond second (Ok Two) (cond first (Ok One) (Err WrongVersion))) (Err NotOurs)) (Err Store) → ⊥
     go true true first is = absurd (cc)
     go true false true is = absurd (cc)
     go true false false is = absurd (cc)
     go false second first is = absurd (cc)
 never_judged (a ∷ b ∷ metas) is = absurd (cc)
+
+never_chosen : (number : Number) (first second third : Bool) → chosen number first second third ≡ Err Store → ⊥
+never_chosen One true second third is = absurd (cc)
+never_chosen One false second third is = absurd (cc)
+never_chosen Two first second true is = absurd (cc)
+never_chosen Two first true false is = absurd (cc)
+never_chosen Two first false false is = absurd (cc)
+
+pub never_taken : (schema : Schema) (metas : List MetaRow) → taken schema metas ≡ Err Store → ⊥
+never_taken schema metas is = go (judged metas) refl is
+  where
+    go : (said : Result Number OpenFault) → judged metas ≡ said → if_there schema said ≡ Err Store → ⊥
+    go (Ok number) same is = never_chosen number (is_old schema) (is_second schema) (is_ours schema) is
+    go (Err fault) same is = never_judged metas (same ∙ ap Err (err_of is))
+      where
+        err_of : ◌≡◌ {A = Result Version OpenFault} (Err fault) (Err Store) → fault ≡ Store
+        err_of is = cc

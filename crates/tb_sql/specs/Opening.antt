@@ -14,12 +14,14 @@ use Rattle.sqlite.specs.Effect.{Database}
 use Rattle.sqlite.specs.Held.{Held, state}
 use Rattle.sqlite.specs.State.{State, HasCleanDisk, Shown}
 use Rattle.tb_sql_tables.specs.declared.rows.MetaRow.{MetaRow}
-use Rattle.tb_sql_tables.specs.Tables.{meta_tree, old_schema, store_schema}
+use Rattle.tb_sql_tables.specs.Tables.{meta_tree, old_schema, second_schema, store_schema}
 use Rattle.tb_sql_tables.specs.Content.{HasKeyed}
 use Rattle.tb_sql_tables.specs.Read.{meta_of}
 use Rattle.tb_sql.specs.declared.opening.OpenFault.{OpenFault}
 use Rattle.tb_sql.specs.declared.opening.Version.{Version}
-use Rattle.tb_sql.specs.declared.opening.Version.TheVariants.{First, Second}
+use Rattle.tb_sql.specs.declared.opening.Version.TheVariants.{First, Second, Third}
+use Rattle.tb_sql.specs.declared.opening.Number.{Number}
+use Rattle.tb_sql.specs.declared.opening.Number.TheVariants.{One, Two}
 use Rattle.tb_sql.specs.declared.opening.OpenFault.TheVariants.{NotOurs, WrongVersion, Store, Memory}
 
 -- ---- the tables, by their names and the names and types of their columns
@@ -98,6 +100,12 @@ is_horizon table =
     same_name table.name (codes "horizon")
     && are_columns ((codes "board", is_integer) ∷ (codes "ahead", is_integer) ∷ []) table.columns
 
+unfoldable pub is_history : Table → Bool
+is_history table = same_name table.name (codes "history")
+    && are_columns ((codes "board", is_integer) ∷ (codes "number", is_integer)
+    ∷ (codes "moment", is_integer) ∷ (codes "person", is_integer) ∷ (codes "call", is_blob)
+    ∷ (codes "what", is_integer) ∷ (codes "task", is_integer) ∷ []) table.columns
+
 -- the first of the tables tells what the file is
 abbrev pub has_meta : List Table → Bool
 has_meta [] = false
@@ -114,6 +122,12 @@ are_tables (p ∷ ps) (t ∷ ts) = p t && are_tables ps ts
 abbrev pub are_ours : List Table → Bool
 are_ours = are_tables
     (is_meta ∷ is_person ∷ is_board ∷ is_role ∷ is_task ∷ is_link ∷ is_instance ∷ is_gone ∷ is_kept
+    ∷ is_horizon ∷ is_history ∷ [])
+
+-- the same for a store of the second version
+abbrev pub are_second : List Table → Bool
+are_second = are_tables
+    (is_meta ∷ is_person ∷ is_board ∷ is_role ∷ is_task ∷ is_link ∷ is_instance ∷ is_gone ∷ is_kept
     ∷ is_horizon ∷ [])
 
 -- the same for a store of the first version
@@ -122,25 +136,30 @@ are_old = are_tables
     (is_meta ∷ is_person ∷ is_board ∷ is_role ∷ is_task ∷ is_link ∷ is_instance ∷ is_gone
     ∷ is_kept ∷ [])
 
--- beside the tables are the nine indexes of their keys alone
-abbrev pub has_key_indexes : Schema → Bool
-has_key_indexes schema = (length schema.indexes == 9) && (length schema.views == 0)
+-- beside the tables are the indexes of their keys alone, which are so many
+abbrev pub has_key_indexes : ℕ → Schema → Bool
+has_key_indexes count schema = (length schema.indexes == count) && (length schema.views == 0)
 
 -- the tables are those of a store, and nothing else is there
 abbrev pub is_ours : Schema → Bool
-is_ours schema = are_ours schema.tables && has_key_indexes schema
+is_ours schema = are_ours schema.tables && has_key_indexes 11 schema
+
+-- the same for a store of the second version
+abbrev pub is_second : Schema → Bool
+is_second schema = are_second schema.tables && has_key_indexes 9 schema
 
 -- the same for a store of the first version
 abbrev pub is_old : Schema → Bool
-is_old schema = are_old schema.tables && has_key_indexes schema
+is_old schema = are_old schema.tables && has_key_indexes 9 schema
 
-abbrev pub by_version : Version → Bool → Bool → Bool
-by_version First first second = first
-by_version Second first second = second
+abbrev pub by_version : Version → Bool → Bool → Bool → Bool
+by_version First first second third = first
+by_version Second first second third = second
+by_version Third first second third = third
 
 -- the tables are those of this version
 abbrev pub has_tables : Version → Schema → Bool
-has_tables version schema = by_version version (is_old schema) (is_ours schema)
+has_tables version schema = by_version version (is_old schema) (is_second schema) (is_ours schema)
 
 -- ---- what the file is
 
@@ -154,30 +173,38 @@ old_meta = record { kind = codes "taskboard"; version = 1 }
 abbrev pub row_of_meta : MetaRow → Row
 row_of_meta meta = Int (pos 1) ∷ Null ∷ Words meta.kind ∷ Int (pos meta.version) ∷ []
 
--- the tables are those of a store, of this version or the first
+-- the tables are those of a store, of one of the versions
 abbrev pub IsOfStore : Schema → Type 0
-IsOfStore schema = (schema ≡ store_schema) ⊎ (schema ≡ old_schema)
+IsOfStore schema = (schema ≡ store_schema) ⊎ ((schema ≡ second_schema) ⊎ (schema ≡ old_schema))
 
 -- where the tables are those of a store, these are the rows of the first
 abbrev pub AreMetas : Database → List MetaRow → Type 0
 AreMetas db metas = IsOfStore db.schema → (rows : List MetaRow)
     → HasKeyed (map row_of_meta rows) (db.trees meta_tree) → IsPermutation rows metas
 
-abbrev pub version_of : ℕ → Result Version OpenFault
-version_of number = if number == 2 then Ok Second
-    else (if number == 1 then Ok First else Err WrongVersion)
+-- the second version and the third have one number
+abbrev pub number_of : ℕ → Result Number OpenFault
+number_of number = if number == 2 then Ok Two
+    else (if number == 1 then Ok One else Err WrongVersion)
 
--- what the rows of the first table say: one row names a store and its version
+-- what the rows of the first table say: one row names a store and its number
 -- Rule: one row has kind and version. Refused as NotOurs or WrongVersion. Tried by strange_files.
-abbrev pub judged : List MetaRow → Result Version OpenFault
+abbrev pub judged : List MetaRow → Result Number OpenFault
 judged [] = Err NotOurs
-judged (meta ∷ []) = if bytes_eq meta.kind (codes "taskboard") then version_of meta.version
+judged (meta ∷ []) = if bytes_eq meta.kind (codes "taskboard") then number_of meta.version
     else Err NotOurs
 judged (a ∷ b ∷ metas) = Err NotOurs
 
--- a store is taken only where the tables of its version are there, and nothing else
-abbrev pub if_there : Schema → Result Version OpenFault → Result Version OpenFault
-if_there schema (Ok version) = if has_tables version schema then Ok version else Err NotOurs
+-- the version of this number whose tables are there
+abbrev pub chosen : Number → Bool → Bool → Bool → Result Version OpenFault
+chosen One first second third = if first then Ok First else Err NotOurs
+chosen Two first second third = if third then Ok Third
+    else (if second then Ok Second else Err NotOurs)
+
+-- a store is taken only where the tables of a version of that number are there, and nothing else
+abbrev pub if_there : Schema → Result Number OpenFault → Result Version OpenFault
+if_there schema (Ok number) =
+    chosen number (is_old schema) (is_second schema) (is_ours schema)
 if_there schema (Err fault) = Err fault
 
 -- what the tables and those rows say

@@ -8,7 +8,10 @@ use sqlite_schema::names::same_name;
 use sqlite_schema::schema::{Column, Kind, Schema, Table};
 
 /// The indexes that the keys of the tables make.
-const KEY_INDEXES: usize = 9;
+const KEY_INDEXES: usize = 11;
+
+/// The same before there was a history.
+const EARLIER_KEY_INDEXES: usize = 9;
 
 fn is_named(name: &[u8], wanted: &str) -> bool
     ensures { result ≡ same_name name.now wanted.now }
@@ -193,6 +196,36 @@ fn is_horizon(table: &Table) -> bool
         && is_integer(ahead_column, "ahead")
 }
 
+fn ends_history(columns: &[Column]) -> bool
+    ensures { result
+        ≡ opening.are_columns
+        ((codes "person", opening.is_integer) ∷ (codes "call", opening.is_blob)
+        ∷ (codes "what", opening.is_integer) ∷ (codes "task", opening.is_integer) ∷ [])
+        columns.now }
+{
+    let [person_column, call_column, what_column, task_column] = columns else {
+        return false;
+    };
+    is_integer(person_column, "person")
+        && is_blob(call_column, "call")
+        && is_integer(what_column, "what")
+        && is_integer(task_column, "task")
+}
+
+#[tactic(auto, unfolding(crate::specs::Opening::is_history))]
+fn is_history(table: &Table) -> bool
+    ensures { result ≡ opening.is_history table.now }
+{
+    let [board_column, number_column, moment_column, rest @ ..] = table.columns.as_slice() else {
+        return false;
+    };
+    is_named(table.name.as_slice(), "history")
+        && is_integer(board_column, "board")
+        && is_integer(number_column, "number")
+        && is_integer(moment_column, "moment")
+        && ends_history(rest)
+}
+
 /// Whether the first table tells what the file is.
 pub(crate) fn has_meta(schema: &Schema) -> bool
     ensures { result ≡ opening.has_meta schema.now.tables }
@@ -207,13 +240,18 @@ pub(crate) fn has_meta(schema: &Schema) -> bool
 fn are_last(tables: &[Table]) -> bool
     ensures { result
         ≡ opening.are_tables
-        (opening.is_instance ∷ opening.is_gone ∷ opening.is_kept ∷ opening.is_horizon ∷ [])
+        (opening.is_instance ∷ opening.is_gone ∷ opening.is_kept ∷ opening.is_horizon
+        ∷ opening.is_history ∷ [])
         tables.now }
 {
-    let [instance, gone, kept, horizon] = tables else {
+    let [instance, gone, kept, horizon, history] = tables else {
         return false;
     };
-    is_instance(instance) && is_gone(gone) && is_kept(kept) && is_horizon(horizon)
+    is_instance(instance)
+        && is_gone(gone)
+        && is_kept(kept)
+        && is_horizon(horizon)
+        && is_history(history)
 }
 
 #[tactic(auto, using(crate::proofs::Opened::other_length))]
@@ -221,7 +259,8 @@ fn are_later(tables: &[Table]) -> bool
     ensures { result
         ≡ opening.are_tables
         (opening.is_role ∷ opening.is_task ∷ opening.is_link ∷ opening.is_instance ∷ opening.is_gone
-        ∷ opening.is_kept ∷ opening.is_horizon ∷ []) tables.now }
+        ∷ opening.is_kept ∷ opening.is_horizon
+        ∷ opening.is_history ∷ []) tables.now }
 {
     let [role, task, link, last @ ..] = tables else {
         return false;
@@ -237,6 +276,42 @@ fn are_ours(tables: &[Table]) -> bool
         return false;
     };
     is_meta(meta) && is_person(person) && is_board(board) && are_later(later)
+}
+
+#[tactic(auto, using(crate::proofs::Opened::other_length))]
+fn are_second_last(tables: &[Table]) -> bool
+    ensures { result
+        ≡ opening.are_tables
+        (opening.is_instance ∷ opening.is_gone ∷ opening.is_kept ∷ opening.is_horizon ∷ [])
+        tables.now }
+{
+    let [instance, gone, kept, horizon] = tables else {
+        return false;
+    };
+    is_instance(instance) && is_gone(gone) && is_kept(kept) && is_horizon(horizon)
+}
+
+#[tactic(auto, using(crate::proofs::Opened::other_length))]
+fn are_second_later(tables: &[Table]) -> bool
+    ensures { result
+        ≡ opening.are_tables
+        (opening.is_role ∷ opening.is_task ∷ opening.is_link ∷ opening.is_instance ∷ opening.is_gone
+        ∷ opening.is_kept ∷ opening.is_horizon ∷ []) tables.now }
+{
+    let [role, task, link, last @ ..] = tables else {
+        return false;
+    };
+    is_role(role) && is_task(task) && is_link(link) && are_second_last(last)
+}
+
+#[tactic(auto, using(crate::proofs::Opened::other_length))]
+fn are_second(tables: &[Table]) -> bool
+    ensures { result ≡ opening.are_second tables.now }
+{
+    let [meta, person, board, later @ ..] = tables else {
+        return false;
+    };
+    is_meta(meta) && is_person(person) && is_board(board) && are_second_later(later)
 }
 
 #[tactic(auto, using(crate::proofs::Opened::other_length))]
@@ -274,23 +349,30 @@ fn are_old(tables: &[Table]) -> bool
     is_meta(meta) && is_person(person) && is_board(board) && are_old_later(later)
 }
 
-/// Whether there are the indexes of the keys, and no further index and no view.
-fn has_key_indexes(schema: &Schema) -> bool
-    ensures { result ≡ opening.has_key_indexes schema.now }
+/// Whether there are so many indexes, those of the keys, and no further index and no view.
+fn has_key_indexes(schema: &Schema, count: usize) -> bool
+    ensures { result ≡ opening.has_key_indexes count schema.now }
 {
-    schema.indexes.len() == KEY_INDEXES && schema.views.is_empty()
+    schema.indexes.len() == count && schema.views.is_empty()
 }
 
 /// Whether the tables are those of a store, in the order in which they are made, and nothing else is there.
 pub(crate) fn is_ours(schema: &Schema) -> bool
     ensures { result ≡ opening.is_ours schema.now }
 {
-    are_ours(schema.tables.as_slice()) && has_key_indexes(schema)
+    are_ours(schema.tables.as_slice()) && has_key_indexes(schema, KEY_INDEXES)
+}
+
+/// The same for a store of the second version.
+pub(crate) fn is_second(schema: &Schema) -> bool
+    ensures { result ≡ opening.is_second schema.now }
+{
+    are_second(schema.tables.as_slice()) && has_key_indexes(schema, EARLIER_KEY_INDEXES)
 }
 
 /// The same for a store of the first version.
 pub(crate) fn is_old(schema: &Schema) -> bool
     ensures { result ≡ opening.is_old schema.now }
 {
-    are_old(schema.tables.as_slice()) && has_key_indexes(schema)
+    are_old(schema.tables.as_slice()) && has_key_indexes(schema, EARLIER_KEY_INDEXES)
 }

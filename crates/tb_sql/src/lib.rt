@@ -22,3 +22,4 @@ pub mod roles;
 pub mod roles_of;
 pub mod store;
 pub mod tasks;
+pub mod widening;

@@ -8,7 +8,7 @@ ghost use Rattle.tb_sql_tables.specs.Statements.{Finds, Turns};
 ghost use Rattle.tb_sql_tables.specs.Standing.{IsHalfway};
 ghost use Rattle.tb_sql_tables.specs.Failing.{IsExcused};
 ghost use Rattle.tb_sql.specs.Opening.{our_meta, AreMetas, AreShown};
-ghost use Rattle.tb_sql.specs.Migrating.{without_horizon};
+ghost use Rattle.tb_sql.specs.Migrating.{first_part};
 
 use sqlite::{Alter, Error, Transaction};
 use tb_sql_tables::read::read_all;
@@ -34,13 +34,13 @@ pub fn select_meta<S: Alter>(tx: &mut Transaction<'_, S>) -> Result<Items<MetaRo
     read_all(*rows.allocator(), &rows)
 }
 
-/// Tells that the file is of the second version.
+/// Tells that the file is of the second version or the third, which have one number.
 pub(crate) fn update_version<S: Alter>(tx: &mut Transaction<'_, S>) -> Result<(), Error>
     ensures same_reference { tx.new.conn.ghost_name ≡ tx.old.conn.ghost_name }
     ensures made { HasCleanDisk (seen S.Store tx.new)
         → IsTrue (seen S.Store tx.old).in_transaction
         → OnOk result ((content : Content)
-        → Turns (IsHalfway content) (IsContent (without_horizon content))
+        → Turns (IsHalfway content) (IsContent (first_part content))
         (seen S.Store tx.old) (seen S.Store tx.new)) }
     ensures kept { KeepsOnErr (seen S.Store tx.old) (seen S.Store tx.new) result }
     ensures survives { Survives (seen S.Store tx.old) (seen S.Store tx.new) (λ _. ⊥) }

@@ -1,4 +1,4 @@
-//! Makes a store of the first version one of the second.
+//! Makes a store of the first version one of today's.
 
 ghost use Rattle.std.specs.Prelude.{◌≡◌, false, map, IsTrue, IfErr, IfOk, OnOk, Err};
 ghost use Rattle.sqlite.specs.Held.{state};
@@ -8,7 +8,7 @@ ghost use Rattle.tb_sql_tables.specs.Content.{AreRows, Content, IsContent, Stand
 ghost use Rattle.tb_sql_tables.specs.Standing.{IsOldContent, StandsOld, StandsOldOr};
 ghost use Rattle.tb_sql_tables.specs.Statements.{Turns};
 ghost use Rattle.tb_sql.specs.Opening.{IsAsBefore};
-ghost use Rattle.tb_sql.specs.Migrating.{horizon_changes, migrated, without_horizon, IsMigrated};
+ghost use Rattle.tb_sql.specs.Migrating.{first_part, horizon_changes, migrated, IsMigrated};
 
 use crate::boards::select_boards;
 use crate::changes::{RowChange, apply_changes};
@@ -17,7 +17,7 @@ use crate::people::select_people;
 use crate::store::StoreFault;
 use sqlite::{Alter, Connection, Error, Transaction};
 use std::alloc::{AllocError, Global};
-use tb_sql_tables::create::create_horizon;
+use tb_sql_tables::create::{create_history, create_horizon};
 use tb_sql_tables::rows::{BoardRow, HorizonRow};
 use tb_values::Items;
 
@@ -42,18 +42,19 @@ fn horizon_changes(alloc: Global, boards: &[BoardRow]) -> Result<Items<RowChange
     Ok(rows)
 }
 
-/// Makes the table that is missing, and tells the version.
+/// Makes the tables that are missing, and tells the version.
 fn widen<S: Alter>(tx: &mut Transaction<'_, S>) -> Result<(), Error>
     ensures same_reference { tx.new.conn.ghost_name ≡ tx.old.conn.ghost_name }
     ensures made { HasCleanDisk (seen S.Store tx.new)
         → IsTrue (seen S.Store tx.old).in_transaction
         → OnOk result ((content : Content)
-        → Turns (IsOldContent content) (IsContent (without_horizon content))
+        → Turns (IsOldContent content) (IsContent (first_part content))
         (seen S.Store tx.old) (seen S.Store tx.new)) }
     ensures kept { KeepsOnErr (seen S.Store tx.old) (seen S.Store tx.new) result }
     ensures survives { Survives (seen S.Store tx.old) (seen S.Store tx.new) (λ _. ⊥) }
 {
     create_horizon(tx)?;
+    create_history(tx)?;
     update_version(tx)
 }
 
@@ -63,7 +64,7 @@ fn fill<S: Alter>(alloc: Global, tx: &mut Transaction<'_, S>) -> Result<Counts, 
     ensures made { HasCleanDisk (seen S.Store tx.new)
         → IsTrue (seen S.Store tx.old).in_transaction
         → IfOk result (λ counts. (content : Content)
-        → Turns (IsContent (without_horizon content)) (IsMigrated content counts)
+        → Turns (IsContent (first_part content)) (IsMigrated content counts)
         (seen S.Store tx.old) (seen S.Store tx.new)) }
     ensures kept { KeepsOnErr (seen S.Store tx.old) (seen S.Store tx.new) result }
     ensures survives { Survives (seen S.Store tx.old) (seen S.Store tx.new) (λ _. ⊥) }
@@ -78,8 +79,8 @@ fn fill<S: Alter>(alloc: Global, tx: &mut Transaction<'_, S>) -> Result<Counts, 
     })
 }
 
-/// Makes the tables those of the second version, with the row of each board.
-fn put_second<S: Alter>(alloc: Global, tx: &mut Transaction<'_, S>) -> Result<Counts, Error>
+/// Makes the tables those of today, with the row of each board.
+fn put_third<S: Alter>(alloc: Global, tx: &mut Transaction<'_, S>) -> Result<Counts, Error>
     ensures same_reference { tx.new.conn.ghost_name ≡ tx.old.conn.ghost_name }
     ensures made { HasCleanDisk (seen S.Store tx.new)
         → IsTrue (seen S.Store tx.old).in_transaction
@@ -93,7 +94,7 @@ fn put_second<S: Alter>(alloc: Global, tx: &mut Transaction<'_, S>) -> Result<Co
     fill(alloc, tx)
 }
 
-/// Makes a store of the first version one of the second, at once: each board has one instance ahead, and all else stays.
+/// Makes a store of the first version one of today's, at once: each board has one instance ahead, there is no history, and all else stays.
 pub fn migrate<S: Alter>(alloc: Global, conn: &mut Connection<S>) -> Result<Counts, StoreFault>
     requires { conn.old.in_transaction ≡ false }
     ensures idle { conn.new.in_transaction ≡ false }
@@ -111,7 +112,7 @@ pub fn migrate<S: Alter>(alloc: Global, conn: &mut Connection<S>) -> Result<Coun
         → StandsOldOr content (migrated content) (state S.Store conn.new) }
 {
     let mut tx = conn.transaction();
-    let counts = match put_second(alloc, &mut tx) {
+    let counts = match put_third(alloc, &mut tx) {
         Ok(counts) => counts,
         Err(error) => return Err(StoreFault::before_commit(&error)),
     };

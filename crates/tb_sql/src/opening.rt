@@ -5,12 +5,12 @@ ghost use Rattle.sqlite.specs.Held.{state};
 ghost use Rattle.sqlite.specs.State.{HasCleanDisk, Opens};
 ghost use Rattle.tb_sql_tables.specs.Tables.{meta_tree, no_schema};
 ghost use Rattle.tb_sql_tables.specs.declared.rows.MetaRow.{MetaRow as Meta};
-ghost use Rattle.tb_sql_tables.specs.Content.{Content, AreOldRows, AreRows, HasKeyed, IsContent, Stands};
-ghost use Rattle.tb_sql_tables.specs.Standing.{StandsEmpty, StandsOld};
+ghost use Rattle.tb_sql_tables.specs.Content.{Content, AreOldRows, AreRows, AreSecondRows, AreVersionRows, HasKeyed, IsContent, Stands};
+ghost use Rattle.tb_sql_tables.specs.Standing.{StandsEmpty, StandsOld, StandsSecond};
 ghost use Rattle.tb_sql_tables.specs.Failing.{FailsByFault, KeepsFaults};
-ghost use Rattle.tb_sql.specs.Opening.{by_version, has_meta, has_tables, judged, our_meta, row_of_meta, taken, version_of, Answers, AreMetas, AreShownFrom, IsAnswered, IsAsBefore, IsOfStore};
+ghost use Rattle.tb_sql.specs.Opening.{chosen, has_meta, has_tables, judged, number_of, our_meta, row_of_meta, taken, Answers, AreMetas, AreShownFrom, IsAnswered, IsAsBefore, IsOfStore};
 
-use crate::layout::{has_meta, is_old, is_ours};
+use crate::layout::{has_meta, is_old, is_ours, is_second};
 use crate::meta::select_meta;
 use crate::store::StoreFault;
 use sqlite::{Alter, Connection};
@@ -19,17 +19,22 @@ use tb_values::Items;
 
 const KIND: &str = "taskboard";
 
-const FIRST: u32 = 1;
-
-const SECOND: u32 = 2;
-
 /// Which tables a store has.
 #[derive(Clone, Copy, Debug, PartialEq, Eq)]
 pub enum Version {
-    /// Those without what the boards have ahead.
+    /// Those without what the boards have ahead and without their history.
     First,
-    /// Those that are made today.
+    /// Those without the history of the boards.
     Second,
+    /// Those that are made today.
+    Third,
+}
+
+/// The number by which a store says its version. The second and the third have one.
+#[derive(Clone, Copy, Debug, PartialEq, Eq)]
+pub enum Number {
+    One,
+    Two,
 }
 
 /// Why a database isn't taken as a store. It is as it was.
@@ -96,7 +101,7 @@ fn read_meta<S: Alter>(conn: &mut Connection<S>) -> Result<Items<MetaRow>, Store
 }
 
 /// Judges what the file is.
-fn judge(metas: &[MetaRow]) -> Result<Version, OpenFault>
+fn judge(metas: &[MetaRow]) -> Result<Number, OpenFault>
     ensures { result ≡ judged metas.now }
 {
     let [meta] = metas else {
@@ -105,25 +110,28 @@ fn judge(metas: &[MetaRow]) -> Result<Version, OpenFault>
     if meta.kind.as_str() != KIND {
         return Err(OpenFault::NotOurs);
     }
-    version_of(meta.version)
+    number_of(meta.version)
 }
 
-fn version_of(number: u32) -> Result<Version, OpenFault>
-    ensures { result ≡ version_of number }
+fn number_of(number: u32) -> Result<Number, OpenFault>
+    ensures { result ≡ number_of number }
 {
     match number {
-        SECOND => Ok(Version::Second),
-        FIRST => Ok(Version::First),
+        2 => Ok(Number::Two),
+        1 => Ok(Number::One),
         _ => Err(OpenFault::WrongVersion),
     }
 }
 
-fn by_version(version: Version, first: bool, second: bool) -> bool
-    ensures { result ≡ by_version version first second }
+/// The version of this number whose tables are there: where none is, something else is there, or a table is missing.
+fn choose(number: Number, first: bool, second: bool, third: bool) -> Result<Version, OpenFault>
+    ensures { result ≡ chosen number first second third }
 {
-    match version {
-        Version::First => first,
-        Version::Second => second,
+    match number {
+        Number::One if first => Ok(Version::First),
+        Number::Two if third => Ok(Version::Third),
+        Number::Two if second => Ok(Version::Second),
+        _ => Err(OpenFault::NotOurs),
     }
 }
 
@@ -138,14 +146,18 @@ pub fn accept<S: Alter>(conn: &mut Connection<S>) -> Result<Version, OpenFault>
     ensures old { Opens (state S.Store conn.old) → (content : Content)
         → AreOldRows content (state S.Store conn.old).now.trees
         → StandsOld content (state S.Store conn.new) }
+    ensures earlier { Opens (state S.Store conn.old) → (content : Content)
+        → AreSecondRows content (state S.Store conn.old).now.trees
+        → StandsSecond content (state S.Store conn.new) }
+    ensures third { IfOk result (λ version. Opens (state S.Store conn.old) → (content : Content)
+        → AreRows content (state S.Store conn.old).now.trees → version ≡ Version.Third) }
     ensures second { IfOk result (λ version. Opens (state S.Store conn.old) → (content : Content)
-        → AreRows content (state S.Store conn.old).now.trees → version ≡ Version.Second) }
+        → AreSecondRows content (state S.Store conn.old).now.trees → version ≡ Version.Second) }
     ensures first { IfOk result (λ version. Opens (state S.Store conn.old) → (content : Content)
         → AreOldRows content (state S.Store conn.old).now.trees → version ≡ Version.First) }
     ensures refuses { (result ≡ Err OpenFault.NotOurs) ⊎ (result ≡ Err OpenFault.WrongVersion)
         → HasCleanDisk (state S.Store conn.new) → Opens (state S.Store conn.old)
-        → (content : Content) → AreRows content (state S.Store conn.old).now.trees
-        ⊎ AreOldRows content (state S.Store conn.old).now.trees → ⊥ }
+        → (content : Content) → AreVersionRows content (state S.Store conn.old).now.trees → ⊥ }
     ensures tables { IfOk result
         (λ version. has_tables version (state S.Store conn.old).now.schema ≡ true) }
     ensures foreign { has_meta (state S.Store conn.old).now.schema.tables ≡ false
@@ -165,7 +177,8 @@ pub fn accept<S: Alter>(conn: &mut Connection<S>) -> Result<Version, OpenFault>
     ensures same { IsAsBefore (state S.Store conn.old) (state S.Store conn.new) }
 {
     let first = is_old(conn.schema());
-    let second = is_ours(conn.schema());
+    let second = is_second(conn.schema());
+    let third = is_ours(conn.schema());
     if !has_meta(conn.schema()) {
         return Err(OpenFault::NotOurs);
     }
@@ -173,13 +186,9 @@ pub fn accept<S: Alter>(conn: &mut Connection<S>) -> Result<Version, OpenFault>
         Ok(metas) => metas,
         Err(fault) => return Err(OpenFault::of(fault)),
     };
-    let version = match judge(metas.as_slice()) {
-        Ok(version) => version,
+    let number = match judge(metas.as_slice()) {
+        Ok(number) => number,
         Err(fault) => return Err(fault),
     };
-    if by_version(version, first, second) {
-        Ok(version)
-    } else {
-        Err(OpenFault::NotOurs) // Something else is there, or a table is missing.
-    }
+    choose(number, first, second, third)
 }

@@ -10,9 +10,10 @@ use Rattle.tb_sql_tables.specs.declared.rows.InstanceRow.{InstanceRow}
 use Rattle.tb_sql_tables.specs.declared.rows.GoneRow.{GoneRow}
 use Rattle.tb_sql_tables.specs.declared.rows.KeptRow.{KeptRow}
 use Rattle.tb_sql_tables.specs.declared.rows.HorizonRow.{HorizonRow}
-use Rattle.tb_sql_tables.specs.Tables.{person_tree, board_tree, role_tree, task_tree, link_tree, instance_tree, gone_tree, kept_tree, horizon_tree}
-use Rattle.tb_sql_tables.specs.Rows.{person_row, board_row, role_row, task_row, link_row, instance_row, gone_row, kept_row, horizon_row}
-use Rattle.tb_sql_tables.specs.Content.{Content, HasRows, HasKeyed, HaveIdentifiers, AreIdentified, AreTables, IsContent}
+use Rattle.tb_sql_tables.specs.declared.rows.HistoryRow.{HistoryRow}
+use Rattle.tb_sql_tables.specs.Tables.{person_tree, board_tree, role_tree, task_tree, link_tree, instance_tree, gone_tree, kept_tree, horizon_tree, history_tree}
+use Rattle.tb_sql_tables.specs.Rows.{person_row, board_row, role_row, task_row, link_row, instance_row, gone_row, kept_row, horizon_row, history_row}
+use Rattle.tb_sql_tables.specs.Content.{Content, HasRows, HasKeyed, HaveIdentifiers, AreIdentified, AreCalled, AreTables, IsContent}
 use Rattle.tb_sql_tables.proofs.Statements.{Edited}
 
 pub people_changed : (content : Content) (people : List PersonRow) (old new : Database) → Edited person_tree old new → IsContent content old → HasKeyed (map person_row people) (new.trees person_tree) → IsContent (record content { people = people }) new
@@ -29,8 +30,10 @@ people_changed content people old new e is changed =
       gone = rw (e.others.1.1.1.1.1.1.1.0 (omega arith)) was.gone;
       kept = rw (e.others.1.1.1.1.1.1.1.1.0 (omega arith)) was.kept;
       horizon = rw (e.others.1.1.1.1.1.1.1.1.1.0 (omega arith)) was.horizon;
+      history = rw (e.others.1.1.1.1.1.1.1.1.1.1.0 (omega arith)) was.history;
       task_identifiers = was.task_identifiers;
       kept_identifiers = was.kept_identifiers;
+      history_identifiers = was.history_identifiers;
     } in
     record { schema = e.schema; rows = record { sound = e.sound; tables = tables } }
 
@@ -48,8 +51,10 @@ boards_changed content boards old new e is changed =
       gone = rw (e.others.1.1.1.1.1.1.1.0 (omega arith)) was.gone;
       kept = rw (e.others.1.1.1.1.1.1.1.1.0 (omega arith)) was.kept;
       horizon = rw (e.others.1.1.1.1.1.1.1.1.1.0 (omega arith)) was.horizon;
+      history = rw (e.others.1.1.1.1.1.1.1.1.1.1.0 (omega arith)) was.history;
       task_identifiers = was.task_identifiers;
       kept_identifiers = was.kept_identifiers;
+      history_identifiers = was.history_identifiers;
     } in
     record { schema = e.schema; rows = record { sound = e.sound; tables = tables } }
 
@@ -67,8 +72,10 @@ roles_changed content roles old new e is changed =
       gone = rw (e.others.1.1.1.1.1.1.1.0 (omega arith)) was.gone;
       kept = rw (e.others.1.1.1.1.1.1.1.1.0 (omega arith)) was.kept;
       horizon = rw (e.others.1.1.1.1.1.1.1.1.1.0 (omega arith)) was.horizon;
+      history = rw (e.others.1.1.1.1.1.1.1.1.1.1.0 (omega arith)) was.history;
       task_identifiers = was.task_identifiers;
       kept_identifiers = was.kept_identifiers;
+      history_identifiers = was.history_identifiers;
     } in
     record { schema = e.schema; rows = record { sound = e.sound; tables = tables } }
 
@@ -86,8 +93,10 @@ tasks_changed content tasks old new e is changed identified =
       gone = rw (e.others.1.1.1.1.1.1.1.0 (omega arith)) was.gone;
       kept = rw (e.others.1.1.1.1.1.1.1.1.0 (omega arith)) was.kept;
       horizon = rw (e.others.1.1.1.1.1.1.1.1.1.0 (omega arith)) was.horizon;
+      history = rw (e.others.1.1.1.1.1.1.1.1.1.1.0 (omega arith)) was.history;
       task_identifiers = identified;
       kept_identifiers = was.kept_identifiers;
+      history_identifiers = was.history_identifiers;
     } in
     record { schema = e.schema; rows = record { sound = e.sound; tables = tables } }
 
@@ -105,8 +114,10 @@ links_changed content links old new e is changed =
       gone = rw (e.others.1.1.1.1.1.1.1.0 (omega arith)) was.gone;
       kept = rw (e.others.1.1.1.1.1.1.1.1.0 (omega arith)) was.kept;
       horizon = rw (e.others.1.1.1.1.1.1.1.1.1.0 (omega arith)) was.horizon;
+      history = rw (e.others.1.1.1.1.1.1.1.1.1.1.0 (omega arith)) was.history;
       task_identifiers = was.task_identifiers;
       kept_identifiers = was.kept_identifiers;
+      history_identifiers = was.history_identifiers;
     } in
     record { schema = e.schema; rows = record { sound = e.sound; tables = tables } }
 
@@ -124,8 +135,10 @@ instances_changed content instances old new e is changed =
       gone = rw (e.others.1.1.1.1.1.1.1.0 (omega arith)) was.gone;
       kept = rw (e.others.1.1.1.1.1.1.1.1.0 (omega arith)) was.kept;
       horizon = rw (e.others.1.1.1.1.1.1.1.1.1.0 (omega arith)) was.horizon;
+      history = rw (e.others.1.1.1.1.1.1.1.1.1.1.0 (omega arith)) was.history;
       task_identifiers = was.task_identifiers;
       kept_identifiers = was.kept_identifiers;
+      history_identifiers = was.history_identifiers;
     } in
     record { schema = e.schema; rows = record { sound = e.sound; tables = tables } }
 
@@ -143,8 +156,10 @@ gone_changed content gone old new e is changed =
       gone = changed;
       kept = rw (e.others.1.1.1.1.1.1.1.1.0 (omega arith)) was.kept;
       horizon = rw (e.others.1.1.1.1.1.1.1.1.1.0 (omega arith)) was.horizon;
+      history = rw (e.others.1.1.1.1.1.1.1.1.1.1.0 (omega arith)) was.history;
       task_identifiers = was.task_identifiers;
       kept_identifiers = was.kept_identifiers;
+      history_identifiers = was.history_identifiers;
     } in
     record { schema = e.schema; rows = record { sound = e.sound; tables = tables } }
 
@@ -162,8 +177,10 @@ kept_changed content kept old new e is changed identified =
       gone = rw (e.others.1.1.1.1.1.1.1.0 (omega arith)) was.gone;
       kept = changed;
       horizon = rw (e.others.1.1.1.1.1.1.1.1.1.0 (omega arith)) was.horizon;
+      history = rw (e.others.1.1.1.1.1.1.1.1.1.1.0 (omega arith)) was.history;
       task_identifiers = was.task_identifiers;
       kept_identifiers = identified;
+      history_identifiers = was.history_identifiers;
     } in
     record { schema = e.schema; rows = record { sound = e.sound; tables = tables } }
 
@@ -181,7 +198,30 @@ horizon_changed content horizon old new e is changed =
       gone = rw (e.others.1.1.1.1.1.1.1.0 (omega arith)) was.gone;
       kept = rw (e.others.1.1.1.1.1.1.1.1.0 (omega arith)) was.kept;
       horizon = changed;
+      history = rw (e.others.1.1.1.1.1.1.1.1.1.1.0 (omega arith)) was.history;
       task_identifiers = was.task_identifiers;
       kept_identifiers = was.kept_identifiers;
+      history_identifiers = was.history_identifiers;
+    } in
+    record { schema = e.schema; rows = record { sound = e.sound; tables = tables } }
+
+pub history_changed : (content : Content) (history : List HistoryRow) (old new : Database) → Edited history_tree old new → IsContent content old → HasRows (map history_row history) (new.trees history_tree) → AreCalled history → IsContent (record content { history = history }) new
+history_changed content history old new e is changed identified =
+    let was = is.rows.tables in
+    let tables : AreTables (record content { history = history }) new.trees = record {
+      meta = rw (e.others.0 (omega arith)) was.meta;
+      people = rw (e.others.1.0 (omega arith)) was.people;
+      boards = rw (e.others.1.1.0 (omega arith)) was.boards;
+      roles = rw (e.others.1.1.1.0 (omega arith)) was.roles;
+      tasks = rw (e.others.1.1.1.1.0 (omega arith)) was.tasks;
+      links = rw (e.others.1.1.1.1.1.0 (omega arith)) was.links;
+      instances = rw (e.others.1.1.1.1.1.1.0 (omega arith)) was.instances;
+      gone = rw (e.others.1.1.1.1.1.1.1.0 (omega arith)) was.gone;
+      kept = rw (e.others.1.1.1.1.1.1.1.1.0 (omega arith)) was.kept;
+      horizon = rw (e.others.1.1.1.1.1.1.1.1.1.0 (omega arith)) was.horizon;
+      history = changed;
+      task_identifiers = was.task_identifiers;
+      kept_identifiers = was.kept_identifiers;
+      history_identifiers = identified;
     } in
     record { schema = e.schema; rows = record { sound = e.sound; tables = tables } }

@@ -20,11 +20,11 @@ use Rattle.sqlite.specs.Listing.{understood}
 use Rattle.sqlite.specs.State.{State, Writes}
 use Rattle.sqlite.specs.Given.{IsPlain}
 use Rattle.sqlite.proofs.Callers.{command_of, statement_of, runs_as}
-use Rattle.tb_sql_tables.specs.Tables.{meta_plain, horizon_tree, meta_tree, create_meta_text, create_person_text, create_board_text, create_role_text, create_task_text, create_link_text, create_instance_text, create_gone_text, create_kept_text, create_horizon_text, meta_table, person_table, board_table, role_table, task_table, link_table, instance_table, gone_table, kept_table, horizon_table, no_schema, meta_schema, person_schema, board_schema, role_schema, task_schema, link_schema, instance_schema, gone_schema, old_schema, store_schema}
+use Rattle.tb_sql_tables.specs.Tables.{meta_plain, history_tree, horizon_tree, meta_tree, create_meta_text, create_person_text, create_board_text, create_role_text, create_task_text, create_link_text, create_instance_text, create_gone_text, create_kept_text, create_horizon_text, create_history_text, meta_table, person_table, board_table, role_table, task_table, link_table, instance_table, gone_table, kept_table, horizon_table, history_table, no_schema, meta_schema, person_schema, board_schema, role_schema, task_schema, link_schema, instance_schema, gone_schema, old_schema, second_schema, store_schema}
 use Rattle.tb_sql_tables.specs.Rows.{meta_row, version_row}
-use Rattle.tb_sql_tables.specs.Content.{nothing, Content, AreTables, AreOldTables, IsContent, HasRows, HasKeyed}
+use Rattle.tb_sql_tables.specs.Content.{nothing, without_history, Content, AreTables, AreOldTables, IsContent, HasRows, HasKeyed}
 use Rattle.tb_sql_tables.specs.Statements.{AreEmpty, Ran, Turns}
-use Rattle.tb_sql_tables.specs.Standing.{IsHalfway, IsOldContent}
+use Rattle.tb_sql_tables.specs.Standing.{IsHalfway, IsQuarterway, IsOldContent, IsSecondContent}
 use Rattle.tb_sql_tables.proofs.Inserts.{went, same_value, cast_integer, cast_null}
 use Rattle.tb_sql_tables.proofs.Keyed.{keyed_put}
 use Rattle.tb_sql_tables.proofs.Statements.{Means, MeansIn, row_inserted, row_inserted_in}
@@ -118,6 +118,14 @@ makes_horizon : MakesTable old_schema create_horizon_text horizon_table
 unfolding understood everything
 makes_horizon = record { command = refl; statement = refl; plain = (refl, refl); defined = defines_horizon; counted = refl }
 
+defines_history : table_defined_by create_history_text ≡ Ok (record history_table { tree = 0 })
+unfolding understood everything
+defines_history = refl
+
+makes_history : MakesTable second_schema create_history_text history_table
+unfolding understood everything
+makes_history = record { command = refl; statement = refl; plain = (refl, refl); defined = defines_history; counted = refl }
+
 -- tables that are there stay empty
 still_empty : (tables : List Table) (old new : Trees) → KeepsRows tables old new → AllByRecursion (λ t. old t.tree ≡ []) tables → AllByRecursion (λ t. new t.tree ≡ []) tables
 still_empty [] old new kept empty = tt
@@ -192,11 +200,18 @@ create_gone = makes instance_schema create_gone_text gone_table makes_gone
 pub create_kept : (old new : State) → Ran create_kept_text [] old new → Turns (AreEmpty gone_schema) (AreEmpty old_schema) old new
 create_kept = makes gone_schema create_kept_text kept_table makes_kept
 
-pub create_horizon : (old new : State) → Ran create_horizon_text [] old new → Turns (AreEmpty old_schema) (AreEmpty store_schema) old new
+pub create_horizon : (old new : State) → Ran create_horizon_text [] old new → Turns (AreEmpty old_schema) (AreEmpty second_schema) old new
 create_horizon = makes old_schema create_horizon_text horizon_table makes_horizon
 
--- beside tables that have rows
-pub add_horizon : (old new : State) → Ran create_horizon_text [] old new → (content : Content) → Turns (IsOldContent content) (IsHalfway content) old new
+pub create_history : (old new : State) → Ran create_history_text [] old new → Turns (AreEmpty second_schema) (AreEmpty store_schema) old new
+create_history = makes second_schema create_history_text history_table makes_history
+
+-- ---- beside tables that have rows
+
+no_rows : HasRows [] []
+no_rows = record { shaped = (tt, tt); same = IsPermutation-refl [] }
+
+pub add_horizon : (old new : State) → Ran create_horizon_text [] old new → (content : Content) → Turns (IsOldContent content) (IsQuarterway content) old new
 add_horizon old new ran content = record {
   shown = ran.1.1;
   made = λ is.
@@ -216,7 +231,58 @@ add_horizon old new ran content = record {
         task_identifiers = was.task_identifiers;
         kept_identifiers = was.kept_identifiers;
       } in
-      record { schema = a.schema; sound = a.sound; tables = tables; empty = a.empty };
+      record { schema = a.schema; tables = tables; no_horizon = a.empty };
+}
+
+-- to what the first version held
+pub add_both : (old new : State) → Ran create_history_text [] old new → (content : Content) → Turns (IsQuarterway content) (IsHalfway content) old new
+add_both old new ran content = record {
+  shown = ran.1.1;
+  made = λ is.
+      let a = added second_schema create_history_text history_table makes_history old new ran is.schema in
+      let was = is.tables in
+      let o = a.others in
+      let tables : AreOldTables content new.now.trees = record {
+        meta = rw o.0 was.meta;
+        people = rw o.1.0 was.people;
+        boards = rw o.1.1.0 was.boards;
+        roles = rw o.1.1.1.0 was.roles;
+        tasks = rw o.1.1.1.1.0 was.tasks;
+        links = rw o.1.1.1.1.1.0 was.links;
+        instances = rw o.1.1.1.1.1.1.0 was.instances;
+        gone = rw o.1.1.1.1.1.1.1.0 was.gone;
+        kept = rw o.1.1.1.1.1.1.1.1.0 was.kept;
+        task_identifiers = was.task_identifiers;
+        kept_identifiers = was.kept_identifiers;
+      } in
+      record { schema = a.schema; sound = a.sound; tables = tables; no_horizon = o.1.1.1.1.1.1.1.1.1.0 ∙ is.no_horizon; no_history = a.empty };
+}
+
+-- to what the second version held
+pub add_history : (old new : State) → Ran create_history_text [] old new → (content : Content) → Turns (IsSecondContent content) (IsContent (without_history content)) old new
+add_history old new ran content = record {
+  shown = ran.1.1;
+  made = λ is.
+      let a = added second_schema create_history_text history_table makes_history old new ran is.schema in
+      let was = is.rows.tables in
+      let o = a.others in
+      let tables : AreTables (without_history content) new.now.trees = record {
+        meta = rw o.0 was.meta;
+        people = rw o.1.0 was.people;
+        boards = rw o.1.1.0 was.boards;
+        roles = rw o.1.1.1.0 was.roles;
+        tasks = rw o.1.1.1.1.0 was.tasks;
+        links = rw o.1.1.1.1.1.0 was.links;
+        instances = rw o.1.1.1.1.1.1.0 was.instances;
+        gone = rw o.1.1.1.1.1.1.1.0 was.gone;
+        kept = rw o.1.1.1.1.1.1.1.1.0 was.kept;
+        horizon = rw o.1.1.1.1.1.1.1.1.1.0 was.horizon;
+        history = rw a.empty no_rows;
+        task_identifiers = was.task_identifiers;
+        kept_identifiers = was.kept_identifiers;
+        history_identifiers = tt;
+      } in
+      record { schema = a.schema; rows = record { sound = a.sound; tables = tables } };
 }
 
 -- ---- the row of the first table
@@ -244,9 +310,6 @@ cells version = Null ∷ Text (codes "taskboard") ∷ Int (pos version) ∷ []
 abbrev source : ℕ → Row
 source version = Int (pos 1) ∷ cells version
 
-no_rows : HasRows [] []
-no_rows = record { shaped = (tt, tt); same = IsPermutation-refl [] }
-
 no_keyed : HasKeyed [] []
 no_keyed = record { shaped = (tt, tt); same = IsPermutation-refl [] }
 
@@ -268,8 +331,10 @@ insert_meta old new ran = record {
         gone = rw (o.1.1.1.1.1.1.1.0 (omega arith) ∙ was.empty.1.1.1.1.1.1.1.0) no_rows;
         kept = rw (o.1.1.1.1.1.1.1.1.0 (omega arith) ∙ was.empty.1.1.1.1.1.1.1.1.0) no_rows;
         horizon = rw (o.1.1.1.1.1.1.1.1.1.0 (omega arith) ∙ was.empty.1.1.1.1.1.1.1.1.1.0) no_keyed;
+        history = rw (o.1.1.1.1.1.1.1.1.1.1.0 (omega arith) ∙ was.empty.1.1.1.1.1.1.1.1.1.1.0) no_rows;
         task_identifiers = tt;
         kept_identifiers = tt;
+        history_identifiers = tt;
       } in
       record { schema = e.schema; rows = record { sound = e.sound; tables = tables } };
 }

@@ -6,7 +6,7 @@ use Rattle.std.specs.List.{AllByRecursion}
 use Rattle.sqlite_value.specs.Order.{Row}
 use Rattle.sqlite_trees.specs.Tree.{Trees}
 use Rattle.sqlite.specs.State.{State}
-use Rattle.tb_sql_tables.specs.Rows.{person_row, board_row, role_row, task_row, link_row, instance_row, gone_row, kept_row, horizon_row}
+use Rattle.tb_sql_tables.specs.Rows.{person_row, board_row, role_row, task_row, link_row, instance_row, gone_row, kept_row, horizon_row, history_row}
 use Rattle.tb_sql_tables.specs.Content.{Content, HasRows, HasKeyed, AreTables, AreRows, Stands}
 
 -- the same rows in another order
@@ -20,6 +20,7 @@ pub record AreReordered (a b : Content) : Type 0 where
   pub gone : IsPermutation a.gone b.gone
   pub kept : IsPermutation a.kept b.kept
   pub horizon : IsPermutation a.horizon b.horizon
+  pub history : IsPermutation a.history b.history
 
 rows_in : {X : Type 0} (row_of : X → Row) (xs ys : List X) (stored : List Row) → IsPermutation xs ys → HasRows (map row_of xs) stored → HasRows (map row_of ys) stored
 rows_in row_of xs ys stored other h = record { shaped = h.shaped; same = IsPermutation-trans _ _ _ (IsPermutation-map row_of _ _ (IsPermutation-sym xs ys other)) h.same }
@@ -44,8 +45,10 @@ reordered a b db other is =
       gone = rows_in gone_row _ _ _ other.gone was.gone;
       kept = rows_in kept_row _ _ _ other.kept was.kept;
       horizon = keyed_in horizon_row _ _ _ other.horizon was.horizon;
+      history = rows_in history_row _ _ _ other.history was.history;
       task_identifiers = all_in _ _ _ other.tasks was.task_identifiers;
       kept_identifiers = all_in _ _ _ other.kept was.kept_identifiers;
+      history_identifiers = all_in _ _ _ other.history was.history_identifiers;
     } in
     record { sound = is.sound; tables = tables }
 

@@ -17,8 +17,9 @@ use Rattle.tb_sql_tables.specs.declared.rows.InstanceRow.{InstanceRow}
 use Rattle.tb_sql_tables.specs.declared.rows.GoneRow.{GoneRow}
 use Rattle.tb_sql_tables.specs.declared.rows.KeptRow.{KeptRow}
 use Rattle.tb_sql_tables.specs.declared.rows.HorizonRow.{HorizonRow}
-use Rattle.tb_sql_tables.specs.Tables.{meta_tree, person_tree, board_tree, role_tree, task_tree, link_tree, instance_tree, gone_tree, kept_tree, horizon_tree, old_schema, store_schema}
-use Rattle.tb_sql_tables.specs.Rows.{meta_row, old_meta_row, person_row, board_row, role_row, task_row, link_row, instance_row, gone_row, kept_row, horizon_row}
+use Rattle.tb_sql_tables.specs.declared.rows.HistoryRow.{HistoryRow}
+use Rattle.tb_sql_tables.specs.Tables.{meta_tree, person_tree, board_tree, role_tree, task_tree, link_tree, instance_tree, gone_tree, kept_tree, horizon_tree, history_tree, old_schema, second_schema, store_schema}
+use Rattle.tb_sql_tables.specs.Rows.{meta_row, old_meta_row, person_row, board_row, role_row, task_row, link_row, instance_row, gone_row, kept_row, horizon_row, history_row}
 
 -- ---- the content
 
@@ -33,6 +34,7 @@ pub record Content : Type 0 where
   pub gone : List GoneRow
   pub kept : List KeptRow
   pub horizon : List HorizonRow
+  pub history : List HistoryRow
 
 abbrev pub nothing : Content
 nothing = record {
@@ -45,7 +47,11 @@ nothing = record {
   gone = [];
   kept = [];
   horizon = [];
+  history = [];
 }
+
+abbrev pub without_history : Content → Content
+without_history content = record content { history = [] }
 
 -- each identifier is a number of 128 bits
 abbrev pub HaveIdentifiers : List TaskRow → Type 0
@@ -53,6 +59,9 @@ HaveIdentifiers = AllByRecursion (λ task. task.uuid < 2 ^ 128)
 
 abbrev pub AreIdentified : List KeptRow → Type 0
 AreIdentified = AllByRecursion (λ kept. kept.id < 2 ^ 128)
+
+abbrev pub AreCalled : List HistoryRow → Type 0
+AreCalled = AllByRecursion (λ row. row.call < 2 ^ 128)
 
 -- ---- when the tables hold it
 
@@ -78,8 +87,10 @@ pub record AreTables (content : Content) (db : Trees) : Type 0 where
   pub gone : HasRows (map gone_row content.gone) (db gone_tree)
   pub kept : HasRows (map kept_row content.kept) (db kept_tree)
   pub horizon : HasKeyed (map horizon_row content.horizon) (db horizon_tree)
+  pub history : HasRows (map history_row content.history) (db history_tree)
   pub task_identifiers : HaveIdentifiers content.tasks
   pub kept_identifiers : AreIdentified content.kept
+  pub history_identifiers : AreCalled content.history
 
 -- the trees are the rows of the content, under the schema of a store, which they list and obey
 pub record AreRows (content : Content) (db : Trees) : Type 0 where
@@ -90,6 +101,27 @@ pub record AreRows (content : Content) (db : Trees) : Type 0 where
 pub record IsContent (content : Content) (db : Database) : Type 0 where
   pub schema : db.schema ≡ store_schema
   pub rows : AreRows content db.trees
+
+-- ---- when the tables of the second version hold it
+
+-- the rows of each table of the second version; it has none for the history of the boards
+pub record AreSecondTables (content : Content) (db : Trees) : Type 0 where
+  pub meta : HasKeyed (meta_row ∷ []) (db meta_tree)
+  pub people : HasKeyed (map person_row content.people) (db person_tree)
+  pub boards : HasKeyed (map board_row content.boards) (db board_tree)
+  pub roles : HasRows (map role_row content.roles) (db role_tree)
+  pub tasks : HasRows (map task_row content.tasks) (db task_tree)
+  pub links : HasRows (map link_row content.links) (db link_tree)
+  pub instances : HasRows (map instance_row content.instances) (db instance_tree)
+  pub gone : HasRows (map gone_row content.gone) (db gone_tree)
+  pub kept : HasRows (map kept_row content.kept) (db kept_tree)
+  pub horizon : HasKeyed (map horizon_row content.horizon) (db horizon_tree)
+  pub task_identifiers : HaveIdentifiers content.tasks
+  pub kept_identifiers : AreIdentified content.kept
+
+pub record AreSecondRows (content : Content) (db : Trees) : Type 0 where
+  pub sound : IsSound second_schema db
+  pub tables : AreSecondTables content db
 
 -- ---- when the tables of the first version hold it
 
@@ -110,6 +142,10 @@ pub record AreOldTables (content : Content) (db : Trees) : Type 0 where
 pub record AreOldRows (content : Content) (db : Trees) : Type 0 where
   pub sound : IsSound old_schema db
   pub tables : AreOldTables content db
+
+-- the rows of the content, in the tables of one of the versions
+abbrev pub AreVersionRows : Content → Trees → Type 0
+AreVersionRows content db = AreRows content db ⊎ (AreSecondRows content db ⊎ AreOldRows content db)
 
 -- ---- between transactions
 

@@ -13,6 +13,7 @@ use Rattle.tb_sql_tables.specs.declared.rows.InstanceRow.{InstanceRow}
 use Rattle.tb_sql_tables.specs.declared.rows.GoneRow.{GoneRow}
 use Rattle.tb_sql_tables.specs.declared.rows.KeptRow.{KeptRow}
 use Rattle.tb_sql_tables.specs.declared.rows.HorizonRow.{HorizonRow}
+use Rattle.tb_sql_tables.specs.declared.rows.HistoryRow.{HistoryRow}
 
 -- ---- tables whose INTEGER PRIMARY KEY is the rowid: the rowid, and then the columns, of which that one reads NULL
 
@@ -58,3 +59,8 @@ abbrev pub kept_row : KeptRow → Row
 kept_row kept =
     Int (pos kept.person) ∷ Bytes (to_be_bytes w128 kept.id) ∷ Bytes kept.content
     ∷ Int (pos kept.number) ∷ Int (pos kept.status) ∷ Words kept.body ∷ []
+
+abbrev pub history_row : HistoryRow → Row
+history_row row = Int (pos row.board) ∷ Int (pos row.number) ∷ Int (pos row.moment)
+    ∷ Int (pos row.person) ∷ Bytes (to_be_bytes w128 row.call) ∷ Int (pos row.what)
+    ∷ or_null (λ place. Int (pos place)) row.task ∷ []

@@ -1,4 +1,5 @@
--- The ten tables of a store: their definitions, and the schema that they make up. The first version has all but the last.
+-- The eleven tables of a store: their definitions, and the schema that they make up. A store of the second version has all but the
+-- last, and one of the first version all but the last two.
 use Rattle.std.specs.Prelude.{true, false, [], ◌∷◌, Option, Some, None, codes, List, ℕ, pos}
 use Rattle.sqlite_value.specs.declared.keys.Collation.TheVariants.{Binary}
 use Rattle.sqlite_value.specs.declared.value.Value.TheVariants.{Null, Int}
@@ -67,6 +68,11 @@ abbrev pub create_horizon_text : List ℕ
 create_horizon_text =
     codes
     "CREATE TABLE horizon(board INTEGER PRIMARY KEY REFERENCES board(id), ahead INTEGER NOT NULL CHECK(ahead >= 1 AND ahead <= 12)) STRICT"
+
+abbrev pub create_history_text : List ℕ
+create_history_text =
+    codes
+    "CREATE TABLE history(board INTEGER NOT NULL REFERENCES board(id), number INTEGER NOT NULL, moment INTEGER NOT NULL, person INTEGER NOT NULL REFERENCES person(id), call BLOB NOT NULL, what INTEGER NOT NULL, task INTEGER, PRIMARY KEY(board, number), UNIQUE(board, task, number)) STRICT"
 
 -- ---- the tables that they define
 
@@ -325,7 +331,30 @@ horizon_plain = record {
 abbrev pub horizon_table : Table
 horizon_table = table_of horizon_plain
 
--- ---- the schema after each of the texts; the last is that of a store, and the last but one that of a store of the first version
+abbrev pub history_tree : ℕ
+history_tree = 19
+
+abbrev pub history_plain : Plain
+history_plain = record {
+  name = codes "history";
+  tree = history_tree;
+  columns = column_of (codes "board") Integer ∷ column_of (codes "number") Integer
+      ∷ column_of (codes "moment") Integer ∷ column_of (codes "person") Integer
+      ∷ column_of (codes "call") Blob ∷ column_of (codes "what") Integer
+      ∷ record (column_of (codes "task") Integer) { not_null = false } ∷ [];
+  key = None;
+  primary = 1 ∷ 2 ∷ [];
+  uniques = (1 ∷ 2 ∷ []) ∷ (1 ∷ 7 ∷ 2 ∷ []) ∷ [];
+  orders = plain ∷ plain ∷ [];
+  checks = [];
+  references = refers 1 (codes "board") (codes "id") ∷ refers 4 (codes "person") (codes "id") ∷ [];
+}
+
+abbrev pub history_table : Table
+history_table = table_of history_plain
+
+-- ---- the schema after each of the texts: the last is that of a store, and the two before it those of a store of the second and of the
+-- first version
 
 -- Rule: init takes an empty database alone. Refused as NotEmpty. Tried by strange_files.
 abbrev pub no_schema : Schema
@@ -411,8 +440,8 @@ old_schema = record {
   views = [];
 }
 
-abbrev pub store_schema : Schema
-store_schema = record {
+abbrev pub second_schema : Schema
+second_schema = record {
   tables = meta_table ∷ person_table ∷ board_table ∷ role_table ∷ task_table ∷ link_table
       ∷ instance_table ∷ gone_table ∷ kept_table ∷ horizon_table ∷ [];
   indexes = automatic person_table 0 (2 ∷ []) 2 ∷ automatic role_table 0 (1 ∷ 2 ∷ []) 5
@@ -420,5 +449,18 @@ store_schema = record {
       ∷ automatic link_table 0 (1 ∷ 2 ∷ 3 ∷ []) 10 ∷ automatic instance_table 0 (1 ∷ 2 ∷ 3 ∷ []) 12
       ∷ automatic instance_table 1 (1 ∷ 4 ∷ []) 13 ∷ automatic gone_table 0 (1 ∷ 2 ∷ 3 ∷ []) 15
       ∷ automatic kept_table 0 (1 ∷ 2 ∷ []) 17 ∷ [];
+  views = [];
+}
+
+abbrev pub store_schema : Schema
+store_schema = record {
+  tables = meta_table ∷ person_table ∷ board_table ∷ role_table ∷ task_table ∷ link_table
+      ∷ instance_table ∷ gone_table ∷ kept_table ∷ horizon_table ∷ history_table ∷ [];
+  indexes = automatic person_table 0 (2 ∷ []) 2 ∷ automatic role_table 0 (1 ∷ 2 ∷ []) 5
+      ∷ automatic task_table 0 (1 ∷ 2 ∷ []) 7 ∷ automatic task_table 1 (1 ∷ 3 ∷ []) 8
+      ∷ automatic link_table 0 (1 ∷ 2 ∷ 3 ∷ []) 10 ∷ automatic instance_table 0 (1 ∷ 2 ∷ 3 ∷ []) 12
+      ∷ automatic instance_table 1 (1 ∷ 4 ∷ []) 13 ∷ automatic gone_table 0 (1 ∷ 2 ∷ 3 ∷ []) 15
+      ∷ automatic kept_table 0 (1 ∷ 2 ∷ []) 17 ∷ automatic history_table 0 (1 ∷ 2 ∷ []) 20
+      ∷ automatic history_table 1 (1 ∷ 7 ∷ 2 ∷ []) 21 ∷ [];
   views = [];
 }

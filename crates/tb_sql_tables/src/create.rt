@@ -3,10 +3,10 @@
 ghost use Rattle.std.specs.Prelude.{◌≡◌, IsTrue, OnOk};
 ghost use Rattle.sqlite.specs.State.{HasCleanDisk, Survives};
 ghost use Rattle.tb_sql_tables.specs.Inside.{seen, KeepsOnErr};
-ghost use Rattle.tb_sql_tables.specs.Tables.{no_schema, meta_schema, person_schema, board_schema, role_schema, task_schema, link_schema, instance_schema, gone_schema, old_schema, store_schema};
-ghost use Rattle.tb_sql_tables.specs.Content.{nothing, Content, IsContent};
+ghost use Rattle.tb_sql_tables.specs.Tables.{no_schema, meta_schema, person_schema, board_schema, role_schema, task_schema, link_schema, instance_schema, gone_schema, old_schema, second_schema, store_schema};
+ghost use Rattle.tb_sql_tables.specs.Content.{nothing, without_history, Content, IsContent};
 ghost use Rattle.tb_sql_tables.specs.Statements.{AreEmpty, Turns};
-ghost use Rattle.tb_sql_tables.specs.Standing.{HasNoTables, IsHalfway, IsOldContent};
+ghost use Rattle.tb_sql_tables.specs.Standing.{HasNoTables, IsHalfway, IsQuarterway, IsOldContent, IsSecondContent};
 
 use crate::run::run;
 use sqlite::{Alter, Error, Transaction};
@@ -169,12 +169,12 @@ pub fn create_horizon<S: Alter>(tx: &mut Transaction<'_, S>) -> Result<(), Error
     ensures same_reference { tx.new.conn.ghost_name ≡ tx.old.conn.ghost_name }
     ensures made { HasCleanDisk (seen S.Store tx.new)
         → IsTrue (seen S.Store tx.old).in_transaction
-        → OnOk result (Turns (AreEmpty old_schema) (AreEmpty store_schema)
+        → OnOk result (Turns (AreEmpty old_schema) (AreEmpty second_schema)
         (seen S.Store tx.old) (seen S.Store tx.new)) }
     ensures added { HasCleanDisk (seen S.Store tx.new)
         → IsTrue (seen S.Store tx.old).in_transaction
         → OnOk result ((content : Content)
-        → Turns (IsOldContent content) (IsHalfway content) (seen S.Store tx.old)
+        → Turns (IsOldContent content) (IsQuarterway content) (seen S.Store tx.old)
         (seen S.Store tx.new)) }
     ensures kept { KeepsOnErr (seen S.Store tx.old) (seen S.Store tx.new) result }
     ensures survives { Survives (seen S.Store tx.old) (seen S.Store tx.new) (λ _. ⊥) }
@@ -182,6 +182,33 @@ pub fn create_horizon<S: Alter>(tx: &mut Transaction<'_, S>) -> Result<(), Error
     run(
         tx,
         "CREATE TABLE horizon(board INTEGER PRIMARY KEY REFERENCES board(id), ahead INTEGER NOT NULL CHECK(ahead >= 1 AND ahead <= 12)) STRICT",
+        &[],
+    )
+}
+
+/// The table of what was done on the boards. It may stand beside tables of the first or the second version that have rows.
+pub fn create_history<S: Alter>(tx: &mut Transaction<'_, S>) -> Result<(), Error>
+    ensures same_reference { tx.new.conn.ghost_name ≡ tx.old.conn.ghost_name }
+    ensures made { HasCleanDisk (seen S.Store tx.new)
+        → IsTrue (seen S.Store tx.old).in_transaction
+        → OnOk result (Turns (AreEmpty second_schema) (AreEmpty store_schema)
+        (seen S.Store tx.old) (seen S.Store tx.new)) }
+    ensures both { HasCleanDisk (seen S.Store tx.new)
+        → IsTrue (seen S.Store tx.old).in_transaction
+        → OnOk result ((content : Content)
+        → Turns (IsQuarterway content) (IsHalfway content) (seen S.Store tx.old)
+        (seen S.Store tx.new)) }
+    ensures added { HasCleanDisk (seen S.Store tx.new)
+        → IsTrue (seen S.Store tx.old).in_transaction
+        → OnOk result ((content : Content)
+        → Turns (IsSecondContent content) (IsContent (without_history content))
+        (seen S.Store tx.old) (seen S.Store tx.new)) }
+    ensures kept { KeepsOnErr (seen S.Store tx.old) (seen S.Store tx.new) result }
+    ensures survives { Survives (seen S.Store tx.old) (seen S.Store tx.new) (λ _. ⊥) }
+{
+    run(
+        tx,
+        "CREATE TABLE history(board INTEGER NOT NULL REFERENCES board(id), number INTEGER NOT NULL, moment INTEGER NOT NULL, person INTEGER NOT NULL REFERENCES person(id), call BLOB NOT NULL, what INTEGER NOT NULL, task INTEGER, PRIMARY KEY(board, number), UNIQUE(board, task, number)) STRICT",
         &[],
     )
 }
@@ -293,5 +320,6 @@ pub fn create_all<S: Alter>(tx: &mut Transaction<'_, S>) -> Result<(), Error>
 {
     create_tables(tx)?;
     create_horizon(tx)?;
+    create_history(tx)?;
     insert_meta(tx)
 }

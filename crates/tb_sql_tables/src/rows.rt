@@ -87,3 +87,16 @@ pub struct HorizonRow {
     pub board: u32,
     pub ahead: u32,
 }
+
+/// An entry of a board's history: its number on that board, from 1, the moment of its call in seconds, who called and under which
+/// identifier, what was done as a number, and the place of the task with which it was done, if it was done with one.
+#[derive(Clone, Copy, Debug, PartialEq, Eq)]
+pub struct HistoryRow {
+    pub board: u32,
+    pub number: u32,
+    pub moment: u64,
+    pub person: u32,
+    pub call: TaskId,
+    pub what: u32,
+    pub task: Option<u32>,
+}

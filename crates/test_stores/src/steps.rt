@@ -11,6 +11,7 @@ use std::io;
 use tb_calls::Keep;
 use tb_desk::Desk;
 use tb_keeper::SqlKeep;
+use tb_sql::opening::Version;
 use test_scenes::Owner;
 use test_scenes::lines::{Transcript, answer_line, compare, unreadable};
 
@@ -133,7 +134,7 @@ impl<'o, 't> Steps<'o, 't> {
         let (word, rest) = step.split_once(' ').unwrap_or((step, ""));
         let text = match word {
             "audit" => audited(alloc, &mut keep)?,
-            "migrated" => String::from_str(alloc, if keep.has_migrated() { "yes" } else { "no" })?,
+            "found" => String::from_str(alloc, found(&keep))?,
             "kept" => count_kept(alloc, &mut keep, self.sent.as_slice())?,
             "at_hand" => at_hand(alloc, &keep)?,
             "lend" => lent(alloc, &mut keep, rest)?,
@@ -161,5 +162,14 @@ impl<'o, 't> Steps<'o, 't> {
         }
         self.sent.push(step)?;
         Ok(answer_line(alloc, desk, step)?)
+    }
+}
+
+/// Of which version the store was before it was opened.
+fn found<S: Alter>(keep: &SqlKeep<S>) -> &'static str {
+    match keep.found() {
+        Version::First => "first",
+        Version::Second => "second",
+        Version::Third => "third",
     }
 }

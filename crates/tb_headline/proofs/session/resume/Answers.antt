@@ -3,7 +3,6 @@ use Rattle.sqlite.specs.Held.{state}
 use Rattle.tb_headline.proofs.Left.{at, held_file, stays}
 use Rattle.tb_headline.proofs.Refused.{has_first, refused, said}
 use Rattle.tb_headline.proofs.Stopped.{stopped}
-use Rattle.tb_keeper.specs.Versions.{version_taken}
 use Rattle.tb_headline.proofs.session.resume.Goals as goal
 
 pub returns-in-Ok-clause-begun : goal.returns-in-Ok-clause-begun
@@ -28,7 +27,7 @@ returns-in-Ok-clause-stopped g c opens s rows =
 
 pub returns-in-Ok-clause-said : goal.returns-in-Ok-clause-said
 returns-in-Ok-clause-said g c = rw c.new.ensures (λ clean.
-    let version = version_taken c.in-Ok.keep.migrated in
+    let version = c.in-Ok.keep.found in
     let first = has_first version c.args.conn.schema c.in-Ok.ensures.tables in
     let told = rw c.in-Ok.is at c.open.ensures.version first in
     said g.S.Store c.args.conn (Ok version) (λ is. absurd (cc)) (λ is. absurd (cc)) (told clean))

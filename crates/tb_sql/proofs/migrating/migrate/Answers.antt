@@ -14,10 +14,10 @@ use Rattle.tb_sql.proofs.migrating.migrate.Goals as goal
 pub returns-in-Ok-commit-clause-done : goal.returns-in-Ok-commit-clause-done
 returns-in-Ok-commit-clause-done g c content stands =
     let old = state g.S.Store c.args.conn.now in
-    let mid = state g.S.Store c.put_second.new.tx.conn.now in
+    let mid = state g.S.Store c.put_third.new.tx.conn.now in
     let counts = c.in-Ok.counts in
     let begun = c.transaction-tx.ensures.begun in
-    let inside : Survives old mid (λ _. ⊥) = survives_begin g.S.Store c.args.conn.now mid _ (rw begun at c.put_second.ensures.survives) in
+    let inside : Survives old mid (λ _. ⊥) = survives_begin g.S.Store c.args.conn.now mid _ (rw begun at c.put_third.ensures.survives) in
     let turned : HasCleanDisk mid → Turns (IsOldContent content) (IsMigrated content counts) old mid =
     λ clean. turns_begun g.S.Store c.args.conn.now mid _ _ ((rw begun at c.in-Ok.ensures.made) clean refl content) in
     let end = c.commit.new.self.0 in
@@ -30,10 +30,10 @@ returns-in-Ok-commit-clause-done g c content stands =
 pub returns-in-Err-commit-clause-store : goal.returns-in-Err-commit-clause-store
 returns-in-Err-commit-clause-store g c _ content stands =
     let old = state g.S.Store c.args.conn.now in
-    let mid = state g.S.Store c.put_second.new.tx.conn.now in
+    let mid = state g.S.Store c.put_third.new.tx.conn.now in
     let counts = c.in-Ok.counts in
     let begun = c.transaction-tx.ensures.begun in
-    let inside : Survives old mid (λ _. ⊥) = survives_begin g.S.Store c.args.conn.now mid _ (rw begun at c.put_second.ensures.survives) in
+    let inside : Survives old mid (λ _. ⊥) = survives_begin g.S.Store c.args.conn.now mid _ (rw begun at c.put_third.ensures.survives) in
     let turned : HasCleanDisk mid → Turns (IsOldContent content) (IsContent (migrated content)) old mid =
     λ clean. turns_begun g.S.Store c.args.conn.now mid _ _ (only_content content counts _ mid ((rw begun at c.in-Ok.ensures.made) clean refl content)) in
     let end = c.commit.new.self.0 in
