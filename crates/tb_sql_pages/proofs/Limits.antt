@@ -1,5 +1,5 @@
 -- What a query answers that shows no more than so many rows.
-use Rattle.std.proofs.Common.{◌≡◌, ◌∙◌, ℕ, pos, List, [], map, drop, take, Bool, None, false, refl, sym, ap, subst, IsPermutation}
+use Rattle.std.proofs.Common.{◌≡◌, ◌∙◌, ℕ, pos, List, [], map, reverse, drop, take, Bool, None, false, refl, sym, ap, subst, IsPermutation}
 use Rattle.std.specs.Prelude.{filter}
 use Rattle.std.specs.List.{AllByRecursion}
 use Rattle.std.specs.declared.cmp.Ordering.TheVariants.{Less}
@@ -21,7 +21,8 @@ use Rattle.tb_sql_tables.specs.Content.{HasRows}
 use Rattle.tb_sql_tables.proofs.Effects.{IsShownOf, found}
 use Rattle.tb_sql_tables.proofs.Queries.{query_of, program_of, passes, output_at, cells_ordered}
 use Rattle.tb_sql_tables.proofs.Statements.{Means}
-use Rattle.tb_sql_pages.specs.First.{AreFirst}
+use Rattle.tb_sql_pages.specs.Last.{AreLast}
+use Rattle.tb_sql_pages.proofs.Turned.{last_turned}
 
 -- SELECT project FROM tree WHERE test ORDER BY order LIMIT count
 abbrev pub query_up_to : ℕ → ℕ → List Term → List Term → List (Term × Key) → Query
@@ -71,14 +72,11 @@ module _ {X : Type 0} (row_of : X → Row) (t : X → Bool) (xs : List X) (count
       let mine : map out (filter q (map row_of xs)) ≡ map (λ x. out (row_of x)) (filter t xs) = ap (map out) (filter-map q row_of xs ∙ ap (map row_of) (filter_same _ t xs same)) ∙ map-map out row_of _ in
       record { all = start.all; whole = record { ordered = a.0; same = subst (λ l. IsPermutation l a.0) mine a.1; sorted = a.2; shown = a.3 }; first = start.first }
 
--- what the rows read as is the first of these
-pub found_first : {X : Type 0} (read : Row → X) (count : ℕ) (query : Query) (out : X → Output) (xs : List X) (rows : List Row) → AllByRecursion (λ x. read (out x).1 ≡ x) xs → IsStartOf count query out xs rows
-    → (IsBefore : X → X → Type 0) → ((a b : X) → IsBefore a b → output_cmp query (out a) (out b) ≡ Less) → AreFirst IsBefore count xs (map read rows)
-found_first read count query out xs rows reads is IsBefore lower = record {
-  all = map read is.all;
-  whole = found read query out xs is.all reads is.whole IsBefore lower;
-  first = ap (map read) is.first ∙ sym (take-map read count is.all);
-}
+-- from the last one on, what the rows read as is the last of these, turned round
+pub found_last : {X : Type 0} (read : Row → X) (count : ℕ) (query : Query) (out : X → Output) (xs : List X) (rows : List Row) → AllByRecursion (λ x. read (out x).1 ≡ x) xs → IsStartOf count query out xs rows
+    → (IsBefore : X → X → Type 0) → ((a b : X) → IsBefore b a → output_cmp query (out a) (out b) ≡ Less) → AreLast IsBefore count xs (reverse (map read rows))
+found_last read count query out xs rows reads is IsBefore higher =
+    last_turned IsBefore count xs (map read is.all) (map read rows) (found read query out xs is.all reads is.whole (λ a b. IsBefore b a) higher) (ap (map read) is.first ∙ sym (take-map read count is.all))
 
 -- the same of something that is made of each of these
 pub start_of_each : {X Y : Type 0} (f : X → Y) (count : ℕ) (query : Query) (out : Y → Output) (xs : List X) (rows : List Row) → IsStartOf count query (λ x. out (f x)) xs rows → IsStartOf count query out (map f xs) rows

@@ -1,5 +1,5 @@
--- What tests of a column against bounds mean, and of a column that may be NULL.
-use Rattle.std.proofs.Common.{◌≡◌, ℕ, pos, List, [], ◌∷◌, drop, Bool, false, ◌&&◌, ◌==◌, Option, Some, None, refl, ap, ◌∙◌, arith}
+-- What the tests of columns against bounds mean, and of the column of a task, which may be NULL.
+use Rattle.std.proofs.Common.{◌≡◌, ℕ, pos, List, [], ◌∷◌, drop, Bool, ◌&&◌, Option, Some, None, refl, ap, ◌∙◌, arith}
 use Rattle.std.specs.Prelude.{nat_le}
 use Rattle.std.specs.Ordering.{is_ge, is_le, int_cmp}
 use Rattle.std.proofs.lemmas.Int.{ints}
@@ -17,6 +17,7 @@ use Rattle.sqlite.specs.Values.{or_null}
 use Rattle.tb_sql_tables.proofs.KeyTests.{equal, are_equal, equal_numbers}
 use Rattle.tb_sql_tables.proofs.Queries.{passes}
 use Rattle.tb_sql_tables.proofs.SqlTests.{and_true, truth_is}
+use Rattle.tb_sql_pages.specs.Entries.{names_place}
 
 -- the column at a place of the row is at least, or at most, this parameter
 abbrev pub at_least : ℕ → ℕ → Term
@@ -43,6 +44,17 @@ pub range_tested : (k low high : Value) (more row : Row) → passes in_range (k 
 range_tested k low high more [] = ap (λ b. are_equal Null k && (is_at_least Null low && b)) (and_true _)
 range_tested k low high more (id ∷ cells) = ap (λ b. are_equal (column cells 0) k && (is_at_least (column cells 1) low && b)) (and_true _)
 
+-- the first column after the rowid is equal to the first parameter, and the last one to the second
+abbrev pub by_task : List Term
+by_task = equal 1 0 ∷ equal 7 1 ∷ []
+
+abbrev pub has_task : Value → Value → Row → Bool
+has_task k l cells = are_equal (column cells 0) k && are_equal (column cells 6) l
+
+pub task_tested : (k l : Value) (more row : Row) → passes by_task (k ∷ l ∷ more) row ≡ has_task k l (drop 1 row)
+task_tested k l more [] = ap (λ b. are_equal Null k && b) (and_true _)
+task_tested k l more (id ∷ cells) = ap (λ b. are_equal (column cells 0) k && b) (and_true _)
+
 -- ---- numbers
 
 from_test : (m n : ℕ) → is_ge (int_cmp (pos m) (pos n)) ≡ nat_le n m
@@ -59,13 +71,9 @@ pub number_to : (m n : ℕ) → is_at_most (Int (pos m)) (Int (pos n)) ≡ nat_l
 unfolding binary
 number_to m n = rw value_cmp-Int (truth_is _ ∙ to_test m n)
 
--- ---- a number that may not be there
+-- ---- a place that may not be there
 
-abbrev pub is_number : ℕ → Option ℕ → Bool
-is_number n None = false
-is_number n (Some m) = m == n
-
-pub equal_optional : (m : Option ℕ) (n : ℕ) → are_equal (or_null (λ k. Int (pos k)) m) (Int (pos n)) ≡ is_number n m
+pub equal_optional : (other : Option ℕ) (place : ℕ) → are_equal (or_null (λ n. Int (pos n)) other) (Int (pos place)) ≡ names_place place other
 unfolding binary
-equal_optional None n = refl
-equal_optional (Some m) n = equal_numbers m n
+equal_optional None place = refl
+equal_optional (Some other) place = equal_numbers other place

@@ -1,34 +1,30 @@
--- How an entry of a board's history is kept and read.
-use Rattle.std.specs.Prelude.{ℕ, pos, List, [], ◌∷◌, codes, Option, Some, None}
-use Rattle.std.specs.Int.{to_be_bytes, w128}
-use Rattle.sqlite_value.specs.declared.value.Value.{Value}
-use Rattle.sqlite_value.specs.declared.value.Value.TheVariants.{Int, Blob as Bytes}
-use Rattle.sqlite_value.specs.Order.{Row, column}
-use Rattle.sqlite.specs.Values.{or_null}
-use Rattle.tb_sql_tables.specs.Read.{number_of, identifier_of}
-use Rattle.tb_sql_pages.specs.declared.entries.EntryRow.{EntryRow}
+-- What the statements on the histories do to the content, which rows they ask for, and in which order.
+use Rattle.std.specs.Prelude.{ℕ, Bool, false, ◌∷◌, Option, Some, None, nat_le, ◌<◌, ◌==◌, ◌&&◌}
+use Rattle.tb_sql_tables.specs.declared.rows.HistoryRow.{HistoryRow}
+use Rattle.tb_sql_tables.specs.Content.{Content}
 
-abbrev pub insert_text : List ℕ
-insert_text = codes "INSERT INTO history (board, number, moment, person, call, what, task) VALUES (?1, ?2, ?3, ?4, ?5, ?6, ?7)"
+-- a row that goes in
+abbrev pub with_entry : HistoryRow → Content → Content
+with_entry row content = record content { history = row ∷ content.history }
 
-abbrev pub entry_row : EntryRow → Row
-entry_row entry = Int (pos entry.board) ∷ Int (pos entry.number) ∷ Int (pos entry.moment)
-    ∷ Int (pos entry.person) ∷ Bytes (to_be_bytes w128 entry.call) ∷ Int (pos entry.what)
-    ∷ or_null (λ n. Int (pos n)) entry.task ∷ []
+-- those of a board from one number to another
+abbrev pub is_entry_between : ℕ → ℕ → ℕ → HistoryRow → Bool
+is_entry_between board first last row =
+    (row.board == board) && (nat_le first row.number && nat_le row.number last)
 
--- a number, where there is one
-abbrev pub maybe_number_of : Value → Option ℕ
-maybe_number_of (Int (pos n)) = Some n
-maybe_number_of _ = None
+-- this place is there
+abbrev pub names_place : ℕ → Option ℕ → Bool
+names_place place None = false
+names_place place (Some other) = other == place
 
-abbrev pub entry_of : Row → EntryRow
-entry_of cells =
-    record {
-      board = number_of (column cells 0);
-      number = number_of (column cells 1);
-      moment = number_of (column cells 2);
-      person = number_of (column cells 3);
-      call = identifier_of (column cells 4);
-      what = number_of (column cells 5);
-      task = maybe_number_of (column cells 6);
-    }
+-- those of the task at a place of a board
+abbrev pub is_entry_of : ℕ → ℕ → HistoryRow → Bool
+is_entry_of board place row = (row.board == board) && names_place place row.task
+
+-- the order of the entries of a board
+abbrev pub IsEntryBefore : HistoryRow → HistoryRow → Type 0
+IsEntryBefore a b = a.number < b.number
+
+-- the order of numbers alone
+abbrev pub IsBelow : ℕ → ℕ → Type 0
+IsBelow a b = a < b

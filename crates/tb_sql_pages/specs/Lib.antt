@@ -1,3 +1,3 @@
 pub mod Entries
-pub mod First
-pub mod Parts
+pub mod Last
+pub mod Read

@@ -1,7 +1,7 @@
-//! Queries that show a part of the rows of a board: its last row, the rows of a range of numbers, the last hundred of some.
-//! It stands on `tb_sql_tables` for the tables, their rows and what a query without a limit answers.
+//! The statements on the table `history`, one function each: an entry goes in; a board's last number, a range of its entries, and the
+//! last hundred of one of its tasks come out. It stands on `tb_sql_tables` for the table, its rows and what a query without a limit answers.
 #![tactic(auto)]
 
-pub mod entries;
-pub mod instances;
-pub mod tasks;
+mod bind;
+pub mod histories;
+mod read;
