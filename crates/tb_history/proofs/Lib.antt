@@ -1,0 +1,5 @@
+pub mod Contents
+pub mod KindNumbers
+pub mod Members
+pub mod Numbering
+pub mod Pages

@@ -1,0 +1,5 @@
+pub mod Contents
+pub mod History
+pub mod Laws
+pub mod Pages
+pub mod Texts
