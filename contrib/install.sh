@@ -34,7 +34,9 @@ parts() {
     cat <<PARTS
 755 bin/taskboard PROGRAM
 755 bin/taskboard-backup contrib/backup.sh
+755 bin/tb contrib/tb
 644 share/bash-completion/completions/taskboard contrib/taskboard.bash
+644 share/bash-completion/completions/tb contrib/taskboard.bash
 644 share/doc/taskboard/nginx.conf contrib/nginx.conf
 644 share/doc/taskboard/README.md README.md
 644 share/doc/taskboard/docs/HTTP.md docs/HTTP.md

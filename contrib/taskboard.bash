@@ -59,16 +59,29 @@ _taskboard_of_send() {
     esac
 }
 
+# The first word of `my`, or of `tb`.
+_taskboard_of_my() {
+    _taskboard_words "list boards people show add change done delete reopen start stop note unnote needs free" "$1"
+}
+
+_tb() {
+    COMPREPLY=()
+    if [ "$COMP_CWORD" -eq 1 ]; then
+        _taskboard_of_my "$2"
+    fi
+}
+
 _taskboard() {
     local order=${COMP_WORDS[1]}
     COMPREPLY=()
     if [ "$COMP_CWORD" -eq 1 ]; then
-        _taskboard_words "init serve send run import list export todo check key --help --version" "$2"
+        _taskboard_words "init serve send my run import list export todo check key --help --version" "$2"
         return
     fi
     case $order:$COMP_CWORD in
     serve:*) _taskboard_of_serve "$@" ;;
     send:*) _taskboard_of_send "$@" ;;
+    my:2) _taskboard_of_my "$2" ;;
     init:2 | import:2 | list:2 | export:2 | todo:2 | check:2 | key:2) _taskboard_files "$2" ;;
     import:7) _taskboard_words "json todo" "$2" ;;
     import:8) _taskboard_words "--all" "$2" ;;
@@ -76,3 +89,4 @@ _taskboard() {
 }
 
 complete -F _taskboard taskboard
+complete -F _tb tb

@@ -235,6 +235,23 @@ def check_words():
     faults.extend(f"contrib/taskboard.bash offers {word}, which is no word" for word in sorted(offered - words))
 
 
+def check_my_words():
+    """The same of the words of `my`: the table of `tb`, the help, the man page and the completion."""
+    words = set(re.findall(r'(?m)^ +"([a-z]+)" => MyWord::', (TOP / "crates/tb_my/src/word.rt").read_text()))
+    section = (TOP / "docs/USING.md").read_text().partition("\n## tb\n")[2].partition("\n## ")[0]
+    read = {word for row in re.findall(r"(?m)^\| (`.*?`) \| ", section) for word in re.findall(r"`([a-z]+)", row)}
+    help_text = (TOP / "crates/tb_command_line/src/help.rt").read_text().partition("\ntaskboard my ")[2].partition("\n    N, M ")[0]
+    told = set(re.findall(r"[a-z]+", re.sub(r"(?m)  .*$", "", re.sub(r"(?m)^    ", "", help_text))))
+    page = (TOP / "contrib/taskboard.1").read_text().partition("\n.B my")[2].partition("\n.TP\n")[0]
+    shell = re.search(r'(?s)_of_my\(\).*?_taskboard_words "([^"]*)"', (TOP / "contrib/taskboard.bash").read_text())
+    offered = set(shell[1].split()) if shell else set()
+    if not words:
+        faults.append("crates/tb_my/src/word.rt names no words")
+    for place, named in (("docs/USING.md", read), ("the help of my", told), ("contrib/taskboard.1", set(re.findall(r"[a-z]+", page))), ("contrib/taskboard.bash", offered)):
+        faults.extend(f"{place} lacks the word {word} of my" for word in sorted(words - named))
+    faults.extend(f"contrib/taskboard.bash offers {word}, which is no word of my" for word in sorted(offered - words))
+
+
 def check_routes():
     """The table of routes has each route of the server, and no others."""
     source = "\n".join(path.read_text() for path in TOP.glob("crates/*/src/route.rt"))
@@ -274,6 +291,7 @@ check_tests()
 check_numbers()
 check_logic()
 check_words()
+check_my_words()
 check_routes()
 check_faults()
 print("\n".join(faults) or f"what {len(DOCUMENTS)} documents name is there")

@@ -47,6 +47,7 @@ make_later_clone() {
 installs_twice() {
     install_from "$top" || fail "it wasn't installed: $(cat said)"
     cmp -s "$prefix/bin/taskboard" "$program" || fail "another program was installed"
+    "$prefix/bin/tb" --help | grep -q "^taskboard my " || fail "tb isn't taskboard my"
     cmp -s "$prefix/share/taskboard/page/index.html" "$top/page/index.html" || fail "another page was installed"
     grep -q "systemctl link $prefix/lib/systemd/system/taskboard\*" said || fail "it doesn't say how systemd finds the units: $(cat said)"
     grep -q "^ExecStart=$prefix/bin/taskboard serve .* --page $prefix/share/taskboard/page " "$prefix/lib/systemd/system/taskboard.service" ||
@@ -167,6 +168,7 @@ expect_offered() {
 bash_offers() {
     expect_offered "import" taskboard im
     expect_offered "kept.db kept.db-wal" taskboard list kept
+    expect_offered "done delete" taskboard my d
     expect_offered "kept.db kept.db-wal" taskboard serve --port 8080 kept
     expect_offered "--port --connections --forever --page --log" taskboard serve kept.db ""
     expect_offered "--forever" taskboard serve kept.db --port 8080 --f

@@ -79,6 +79,7 @@ attempt power.sh python3 strace
 attempt memory.sh python3 cc
 attempt client.sh python3
 attempt own_key.sh python3
+attempt my.sh python3
 attempt kits.py python3
 attempt sync.sh python3
 attempt remind.sh python3

@@ -10,7 +10,7 @@ use Rattle.tb_calls.specs.declared.keep.Keep.{Ghosts}
 use Rattle.tb_client.specs.Asking.{Event}
 use Rattle.tb_command_line.specs.Help.{help_text}
 use Rattle.tb_command_line.specs.declared.order.Order.{Order}
-use Rattle.tb_command_line.specs.declared.order.Order.TheVariants.{Init, Serve, Run, Import, ImportAll, View, Check, Key, Send, Help, Version}
+use Rattle.tb_command_line.specs.declared.order.Order.TheVariants.{Init, Serve, Run, Import, ImportAll, View, Check, Key, Send, My, Help, Version}
 use Rattle.tb_command_line.specs.declared.order.SendOrder.{SendOrder}
 use Rattle.tb_files.specs.Check.{IsChecked}
 use Rattle.tb_files.specs.Faults.{is_of_checking, is_of_imports, is_of_keys, is_of_views}
@@ -23,7 +23,7 @@ use Rattle.tb_orders.specs.Faults.{is_of_making, is_of_scripts}
 use Rattle.tb_orders.specs.declared.ending.Ending.{Ending}
 use Rattle.tb_orders.specs.declared.ending.Ending.TheVariants.{Accepted}
 use Rattle.tb_program.specs.declared.fault.Fault.{Fault}
-use Rattle.tb_program.specs.declared.fault.Fault.TheVariants.{WriteFailed}
+use Rattle.tb_program.specs.declared.fault.Fault.TheVariants.{NoClock, WriteFailed}
 use Rattle.tb_script.specs.Answering.{answer, first_state}
 use Rattle.tb_script.specs.Lines.{answers_from}
 use Rattle.tb_sending.specs.Changing.{Sends}
@@ -38,6 +38,11 @@ abbrev pub is_of_telling : Fault → Bool
 is_of_telling WriteFailed = true
 is_of_telling _ = false
 
+-- of words of `my`, which need the clock
+abbrev pub is_of_mine : Fault → Bool
+is_of_mine NoClock = true
+is_of_mine fault = is_of_sending fault
+
 abbrev pub is_of_order : Order → Fault → Bool
 is_of_order (Init order) fault = is_of_making fault
 is_of_order (Serve order) fault = is_of_serving fault
@@ -48,6 +53,7 @@ is_of_order (View order) fault = is_of_views fault
 is_of_order (Check file) fault = is_of_checking fault
 is_of_order (Key order) fault = is_of_keys fault
 is_of_order (Send order) fault = is_of_sending fault
+is_of_order (My order) fault = is_of_mine fault
 is_of_order (Help topic) fault = is_of_telling fault
 is_of_order Version fault = is_of_telling fault
 
@@ -89,6 +95,8 @@ module _ {D L W : Type 0} {d : DiskGhosts D} (g : Ghosts (SqlKeep (FileStore D d
   IsDone (Key order) input before after ending =
       IsKeyGiven g order input (contents before) (contents after) ending
   IsDone (Send order) input before after ending = IsSentOver order before after ending
+  -- what the words become is `sent_of` of `tb_my`; of the asking as a whole nothing is said
+  IsDone (My order) input before after ending = Unit {0}
   IsDone (Help topic) input before after ending =
       IsTold (contents before) (contents after) ending (help_text topic)
   IsDone Version input before after ending =

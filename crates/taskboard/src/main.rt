@@ -11,9 +11,12 @@ ghost use Rattle.tb_program.specs.declared.fault.Fault.TheVariants.{Store};
 ghost use Rattle.tb_values.specs.Appends.{AppendsFront};
 
 mod clock;
+mod mine;
+mod my_settings;
 mod serve;
 mod served_file;
 
+use crate::mine::ask_mine;
 use crate::serve::serve_file;
 use std::alloc::Global;
 use std::io::{Read, Write};
@@ -69,11 +72,18 @@ fn end_of<R: Read + Drop, W: Write>(
     match carry_out(rt, &mut order, reader, writer) {
         Ok(ending) => Ok(ending),
         Err(failed) => {
-            let _ = print_fault(failed.fault, &mut rt.stderr());
-            let _ = tell_cause(rt, &mut rt.stderr(), &failed, &order);
+            if !is_told(&order, failed.fault) {
+                let _ = print_fault(failed.fault, &mut rt.stderr());
+                let _ = tell_cause(rt, &mut rt.stderr(), &failed, &order);
+            }
             Err(failed.fault)
         }
     }
+}
+
+/// Whether it was told already what is wrong: of words of `my`.
+fn is_told(order: &Order, fault: Fault) -> bool {
+    matches!((order, fault), (Order::My(_), Fault::Bad))
 }
 
 /// Carries out an order; of an import alone more than the fault may be told.
@@ -98,6 +108,7 @@ fn carry_out<R: Read + Drop, W: Write>(
         Order::Check(file) => Ok(check_file(rt, file, writer)?),
         Order::Key(order) => Ok(give_key_in_file(rt, order, reader, writer)?),
         Order::Send(order) => Ok(send_order(rt, order, writer)?),
+        Order::My(order) => Ok(ask_mine(rt, order, writer)?),
         Order::Help(topic) => Ok(tell(writer, topic.text())?),
         Order::Version => Ok(tell(writer, VERSION)?),
     }

@@ -56,12 +56,14 @@ file_of (order.View shown) = Some shown.file
 file_of (order.Check file) = Some file
 file_of (order.Key given) = Some given.file
 file_of (order.Send sent) = None
+file_of (order.My asked) = None
 file_of (order.Help topic) = None
 file_of order.Version = None
 
 -- of files that no order names: those of a key
 abbrev pub store_text : Order → Text
 store_text (order.Send sent) = KEY_FILES.now
+store_text (order.My asked) = KEY_FILES.now
 store_text _ = STORE.now
 
 -- of a file that is looked at again

@@ -157,7 +157,7 @@ fn store_text(order: &Order) -> &'static str
     ensures { result.now ≡ store_text order.now }
 {
     match order {
-        Order::Send(_) => KEY_FILES,
+        Order::Send(_) | Order::My(_) => KEY_FILES,
         _ => STORE,
     }
 }
@@ -195,7 +195,7 @@ fn file_of(order: &Order) -> Option<&Text>
         Order::View(order) => Some(&order.file),
         Order::Check(file) => Some(file),
         Order::Key(order) => Some(&order.file),
-        Order::Run | Order::Send(_) | Order::Help(_) | Order::Version => None,
+        Order::Run | Order::Send(_) | Order::My(_) | Order::Help(_) | Order::Version => None,
     }
 }
 

@@ -63,7 +63,7 @@ const SEND_USAGE: &str =
     "`send` takes [--id UUID] [--for SECONDS] ADDRESS:PORT MEMBER KEY WORD ARGUMENTS...";
 
 const NO_ORDER: &str =
-    "The first word is no order: init, serve, send, import, list, export, todo, check, key or run. `taskboard --help` tells more.";
+    "The first word is no order: init, serve, send, my, import, list, export, todo, check, key or run. `taskboard --help` tells more.";
 
 const WRONG_FILE: &str = "The file is wrong.";
 

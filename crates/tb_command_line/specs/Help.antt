@@ -1,6 +1,6 @@
 -- What the program tells of itself and of its orders.
 use Rattle.std.specs.Prelude.{ℕ, List}
-use Rattle.tb_command_line.specs.declared.help.TheConstants.{CHECK, IMPORT, INIT, KEY, PROGRAM, RUN, SEND, SERVE, VIEW}
+use Rattle.tb_command_line.specs.declared.help.TheConstants.{CHECK, IMPORT, INIT, KEY, MY, PROGRAM, RUN, SEND, SERVE, VIEW}
 use Rattle.tb_command_line.specs.declared.order.Topic.{Topic}
 use Rattle.tb_command_line.specs.declared.order.Topic.TheVariants as topic
 
@@ -17,3 +17,4 @@ help_text topic.Todo = VIEW.now
 help_text topic.Check = CHECK.now
 help_text topic.Key = KEY.now
 help_text topic.Send = SEND.now
+help_text topic.My = MY.now

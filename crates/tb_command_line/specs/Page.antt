@@ -2,7 +2,7 @@
 use Rattle.std.specs.Prelude.{ℕ, suc, ◌+◌, ◌&&◌, Bool, false, List, [], ◌∷◌, ◌++◌, codes, take, drop, length, nat_lt, slice_get, Option, Some, None, Result, Ok, Err, if◌then◌else◌}
 use Rattle.std.specs.Str.{bytes_eq}
 use Rattle.tb_command_line.specs.declared.order.Order.{Order}
-use Rattle.tb_command_line.specs.declared.order.Order.TheVariants.{Init, Serve, Run, Import, ImportAll, View, Check, Key, Send, Help, Version}
+use Rattle.tb_command_line.specs.declared.order.Order.TheVariants.{Init, Serve, Run, Import, ImportAll, View, Check, Key, Send, My, Help, Version}
 use Rattle.tb_command_line.specs.declared.order.WordsFault.{WordsFault}
 use Rattle.tb_command_line.specs.Order.{Text}
 
@@ -44,6 +44,7 @@ paged page (View order) = View order
 paged page (Check file) = Check file
 paged page (Key order) = Key order
 paged page (Send order) = Send order
+paged page (My order) = My order
 paged page (Help topic) = Help topic
 paged page Version = Version
 

@@ -94,6 +94,11 @@ send_of words = do
   seconds ← option_in (codes "--for") seconds_in (behind id words)
   sent_with id seconds (behind seconds (behind id words))
 
+-- ---- `my [WORD ARGUMENTS..]`
+
+abbrev pub my_of : List Text → Result Order WordsFault
+my_of words = Ok (order.My (record { words = words }))
+
 -- ---- `--help`, `ORDER --help` and `--version`
 
 unfoldable pub topic_named : Text → Option Topic
@@ -108,6 +113,7 @@ topic_named name =
     else if bytes_eq name (codes "check") then Some topic.Check
     else if bytes_eq name (codes "key") then Some topic.Key
     else if bytes_eq name (codes "send") then Some topic.Send
+    else if bytes_eq name (codes "my") then Some topic.My
     else None
 
 abbrev pub told_alone : Text → Option Order

@@ -10,6 +10,7 @@ taskboard keeps boards of tasks that a team shares, in one file.
     taskboard init FILE NAME KEY
     taskboard serve FILE --port P [--connections N or --forever] [--page FOLDER] [--log]
     taskboard send [--id UUID] [--for SECONDS] ADDRESS:PORT MEMBER KEY WORD ARGUMENTS..
+    taskboard my [WORD ARGUMENTS..]
     taskboard import FILE MEMBER KEY ID BOARD json|todo [--all]
     taskboard list|export|todo FILE MEMBER KEY BOARD
     taskboard check FILE
@@ -125,6 +126,39 @@ prints the answer's body. However often it is sent, a call acts once.
 The status is 0 where it was accepted, and 1 where it was refused or no answer came.
 ";
 
+const MY: &str = "\
+taskboard my [WORD ARGUMENTS..]
+
+Asks a server in words for every day; contrib/install.sh installs it as tb. Without words, the list
+of the board. One look at the board serves all numbers of a command.
+
+    list, boards, people     the open tasks with their numbers; your boards; who is on the board
+    add WORDS                a task: Buy milk due:friday pri:H +Home @shop for:bob
+    change N WORDS           sets what is named, as add does; due: or for: alone removes it, @tag
+                             adds a tag and -@tag takes one, other words are the description
+    done N.., delete N.., reopen N.., start N.., stop N..
+    note N TEXT, unnote N TEXT, needs N M, free N M, show N
+
+    N, M   the number of a task in the list, or its uuid
+    WORDS  due:DAY, wait:DAY, scheduled:DAY, until:DAY, pri:H, M or L, +PROJECT or project:PROJECT,
+           @TAG, for:NAME, rec:STEP
+    DAY    today, tomorrow, a weekday as friday or fri, 3d or +3d, 2w, or 2026-12-01; days are
+           those of UTC
+
+Who asks which server stands in ~/.config/taskboard/config, in lines such as
+
+    server = 127.0.0.1:8080
+    name = ann
+    board = 1
+    key-file = /home/ann/.config/taskboard/key
+
+The environment TASKBOARD_SERVER, TASKBOARD_NAME, TASKBOARD_BOARD and TASKBOARD_KEY_FILE goes
+before. Without a file the key is read as `taskboard send --help` says.
+
+The status is 0 where all was accepted, 1 where something was refused or no answer came, and 2
+where the words or the settings are wrong.
+";
+
 impl Topic {
     /// What it is told as.
     pub fn text(self) -> &'static str
@@ -140,6 +174,7 @@ impl Topic {
             Topic::Check => CHECK,
             Topic::Key => KEY,
             Topic::Send => SEND,
+            Topic::My => MY,
         }
     }
 }

@@ -24,6 +24,8 @@ pub enum Order {
     /// Gives a person a new key.
     Key(KeyOrder),
     Send(SendOrder),
+    /// Words of every day, whose server and person stand elsewhere.
+    My(MyOrder),
     Help(Topic),
     Version,
 }
@@ -131,6 +133,18 @@ impl Debug for SendOrder {
     }
 }
 
+/// Words that are made calls and views of.
+#[derive(Drop)]
+pub struct MyOrder {
+    pub words: Items<Text>,
+}
+
+impl Debug for MyOrder {
+    fn fmt<W: fmt::Write>(&self, f: &mut Formatter<W>) -> fmt::Result {
+        write!(f, "MyOrder {{ words: {} }}", self.words.len())
+    }
+}
+
 /// What help is asked for.
 #[derive(Clone, Copy, Debug, PartialEq, Eq)]
 pub enum Topic {
@@ -145,6 +159,7 @@ pub enum Topic {
     Check,
     Key,
     Send,
+    My,
 }
 
 /// Why words are no order.

@@ -1,11 +1,11 @@
 //! The order to send a call or a view: its words begin with options, and end with the words of a script, which begin with anything.
 ghost use Rattle.std.specs.Prelude.{◌≡◌, ◌∷◌, IfOk, Bool, List, codes, drop, false, map, option_map, true, ℕ, if◌then◌else◌};
 ghost use Rattle.tb_command_line.specs.Outcome.{Reads, or_bad};
-ghost use Rattle.tb_command_line.specs.Sending.{behind, key_in, option_in, option_value, seconds_in, send_of, sent_with, server_in};
+ghost use Rattle.tb_command_line.specs.Sending.{behind, key_in, my_of, option_in, option_value, seconds_in, send_of, sent_with, server_in};
 ghost use Rattle.tb_task.specs.TaskId.{read_id};
 ghost use Rattle.tb_board.specs.Names.{read_name};
 
-use crate::order::{Order, SendOrder, WordsFault};
+use crate::order::{MyOrder, Order, SendOrder, WordsFault};
 use crate::server::is_server;
 use std::alloc::{AllocError, Global};
 use tb_board::{Key, Name};
@@ -27,6 +27,14 @@ pub(crate) fn read_send(alloc: Global, words: &[&str]) -> Result<Order, WordsFau
     let seconds = seconds_option(words)?;
     let words = behind(words, seconds.is_some());
     read_sent(alloc, id, seconds, words)
+}
+
+/// The order that the words after `my` are.
+pub(crate) fn read_my(alloc: Global, words: &[&str]) -> Result<Order, WordsFault>
+    ensures { Reads result (my_of (map (λ word. word.now) words.entry.now)) }
+{
+    let words = texts_of(alloc, words)?;
+    Ok(Order::My(MyOrder { words }))
 }
 
 fn id_option(words: &[&str]) -> Result<Option<TaskId>, WordsFault>

@@ -53,6 +53,7 @@ fn topic_named(name: &str) -> Option<Topic>
         "check" => Some(Topic::Check),
         "key" => Some(Topic::Key),
         "send" => Some(Topic::Send),
+        "my" => Some(Topic::My),
         _ => None,
     }
 }

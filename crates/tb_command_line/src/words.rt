@@ -7,13 +7,13 @@ ghost use Rattle.tb_command_line.specs.Words.{IsShaped, bare, check_app, counted
 ghost use Rattle.tb_command_line.specs.Order.{Request, is_plain, order_of, texts_of, words_of};
 ghost use Rattle.tb_command_line.specs.Outcome.{Reads};
 ghost use Rattle.tb_command_line.specs.Page.{page_in, with_page, without_page};
-ghost use Rattle.tb_command_line.specs.Sending.{send_of, told_of};
+ghost use Rattle.tb_command_line.specs.Sending.{my_of, send_of, told_of};
 ghost use Rattle.tb_command_line.specs.declared.order.Order.{Order};
 
 use crate::order::{Order, WordsFault};
 use crate::page::read_paged;
 use crate::reading::read_order;
-use crate::sending::read_send;
+use crate::sending::{read_my, read_send};
 use crate::telling::read_told;
 use clap::error::ErrorKind;
 use clap::{Arg, ArgAction, Command};
@@ -34,12 +34,16 @@ pub fn command_of(alloc: Global, words: &[&str], kept: &Option<Key>) -> Result<O
     ensures sent { (rest : List (List ℕ))
         → map (λ word. word.now) words.entry.now ≡ codes "send" ∷ rest
         → told_of (codes "send" ∷ rest) ≡ None → Reads result (send_of rest) }
+    ensures mine { (rest : List (List ℕ))
+        → map (λ word. word.now) words.entry.now ≡ codes "my" ∷ rest
+        → told_of (codes "my" ∷ rest) ≡ None → Reads result (my_of rest) }
 {
     if let Some(order) = read_told(words) {
         return Ok(order);
     }
     match words.split_first() {
         Some((first, rest)) if *first == "send" => read_send(alloc, rest),
+        Some((first, rest)) if *first == "my" => read_my(alloc, rest),
         _ => read_paged(alloc, words, kept),
     }
 }

@@ -1,0 +1,3 @@
+mod Floatless
+mod Keys
+mod Weekdays

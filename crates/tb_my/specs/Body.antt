@@ -1,0 +1,53 @@
+-- The bodies of the calls that add and change tasks.
+use Rattle.std.specs.Prelude.{List, [], ◌∷◌, codes, Option, Some, None, if◌then◌else◌}
+use Rattle.std.specs.Str.{bytes_eq}
+use Rattle.serde_json.specs.Data.{Data, null, string, object, Members, no_members, put}
+use Rattle.tb_json.specs.Writing.{with_field, texts_data}
+use Rattle.tb_my.specs.Days.{Text}
+use Rattle.tb_my.specs.Tags.{tags_after}
+use Rattle.tb_my.specs.declared.part.Setting.{Setting}
+use Rattle.tb_my.specs.declared.said.Said.{Said}
+
+-- what is removed is null
+abbrev pub value_data : Option Text → Data
+value_data None = null
+value_data (Some value) = string value
+
+abbrev pub with_setting : Setting → Members → Members
+with_setting setting members = put setting.name (value_data setting.value) members
+
+-- of two that set the same, the last one counts
+abbrev pub with_settings : List Setting → Members → Members
+with_settings [] members = members
+with_settings (setting ∷ settings) members = with_settings settings (with_setting setting members)
+
+-- where words say one
+abbrev pub with_description : Text → Members → Members
+with_description description members = if bytes_eq description [] then members
+    else put (codes "description") (string description) members
+
+abbrev pub add_data : Said → Data
+add_data said = object (with_settings said.settings
+    (with_field (codes "tags") (texts_data said.tags)
+    (with_description said.description no_members)))
+
+abbrev pub with_new_tags : List Text → Members → Members
+with_new_tags [] members = put (codes "tags") null members
+with_new_tags (tag ∷ tags) members =
+    with_field (codes "tags") (texts_data (tag ∷ tags)) members
+
+-- tags that are added, and tags that are taken
+abbrev pub with_tags_said : List Text → List Text → List Text → Members → Members
+with_tags_said tags [] [] members = members
+with_tags_said tags (tag ∷ added) taken members =
+    with_new_tags (tags_after tags (tag ∷ added) taken) members
+with_tags_said tags [] (tag ∷ taken) members =
+    with_new_tags (tags_after tags [] (tag ∷ taken)) members
+
+abbrev pub with_changed_tags : List Text → Said → Members → Members
+with_changed_tags tags said members = with_tags_said tags said.tags said.untagged members
+
+-- what words say nothing of stays
+abbrev pub change_data : List Text → Said → Data
+change_data tags said = object (with_settings said.settings
+    (with_changed_tags tags said (with_description said.description no_members)))

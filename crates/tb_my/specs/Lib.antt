@@ -1,0 +1,11 @@
+pub mod Body
+pub mod Days
+pub mod Look
+pub mod Outcome
+pub mod Part
+pub mod Said
+pub mod Sent
+pub mod Settings
+pub mod Tags
+pub mod Telling
+pub mod Word

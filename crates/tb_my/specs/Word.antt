@@ -1,0 +1,32 @@
+-- The words of `my`.
+use Rattle.std.specs.Prelude.{ℕ, Bool, true, false, List, Option, Some, None, codes, if◌then◌else◌}
+use Rattle.std.specs.Str.{bytes_eq}
+use Rattle.tb_my.specs.declared.word.MyWord.{MyWord}
+use Rattle.tb_my.specs.declared.word.MyWord.TheVariants as word
+
+unfoldable pub my_word_named : List ℕ → Option MyWord
+my_word_named name =
+    if bytes_eq name (codes "list") then Some word.List
+    else if bytes_eq name (codes "boards") then Some word.Boards
+    else if bytes_eq name (codes "people") then Some word.People
+    else if bytes_eq name (codes "show") then Some word.Show
+    else if bytes_eq name (codes "add") then Some word.Add
+    else if bytes_eq name (codes "change") then Some word.Change
+    else if bytes_eq name (codes "done") then Some word.Done
+    else if bytes_eq name (codes "delete") then Some word.Delete
+    else if bytes_eq name (codes "reopen") then Some word.Reopen
+    else if bytes_eq name (codes "start") then Some word.Start
+    else if bytes_eq name (codes "stop") then Some word.Stop
+    else if bytes_eq name (codes "note") then Some word.Note
+    else if bytes_eq name (codes "unnote") then Some word.Unnote
+    else if bytes_eq name (codes "needs") then Some word.Needs
+    else if bytes_eq name (codes "free") then Some word.Free
+    else None
+
+-- tasks stand behind the word
+abbrev pub is_of_task : MyWord → Bool
+is_of_task word.List = false
+is_of_task word.Boards = false
+is_of_task word.People = false
+is_of_task word.Add = false
+is_of_task _ = true

@@ -1,0 +1,128 @@
+//! The bodies of the calls that add and change tasks.
+ghost use Rattle.std.specs.Prelude.{◌≡◌, IfOk, OnOk};
+ghost use Rattle.serde_json.specs.View.{members_view, view};
+ghost use Rattle.serde_json.specs.Written.{compact_text};
+ghost use Rattle.tb_my.specs.Body.{add_data, change_data, with_changed_tags, with_description, with_new_tags, with_setting, with_settings};
+
+use crate::part::Setting;
+use crate::said::Said;
+use crate::tags::tags_after;
+use serde_json::{Map, Value, put};
+use std::alloc::{AllocError, Global};
+use tb_json::{put_tags, put_text};
+use tb_values::Text;
+
+/// The body that adds the task that words say.
+pub(crate) fn add_body(alloc: Global, said: &Said) -> Result<Text, AllocError>
+    ensures { IfOk result (λ body. body ≡ compact_text (add_data said.now)) }
+{
+    let value = add_value(alloc, said)?;
+    let text = value.to_string(alloc)?;
+    Ok(Text::from_string(text))
+}
+
+fn add_value(alloc: Global, said: &Said) -> Result<Value, AllocError>
+    ensures { IfOk result (λ value. view value ≡ add_data said.now) }
+{
+    let mut object = Map::new(alloc);
+    put_description(&mut object, alloc, said.description.as_str())?;
+    put_tags(&mut object, alloc, said.tags.as_slice())?;
+    put_settings(&mut object, alloc, said.settings.as_slice())?;
+    Ok(Value::Object(object))
+}
+
+/// The body that changes a task of these tags to what words say.
+pub(crate) fn change_body(alloc: Global, tags: &[Text], said: &Said) -> Result<Text, AllocError>
+    ensures { IfOk result (λ body. body ≡ compact_text (change_data tags.now said.now)) }
+{
+    let value = change_value(alloc, tags, said)?;
+    let text = value.to_string(alloc)?;
+    Ok(Text::from_string(text))
+}
+
+fn change_value(alloc: Global, tags: &[Text], said: &Said) -> Result<Value, AllocError>
+    ensures { IfOk result (λ value. view value ≡ change_data tags.now said.now) }
+{
+    let mut object = Map::new(alloc);
+    put_description(&mut object, alloc, said.description.as_str())?;
+    put_changed_tags(&mut object, alloc, tags, said)?;
+    put_settings(&mut object, alloc, said.settings.as_slice())?;
+    Ok(Value::Object(object))
+}
+
+/// The description, where words say one.
+fn put_description(
+    object: &mut Map<String, Value>,
+    alloc: Global,
+    description: &str,
+) -> Result<(), AllocError>
+    ensures { OnOk result (members_view object.new.entries
+        ≡ with_description description.now (members_view object.old.entries)) }
+{
+    match description {
+        "" => Ok(()),
+        _ => put_text(object, alloc, "description", description),
+    }
+}
+
+/// The tags, where words add or take some.
+fn put_changed_tags(
+    object: &mut Map<String, Value>,
+    alloc: Global,
+    tags: &[Text],
+    said: &Said,
+) -> Result<(), AllocError>
+    ensures { OnOk result (members_view object.new.entries
+        ≡ with_changed_tags tags.now said.now (members_view object.old.entries)) }
+{
+    if said.tags.is_empty() && said.untagged.is_empty() {
+        return Ok(());
+    }
+    let after = tags_after(alloc, tags, said.tags.as_slice(), said.untagged.as_slice())?;
+    put_new_tags(object, alloc, after.as_slice())
+}
+
+/// The tags, or null where none are left.
+fn put_new_tags(
+    object: &mut Map<String, Value>,
+    alloc: Global,
+    tags: &[Text],
+) -> Result<(), AllocError>
+    ensures { OnOk result (members_view object.new.entries
+        ≡ with_new_tags tags.now (members_view object.old.entries)) }
+{
+    if tags.is_empty() {
+        put(object, alloc, "tags", Value::Null)
+    } else {
+        put_tags(object, alloc, tags)
+    }
+}
+
+fn put_settings(
+    object: &mut Map<String, Value>,
+    alloc: Global,
+    settings: &[Setting],
+) -> Result<(), AllocError>
+    ensures { OnOk result (members_view object.new.entries
+        ≡ with_settings settings.now (members_view object.old.entries)) }
+{
+    for setting in settings {
+        put_setting(object, alloc, setting)?;
+    }
+    Ok(())
+}
+
+/// An attribute, or null where it is removed.
+fn put_setting(
+    object: &mut Map<String, Value>,
+    alloc: Global,
+    setting: &Setting,
+) -> Result<(), AllocError>
+    ensures { OnOk result (members_view object.new.entries
+        ≡ with_setting setting.now (members_view object.old.entries)) }
+{
+    match &setting.value {
+        Some(value) => put_text(object, alloc, setting.name.as_str(), value.as_str()),
+        None => put(object, alloc, setting.name.as_str(), Value::Null),
+    }
+}

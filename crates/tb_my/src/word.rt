@@ -1,0 +1,71 @@
+//! The words of `my`.
+ghost use Rattle.std.specs.Prelude.{◌≡◌};
+ghost use Rattle.tb_my.specs.Word.{is_of_task, my_word_named};
+
+/// What a command asks for.
+#[derive(Clone, Copy, Debug, PartialEq, Eq)]
+pub enum MyWord {
+    List,
+    Boards,
+    People,
+    Show,
+    Add,
+    Change,
+    Done,
+    Delete,
+    Reopen,
+    Start,
+    Stop,
+    Note,
+    Unnote,
+    Needs,
+    Free,
+}
+
+impl MyWord {
+    /// The word of this name.
+    #[tactic(auto, unfolding(crate::specs::Word::my_word_named))]
+    pub fn read(name: &str) -> Option<MyWord>
+        ensures { result ≡ my_word_named name.now }
+    {
+        let word = match name {
+            "list" => MyWord::List,
+            "boards" => MyWord::Boards,
+            "people" => MyWord::People,
+            "show" => MyWord::Show,
+            "add" => MyWord::Add,
+            "change" => MyWord::Change,
+            "done" => MyWord::Done,
+            "delete" => MyWord::Delete,
+            "reopen" => MyWord::Reopen,
+            "start" => MyWord::Start,
+            "stop" => MyWord::Stop,
+            "note" => MyWord::Note,
+            "unnote" => MyWord::Unnote,
+            "needs" => MyWord::Needs,
+            "free" => MyWord::Free,
+            _ => return None,
+        };
+        Some(word)
+    }
+
+    /// Whether tasks stand behind the word.
+    pub(crate) fn is_of_task(self) -> bool
+        ensures { result ≡ is_of_task self }
+    {
+        match self {
+            MyWord::List | MyWord::Boards | MyWord::People | MyWord::Add => false,
+            MyWord::Show
+            | MyWord::Change
+            | MyWord::Done
+            | MyWord::Delete
+            | MyWord::Reopen
+            | MyWord::Start
+            | MyWord::Stop
+            | MyWord::Note
+            | MyWord::Unnote
+            | MyWord::Needs
+            | MyWord::Free => true,
+        }
+    }
+}
