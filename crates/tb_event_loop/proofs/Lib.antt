@@ -1,2 +1,3 @@
 pub mod Changing
 pub mod Doing
+pub mod Waiting

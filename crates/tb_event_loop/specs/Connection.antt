@@ -18,7 +18,21 @@ fresh stream = record {
   has_ended = false;
   may_answer = false;
   is_gone = false;
+  has_asked = false;
+  due = 0;
 }
+
+-- its message may be turned, as far as it was looked at
+abbrev pub may_go : ℕ → Connection → Bool
+may_go now connection = not connection.has_asked || nat_le connection.due now
+
+-- the head of its message was looked at
+abbrev pub asked : ℕ → Connection → Connection
+asked due connection = record connection { has_asked = true; due = due }
+
+-- the next message is at the front
+abbrev pub unasked : Connection → Connection
+unasked connection = record connection { has_asked = false }
 
 -- the socket has bytes, and they are not of a message behind the one that is held
 abbrev pub needs_bytes : Connection → Bool

@@ -7,5 +7,5 @@ use Rattle.tb_event_loop.specs.declared.event_loop.EventLoop.{EventLoop}
 -- a connection has a turn, or one that came can go on
 abbrev pub IsBusy : EventLoop → Type 0
 IsBusy event_loop =
-    HaveTurns event_loop.places
+    HaveTurns event_loop.places event_loop.now
     ⊎ IsTrue (can_go_on event_loop.arrivals event_loop.places event_loop.now)

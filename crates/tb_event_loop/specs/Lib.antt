@@ -3,6 +3,8 @@ pub mod Connection
 pub mod Done
 pub mod Ending
 pub mod EventLoop
+pub mod Guesses
+pub mod Head
 pub mod History
 pub mod Journal
 pub mod Logging

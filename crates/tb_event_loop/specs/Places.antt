@@ -1,13 +1,17 @@
 -- The places of connections: who has a turn, who lets go of a place, and what a connection needs.
-use Rattle.std.specs.Prelude.{◌≡◌, ◌⊎◌, ℕ, ◌<◌, ◌≤◌, Bool, true, false, IsTrue, OnSome, List, [], ◌∷◌, Option, Some, None, slice_get, slice_set, unwrap_or, ◌+◌, ◌-◌, ◌^◌, max, min, replicate}
+use Rattle.std.specs.Prelude.{◌≡◌, ◌⊎◌, ℕ, ◌<◌, ◌≤◌, Bool, true, false, not, ◌&&◌, if◌then◌else◌, IsTrue, OnSome, List, [], ◌∷◌, Option, Some, None, slice_get, slice_set, unwrap_or, ◌+◌, ◌-◌, ◌^◌, max, min, replicate}
 use Rattle.std.specs.Borrow.{LendsSo, MutBor, Fml}
 use Rattle.std.specs.Option.{option_map}
 use Rattle.mio.specs.declared.net.TcpStream.{TcpStream}
-use Rattle.tb_event_loop.specs.Connection.{fresh, leaving, needs_bytes, short_of_bytes}
+use Rattle.tb_event_loop.specs.Connection.{fresh, leaving, may_go, needs_bytes, short_of_bytes}
+use Rattle.tb_event_loop.specs.Guesses.{counted_at, is_due, looked_at}
 use Rattle.tb_event_loop.specs.contracts.connection.Connection.{the_row as connection_row}
 use Rattle.tb_event_loop.specs.contracts.places.Places.{the_row as places_row}
 use Rattle.tb_event_loop.specs.declared.connection.Connection.{Connection}
+use Rattle.tb_event_loop.specs.declared.guesses.TheConstants.{UNBOUNDED}
 use Rattle.tb_event_loop.specs.declared.places.Places.{Places}
+use Rattle.tb_rooms.specs.Rates.{fresh as fresh_rates}
+use Rattle.tb_rooms.specs.declared.rates.Rates.{Rates}
 use Rattle.tb_timeouts.specs.Deciding.{MayRead}
 use Rattle.tb_timeouts.specs.Stage.{is_over, is_vacant, next_stage, takes_bytes}
 use Rattle.tb_timeouts.specs.declared.limits.Limits.{Limits}
@@ -30,25 +34,42 @@ abbrev pub IsRead : Places → ℕ → Type 0
 IsRead places place = MayRead places.limits places.stages.items place places.held
 
 -- By its stage a connection writes, throws away, answers or reads, where it can.
-abbrev pub CanAct : Stage → Connection → Type 0 → Type 0
-CanAct Vacant connection is_read = ⊥
-CanAct (Answering since taken) connection is_read = IsTrue connection.can_write
-CanAct (Closing since reads) connection is_read = IsTrue connection.can_read
-CanAct _ connection is_read =
-    IsTrue connection.may_answer ⊎ (IsTrue (needs_bytes connection) × is_read)
+abbrev pub CanAct : ℕ → Stage → Connection → Type 0 → Type 0
+CanAct now Vacant connection is_read = ⊥
+CanAct now (Answering since taken) connection is_read = IsTrue connection.can_write
+CanAct now (Closing since reads) connection is_read = IsTrue connection.can_read
+CanAct now _ connection is_read =
+    IsTrue (connection.may_answer && may_go now connection)
+    ⊎ (IsTrue (needs_bytes connection) × is_read)
 
 -- A connection that leaves has a turn, and so has one that can do something.
-abbrev pub HasTurnAs : Option Connection → Stage → Type 0 → Type 0
-HasTurnAs None stage is_read = ⊥
-HasTurnAs (Some connection) stage is_read =
-    IsTrue connection.is_gone ⊎ CanAct stage connection is_read
+abbrev pub HasTurnAs : ℕ → Option Connection → Stage → Type 0 → Type 0
+HasTurnAs now None stage is_read = ⊥
+HasTurnAs now (Some connection) stage is_read =
+    IsTrue connection.is_gone ⊎ CanAct now stage connection is_read
 
-abbrev pub HasTurn : Places → ℕ → Type 0
-HasTurn places place =
-    HasTurnAs (connection_in places place) (stage_in places place) (IsRead places place)
+abbrev pub HasTurn : Places → ℕ → ℕ → Type 0
+HasTurn places place now =
+    HasTurnAs now (connection_in places place) (stage_in places place) (IsRead places place)
 
-abbrev pub HaveTurns : Places → Type 0
-HaveTurns places = (place : ℕ) × (place < places.end) × HasTurn places place
+abbrev pub HaveTurns : Places → ℕ → Type 0
+HaveTurns places now = (place : ℕ) × (place < places.end) × HasTurn places place now
+
+-- what is held for a connection may be whole, and waits until this moment
+abbrev pub waits_until : ℕ → Option Connection → Option ℕ
+waits_until now None = None
+waits_until now (Some connection) =
+    if connection.may_answer && not (may_go now connection) then Some connection.due else None
+
+-- It is the longest time, at most so long, at whose end no message below a place is due for longer.
+pub record IsUntilDue (places : Places) (end now most wait : ℕ) : Type 0 where
+  pub at_most : wait ≤ most
+  pub before_each : (place due : ℕ) → place < end
+      → waits_until now (connection_in places place) ≡ Some due
+      → wait ≤ due - now
+  pub no_less : (wait ≡ most)
+      ⊎ ((place : ℕ) × (due : ℕ) × (waits_until now (connection_in places place) ≡ Some due)
+      × (wait ≡ due - now))
 
 -- there is a connection, and it leaves
 abbrev pub is_leaving : Option Connection → Bool
@@ -128,6 +149,7 @@ IsEmpty limits places =
     (places.connections.items ≡ replicate CONNECTIONS None)
     × (places.stages.items ≡ replicate CONNECTIONS Vacant)
     × (places.limits ≡ limits) × (places.end ≡ 0) × (places.held ≡ 0)
+    × (places.rates ≡ fresh_rates UNBOUNDED)
 
 -- The end comes nearer only over places that no connection is in.
 abbrev pub IsEndWithin : ℕ → Places → Type 0
@@ -165,12 +187,27 @@ Settles old new place now [] true held =
     SetsStage old new place (next_stage now End (stage_in old place))
 Settles old new place now [] false held = GoesOn old new place now [] false held
 
--- What is held for a connection may be a message, and no answer is in its way: it is answered in its turn.
-abbrev pub IsAnswered : Places → ℕ → Type 0
-IsAnswered places place =
+-- its message is due, where these bytes are held for it
+abbrev pub is_due_at : (List ℕ → Bool) → Rates → List ℕ → ℕ → Option Connection → Bool
+is_due_at files rates held now None = false
+is_due_at files rates held now (Some connection) = is_due files rates held now connection
+
+-- the message of a place is looked at, and counted where it is a guess; nothing else is another
+abbrev pub HoldsBack : (List ℕ → Bool) → Places → Places → ℕ → List ℕ → ℕ → Type 0
+HoldsBack files old new place held now =
+    (new.connections.items
+    ≡ slice_set old.connections.items place
+    (option_map (looked_at files old.rates held now) (connection_in old place)))
+    × (new.rates ≡ counted_at files (connection_in old place) held now old.rates)
+    × (new ≡ record old { connections = new.connections; rates = new.rates })
+
+-- What is held for a connection may be a message that is due, and no answer is in its way: it is answered in its turn.
+abbrev pub IsAnswered : (List ℕ → Bool) → Places → ℕ → ℕ → List ℕ → Type 0
+IsAnswered files places place now held =
     (is_leaving (connection_in places place) ≡ false)
     × IsTrue (takes_bytes (stage_in places place))
     × IsTrue (may_answer_at (connection_in places place))
+    × IsTrue (is_due_at files places.rates held now (connection_in places place))
 
 -- ---- the connection of a place, lent to be changed
 

@@ -1,7 +1,7 @@
 //! A socket, and what it is ready for.
 ghost use Rattle.std.specs.Prelude.{◌≡◌, false, true};
 ghost use Rattle.std.specs.IoError.{error_kind};
-ghost use Rattle.tb_event_loop.specs.Connection.{ended, fresh, needs_bytes, read_failed, short_of_bytes, with_bytes, write_failed};
+ghost use Rattle.tb_event_loop.specs.Connection.{asked, ended, fresh, may_go, needs_bytes, read_failed, short_of_bytes, unasked, with_bytes, write_failed};
 
 use mio::net::TcpStream;
 use std::io;
@@ -24,6 +24,10 @@ pub(crate) struct Connection {
     pub(crate) may_answer: bool,
     /// It is to leave its place.
     pub(crate) is_gone: bool,
+    /// The head of its message was looked at.
+    pub(crate) has_asked: bool,
+    /// The millisecond from which that message may be turned.
+    pub(crate) due: u64,
 }
 
 impl Connection {
@@ -39,7 +43,31 @@ impl Connection {
             has_ended: false,
             may_answer: false,
             is_gone: false,
+            has_asked: false,
+            due: 0,
         }
+    }
+
+    /// Whether its message may be turned now, as far as it was looked at.
+    pub(crate) fn may_go(&self, now: u64) -> bool
+        ensures { result ≡ may_go now self.now }
+    {
+        !self.has_asked || self.due <= now
+    }
+
+    /// The head of its message was looked at, and it may be turned from this millisecond on.
+    pub(crate) fn ask(&mut self, due: u64)
+        ensures { self.new ≡ asked due self.old }
+    {
+        self.has_asked = true;
+        self.due = due;
+    }
+
+    /// Its message was answered, so that the next one is at the front.
+    pub(crate) fn end_message(&mut self)
+        ensures { self.new ≡ unasked self.old }
+    {
+        self.has_asked = false;
     }
 
     pub(crate) fn needs_bytes(&self) -> bool

@@ -5,7 +5,7 @@ ghost use Rattle.tb_event_loop.specs.Done.{Done, GivesTurn, ends_in};
 ghost use Rattle.tb_event_loop.specs.Ending.{has_stopped};
 ghost use Rattle.tb_event_loop.specs.EventLoop.{IsBusy};
 ghost use Rattle.tb_event_loop.specs.History.{EndsAll, Goes, Leaves, still_to_end};
-ghost use Rattle.tb_event_loop.specs.Places.{IsAnswered, connection_in, is_leaving, is_over_at};
+ghost use Rattle.tb_event_loop.specs.Places.{IsAnswered, IsUntilDue, connection_in, is_leaving, is_over_at};
 ghost use Rattle.tb_event_loop.specs.declared.fault.LoopFault.TheVariants.{Memory, Moved, Sockets, Store};
 ghost use Rattle.tb_timeouts.specs.Deciding.{IsLongestWait};
 
@@ -123,11 +123,12 @@ impl EventLoop {
     fn idle_millis(&self) -> u64
         ensures busy { IsBusy self.entry.now → result ≡ 0 }
         ensures idle { let event_loop = self.entry.now in ¬ IsBusy event_loop
-            → IsLongestWait event_loop.places.limits event_loop.now
-            (if are_held_up event_loop.arrivals then RETRY else LONGEST_WAIT)
+            → (most : ℕ) × IsUntilDue event_loop.places event_loop.places.end event_loop.now
+            (if are_held_up event_loop.arrivals then RETRY else LONGEST_WAIT) most
+            × IsLongestWait event_loop.places.limits event_loop.now most
             (take event_loop.places.end event_loop.places.stages.items) result }
     {
-        if self.places.have_turns() || self.arrivals.can_go_on(&self.places, self.now) {
+        if self.places.have_turns(self.now) || self.arrivals.can_go_on(&self.places, self.now) {
             return 0;
         }
         let most = if self.arrivals.are_held_up() {
@@ -135,6 +136,7 @@ impl EventLoop {
         } else {
             LONGEST_WAIT
         };
+        let most = self.places.until_due(self.now, most);
         self.places.longest_wait(self.now, most)
     }
 
@@ -179,7 +181,8 @@ impl EventLoop {
             (is_err result) self.old.still_to_end self.new.still_to_end service.old service.new }
         ensures failed { IsErr result → V.has_failed service.new ≡ true }
         ensures turned { is_over_at self.old.places place self.old.now ≡ false
-            → IsAnswered self.old.places place
+            → IsAnswered (V.gives_file service.old) self.old.places place self.old.now
+            (V.held_at service.old place)
             → GivesTurn V.follows (is_err result) place service.old service.new }
         ensures left { OnOk result (is_leaving (connection_in self.new.places place) ≡ false) }
     {
@@ -201,7 +204,8 @@ impl EventLoop {
         ensures after { Goes V.follows
             (is_err result) self.old.still_to_end self.new.still_to_end service.old service.new }
         ensures failed { IsErr result → V.has_failed service.new ≡ true }
-        ensures turned { IsAnswered self.old.places place
+        ensures turned { IsAnswered (V.gives_file service.old) self.old.places place self.old.now
+            (V.held_at service.old place)
             → GivesTurn V.follows (is_err result) place service.old service.new }
         ensures left { OnOk result (is_leaving (connection_in self.new.places place) ≡ false) }
     {

@@ -70,6 +70,11 @@ impl<C: Clock, W: Write> Journal<C, W> {
         }
     }
 
+    /// The front of the message that is being answered, or nothing where there was no memory for it.
+    pub(crate) fn head(&self) -> &[u8] {
+        &self.head
+    }
+
     /// Tells of the message, with the log, that it was answered by this text.
     pub(crate) fn end(&mut self, answer: &[u8]) {
         if !self.is_logged || self.head.is_empty() {
@@ -126,7 +131,7 @@ fn entry_of<'a>(
 /// How many bytes of a message are kept for the lines that tell of it.
 const LONGEST_HEAD: usize = 16_384;
 
-fn front(held: &[u8]) -> &[u8]
+pub(crate) fn front(held: &[u8]) -> &[u8]
     ensures { result.now ≡ take LONGEST_HEAD held.now }
 {
     match held.get(..LONGEST_HEAD) {
@@ -135,8 +140,8 @@ fn front(held: &[u8]) -> &[u8]
     }
 }
 
-// The status in the first line of an answer.
-fn status_in(answer: &[u8]) -> &[u8]
+/// The status in the first line of an answer.
+pub(crate) fn status_in(answer: &[u8]) -> &[u8]
     ensures { result.now ≡ status_in answer.now }
 {
     match answer.get(9..12) {

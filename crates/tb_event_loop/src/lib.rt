@@ -1,6 +1,6 @@
 //! The server's loop: many connections in one thread, each read, answered and written in turn.
 //! It owns sockets, their readiness and the log. It stands on `mio` for sockets, on `tb_timeouts` for every decision about time and
-//! room, and on a `Service` for what messages are and what they are told.
+//! room, on `tb_rooms` for who waits, and on a `Service` for what messages are and what they are told.
 #![tactic(auto)]
 
 mod arrivals;
@@ -9,6 +9,8 @@ mod event_loop;
 mod exchange;
 mod farewell;
 mod fault;
+mod guesses;
+mod head;
 mod journal;
 mod logging;
 mod places;

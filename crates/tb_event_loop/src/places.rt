@@ -8,11 +8,13 @@ ghost use Rattle.tb_timeouts.specs.Deciding.{GivesWay, IsLongestWait};
 ghost use Rattle.tb_timeouts.specs.Stage.{is_vacant, next_stage};
 
 use crate::connection::Connection;
+use crate::guesses::UNBOUNDED;
 use crate::service::Service;
 use mio::event::Event;
 use mio::net::TcpStream;
 use mio::{Events, Token};
 use std::alloc::{AllocError, Global};
+use tb_rooms::Rates;
 use tb_timeouts::{
     CONNECTIONS, Limits, Need, Stage, first_vacant, gives_way, longest_wait, may_read,
 };
@@ -24,6 +26,9 @@ pub(crate) struct Places {
     pub(crate) limits: Limits,
     /// Behind the last place that is taken.
     pub(crate) end: usize,
+    /// Who has tried how many keys, and whose are known.
+    pub(crate) rates: Rates,
+    pub(crate) alloc: Global,
     /// How many bytes of messages and answers are held.
     held: usize,
 }
@@ -43,6 +48,8 @@ impl Places {
             stages,
             limits,
             end: 0,
+            rates: Rates::new(alloc, UNBOUNDED),
+            alloc,
             held: 0,
         })
     }
@@ -193,9 +200,9 @@ impl Places {
         }
     }
 
-    /// Whether the connection in this place has something to do now.
-    pub(crate) fn has_turn(&self, place: usize) -> bool
-        ensures { IsTrue result ↔ HasTurn self.now place }
+    /// Whether the connection in this place has something to do at this moment.
+    pub(crate) fn has_turn(&self, place: usize, now: u64) -> bool
+        ensures { IsTrue result ↔ HasTurn self.now place now }
     {
         let Some(Some(connection)) = self.connections.get(place) else {
             return false;
@@ -207,7 +214,10 @@ impl Places {
             Stage::Vacant => false,
             Stage::Answering { since: _, taken: _ } => connection.can_write,
             Stage::Closing { since: _, reads: _ } => connection.can_read,
-            _ => connection.may_answer || connection.needs_bytes() && self.may_read(place),
+            _ => {
+                connection.may_answer && connection.may_go(now)
+                    || connection.needs_bytes() && self.may_read(place)
+            }
         }
     }
 
@@ -217,12 +227,12 @@ impl Places {
         place < self.stages.len() && may_read(&self.stages, place, &self.limits, self.held)
     }
 
-    /// Whether a connection has something to do now.
-    pub(crate) fn have_turns(&self) -> bool
-        ensures { IsTrue result ↔ HaveTurns self.now }
+    /// Whether a connection has something to do at this moment.
+    pub(crate) fn have_turns(&self, now: u64) -> bool
+        ensures { IsTrue result ↔ HaveTurns self.now now }
     {
         for place in 0..self.end {
-            if self.has_turn(place) {
+            if self.has_turn(place, now) {
                 return true;
             }
         }

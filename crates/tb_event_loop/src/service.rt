@@ -38,6 +38,9 @@ pub trait Service {
     /// Whether no further message of it is answered.
     ghost closes_at: { Self → ℕ → Bool };
 
+    /// Whether a file of the page has this target, so that no message to it is asked for a key.
+    ghost gives_file: { Self → List ℕ → Bool };
+
     ghost unchanged: { (s : Self) → follows false [] s s };
 
     ghost joined: { (stopped : Bool) (first more : List (ℕ × Done)) (a b c : Self)
@@ -60,6 +63,10 @@ pub trait Service {
 
     /// Whether the head of the message that is held is whole.
     fn has_head(&self, place: usize) -> bool;
+
+    /// Whether a file of the page has this target.
+    fn is_file(&self, target: &[u8]) -> bool
+        ensures { result ≡ gives_file self.now target.now };
 
     /// Whether no further message is answered.
     fn is_closing(&self, place: usize) -> bool

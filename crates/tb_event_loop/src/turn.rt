@@ -1,7 +1,7 @@
 //! The turn of one connection: at most one read, one message and one write.
 ghost use Rattle.std.specs.Prelude.{◌≡◌, ◌↔◌, ◌⊎◌, [], ◌∷◌, IsErr, IsOk, IsTrue, false, is_err, slice_set, true};
 ghost use Rattle.tb_event_loop.specs.Done.{Did, GivesTurn, turned};
-ghost use Rattle.tb_event_loop.specs.Places.{Ends, GoesOn, HasTurn, IsAnswered, LacksAll, NeedsBytes, SetsStage, Settles, connection_in, is_over_at, may_answer_at, stage_in};
+ghost use Rattle.tb_event_loop.specs.Places.{Ends, GoesOn, HasTurn, IsAnswered, LacksAll, NeedsBytes, SetsStage, Settles, connection_in, is_due_at, is_over_at, may_answer_at, stage_in};
 ghost use Rattle.tb_timeouts.specs.Stage.{next_stage, read_stage};
 ghost use Rattle.tb_timeouts.specs.declared.stage.Need.TheVariants.{End};
 
@@ -17,7 +17,7 @@ impl Places {
     /// Ends a connection that has stayed too long. Says whether it has something to do now.
     pub(crate) fn begin_turn(&mut self, place: usize, now: u64) -> bool
         ensures turn { IsTrue result
-            ↔ (IsTrue (is_over_at self.old place now) ⊎ HasTurn self.old place) }
+            ↔ (IsTrue (is_over_at self.old place now) ⊎ HasTurn self.old place now) }
         ensures over { is_over_at self.old place now ≡ true → Ends self.old self.new place now }
         ensures same { is_over_at self.old place now ≡ false → self.new ≡ self.old }
     {
@@ -25,7 +25,7 @@ impl Places {
             self.end_one(place, now);
             return true;
         }
-        self.has_turn(place)
+        self.has_turn(place, now)
     }
 
     // Ends a connection in stages, or at once where it is at the last.
@@ -61,7 +61,7 @@ impl Places {
     ) -> Result<(), StoreFailed>
         ensures after { Did V.follows (is_err result) 0 service.old service.new }
         ensures failed { IsErr result → V.has_failed service.new ≡ true }
-        ensures turned { IsAnswered self.old place
+        ensures turned { IsAnswered (V.gives_file service.old) self.old place now (V.held_at service.old place)
             → GivesTurn V.follows (is_err result) place service.old service.new }
     {
         if self.is_gone(place) {
@@ -89,6 +89,8 @@ impl Places {
         ensures after { Did V.follows (is_err result) 0 service.old service.new }
         ensures failed { IsErr result → V.has_failed service.new ≡ true }
         ensures turned { IsTrue (may_answer_at (connection_in self.old place))
+            → IsTrue (is_due_at (V.gives_file service.old) self.old.rates (V.held_at service.old place)
+            now (connection_in self.old place))
             → GivesTurn V.follows (is_err result) place service.old service.new }
     {
         self.read(service, place, now)?;
@@ -106,6 +108,8 @@ impl Places {
         ensures after { Did V.follows (is_err result) 0 service.old service.new }
         ensures failed { IsErr result → V.has_failed service.new ≡ true }
         ensures turned { IsTrue (may_answer_at (connection_in self.old place))
+            → IsTrue (is_due_at (V.gives_file service.old) self.old.rates (V.held_at service.old place)
+            now (connection_in self.old place))
             → GivesTurn V.follows (is_err result) place service.old service.new }
     {
         self.answer(service, journal, place, now)?;
@@ -172,13 +176,18 @@ impl Places {
         ensures after { Did V.follows (is_err result) 0 service.old service.new }
         ensures failed { IsErr result → V.has_failed service.new ≡ true }
         ensures turned { IsTrue (may_answer_at (connection_in self.old place))
+            → IsTrue (is_due_at (V.gives_file service.old) self.old.rates (V.held_at service.old place)
+            now (connection_in self.old place))
             → GivesTurn V.follows (is_err result) place service.old service.new }
         ensures passed { may_answer_at (connection_in self.old place) ≡ false
+            → service.new ≡ service.old }
+        ensures waits { is_due_at (V.gives_file service.old) self.old.rates
+            (V.held_at service.old place) now (connection_in self.old place) ≡ false
             → service.new ≡ service.old }
         ensures same { may_answer_at (connection_in self.old place) ≡ false
             → self.new ≡ self.old }
     {
-        if !self.may_answer(place) {
+        if !self.may_answer(place) || !self.hold_back(service, place, now) {
             return Ok(());
         }
         journal.begin(service.held(place));
@@ -186,13 +195,26 @@ impl Places {
             journal.tell_failed();
             return Err(StoreFailed);
         }
-        if service.unsent(place).is_empty() {
-            self.lack_bytes(place);
-        } else {
-            journal.end(service.unsent(place));
-        }
+        self.end_message(service, journal, place);
         self.enter(service, place, now);
         Ok(())
+    }
+
+    // What is left to do behind the turn of a message, if it was whole.
+    fn end_message<V: Service, C: Clock, W: Write>(
+        &mut self,
+        service: &V,
+        journal: &mut Journal<C, W>,
+        place: usize,
+    ) {
+        let answer = service.unsent(place);
+        if answer.is_empty() {
+            self.lack_bytes(place);
+            return;
+        }
+        let _ = self.heed(service, journal.head(), answer);
+        self.await_next(place);
+        journal.end(answer);
     }
 
     // Writes where an answer is there.

@@ -1,3 +1,4 @@
+pub mod Files
 pub mod Serves
 pub mod Joining
 pub mod Laws

@@ -2,7 +2,10 @@
 ghost use Rattle.std.specs.Prelude.{◌≡◌, ℕ, IfOk};
 ghost use Rattle.tb_event_loop.specs.History.{done_of as done_to};
 ghost use Rattle.tb_serve.specs.Server.{done_of, talk_at};
+ghost use Rattle.tb_http.specs.Route.{kind_of};
+ghost use Rattle.tb_server.specs.Files.{gives_file, is_free_file};
 ghost use Rattle.tb_server.specs.Serves.{IsTimed, Serves};
+ghost use Rattle.tb_site.specs.Site.{file_at};
 ghost use Rattle.tb_server.specs.Joining.{serves_none, serves_then};
 ghost use Rattle.tb_serve.specs.Turns.{silent};
 
@@ -74,6 +77,16 @@ fn silent_peers(alloc: Global) -> Result<Vec<Peer>, AllocError>
     Ok(peers)
 }
 
+// Whether a file has this target, and no route has it as well.
+fn is_file_of(paths: &Paths, target: &str) -> bool
+    ensures { result ≡ is_free_file (file_at paths.now.site target.now) (kind_of target.now) }
+{
+    match paths.site.file(target) {
+        Some(_) => paths.routes.find(target).is_none(),
+        None => false,
+    }
+}
+
 // What happens, at a moment where it is a turn.
 fn at_moment<'a, C: Clock>(clock: &mut C, happening: &SocketEvent<'a>) -> PeerEvent<'a>
     ensures { IsTimed (done_to happening.now) (done_of result) }
@@ -99,6 +112,8 @@ impl<K: Keep, C: Clock> Service for Server<K, C> {
     ghost owed_at = { λ server place. (talk_at server.peers.items place).out };
 
     ghost closes_at = { λ server place. (talk_at server.peers.items place).is_closing };
+
+    ghost gives_file = { λ server target. gives_file server.paths.site target };
 
     ghost unchanged = { λ s. serves_none s.paths.site s.peers.items (K.is_honest s.desk)
         (K.holds s.desk) (K.after_stop s.desk) };
@@ -147,6 +162,13 @@ impl<K: Keep, C: Clock> Service for Server<K, C> {
         match self.peers.get(place) {
             Some(peer) => peer.has_head(),
             None => false,
+        }
+    }
+
+    fn is_file(&self, target: &[u8]) -> bool {
+        match str::from_utf8(target) {
+            Ok(target) => is_file_of(&self.paths, target),
+            Err(_) => false,
         }
     }
 

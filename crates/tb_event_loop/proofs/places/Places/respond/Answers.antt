@@ -8,6 +8,6 @@ returns-clause-after g c =
     c.in_ok-answer.ensures.after c.reply.ensures.after
 
 pub returns-clause-turned : goal.returns-clause-turned
-returns-clause-turned g c is =
+returns-clause-turned g c is due =
     turn_then g.V.Service.follows g.V.Service.joined (is_err c.reply.result) c.args.place 0 c.args.service.now c.answer.new.service c.reply.new.service
-    (c.in_ok-answer.ensures.turned is) c.reply.ensures.after
+    (c.in_ok-answer.ensures.turned is due) c.reply.ensures.after

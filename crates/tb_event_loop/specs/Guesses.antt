@@ -1,0 +1,98 @@
+-- Which messages wait, since they try a key that hasn't been right with its name.
+use Rattle.std.specs.Prelude.{ℕ, ◌+◌, ◌-◌, ◌^◌, ◌==◌, Bool, true, false, not, ◌&&◌, ◌||◌, nat_le, nat_lt, if◌then◌else◌, List, codes, Option, Some, None, length, min}
+use Rattle.std.specs.Str.{bytes_eq}
+use Rattle.tb_event_loop.specs.Connection.{asked, may_go}
+use Rattle.tb_event_loop.specs.Head.{begun, has_whole_head, target_in, text_of}
+use Rattle.tb_event_loop.specs.Journal.{status_in}
+use Rattle.tb_event_loop.specs.declared.connection.Connection.{Connection}
+use Rattle.tb_event_loop.specs.declared.guesses.TheConstants.{LONGEST_HOLD}
+use Rattle.tb_rooms.specs.Bucket.{charged, wait}
+use Rattle.tb_rooms.specs.Claims.{forgotten, is_claimed, learned}
+use Rattle.tb_rooms.specs.declared.bucket.Rate.{Rate}
+use Rattle.tb_rooms.specs.declared.rates.Rates.{Rates}
+
+abbrev pub member_in : List ℕ → List ℕ
+member_in text = text_of (codes "x-member") text
+
+abbrev pub key_in : List ℕ → List ℕ
+key_in text = text_of (codes "x-key") text
+
+-- A message is a guess where it gives a key that isn't known to be right with its name. One to a file of the page is none.
+abbrev pub is_guess : (List ℕ → Bool) → Rates → List ℕ → Bool
+is_guess files rates text =
+    not (files (target_in text))
+    && (not (length (key_in text) == 0)
+    && not (is_claimed (member_in text) (key_in text) rates.claims.claims))
+
+-- how many turns guesses have at once, and in a second, all of them together
+abbrev pub guessers : Rate
+guessers = record { burst = 500; per_second = 100 }
+
+-- Rule: guesses have 100 turns a second in all, 500 at once. Tried by rates.sh.
+abbrev pub hold_of : (List ℕ → Bool) → Rates → List ℕ → ℕ → ℕ
+hold_of files rates text now =
+    if is_guess files rates text then wait guessers rates.strangers now else 0
+
+-- a guess is counted, unless more wait than can keep their places
+abbrev pub counted : (List ℕ → Bool) → List ℕ → ℕ → Rates → Rates
+counted files text now rates =
+    if is_guess files rates text && nat_lt (hold_of files rates text now) LONGEST_HOLD
+    then record rates { strangers = charged guessers rates.strangers 1 now }
+    else rates
+
+-- ---- a message is looked at once, as soon as its head is whole
+
+abbrev pub is_new : List ℕ → Connection → Bool
+is_new held connection = not connection.has_asked && has_whole_head (begun held)
+
+abbrev pub due_of : (List ℕ → Bool) → Rates → List ℕ → ℕ → ℕ
+due_of files rates held now = min (now + hold_of files rates (begun held) now) (2 ^ 64 - 1)
+
+abbrev pub looked_at : (List ℕ → Bool) → Rates → List ℕ → ℕ → Connection → Connection
+looked_at files rates held now connection =
+    if is_new held connection then asked (due_of files rates held now) connection
+    else connection
+
+abbrev pub is_due : (List ℕ → Bool) → Rates → List ℕ → ℕ → Connection → Bool
+is_due files rates held now connection =
+    if is_new held connection then nat_le (due_of files rates held now) now
+    else may_go now connection
+
+abbrev pub counted_by : (List ℕ → Bool) → Connection → List ℕ → ℕ → Rates → Rates
+counted_by files connection held now rates =
+    if is_new held connection then counted files (begun held) now rates else rates
+
+abbrev pub counted_at : (List ℕ → Bool) → Option Connection → List ℕ → ℕ → Rates → Rates
+counted_at files None held now rates = rates
+counted_at files (Some connection) held now rates = counted_by files connection held now rates
+
+abbrev pub until_one : Option ℕ → ℕ → ℕ → ℕ
+until_one None now most = most
+until_one (Some due) now most = min most (due - now)
+
+-- ---- what an answer says of a key
+
+-- what was asked for, or a refusal by the boards: these are told only to who gives a right key
+abbrev pub is_of_right_key : List ℕ → Bool
+is_of_right_key answer =
+    bytes_eq (status_in answer) (codes "200") || bytes_eq (status_in answer) (codes "403")
+    || bytes_eq (status_in answer) (codes "409")
+    || bytes_eq (status_in answer) (codes "422")
+
+abbrev pub with_claim : List ℕ → Rates → Rates
+with_claim text rates = record rates {
+  claims = record { claims = learned (member_in text) (key_in text) rates.claims.claims };
+}
+
+abbrev pub without_claim : List ℕ → Rates → Rates
+without_claim text rates = record rates {
+  claims = record { claims = forgotten (member_in text) (key_in text) rates.claims.claims };
+}
+
+-- A guess that was right is known from now on, and a key that is wrong now no more. No other name loses its key.
+abbrev pub heeded : (List ℕ → Bool) → List ℕ → List ℕ → Rates → Rates
+heeded files held answer rates =
+    if bytes_eq (status_in answer) (codes "401") then without_claim (begun held) rates
+    else if is_of_right_key answer && is_guess files rates (begun held)
+    then with_claim (begun held) rates
+    else rates
