@@ -3,7 +3,7 @@ ghost use Rattle.std.specs.Prelude.{◌≡◌, ℕ, IfOk};
 ghost use Rattle.tb_event_loop.specs.History.{done_of as done_to};
 ghost use Rattle.tb_serve.specs.Server.{done_of, talk_at};
 ghost use Rattle.tb_http.specs.Route.{kind_of};
-ghost use Rattle.tb_server.specs.Files.{gives_file, is_free_file};
+ghost use Rattle.tb_server.specs.Files.{gives_file as gives_file_so, is_free_file};
 ghost use Rattle.tb_server.specs.Serves.{IsTimed, Serves};
 ghost use Rattle.tb_site.specs.Site.{file_at};
 ghost use Rattle.tb_server.specs.Joining.{serves_none, serves_then};
@@ -87,6 +87,15 @@ fn is_file_of(paths: &Paths, target: &str) -> bool
     }
 }
 
+fn gives_file(paths: &Paths, target: &[u8]) -> bool
+    ensures { result ≡ gives_file_so paths.now.site target.now }
+{
+    match str::from_utf8(target) {
+        Ok(text) => is_file_of(paths, text),
+        Err(_) => false,
+    }
+}
+
 // What happens, at a moment where it is a turn.
 fn at_moment<'a, C: Clock>(clock: &mut C, happening: &SocketEvent<'a>) -> PeerEvent<'a>
     ensures { IsTimed (done_to happening.now) (done_of result) }
@@ -113,7 +122,7 @@ impl<K: Keep, C: Clock> Service for Server<K, C> {
 
     ghost closes_at = { λ server place. (talk_at server.peers.items place).is_closing };
 
-    ghost gives_file = { λ server target. gives_file server.paths.site target };
+    ghost gives_file = { λ server target. gives_file_so server.paths.site target };
 
     ghost unchanged = { λ s. serves_none s.paths.site s.peers.items (K.is_honest s.desk)
         (K.holds s.desk) (K.after_stop s.desk) };
@@ -166,10 +175,7 @@ impl<K: Keep, C: Clock> Service for Server<K, C> {
     }
 
     fn is_file(&self, target: &[u8]) -> bool {
-        match str::from_utf8(target) {
-            Ok(target) => is_file_of(&self.paths, target),
-            Err(_) => false,
-        }
+        gives_file(&self.paths, target)
     }
 
     fn is_closing(&self, place: usize) -> bool {
