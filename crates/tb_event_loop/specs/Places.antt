@@ -4,7 +4,7 @@ use Rattle.std.specs.Borrow.{LendsSo, MutBor, Fml}
 use Rattle.std.specs.Option.{option_map}
 use Rattle.mio.specs.declared.net.TcpStream.{TcpStream}
 use Rattle.tb_event_loop.specs.Connection.{fresh, leaving, may_go, needs_bytes, short_of_bytes}
-use Rattle.tb_event_loop.specs.Guesses.{counted_at, is_due, looked_at}
+use Rattle.tb_event_loop.specs.Guesses.{is_due}
 use Rattle.tb_event_loop.specs.contracts.connection.Connection.{the_row as connection_row}
 use Rattle.tb_event_loop.specs.contracts.places.Places.{the_row as places_row}
 use Rattle.tb_event_loop.specs.declared.connection.Connection.{Connection}
@@ -191,15 +191,6 @@ Settles old new place now [] false held = GoesOn old new place now [] false held
 abbrev pub is_due_at : (List ℕ → Bool) → Rates → List ℕ → ℕ → Option Connection → Bool
 is_due_at files rates held now None = false
 is_due_at files rates held now (Some connection) = is_due files rates held now connection
-
--- the message of a place is looked at, and counted where it is a guess; nothing else is another
-abbrev pub HoldsBack : (List ℕ → Bool) → Places → Places → ℕ → List ℕ → ℕ → Type 0
-HoldsBack files old new place held now =
-    (new.connections.items
-    ≡ slice_set old.connections.items place
-    (option_map (looked_at files old.rates held now) (connection_in old place)))
-    × (new.rates ≡ counted_at files (connection_in old place) held now old.rates)
-    × (new ≡ record old { connections = new.connections; rates = new.rates })
 
 -- What is held for a connection may be a message that is due, and no answer is in its way: it is answered in its turn.
 abbrev pub IsAnswered : (List ℕ → Bool) → Places → ℕ → ℕ → List ℕ → Type 0

@@ -1,12 +1,12 @@
 //! Which messages wait, since they try a key that hasn't been right with its name.
-ghost use Rattle.std.specs.Prelude.{◌≡◌, ℕ, Bool, List, codes, false, true, IsTrue, OnErr, OnOk};
+ghost use Rattle.std.specs.Prelude.{◌≡◌, ℕ, Bool, List, codes, false, true, OnErr, OnOk, slice_set};
 ghost use Rattle.std.specs.Option.{option_map};
 ghost use Rattle.std.specs.Str.{bytes_eq};
 ghost use Rattle.tb_event_loop.specs.Connection.{unasked};
 ghost use Rattle.tb_event_loop.specs.Guesses as guesses;
 ghost use Rattle.tb_event_loop.specs.Head.{begun};
 ghost use Rattle.tb_event_loop.specs.Journal.{status_in};
-ghost use Rattle.tb_event_loop.specs.Places.{Changes, HoldsBack, IsUntilDue, connection_in, is_due_at, waits_until};
+ghost use Rattle.tb_event_loop.specs.Places.{Changes, IsUntilDue, connection_in, is_due_at, waits_until};
 
 use crate::connection::Connection;
 use crate::head::{begun, has_whole_head, target_in, text_of};
@@ -146,8 +146,13 @@ impl Places {
     pub(crate) fn hold_back<V: Service>(&mut self, service: &V, place: usize, now: u64) -> bool
         ensures due { result ≡ is_due_at (V.gives_file service.now) self.old.rates
             (V.held_at service.now place) now (connection_in self.old place) }
-        ensures held { HoldsBack (V.gives_file service.now) self.old self.new place
-            (V.held_at service.now place) now }
+        ensures asked { self.new.connections.items ≡ slice_set self.old.connections.items place
+            (option_map (guesses.looked_at (V.gives_file service.now) self.old.rates
+            (V.held_at service.now place) now) (connection_in self.old place)) }
+        ensures counted { self.new.rates ≡ guesses.counted_at (V.gives_file service.now)
+            (connection_in self.old place) (V.held_at service.now place) now self.old.rates }
+        ensures others { self.new
+            ≡ record self.old { connections = self.new.connections; rates = self.new.rates } }
     {
         match self.connections.get_mut(place) {
             Some(slot) => look_into(slot, &mut self.rates, service, service.held(place), now),
