@@ -1,5 +1,5 @@
 -- Which messages wait, since they try a key that hasn't been right with its name.
-use Rattle.std.specs.Prelude.{ℕ, ◌+◌, ◌-◌, ◌^◌, ◌==◌, Bool, true, false, not, ◌&&◌, ◌||◌, nat_le, nat_lt, if◌then◌else◌, List, codes, Option, Some, None, length, min}
+use Rattle.std.specs.Prelude.{ℕ, ◌+◌, ◌-◌, ◌^◌, ◌==◌, Bool, not, ◌&&◌, ◌||◌, nat_le, nat_lt, if◌then◌else◌, List, codes, Option, Some, None, length, min}
 use Rattle.std.specs.Str.{bytes_eq}
 use Rattle.tb_event_loop.specs.Connection.{asked, may_go}
 use Rattle.tb_event_loop.specs.Head.{begun, has_whole_head, target_in, text_of}

@@ -1,5 +1,5 @@
 //! Which messages wait, since they try a key that hasn't been right with its name.
-ghost use Rattle.std.specs.Prelude.{◌≡◌, ℕ, Bool, List, codes, false, true, OnErr, OnOk, slice_set};
+ghost use Rattle.std.specs.Prelude.{◌≡◌, false, true, OnErr, OnOk, slice_set};
 ghost use Rattle.std.specs.Option.{option_map};
 ghost use Rattle.std.specs.Str.{bytes_eq};
 ghost use Rattle.tb_event_loop.specs.Connection.{unasked};
