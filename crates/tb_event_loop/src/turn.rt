@@ -61,7 +61,8 @@ impl Places {
     ) -> Result<(), StoreFailed>
         ensures after { Did V.follows (is_err result) 0 service.old service.new }
         ensures failed { IsErr result → V.has_failed service.new ≡ true }
-        ensures turned { IsAnswered (V.gives_file service.old) self.old place now (V.held_at service.old place)
+        ensures turned { IsAnswered (V.gives_file service.old) self.old place now
+            (V.held_at service.old place)
             → GivesTurn V.follows (is_err result) place service.old service.new }
     {
         if self.is_gone(place) {
