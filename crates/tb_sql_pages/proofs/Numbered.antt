@@ -1,5 +1,5 @@
 -- What is found of rows that stand in their order, and of rows that have numbers without a gap.
-use Rattle.std.proofs.Common.{◌≡◌, ◌∙◌, ◌+◌, ◌-◌, ◌<◌, ◌≤◌, ◌&&◌, ℕ, zero, suc, max, List, [], ◌∷◌, map, length, take, drop, get_or, cond, Bool, true, false, Option, Some, None, unwrap_or, refl, sym, ap, subst, arith, IsPermutation}
+use Rattle.std.proofs.Common.{◌≡◌, ◌∙◌, ◌+◌, ◌-◌, ◌<◌, ◌&&◌, ℕ, zero, suc, max, List, [], ◌∷◌, map, length, take, drop, get_or, cond, Bool, true, false, Option, Some, None, unwrap_or, refl, sym, ap, subst, arith, IsPermutation}
 use Rattle.std.specs.Prelude.{filter, nat_le}
 use Rattle.std.specs.List.{AllByRecursion}
 use Rattle.std.proofs.lemmas.Bool.Decides.{nat_tests}
