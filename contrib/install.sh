@@ -51,7 +51,7 @@ PARTS
         *.py) echo "644 lib/taskboard/${path#"$contrib"/} contrib/${path#"$contrib"/}" ;;
         *.1) echo "644 share/man/man1/$name contrib/$name" ;;
         *.service | *.timer) echo "644 $units/$name contrib/$name" ;;
-        */taskboard-* | */*-sync) echo "755 bin/$name contrib/$name" ;;
+        */taskboard-* | */*-sync | */*-clean) echo "755 bin/$name contrib/$name" ;;
         esac
     done
 }
