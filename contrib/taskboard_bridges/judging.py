@@ -91,8 +91,8 @@ def makes_instances(task):
 def place_of(task):
     """The number of an instance; None where it has none."""
     place = task.get("imask")
-    if is_text(place) and NUMBER.fullmatch(place) and len(place) < 20:
-        place = int(place)
+    if is_text(place) and NUMBER.fullmatch(place):
+        place = int(place.lstrip("0")[:11] or 0)
     return place if isinstance(place, int) and not isinstance(place, bool) and 0 <= place < 2**32 else None
 
 
