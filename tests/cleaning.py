@@ -206,6 +206,23 @@ def there_and_back():
     return len(before)
 
 
+def look_at_documents():
+    """What USING.md says for the way to a board and back is done as it stands there."""
+    blocks = re.findall(r"(?m)(?:^    .*\n)+", pathlib.Path(CONTRIB, "..", "docs", "USING.md").read_text())
+    there, back = (next(block for block in blocks if word in block) for word in ("taskwarrior-clean --check", "TASKDATA"))
+    new_taskwarrior()
+    task("rc.recurrence=off", "add", "recur:2wks", "due:now-40d", "A round")
+    task("rc.recurrence=off", "add", "pages:3", "Plain")
+    board_of(b"")
+    pathlib.Path("bin").mkdir()
+    for name, path in (("taskboard", PROGRAM), ("taskwarrior-clean", f"{CONTRIB}/taskwarrior-clean")):
+        pathlib.Path("bin", name).symlink_to(os.path.abspath(path))
+    script = f"set -e\nPATH={os.getcwd()}/bin:$PATH\nid={ID.format(next(calls))}\n{there}{back}"
+    ran = subprocess.run(["sh", "-c", script], stdout=subprocess.PIPE, stderr=subprocess.PIPE, timeout=60)
+    # (two tasks, and four instances that the board made)
+    expect(f"what USING.md says: {ran.stdout} {ran.stderr}", (0, [b"6", b"6"]), (ran.returncode, ran.stdout.splitlines()[-2:]))
+
+
 # What can't be taken.
 
 ID = "00000000-0000-4000-9000-{:012d}"
@@ -261,8 +278,8 @@ def look_at_faults():
     """Each kind of fault once: alone, and all at once; without them the others are taken."""
     faulty = [{"uuid": ID.format(100 + at), "description": f"Fault {at}", **more} for at, (more, _) in enumerate(FAULTS)]
     for it, (_, why) in zip(faulty, FAULTS):
-        written, told, status = clean(json.dumps([it]))
-        expect(f"{str(it)[:300]} alone: {told}", (b"", 1, True), (written, status, why in told))
+        told = "\n".join(Cleaning(json.dumps([it]).encode()).told(False))
+        expect(f"{str(it)[:300]} alone: {told}", True, f"can't be taken: {it['uuid'] if isinstance(it['uuid'], str) else '?'}" in told and why in told)
     strange = [{"uuid": ID.format(300 + at), "description": f"Strange {at}", **more} for at, more in enumerate(DROPS)]
     verdicts([it for it in faulty if len(json.dumps(it)) < 10**6] + strange)
     circle = [{"uuid": ID.format(500 + at), "description": f"Circle {at}", "depends": [ID.format(500 + (at + 1) % 3)]} for at in range(3)]
@@ -355,6 +372,7 @@ def main():
     look_at_order()
     drawn = look_at_drawn_faults()
     count = there_and_back()
+    look_at_documents()
     print(f"{count} tasks went to a board and back, {len(FAULTS)} kinds of faults and {drawn} drawn tasks were told as they are")
 
 

@@ -83,6 +83,7 @@ attempt own_key.sh python3
 attempt my.sh python3
 attempt kits.py python3
 attempt sync.sh python3
+attempt clean.sh python3 task
 attempt remind.sh python3
 attempt documents.sh python3
 

@@ -27,12 +27,12 @@ part() {
 }
 
 PYTHONPYCACHEPREFIX=$folder/compiled python3 -m compileall -q "$contrib" || fail "contrib/taskboard_bridges can't be compiled"
-for script in taskwarrior-sync todotxt-sync taskboard-remind; do
+for script in taskwarrior-sync taskwarrior-clean todotxt-sync taskboard-remind; do
     python3 "$contrib/$script" --help >help || fail "$script --help"
     grep -q "^usage: $script " help || fail "$script says nothing of its words"
 done
 if is_there pyflakes3; then
-    pyflakes3 "$contrib"/taskboard_bridges/*.py "$contrib/taskwarrior-sync" "$contrib/todotxt-sync" "$contrib/taskboard-remind"
+    pyflakes3 "$contrib"/taskboard_bridges/*.py "$contrib/taskwarrior-sync" "$contrib/taskwarrior-clean" "$contrib/todotxt-sync" "$contrib/taskboard-remind"
 else
     echo "what pyflakes3 says: skipped, since pyflakes3 isn't there"
 fi
