@@ -16,6 +16,7 @@ sys.path.insert(0, CONTRIB)
 sys.dont_write_bytecode = True
 from taskboard_bridges import steps
 from taskboard_bridges.cleaning import Cleaning
+from taskboard_bridges.json_texts import NotJson
 
 PROGRAM = sys.argv[1]
 PAGE = pathlib.Path(CONTRIB, "..", "page")
@@ -236,13 +237,13 @@ FAULTS = [
     ({"description": ""}, "it has no description"), ({"description": None}, "it has no description"), ({"description": 5}, "its description isn't a text"),
     ({"description": LONG}, "its description has 2 bytes too many"), ({"project": LONG}, "its project has"), ({"origin": LONG}, "its origin has"), ({LONG: "a"}, "the name of a member has"),
     ({"tags": [LONG]}, "a tag has"), ({"annotations": [{"entry": "20260101T000000Z", "description": LONG}]}, "a note has"),
-    ({"description": "nul \0"}, "its description has the character 0"), ({"description": "half \ud800"}, "half characters"),
+    ({"description": "nul \0"}, "its description has the character 0"), ({"description": "half \ud800"}, "half characters"), ({"urgency": "\ud800"}, "its JSON has bytes or half"), ({"\udc00": 1.5}, "its JSON has bytes or half"),
     ({"tags": ["two words"]}, "a tag is empty or has a blank"), ({"tags": [""]}, "a tag is empty"), ({"tags": [5]}, "its tags isn't"), ({"tags": 5}, "its tags isn't"),
     ({"due": "19691231T235959Z"}, "its due isn't a moment"), ({"due": "20260230T000000Z"}, "its due isn't"), ({"wait": "20260101T000060Z"}, "its wait isn't"), ({"end": 5}, "its end isn't"),
     ({"entry": "2026-01-01T00:00:00Z"}, "its entry isn't"), ({"annotations": [{"description": "a"}]}, "its annotations isn't"), ({"depends": "a,b"}, "its depends isn't"),
     ({"depends": [ID.format(1), 5]}, "its depends isn't"), ({"parent": "a"}, "its parent isn't"), ({"mask": "-a"}, "its mask isn't"), ({"mask": "-" * 16385}, "its mask isn't"),
     ({"priority": 5}, "its priority isn't"), ({"status": "lost"}, "its status isn't one of"), ({"status": ["pending"]}, "its status isn't"), ({"uuid": "a"}, "it has no uuid"), ({"uuid": None}, "it has no uuid"),
-    ({"annotations": [{"entry": "20260101T000000Z", "description": "a" * 16384}] * 65}, "it is longer than 1048576 bytes"),
+    ({"annotations": [{"entry": "20260101T000000Z", "description": "a" * 16384}] * 65}, "its JSON has"),
 ]
 # What a board takes, though it drops some of it.
 DROPS = [
@@ -255,9 +256,9 @@ DROPS = [
 ]
 
 
-def run_alone(texts):
-    """The answers of `run` to an import of each text by itself: the status and the body."""
-    lines = (f"20260601T000000Z\troot\troot-key-1\t{ID.format(next(calls))}\timport\t1\t{it}\n" for it in texts)
+def run_alone(orders):
+    """The answers of `run` to some calls: the status and the body."""
+    lines = (f"20260601T000000Z\troot\troot-key-1\t{ID.format(next(calls))}\t{it}\n" for it in orders)
     ran = subprocess.run([PROGRAM, "run"], input="".join(lines).encode(), stdout=subprocess.PIPE, check=True, timeout=120).stdout.decode()
     return [(int(status), json.loads(body)) for status, _, body in (line.split(" ", 2) for line in ran.splitlines())]
 
@@ -265,7 +266,8 @@ def run_alone(texts):
 def verdicts(tasks):
     """What the filter says of each task alone and what the program does have to be the same: taken or not, and what is dropped."""
     # (the filter respells steps that have an equal)
-    answers = run_alone(json.dumps([{**it, "recur": steps.respelled(it["recur"]) or it["recur"]} if isinstance(it.get("recur"), str) else it]) for it in tasks)
+    texts = [json.dumps([{**it, "recur": steps.respelled(it["recur"]) or it["recur"]} if isinstance(it.get("recur"), str) else it]) for it in tasks]
+    answers = run_alone(f"import\t1\t{it}" for it in texts)
     for it, (status, answer) in zip(tasks, answers):
         cleaning = Cleaning(json.dumps([it]).encode())
         told = "\n".join([*cleaning.told(False), ""])
@@ -306,6 +308,47 @@ def look_at_drawn_faults():
         drawn.append({"uuid": random_uuid(), "description": "Drawn", **dict(RANDOM.sample(members, RANDOM.randint(1, 5)))})
     verdicts(drawn)
     return len(drawn)
+
+
+PIECES = (b'"', b",", b"}", b"{", b"[", b"]", b"null", b"1e999", b"\\ud800", b"\\u0000", b"\\", b"\n", b"0", b"9" * 400, b".0", b"true", b"\0", b"\xff")
+
+
+def broken(given):
+    """A text with up to three places changed."""
+    given = bytearray(given)
+    for _ in range(RANDOM.randint(1, 3)):
+        kind, at, other = RANDOM.randrange(4), RANDOM.randrange(len(given)), RANDOM.randrange(len(given))
+        if kind == 0:
+            given[at] = RANDOM.randrange(256)
+        elif kind == 1:
+            del given[at : at + RANDOM.randint(1, 30)]
+        else:
+            given[at:at] = RANDOM.choice(PIECES) if kind == 2 else given[other : other + RANDOM.randint(1, 60)]
+    return bytes(given)
+
+
+def look_at_broken_texts():
+    """Whatever is left of a text is taken by a board of its own, which counts what the filter foretold."""
+    tasks = [{"uuid": ID.format(at), "description": f"Task {at}", **DUE, "status": "pending", "tags": ["a", "b"], "cost": 2.5, "depends": [ID.format(at + 1)]} for at in range(6)]
+    tasks[0].update(status="recurring", recur="mths", mask="--")
+    for place in (0, 1):
+        tasks[place + 1].update(parent=ID.format(0), imask=float(place), recur="mths", depends=[ID.format(4)])
+    kept, unread = [], 0
+    for _ in range(600):
+        try:
+            kept.append(Cleaning(broken(json.dumps(tasks, indent=1).encode())))
+        except NotJson:
+            unread += 1
+    answers = run_alone(words for at, it in enumerate(kept) for words in ("board\tb", f"import\t{at + 2}\t{one(it)}"))
+    for it, (_, answer) in zip(kept, answers[1::2], strict=True):
+        counts = (len(it.taken), sum(it.dropped.values()), len(it.orphans), len(it.unlinked))
+        expect(f"a broken text: {answer} {it.told(True)}", counts, tuple(answer.get(name) for name in ("new", "dropped", "orphans", "unlinked")))
+    expect("enough of them can be read", True, len(kept) > 60 and unread > 60)
+
+
+def one(cleaning):
+    """The tasks of a text on one line."""
+    return f"[{','.join(it.line for it in cleaning.taken)}]"
 
 
 # The text as it comes.
@@ -370,6 +413,7 @@ def main():
     look_at_layouts()
     look_at_faults()
     look_at_order()
+    look_at_broken_texts()
     drawn = look_at_drawn_faults()
     count = there_and_back()
     look_at_documents()

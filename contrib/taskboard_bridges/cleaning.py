@@ -3,7 +3,7 @@ import re
 
 from taskboard_bridges.circles import circles
 from taskboard_bridges.json_texts import Whole, has_controls, is_writable, objects_of, written
-from taskboard_bridges.judging import dropped_from, faults_in, is_instance, is_text, links_of, makes_instances, place_of, status_of
+from taskboard_bridges.judging import dropped_from, fault_in_text, faults_in, is_instance, is_text, links_of, makes_instances, place_of, status_of
 from taskboard_bridges.steps import respelled
 
 # What one call takes, and a board.
@@ -20,8 +20,8 @@ class Entry:
         self.faults = faults_in(self.task)
         self.id = str(self.task.get("uuid")).lower()
         self.line = written(self.task) if not self.faults else ""
-        if len(self.line.encode()) >= MOST_BODY - 1:
-            self.faults.append(f"it is longer than {MOST_BODY} bytes")
+        fault = fault_in_text(self.line, MOST_BODY - 2)
+        self.faults += [f"its JSON has {fault}"] if fault else []
         self.is_double = False
 
     def cleaned(self, name, value):

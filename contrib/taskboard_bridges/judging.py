@@ -107,14 +107,14 @@ def can_keep(value):
     return value is None or isinstance(value, (str, bool)) or isinstance(value, int) and -(2**63) <= value < 2**63
 
 
-def fault_in_text(text):
+def fault_in_text(text, most=MOST_BYTES):
     """Why a board keeps no such text; nothing where it does."""
     if any("\ud800" <= character <= "\udfff" for character in text):
         return "bytes or half characters in it that aren't UTF-8"
     if "\0" in text:
         return "the character 0 in it"
-    over = len(text.encode()) - MOST_BYTES
-    return f"{over} bytes too many ({MOST_BYTES} at most)" if over > 0 else ""
+    over = len(text.encode()) - most
+    return f"{over} bytes too many ({most} at most)" if over > 0 else ""
 
 
 def faults_in_texts(task):
