@@ -15,7 +15,7 @@ from drawing import seeded
 sys.path.insert(0, CONTRIB)
 sys.dont_write_bytecode = True
 from taskboard_bridges import steps
-from taskboard_bridges.cleaning import Cleaning
+from taskboard_bridges.cleaning import Cleaning, parts_of
 from taskboard_bridges.json_texts import NotJson
 
 PROGRAM = sys.argv[1]
@@ -79,6 +79,8 @@ def board_of(given):
     ran = subprocess.run(words, input=given, stdout=subprocess.PIPE, stderr=subprocess.PIPE, timeout=120)
     expect(f"the import: {ran.stdout[-300:]} {ran.stderr[-300:]}", 0, ran.returncode)
     answers = [json.loads(line) for line in ran.stdout.splitlines()]
+    parts = parts_of(Cleaning(given).taken)
+    expect("the tasks of each part", [parts.count(part) for part in range(len(answers))], [answer["new"] for answer in answers])
     exported = subprocess.run([PROGRAM, "export", "b.db", "ann", "ann-key-1", "1"], stdout=subprocess.PIPE, check=True).stdout
     return exported, {name: sum(answer[name] for answer in answers) for name in ("new", "known", "dropped", "orphans", "unlinked")}
 
@@ -376,11 +378,14 @@ def look_at_layouts():
         expect(f"{wrong[:40]!r}: {told}", (b"", 2, True), (written, status, f": line {line}: " in told))
     written, told, status = clean(b'{"uuid":"' + ID.format(1).encode() + b'","description":"\xff"}')
     expect("no UTF-8", (b"", 1, True), (written, status, "aren't UTF-8" in told))
+    with open("/dev/full", "wb") as full:
+        ran = subprocess.run([f"{CONTRIB}/taskwarrior-clean"], input=wanted, stdout=full, stderr=subprocess.PIPE)
+    expect("a full disk", (1, True), (ran.returncode, b"taskwarrior-clean: the output isn't whole: " in ran.stderr))
 
 
 def look_at_order():
     """2,600 tasks in any order come in by parts: no link is lost, no instance an orphan. A template that waits for its instance goes first."""
-    tasks = [{"uuid": random_uuid(), "description": f"Task {at} " + "x" * RANDOM.randint(0, 900)} for at in range(2600)]
+    tasks = [{"uuid": random_uuid(), "description": f"Task {at} " + "x" * RANDOM.randint(0, 1800)} for at in range(2600)]
     for at, it in enumerate(tasks):
         it["depends"] = [other["uuid"] for other in RANDOM.sample(tasks[:at], min(at, 2))]
     for at in range(0, 600, 3):
