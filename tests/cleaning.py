@@ -226,6 +226,25 @@ def look_at_documents():
     expect(f"what USING.md says: {ran.stdout} {ran.stderr}", (0, [b"6", b"6"]), (ran.returncode, ran.stdout.splitlines()[-2:]))
 
 
+def look_at_way_back():
+    """What Taskwarrior makes of a board's tasks beyond its own, as USING.md tells it."""
+    told = {"true": True, "null": None, "5.000000": 5, "-1.000000": -1}
+    odd = [{"own": value} for value in told.values()] + [{"until": "20200101T000000Z"}, {"tags": ["a,b"]}, {"annotations": [{"entry": "20260101T000000Z", "description": ""}]}, {"pages": 5}]
+    exported, _ = board_of(json.dumps([{"uuid": ID.format(at), "description": f"Odd {at}", **more} for at, more in enumerate(odd)]).encode())
+    new_taskwarrior()
+    task("rc.hooks=off", "rc.recurrence=off", "import", "-", given=exported)
+    back = by_id(task("rc.recurrence=off", "export"))
+    found = [back[ID.format(at)] for at in range(len(odd))]
+    expect("own values", list(told), [it["own"] for it in found[:4]])
+    expect("until, tags, notes, an own number", ("deleted", True, None, 5), (found[4]["status"], {"a", "b"} <= set(found[5]["tags"]), found[6].get("annotations"), found[7]["pages"]))
+    for more in ({"due": "19791231T235959Z"}, {"due": "99991231T235959Z"}, {"review": "soon"}, {"annotation_1": "a"}):
+        exported, _ = board_of(json.dumps([{"uuid": ID.format(1), "description": "One"}, {"uuid": ID.format(2), "description": "Two", **more}]).encode())
+        new_taskwarrior()
+        ran = subprocess.run(["task", "rc.hooks=off", "import", "-"], input=exported, stdout=subprocess.PIPE, stderr=subprocess.PIPE, timeout=60)
+        expect(f"the last that Taskwarrior names before {more}", (True, True, False), (ran.returncode != 0, b"One" in ran.stdout, b"Two" in ran.stdout))
+        expect("nothing is imported", {}, by_id(task(*AS_IT_IS, "export")))
+
+
 # What can't be taken.
 
 ID = "00000000-0000-4000-9000-{:012d}"
@@ -422,6 +441,7 @@ def main():
     drawn = look_at_drawn_faults()
     count = there_and_back()
     look_at_documents()
+    look_at_way_back()
     print(f"{count} tasks went to a board and back, {len(FAULTS)} kinds of faults and {drawn} drawn tasks were told as they are")
 
 

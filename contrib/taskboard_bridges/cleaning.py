@@ -200,7 +200,8 @@ class Cleaning:
         refused = f"{len(self.refused)} can't be taken{' and are left out' if is_left_out and self.refused else ''}"
         counts = [f"{counted(len(self.taken), 'task')} can be taken", refused, f"{sum(bool(entry.changes) for entry in self.taken)} changed"]
         counts += [f"{counted(len(self.doubles), 'double')} left out"] if self.doubles else []
-        return [*lines, ", ".join([*counts, counted(len(self.orphans), "orphan"), f"{counted(len(self.unlinked), 'link')} and {counted(sum(self.dropped.values()), 'member')} dropped"])]
+        losses = f"{counted(len(self.unlinked), 'link')} and {counted(sum(self.dropped.values()), 'member')} dropped"
+        return [*lines, ", ".join([*counts, counted(len(self.orphans), "orphan"), losses])]
 
 
 def counted(number, what):
