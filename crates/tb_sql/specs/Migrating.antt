@@ -23,7 +23,7 @@ abbrev pub horizon_changes : List BoardRow → List RowChange
 horizon_changes boards = map (λ board. AddHorizon (first_horizon board)) boards
 
 -- the same rows, that of each board, and no history
--- Rule: a file of version 1 becomes one of today's tables. Tried by migrated.
+-- Rule: a file of version 1 gets the tables of today. Tried by migrated.
 abbrev pub migrated : Content → Content
 migrated content = record content { horizon = map first_horizon content.boards; history = [] }
 
@@ -34,7 +34,7 @@ pub record IsMigrated (content : Content) (counts : Counts) (db : Database) : Ty
   pub boards : counts.boards ≡ length content.boards
 
 -- the rows of the second version are there, with no history, and the numbers of people and boards are these
--- Rule: a file of version 2 without a history gets one, which is empty. Tried by widened.
+-- Rule: a file of version 2 without a history gets one, which is empty. Tried by migration_stopped.
 pub record IsWidened (content : Content) (counts : Counts) (db : Database) : Type 0 where
   pub is : IsContent (without_history content) db
   pub people : counts.people ≡ length content.people
