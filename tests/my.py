@@ -134,9 +134,11 @@ def a_day():
     shown = tb("show", "2")
     if json.loads(shown.stdout)["uuid"] != ids[1]:
         fail(f"show 2: {shown}")
-    for words, sent in (([], ["list", "1"]), (["list"], ["list", "1"]), (["people"], ["people", "1"]), (["boards"], ["me"])):
+    for words, sent in (([], ["list", "1"]), (["list"], ["list", "1"])):
         if tb(*words).stdout != send(*sent):
             fail(f"{words} isn't {sent}")
+    expect(["boards"], 0, "".join(f"{it['board']}  {it['role']}  {it['title']}\n" for it in json.loads(send("me"))["boards"]))
+    expect(["people"], 0, "".join(f"{it['name']}  {it['role']}\n" for it in json.loads(send("people", "1"))["people"]))
     expect(["add", "a\x1b[31m\x07b"], 0, "Added: a [31m b\n")
 
 

@@ -7,7 +7,9 @@ use std::alloc::Global;
 use std::io::Write;
 use tb_board::Key;
 use tb_command_line::{MyOrder, SendOrder};
-use tb_my::{Asker, MyFault, Seen, Sent, fault_text, looks, read_seen, refusal_text, sent_of};
+use tb_my::{
+    Asker, MyFault, Seen, Sent, fault_text, looks, read_seen, refusal_text, sent_of, shown_answer,
+};
 use tb_orders::Ending;
 use tb_program::{Fault, machine_moment, print_line, print_text};
 use tb_sending::{name_call, send_order};
@@ -120,7 +122,7 @@ fn ask_all<W: Write>(
         if answer.ending == Ending::Refused {
             ending = refused(rt, &answer)?;
         } else {
-            tell(&answer, sent, writer)?;
+            tell(rt, &answer, sent, writer)?;
         }
     }
     Ok(ending)
@@ -159,14 +161,19 @@ fn twin(key: &Option<Key>) -> Result<Option<Key>, Fault>
 }
 
 /// Tells an accepted call in words, and a view's answer as it is.
-fn tell<W: Write>(answer: &Answer, sent: &Sent, writer: &mut W) -> Result<(), Fault>
+fn tell<W: Write>(
+    rt: &HostRuntime,
+    answer: &Answer,
+    sent: &Sent,
+    writer: &mut W,
+) -> Result<(), Fault>
     ensures { IfErr result (λ fault. is_of_mine fault ≡ true) }
 {
     if !sent.told.is_empty() {
         return print_line(writer, sent.told.as_str());
     }
     match str::from_utf8(answer.body.as_slice()) {
-        Ok(text) => print_text(writer, text),
+        Ok(text) => print_text(writer, shown_answer(rt.alloc(), text)?.as_str()),
         Err(_) => Err(Fault::NoAnswer),
     }
 }

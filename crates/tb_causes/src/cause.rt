@@ -53,7 +53,7 @@ const NOT_EMPTY: &str =
     "The file has tables already, and is as it was: give a name that no file has.";
 
 const NOT_OURS: &str =
-    "The file is no file of boards: write its name right, or make another with `taskboard init`.";
+    "The file is no file of boards, or a newer taskboard made it: write its name right, or use that program.";
 
 const READ_FAILED: &str =
     "Standard input couldn't be read, or the machine gave no random bytes for an identifier or a key.";

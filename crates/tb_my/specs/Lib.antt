@@ -6,6 +6,7 @@ pub mod Part
 pub mod Said
 pub mod Sent
 pub mod Settings
+pub mod Shown
 pub mod Tags
 pub mod Telling
 pub mod Word

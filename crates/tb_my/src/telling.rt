@@ -117,7 +117,7 @@ pub(crate) fn told_link(
 
 /// Puts a text at the end, with a space for each control character, which a terminal might obey.
 #[tactic(auto, unfolding(crate::specs::Telling::shown_text))]
-fn push_shown(told: &mut String, text: &str) -> Result<(), AllocError>
+pub(crate) fn push_shown(told: &mut String, text: &str) -> Result<(), AllocError>
     ensures { OnOk result (string_bytes told.new ≡ string_bytes told.old ++ shown_text text.now) }
 {
     for character in text.chars() {
