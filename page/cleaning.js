@@ -77,7 +77,7 @@ export function clean(given) {
 }
 
 function cleanValue(name, value) {
-    if (/^-?\d+\.0+$/.test(value)) return value.slice(0, value.indexOf("."));
+    if (/^-?\d+\.0+$|^-0$/.test(value)) return value.replace(/\.0+$/, "").replace(/^-0$/, "0");
     if (name !== "recur" || !value.startsWith('"')) return value;
     const recur = nameIn(value);
     const step = respelled(recur);

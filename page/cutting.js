@@ -1,5 +1,7 @@
 // Cuts the texts of an import into parts that the server takes: at most 1,000 tasks and 1 MiB each. A part knows only tasks of
 // its own and of parts before it, so templates go before their instances, and a task goes behind those on which it depends.
+import { inCircles } from "./circles.js";
+import { makesInstances } from "./judging.js";
 
 const MOST_AT_ONCE = 1000;
 const MOST_BYTES = 1048576;
@@ -28,15 +30,24 @@ function read(text) {
 }
 
 // What has to go before a task: its template, and those on which it depends. A text that is no JSON is left for the server to refuse.
-function nodeOf(text) {
-    const { uuid = "", parent = "", depends = "" } = read(text);
-    return { text, id: String(uuid).toLowerCase(), before: `${depends},${parent}`.toLowerCase().split(","), isBegun: false };
+function nodeOf(item) {
+    const task = read(item.text);
+    const { uuid = "", parent = "", depends = "" } = task;
+    return { item, task, id: String(uuid).toLowerCase(), before: `${depends},${parent}`.toLowerCase().split(","), isBegun: false };
 }
 
-// The texts in such an order. Those in a circle stay as they come: the server refuses them.
-function inOrder(texts) {
-    const nodes = texts.map(nodeOf);
-    const byId = new Map(nodes.map((node) => [node.id, node]));
+// A template that waits for an instance of its own goes first all the same: the instance would be none.
+function freeTemplates(nodes, byId) {
+    const circled = inCircles(byId.keys(), (id) => byId.get(id).before.filter((other) => byId.has(other)));
+    const templates = nodes.filter(({ id, task }) => circled.has(id) && makesInstances(task));
+    for (const node of templates) node.before = node.before.filter((other) => !circled.has(other));
+}
+
+// What has such texts, in such an order. Of those with the same uuid the first counts; those in a circle stay as they come.
+export function inOrder(items) {
+    const nodes = items.map(nodeOf);
+    const byId = new Map(nodes.map((node) => [node.id, node]).reverse());
+    freeTemplates(nodes, byId);
     const ordered = [];
     const path = [];
     const begin = (node) => {
@@ -48,14 +59,14 @@ function inOrder(texts) {
         while (path.length > 0) {
             const ahead = byId.get(path.at(-1).before.shift());
             if (ahead && !ahead.isBegun) begin(ahead);
-            else if (path.at(-1).before.length === 0) ordered.push(path.pop().text);
+            else if (path.at(-1).before.length === 0) ordered.push(path.pop().item);
         }
     }
     return ordered;
 }
 
 // As many texts in a part as it may have.
-function cut(texts) {
+export function cut(texts) {
     const parts = [];
     let bytes = MOST_BYTES;
     for (const text of texts) {
@@ -71,8 +82,9 @@ function cut(texts) {
 }
 
 // The bodies of the calls that take tasks of Taskwarrior, and lines of todo.txt.
-export const cutTasks = (texts) => cut(inOrder(texts)).map((part) => `[${part.join(",\n")}]`);
-export const cutLines = (lines) => cut(lines).map((part) => `${part.join("\n")}\n`);
+export const listOf = (part) => `[${part.join(",\n")}]`;
+export const linesOf = (part) => `${part.join("\n")}\n`;
+export const cutTasks = (texts) => cut(inOrder(texts.map((text) => ({ text }))).map(({ text }) => text)).map(listOf);
 
 // The description of one task of a part, to name the one that was refused.
 export const descriptionAt = (text, at) => String(read(objectTexts(text).texts[at]).description ?? "");

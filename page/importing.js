@@ -1,10 +1,10 @@
 // What an import of a file would do, before anything is sent: the bodies of its calls, which tasks can't be taken and why, what is spelled
 // anew, and what is lost.
 import { inCircles } from "./circles.js";
-import { clean } from "./cleaning.js";
-import { cutLines, cutTasks, objectTexts } from "./cutting.js";
+import { clean, membersOf } from "./cleaning.js";
+import { cut, inOrder, linesOf, listOf, objectTexts } from "./cutting.js";
 import { breathe, counted, oneLine } from "./dom.js";
-import { dependsOf, faultIn, lossesOf, statusOf } from "./judging.js";
+import { dependsOf, faultIn, lossesOf, placesFor } from "./judging.js";
 import { faultInText, MOST_TASKS } from "./rules.js";
 
 // How many tasks are looked at until the browser may draw.
@@ -20,6 +20,18 @@ function read(text) {
     }
 }
 
+// Whole numbers of 64 bits, as the server reads them: 1e3 is none, nor is -0.
+const isWhole = (text) => /^(0|-?[1-9]\d{0,18})$/.test(text) && BigInt.asIntN(64, BigInt(text)) === BigInt(text);
+
+// The task of a text. A number that isn't whole is NaN, since one that JavaScript has read doesn't show how it was written.
+function taskOf(text) {
+    const task = read(text);
+    const names = Object.keys(task ?? {}).filter((name) => Number.isFinite(task[name]));
+    const values = names.length > 0 ? new Map(membersOf(text).map(({ name, value }) => [name, value])) : null;
+    for (const name of names) if (!isWhole(values.get(name))) task[name] = NaN;
+    return task;
+}
+
 async function each(list, make) {
     const made = [];
     for (const [at, item] of list.entries()) {
@@ -31,46 +43,54 @@ async function each(list, make) {
 
 function entryOf(given, at) {
     const { text, changes } = clean(given);
-    const task = read(text);
+    const task = taskOf(text);
     const id = String(task?.uuid ?? "").toLowerCase();
-    return { text, changes, task, id, fault: faultIn(task), subject: oneLine(String(task?.description || task?.uuid || `task ${at + 1} of the file`), SHORT) };
+    return { text, changes, task, id, fault: faultIn(task, text), subject: oneLine(String(task?.description || task?.uuid || `task ${at + 1} of the file`), SHORT) };
 }
 
-// 11 Cycle: marks the tasks that would wait for themselves.
-function markCircles(entries) {
-    const byId = new Map(entries.filter(({ fault }) => !fault).map((entry) => [entry.id, entry]));
+const soundIn = (entries) => entries.filter(({ fault }) => !fault);
+
+// Of tasks with the same uuid the server takes the first.
+function markDoubles(entries) {
+    const seen = new Set();
+    for (const entry of soundIn(entries)) {
+        if (seen.has(entry.id)) entry.fault = "an earlier task of the file has its uuid";
+        seen.add(entry.id);
+    }
+}
+
+// 11 Cycle: marks the tasks that would wait for themselves. Those that the board has stay as they are.
+function markCircles(entries, board) {
+    const byId = new Map(soundIn(entries).filter(({ id }) => !board?.byId.has(id)).map((entry) => [entry.id, entry]));
     const linksOf = (id) => dependsOf(byId.get(id).task).filter((other) => byId.has(other));
     for (const id of inCircles(byId.keys(), linksOf)) byId.get(id).fault = "it waits for itself, in a circle of tasks";
 }
 
 // 12 Full: marks the new tasks for which the board has no room.
 function markRest(entries, board) {
-    let room = MOST_TASKS - (board?.tasks.length ?? 0);
-    const seen = new Set();
-    for (const entry of entries) {
-        if (entry.fault || board?.byId.has(entry.id) || seen.has(entry.id)) continue;
-        seen.add(entry.id);
-        if (room <= 0) entry.fault = FULL;
-        room -= 1;
-    }
+    const room = MOST_TASKS - (board?.tasks.length ?? 0);
+    const added = soundIn(entries).filter(({ id }) => !board?.byId.has(id));
+    for (const entry of added.slice(Math.max(0, room))) entry.fault = FULL;
 }
 
-function noteLosses(entries, board) {
-    const taken = new Map(entries.filter(({ fault }) => !fault).map((entry) => [entry.id, entry]));
-    const isTemplate = (task) => task && statusOf(task) === "recurring";
-    const isTemplateThere = (id) => isTemplate(taken.get(id)?.task) || isTemplate(board?.byId.get(id)?.told);
-    const isTaskThere = (id) => taken.has(id) || Boolean(board?.byId.has(id));
-    for (const entry of taken.values()) entry.losses = board?.byId.has(entry.id) ? [] : lossesOf(entry.task, isTemplateThere, isTaskThere);
+// What the tasks lose, which stand here as they are sent. A part knows the board, itself and the parts before it.
+function noteLosses(entries, parts, board) {
+    const numbers = parts.flatMap((part, at) => part.map(() => at));
+    const partOf = new Map(entries.map(({ id }, at) => [id, numbers[at]]));
+    const added = entries.filter(({ id }) => !board?.byId.has(id));
+    const places = placesFor(added.map(({ task }) => task), board);
+    const reachFrom = (here) => (id) => (board?.byId.has(id) || partOf.get(id) <= here ? "there" : partOf.has(id) ? "later" : "");
+    for (const entry of added) entry.losses = lossesOf(entry.task, places, reachFrom(partOf.get(entry.id)));
 }
 
 const told = (entries, name) => entries.filter((entry) => entry[name]?.length > 0).map((entry) => ({ subject: entry.subject, what: [entry[name]].flat() }));
 
-function planOf(path, entries, cut) {
-    const taken = entries.filter(({ fault }) => !fault);
+function planOf(path, entries, parts) {
+    const taken = soundIn(entries);
     return {
         path,
         count: taken.length,
-        parts: taken.length > 0 ? cut(taken.map(({ text }) => text)) : [],
+        parts,
         faults: told(entries, "fault"),
         changes: told(taken, "changes"),
         losses: told(taken, "losses"),
@@ -81,10 +101,13 @@ async function planTasks(text, board) {
     const { texts, rest } = objectTexts(text);
     const entries = await each(texts, entryOf);
     if (rest) entries.push({ fault: "the file breaks off in it", subject: oneLine(rest, SHORT) });
-    markCircles(entries);
+    markDoubles(entries);
+    markCircles(entries, board);
     markRest(entries, board);
-    noteLosses(entries, board);
-    return planOf("import", entries, cutTasks);
+    const ordered = inOrder(soundIn(entries));
+    const parts = cut(ordered.map((entry) => entry.text));
+    noteLosses(ordered, parts, board);
+    return planOf("import", entries, parts.map(listOf));
 }
 
 function lineOf(text) {
@@ -96,8 +119,8 @@ async function planLines(text, board) {
     const lines = text.split(/\r?\n/).filter((line) => !/^[ \t]*$/.test(line));
     const entries = await each(lines, lineOf);
     const room = MOST_TASKS - (board?.tasks.length ?? 0);
-    for (const entry of entries.filter(({ fault }) => !fault).slice(Math.max(0, room))) entry.fault = FULL;
-    return planOf("import-todo", entries, cutLines);
+    for (const entry of soundIn(entries).slice(Math.max(0, room))) entry.fault = FULL;
+    return planOf("import-todo", entries, cut(soundIn(entries).map((entry) => entry.text)).map(linesOf));
 }
 
 export const plan = (text, board) => (/^\s*[[{]/.test(text) ? planTasks(text, board) : planLines(text, board));

@@ -2,7 +2,7 @@
 // what the others lose. The server decides: where a rule here is missing, its refusal is shown. Each rule names what it foretells, by the
 // number or status and the name in docs/HTTP.md.
 import { seconds } from "./moments.js";
-import { faultInText } from "./rules.js";
+import { faultInCall, faultInText } from "./rules.js";
 import { stepOf } from "./recurrence.js";
 
 const STATUSES = ["pending", "waiting", "recurring", "completed", "deleted"];
@@ -22,12 +22,21 @@ function isMoment(text) {
 
 const textsOf = (value) => (isText(value) ? value.split(",") : value);
 const tagsOf = ({ tags }) => (isText(tags) ? tags.split(",").filter(Boolean) : tags ?? []);
-export const dependsOf = ({ depends }) => (isThere(depends) ? textsOf(depends).map((id) => id.toLowerCase()) : []);
-export const statusOf = ({ status, recur, parent }) => (isThere(status) ? status : isThere(recur) && !isThere(parent) ? "recurring" : "pending");
-const isTemplate = (task) => statusOf(task) === "recurring";
+export const dependsOf = ({ depends }) => (isThere(depends) ? [...new Set(textsOf(depends).map((id) => id.toLowerCase()))] : []);
+const statusOf = ({ status, recur, parent }) => (isThere(status) ? status : isThere(recur) && !isThere(parent) ? "recurring" : "pending");
 const isNote = (note) => note !== null && typeof note === "object" && isMoment(note.entry) && isText(note.description);
-const hasPlace = ({ imask }) => /^\d+$/.test(imask) && Number(imask) < 2 ** 32;
-const isInstance = (task) => !isTemplate(task) && (isThere(task.parent) || hasPlace(task));
+const isRepeating = (task) => statusOf(task) === "recurring";
+// Deleted tasks that repeated: they stay templates where they have all that a template has.
+const hasRepeated = (task) => statusOf(task) === "deleted" && isThere(task.recur) && !isThere(task.parent);
+// Whether instances find their template in a task.
+export const makesInstances = (task) => isRepeating(task) || (hasRepeated(task) && isThere(task.due) && Boolean(stepOf(task.recur)));
+const hasPlace = ({ imask }) => (isText(imask) || typeof imask === "number") && /^\d+$/.test(imask) && Number(imask) < 2 ** 32;
+const isInstance = (task) => !isRepeating(task) && !hasRepeated(task) && (isThere(task.parent) || hasPlace(task));
+const keepsRecur = (task) => isThere(task.parent) || makesInstances(task);
+// (a number that the server takes for none that is whole is NaN here)
+const canKeep = (value) => isText(value) || typeof value === "boolean" || value === null || Number.isInteger(value);
+const ownOf = (task) => Object.entries(task).filter(([name]) => !NAMES.includes(name));
+const isKept = ([name, value]) => name !== "" && canKeep(value);
 
 // 400 BadBody with a field: a member that can't be read.
 const FORMS = {
@@ -53,34 +62,73 @@ function misread(task) {
 
 // 8 BadTask, fields EmptyDescription, BadTag, BadText and BadPair.
 function misfit(task) {
-    const texts = [task.description, task.project, task.recur, ...tagsOf(task), ...(task.annotations || []).map((note) => note.description), ...Object.entries(task).filter(([name]) => !NAMES.includes(name)).flat()].filter(isText);
+    const notes = (task.annotations || []).map((note) => note.description);
+    const texts = [task.description, task.project, keepsRecur(task) && task.recur, ...tagsOf(task), ...notes, ...ownOf(task).filter(isKept).flat()].filter(isText);
     if (task.description === "") return "it has no description";
     if (tagsOf(task).some((tag) => tag === "" || /[ \t\n\r]/.test(tag))) return "a tag is empty or has a blank in it";
     const long = texts.map(faultInText).find(Boolean);
     if (long) return `a text of it can't be kept: ${long}`;
-    if (isTemplate(task) && !isThere(task.due)) return "it repeats, and has no due date";
-    if (isTemplate(task) && !stepOf(task.recur ?? "")) return `it repeats by a step that this server doesn't know: ${task.recur ?? "none"}`;
+    if (isRepeating(task) && !isThere(task.due)) return "it repeats, and has no due date";
+    if (isRepeating(task) && !stepOf(task.recur ?? "")) return `it repeats by a step that this server doesn't know: ${task.recur || "none"}`;
     return "";
 }
 
-// Why the server refuses a task; nothing where it takes it.
-export const faultIn = (task) => (task === null || typeof task !== "object" ? "it can't be read as JSON" : misread(task) || misfit(task));
+// 400 BadBody without a field: what the server's reader of JSON refuses wherever it stands, also in members that a task drops.
+const MOST_NESTED = 126;
+function isReadable(value, left = MOST_NESTED) {
+    if (isText(value)) return !/\p{Surrogate}/u.test(value);
+    if (typeof value === "number") return Math.abs(value) !== Infinity;
+    if (value === null || typeof value !== "object") return true;
+    return left > 0 && Object.entries(value).every(([name, inner]) => isReadable(name) && isReadable(inner, left - 1));
+}
 
-const canKeep = (value) => isText(value) || typeof value === "boolean" || value === null || (Number.isInteger(value) && Number.isSafeInteger(value));
+const MISREAD = "its JSON can't be read by the server: it has half a character, a number that is too large, or too many lists in each other";
 
-// What a task loses that the server takes; `isTemplateThere` and `isTaskThere` tell of a uuid whether there will be such a task.
-export function lossesOf(task, isTemplateThere, isTaskThere) {
-    const isOrphan = isInstance(task) && !(hasPlace(task) && isThere(task.parent) && isTemplateThere(task.parent.toLowerCase()));
-    const links = dependsOf(task).filter((id) => !isTaskThere(id)).length;
-    const isOpen = ["pending", "waiting", "recurring"].includes(statusOf(task));
+// Why the server refuses a task, whose JSON is this text; nothing where it takes it. 413 BodyTooLong: no call brings it.
+export function faultIn(task, text) {
+    if (task === null || typeof task !== "object") return "it can't be read as JSON";
+    return misread(task) || misfit(task) || (isReadable(task) ? faultInCall(text) : MISREAD);
+}
+
+// The places in which there is room for an instance: how many a template's mask has, and which of them others have. `tasks` are the new ones.
+export function placesFor(tasks, board) {
+    const places = new Map();
+    const known = (board?.tasks ?? []).map(({ told }) => told);
+    for (const task of [...tasks, ...known].filter(makesInstances)) places.set(task.uuid.toLowerCase(), { count: (task.mask || "").length, taken: new Set() });
+    for (const { parent, imask } of known) places.get(parent)?.taken.add(Number(imask));
+    return places;
+}
+
+// Takes the place of an instance; why it finds none, where it doesn't.
+function withoutPlace(task, places) {
+    const place = Number(task.imask);
+    const template = isThere(task.parent) ? places.get(task.parent.toLowerCase()) : null;
+    if (!template) return "their template isn't there";
+    if (!hasPlace(task)) return "it has no number (imask) among them";
+    if (place >= template.count) return "their template's mask has no place for it";
+    if (template.taken.has(place)) return "another instance has its place";
+    template.taken.add(place);
+    return "";
+}
+
+const linksLost = (count, why) => count > 0 && `${count} ${count === 1 ? "link" : "links"} to tasks that ${why}`;
+
+// What a task loses that the server takes. `places` are those for instances, which are taken in the order in which tasks are sent; `reach` tells
+// of a uuid whether there will be such a task: "there", "later" in another part, or "".
+export function lossesOf(task, places, reach) {
+    const repeats = isRepeating(task);
+    const why = isInstance(task) ? withoutPlace(task, places) : "";
+    const links = dependsOf(task).map(reach);
+    const isOpen = repeats || ["pending", "waiting"].includes(statusOf(task));
     return [
         isThere(task.priority) && !["H", "M", "L"].includes(task.priority) && `its priority ${task.priority}`,
-        isOrphan && "its repeat and its place among the instances, since their template isn't there",
-        !isTemplate(task) && !isInstance(task) && isThere(task.recur) && "its repeat, since it is no template",
-        !isTemplate(task) && isThere(task.mask) && "its mask",
-        isTemplate(task) && (isThere(task.parent) || hasPlace(task)) && "its place as an instance, since it is a template",
+        why && `its repeat and its place among the instances, since ${why}`,
+        !isInstance(task) && isThere(task.recur) && !keepsRecur(task) && "its repeat, since it is no template",
+        isThere(task.mask) && !makesInstances(task) && "its mask, since it is no template",
+        ((repeats && isThere(task.parent)) || ((repeats || hasRepeated(task)) && hasPlace(task))) && "its place as an instance, since it is a template",
         isOpen && isThere(task.end) && "its end, since it is open",
-        links > 0 && `${links} ${links === 1 ? "link" : "links"} to tasks that aren't there`,
-        ...Object.entries(task).filter(([name, value]) => !NAMES.includes(name) && (name === "" || !canKeep(value))).map(([name]) => `its ${name}, which is neither a text nor a whole number`),
+        linksLost(links.filter((it) => it === "").length, "aren't there"),
+        linksLost(links.filter((it) => it === "later").length, "come in a later part, as they wait for each other over a template"),
+        ...ownOf(task).filter((own) => !isKept(own)).map(([name]) => `its ${name}, which is neither a text nor a whole number of 64 bits`),
     ].filter(Boolean);
 }

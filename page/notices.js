@@ -128,7 +128,7 @@ function report(parts) {
     const told = [
         `${counted(sum("new"))} new; ${counted(sum("known"))} known already, which stay as they are`,
         lost("dropped", "member dropped that a task can't keep", "members dropped that a task can't keep"),
-        lost("orphans", "instance without its template, now a plain task", "instances without their template, now plain tasks"),
+        lost("orphans", "instance without a place among its template's, now a plain task", "instances without a place among their template's, now plain tasks"),
         lost("unlinked", "link to an unknown task dropped", "links to unknown tasks dropped"),
     ].filter(Boolean);
     const soFar = parts[0].parts > 1 ? ` (${parts.length} of ${parts[0].parts} parts)` : "";

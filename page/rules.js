@@ -4,7 +4,8 @@ import { counted } from "./dom.js";
 import { now, seconds } from "./moments.js";
 import { stepOf } from "./recurrence.js";
 
-const LONGEST = { text: 16384, title: 200, name: 32, key: 64 };
+// (a call of 1 MiB, without the brackets of its list)
+const LONGEST = { text: 16384, title: 200, name: 32, key: 64, call: 1048574 };
 const SHORTEST_KEY = 8;
 export const MOST_AHEAD = 12;
 // 12 Full: the tasks on a board, those that are completed or deleted too.
@@ -25,6 +26,9 @@ export function faultInText(text) {
     if (text.includes("\0")) return "This has the character 0 in it, which a task can't keep. Take it out.";
     return tooLong(text, LONGEST.text) || unreadable(text);
 }
+
+// 413 BodyTooLong: the JSON of a task.
+export const faultInCall = (text) => tooLong(text, LONGEST.call);
 
 // 8 BadTask, field EmptyDescription, or BadText.
 export const faultInDescription = (text) => (text ? faultInText(text) : "A task needs a description.");

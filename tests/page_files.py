@@ -138,4 +138,71 @@ def made_to_repeat(office):
     expect("its notes", ["Little"], [note["description"] for note in stored[1]["annotations"]])
 
 
-SCENES = (made_to_repeat, full_board, the_rest, lost_in_export)
+WEEKLY = {"recur": "weekly", "due": "20990105T000000Z"}
+
+
+def with_instances():
+    """Instances for the places of two templates, one of them on the board already, and what only the text of a number or of a string shows."""
+    named = {
+        "Free": {"parent": ID.format(0), "imask": 1},
+        "Held": {"parent": ID.format(0), "imask": 0},
+        "Beyond": {"parent": ID.format(0), "imask": 3},
+        "Unnumbered": {"parent": ID.format(0)},
+        "First": {"parent": ID.format("a"), "imask": 0, "status": "completed"},
+        "Second": {"parent": ID.format("a").upper(), "imask": 0},
+        "Deleted template": {**WEEKLY, "uuid": ID.format("a"), "status": "deleted", "mask": "X"},
+        "No template": {"recur": "weekly", "status": "deleted"},
+        "Numbers": {"whole": 2**53 + 1, "most": 2**63 - 1, "power": "1e3"},
+        "Twice": {"uuid": ID.format("a")},
+        "Half a letter": {"urgency": "\ud800"},
+    }
+    return json.dumps([{"uuid": f"00000000-0000-4000-b000-{at:012d}", "description": name, **more} for at, (name, more) in enumerate(named.items())]).replace('"1e3"', "1e3")
+
+
+def places_of_instances(office):
+    """Which instances of a file find no place is told before it is sent, as the server makes it; a deleted template stays one."""
+    browser, board = office.browser, new_board("Places")
+    there = [{"uuid": ID.format(0), "description": "There", **WEEKLY, "status": "recurring", "mask": "-+X"}, {"uuid": ID.format(1), "description": "Has it", "parent": ID.format(0), "imask": 0}]
+    ask(f"/boards/{board}/import", json.dumps(there).encode())
+    office.begin(board)
+    office.go(board, "files")
+    choose_file(browser, "instances.json", with_instances())
+    [faults, losses] = told(browser)
+    expect("faults", 2, len(faults[1]))
+    for name, why in (("Twice", "an earlier task of the file has its uuid"), ("Half a letter", "half a character")):
+        expect(f"the reason of {name}", 1, len([line for line in faults[1] if name in line and why in line]))
+    reasons = {"Held": "another instance has its place", "Beyond": "mask has no place for it", "Unnumbered": "no number (imask)", "Second": "another instance has its place", "No template": "its repeat, since it is no template", "Numbers": "its power"}
+    expect("losses", len(reasons), len(losses[1]))
+    for name, why in reasons.items():
+        expect(f"the loss of {name}", 1, len([line for line in losses[1] if name in line and why in line]))
+    browser.click("#import-send")
+    browser.wait(ALL_ANSWERED)
+    browser.wait(IS_TOLD, "9 new; 0 known already, which stay as they are; 2 members dropped that a task can't keep; 4 instances without a place among their template's, now plain tasks.")
+    stored = {task["description"]: task for task in tasks(board)}
+    expect("who has a place", {"Has it": 0, "Free": 1, "First": 0}, {name: task["imask"] for name, task in stored.items() if "imask" in task})
+    expect("a deleted template", ["weekly", "+"], [stored["Deleted template"].get(name) for name in ("recur", "mask")])
+    expect("numbers", [2**53 + 1, 2**63 - 1, None], [stored["Numbers"].get(name) for name in ("whole", "most", "power")])
+    browser.run("[...document.querySelectorAll('#notices button')].at(-1).click()")
+    office.go(board)
+
+
+def template_that_waits(office):
+    """A template that waits for its own instance goes before it, though that lies in a later part: the link is lost, not the instance, and that is told."""
+    browser, board = office.browser, new_board("Waiting for its own")
+    ahead = [{"uuid": f"00000000-0000-4000-a000-{at:012d}", "description": f"Ahead {at}"} for at in range(1200)]
+    first = {"uuid": ID.format(1), "description": "Its own", "parent": ID.format(2), "imask": 0, "depends": [task["uuid"] for task in ahead]}
+    template = {"uuid": ID.format(2), "description": "Waits", **WEEKLY, "status": "recurring", "mask": "-", "depends": [ID.format(1)]}
+    office.begin(board)
+    office.go(board, "files")
+    choose_file(browser, "waits.json", json.dumps([template, first, *ahead]))
+    [[_, lines]] = told(browser)
+    expect("what is lost", [True, True], ["Waits" in lines[0] and "1 link to tasks that come in a later part" in lines[0], len(lines) == 1])
+    browser.click("#import-send")
+    browser.wait(ALL_ANSWERED)
+    browser.wait(IS_TOLD, "(2 of 2 parts): 1,202 new; 0 known already, which stay as they are; 1 link to an unknown task dropped.")
+    expect("the instance", [0], [task.get("imask") for task in tasks(board) if task["description"] == "Its own"])
+    browser.run("[...document.querySelectorAll('#notices button')].at(-1).click()")
+    office.go(board)
+
+
+SCENES = (made_to_repeat, full_board, the_rest, places_of_instances, template_that_waits, lost_in_export)
