@@ -31,7 +31,7 @@ function read(text) {
 
 // What has to go before a task: its template, and those on which it depends. A text that is no JSON is left for the server to refuse.
 function nodeOf(item) {
-    const task = read(item.text);
+    const task = item.task ?? read(item.text);
     const { uuid = "", parent = "", depends = "" } = task;
     return { item, task, id: String(uuid).toLowerCase(), before: `${depends},${parent}`.toLowerCase().split(","), isBegun: false };
 }
@@ -43,7 +43,7 @@ function freeTemplates(nodes, byId) {
     for (const node of templates) node.before = node.before.filter((other) => !circled.has(other));
 }
 
-// What has such texts, in such an order. Of those with the same uuid the first counts; those in a circle stay as they come.
+// What has such texts, and maybe their tasks, in such an order. Of those with the same uuid the first counts; those in a circle stay as they come.
 export function inOrder(items) {
     const nodes = items.map(nodeOf);
     const byId = new Map(nodes.map((node) => [node.id, node]).reverse());

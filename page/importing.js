@@ -23,10 +23,11 @@ function read(text) {
 // Whole numbers of 64 bits, as the server reads them: 1e3 is none, nor is -0.
 const isWhole = (text) => /^(0|-?[1-9]\d{0,18})$/.test(text) && BigInt.asIntN(64, BigInt(text)) === BigInt(text);
 
-// The task of a text. A number that isn't whole is NaN, since one that JavaScript has read doesn't show how it was written.
+// The task of a text. A number that isn't whole is NaN, since one that JavaScript has read doesn't show how it was written; what the server
+// ignores stays.
 function taskOf(text) {
     const task = read(text);
-    const names = Object.keys(task ?? {}).filter((name) => Number.isFinite(task[name]));
+    const names = Object.keys(task ?? {}).filter((name) => Number.isFinite(task[name]) && !["id", "urgency"].includes(name));
     const values = names.length > 0 ? new Map(membersOf(text).map(({ name, value }) => [name, value])) : null;
     for (const name of names) if (!isWhole(values.get(name))) task[name] = NaN;
     return task;
@@ -101,10 +102,12 @@ async function planTasks(text, board) {
     const { texts, rest } = objectTexts(text);
     const entries = await each(texts, entryOf);
     if (rest) entries.push({ fault: "the file breaks off in it", subject: oneLine(rest, SHORT) });
-    markDoubles(entries);
-    markCircles(entries, board);
-    markRest(entries, board);
+    for (const mark of [markDoubles, markCircles, markRest]) {
+        await breathe();
+        mark(entries, board);
+    }
     const ordered = inOrder(soundIn(entries));
+    await breathe();
     const parts = cut(ordered.map((entry) => entry.text));
     noteLosses(ordered, parts, board);
     return planOf("import", entries, parts.map(listOf));

@@ -3,7 +3,7 @@
 //
 // A browser asks for the worker at each start, and installs it anew where a byte of it differs. The next line, made by tests/page_content.py,
 // differs with every other file, so a new version is found at the next start, also where its files are as long as before.
-// Content of the other files: 1dc6fafb0182b05d9f7772665f086e724562b7a01206f12f445dd1c38fb21694
+// Content of the other files: ce9b7abb0103d0442621ddcd2749d7ba969aba45c3f188cf61d2e2f62ae01859
 
 const VERSION = "taskboard ";
 const FILE = /^\/(?:[a-z0-9_.-]+\.(?:html|css|js|svg|png|ico))?$/;

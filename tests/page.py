@@ -17,6 +17,7 @@ import page_day
 import page_days
 import page_everywhere
 import page_files
+import page_judging
 import page_keys
 import page_several
 import page_views
@@ -415,6 +416,7 @@ SCENES = (
     *(first_steps, people, killed_server, two_tabs, plain_http, hostile_texts, imports),
     *page_everywhere.SCENES,
     *page_files.SCENES,
+    *page_judging.SCENES,
     *page_views.SCENES,
     *page_several.SCENES,
     *page_day.SCENES,
