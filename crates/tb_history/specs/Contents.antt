@@ -15,7 +15,7 @@ abbrev pub short_text : List ℕ → Option (List ℕ)
 short_text content = if is_short_text content then Some content else None
 
 -- the content of a call that did something of this kind, where it is shown
--- Rule: a history shows no import's content, and only a text of 4,096 bytes at most. Tried by no test.
+-- Rule: a history shows no import's content, and only a text of 4,096 bytes at most. Tried by histories.
 abbrev pub content_shown : DeedKind → List ℕ → Option (List ℕ)
 content_shown Import content = None
 content_shown ImportTodo content = None

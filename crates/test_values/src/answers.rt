@@ -5,8 +5,8 @@ use crate::finding::{Finding, missing, say, show};
 use crate::given::{halves, id_of, moment_at, read_count, read_place, step_of, text_of};
 use crate::lists::{items_of, ordered_of};
 use crate::{
-    boards, caches, changes, clients, graphs, json, lists, machine, messages, rates, recurrences,
-    scripts, tasks, texts, todo_lines,
+    boards, caches, changes, clients, graphs, histories, json, lists, machine, messages, rates,
+    recurrences, scripts, tasks, texts, todo_lines,
 };
 use std::alloc::Global;
 use tb_client::places_of;
@@ -114,6 +114,7 @@ fn of_boards(alloc: Global, word: &str, given: &str) -> Finding {
         "done" => changes::done(alloc, given),
         "waits" => rates::waits(alloc, given),
         "keys" => rates::keys(alloc, given),
+        "history" => histories::page(alloc, given),
         "todo_line" => todo_lines::line(alloc, given),
         "todo_tasks" => todo_lines::tasks(alloc, given),
         "task" => json::task(alloc, given),

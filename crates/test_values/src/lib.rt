@@ -14,6 +14,7 @@ mod clients;
 pub mod finding;
 pub mod given;
 mod graphs;
+mod histories;
 mod json;
 mod lists;
 mod machine;
