@@ -8,7 +8,7 @@ import subprocess
 import sys
 import time
 
-from talking import KNOWN, Server, answer_to, body_of, identified, make_file, message, status_of
+from talking import Server, answer_to, body_of, identified, make_file, message, status_of
 
 PROGRAM, PORT, SIZE = sys.argv[1], int(sys.argv[2]), float(sys.argv[3])
 WHO = ["ann", "ann-key-1"]
