@@ -1,11 +1,12 @@
-// Making a task that is there repeat. The server gives no task a step later on, so a repeating task takes its place, and it is deleted.
+// Where repeats begin and end. A task that is there is made to repeat: the server gives no task a step later on, so a repeating task takes its
+// place, and it is deleted. And what repeats is deleted, which asks what becomes of its tasks that are open.
 import { changes } from "./changes.js";
 import { check, isWhole } from "./checking.js";
-import { fill, find, make, whenSent } from "./dom.js";
+import { button, counted, fill, find, make, said, whenSent } from "./dom.js";
 import { tellFault } from "./notices.js";
 import { STEPS } from "./recurrence.js";
 import { faultInPair, faultInStep } from "./rules.js";
-import { keep } from "./sending.js";
+import { keep, keepEach } from "./sending.js";
 import { go, here, listen, state } from "./state.js";
 
 // What is of the one task and not of those that follow it.
@@ -38,6 +39,26 @@ async function repeat(form) {
     const made = changes.add(state.number, { ...kept, recur: find("repeat-step").value.trim() });
     await keep(made, { ...changes.act(state.number, one, "delete"), isOneOfMany: true });
     go(made.board, "repeating", made.task);
+}
+
+// Deletes what repeats.
+export function endRepeat(template) {
+    const { number } = state;
+    const open = state.board.tasks.filter((task) => task.parent === template.uuid && task.isListed);
+    const end = (action) => () => {
+        find("end-dialog").close();
+        const others = action ? open.map((task) => changes.act(number, task, action)) : [];
+        keepEach([changes.act(number, template, "delete"), ...others]).catch(tellFault);
+    };
+    if (open.length === 0) return end("")();
+    const many = open.length === 1 ? "1 open task. It stays" : `${counted(open.length)} open tasks. They stay`;
+    const [leave, complete, drop] = open.length === 1 ? ["Leave it open", "Complete it", "Delete it"] : ["Leave them open", "Complete them", "Delete them"];
+    fill(
+        find("end-parts"),
+        make("p", {}, make("q", {}, said(template.description, 120)), ` makes no more tasks. It has ${many} unless you choose otherwise.`),
+        make("div", { class: "line" }, button(leave, end(""), { class: "primary" }), button(complete, end("done")), button(drop, end("delete"), { class: "danger" }), button("Cancel", () => find("end-dialog").close(), { class: "quiet" })),
+    );
+    find("end-dialog").showModal();
 }
 
 export function beginBecoming() {

@@ -235,6 +235,18 @@ export class Board {
         this.tags = sortedTexts(this.tasks.flatMap((task) => task.tags));
     }
 
+    // When the next instance of a template is due that isn't made yet: it is made once the last one is due.
+    dueOfNext(template) {
+        if (seconds(template.told.until) < now()) return Infinity;
+        return template.mask === "" ? template.due : this.instances.get(`${template.uuid} ${template.mask.length - 1}`)?.due ?? Infinity;
+    }
+
+    // The second from which on the server shows these tasks otherwise, though nobody changes them: a wait ends, or a repeat comes due.
+    nextChange() {
+        const ends = this.tasks.filter(({ status }) => status === "waiting").map(({ told }) => seconds(told.wait) ?? Infinity);
+        return Math.min(...ends, ...this.templates.map((template) => this.dueOfNext(template)));
+    }
+
     // Says when the tasks are due and orders them, as of now: open ones by falling urgency and then place, as the listing has them; then the
     // others, the last that ended first. What is equal keeps its place.
     rank() {

@@ -1,6 +1,5 @@
 // Cuts the texts of an import into parts that the server takes: at most 1,000 tasks and 1 MiB each. A part knows only tasks of
 // its own and of parts before it, so templates go before their instances, and a task goes behind those on which it depends.
-import { inCircles } from "./circles.js";
 import { makesInstances } from "./judging.js";
 
 const MOST_AT_ONCE = 1000;
@@ -88,3 +87,34 @@ export const cutTasks = (texts) => cut(inOrder(texts.map((text) => ({ text }))).
 
 // The description of one task of a part, to name the one that was refused.
 export const descriptionAt = (text, at) => String(read(objectTexts(text).texts[at]).description ?? "");
+
+// Which nodes of a graph stand in a circle of its links, by Tarjan's strongly connected components.
+export function inCircles(ids, linksOf) {
+    const [order, lowest, done, found] = [new Map(), new Map(), new Set(), new Set()];
+    const [open, path] = [[], []];
+    const begin = (id) => {
+        order.set(id, order.size);
+        lowest.set(id, order.get(id));
+        open.push(id);
+        path.push({ id, links: [...linksOf(id)] });
+    };
+    const lower = (id, number) => lowest.set(id, Math.min(lowest.get(id), number));
+    const end = (id) => {
+        if (path.length > 0) lower(path.at(-1).id, lowest.get(id));
+        if (lowest.get(id) !== order.get(id)) return;
+        const part = open.splice(open.lastIndexOf(id));
+        part.forEach((one) => done.add(one));
+        if (part.length > 1 || linksOf(id).includes(id)) part.forEach((one) => found.add(one));
+    };
+    for (const root of ids) {
+        if (!order.has(root)) begin(root);
+        while (path.length > 0) {
+            const { id, links } = path.at(-1);
+            const next = links.pop();
+            if (next === undefined) end(path.pop().id);
+            else if (!order.has(next)) begin(next);
+            else if (!done.has(next)) lower(id, order.get(next));
+        }
+    }
+    return found;
+}

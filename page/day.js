@@ -1,7 +1,9 @@
 // My day: what is overdue, due today or this week, or started, on all boards of a person; what is theirs comes first.
 import { Board, DUES } from "./board.js";
+import { BEYOND, lookFrom } from "./deeds.js";
 import { counted, fill, find } from "./dom.js";
 import { List } from "./list.js";
+import { now } from "./moments.js";
 import { lookOf, makeRow, setUnanswered } from "./rows.js";
 import { lastSeen, lookOrSeen } from "./seen.js";
 import { waiting } from "./sending.js";
@@ -10,8 +12,8 @@ import { listen, state } from "./state.js";
 const GROUPS = { overdue: DUES.overdue, today: DUES.today, week: DUES.week, started: "Started" };
 // All boards are asked for again after so many milliseconds.
 const EVERY = 60000;
-// The boards that came, by their numbers; whether they are being asked for, when that began last, and how many don't answer.
-let [boards, isAsking, askedAt, missing] = [new Map(), false, -Infinity, 0];
+// The boards that came and up to which number their histories are known, by their numbers; whether they are being asked for, when that began last, and how many don't answer.
+let [boards, heard, isAsking, askedAt, missing] = [new Map(), new Map(), false, -Infinity, 0];
 let list;
 
 const isShown = () => state.view === "day" && Boolean(state.who);
@@ -62,10 +64,22 @@ async function take(number, { text, at }) {
     draw();
 }
 
+// Whether a board is as it was when it came, by its history.
+async function isAsItWas(who, number) {
+    const last = heard.get(number) ?? BEYOND - 1;
+    const told = await lookFrom(who, number, last + 1);
+    if (told) heard.set(number, told.last);
+    return told?.last === last && boards.has(number) && boards.get(number).nextChange() > now();
+}
+
 // Shows a board as it was seen last, and then as it is.
 async function ask(number) {
     const { who } = state;
     const path = `/boards/${number}/export`;
+    if (await isAsItWas(who, number).catch(() => false)) {
+        boards.get(number).rank();
+        return draw();
+    }
     const seen = boards.has(number) ? null : await lastSeen(who, path);
     if (seen) await take(number, seen);
     const shown = await lookOrSeen(who, path);
@@ -99,5 +113,5 @@ export function beginDay() {
         draw();
     });
     listen("answered", ({ change }) => isShown() && change.board > 0 && ask(change.board).catch(console.warn));
-    listen("left", () => ([boards, askedAt] = [new Map(), -Infinity]));
+    listen("left", () => ([boards, heard, askedAt] = [new Map(), new Map(), -Infinity]));
 }

@@ -26,8 +26,8 @@ export function keepDraft(kind, task, content, board = state.number) {
 
 const keysOf = (name) => Object.keys(localStorage).filter((key) => key.startsWith(named(name)));
 
-// Those of a person that say something beside how a board was left.
-export const draftsOf = (name) => keysOf(name).filter((key) => !key.endsWith(" filters")).map((key) => JSON.parse(localStorage.getItem(key)));
+// Those of a person that say something beside how a board was left, and up to where its history was looked at.
+export const draftsOf = (name) => keysOf(name).filter((key) => !/ (filters|looked)$/.test(key)).map((key) => JSON.parse(localStorage.getItem(key)));
 export function editDrafts(name, kind, edit) {
     for (const key of keysOf(name).filter((key) => key.endsWith(` ${kind}`))) localStorage.setItem(key, JSON.stringify(edit(JSON.parse(localStorage.getItem(key)))));
 }

@@ -1,20 +1,19 @@
 // The form that changes a task: its draft, and what someone else changed of the same task meanwhile.
 import { look } from "./asking.js";
-import { PRIORITIES, Task } from "./board.js";
+import { Task } from "./board.js";
 import { changes } from "./changes.js";
 import { isWhole } from "./checking.js";
+import { labelOf, lookAtDeedsOf, sets, worded } from "./deeds.js";
 import { keepDraft, readDraft } from "./drafts.js";
-import { fill, find, make, whenSent } from "./dom.js";
+import { fill, find, make, said, whenSent } from "./dom.js";
 import { Fields } from "./fields.js";
 import { lookAgain } from "./fresh.js";
-import { inFull, seconds } from "./moments.js";
 import { tellFault } from "./notices.js";
 import { keep, waiting } from "./sending.js";
 import { here, listen, state } from "./state.js";
 
 // How long Save waits for the freshest copy of the task, in milliseconds; without one it takes the copy that is shown.
 const PATIENCE = 5000;
-const LABELS = { description: "The description", project: "The project", priority: "The priority", assignee: "The assignee", due: "The due date", wait: "The date until which it waits", scheduled: "The scheduled date", until: "The date until which it repeats or counts", recur: "The repeat" };
 // The task in the form, its fields, what they said when the form was opened, and whether the task is to be reopened first; and the fields
 // that are being saved.
 let [edited, fields, before, reopens, saved] = [null, null, null, false, null];
@@ -98,17 +97,17 @@ async function freshest(task) {
     return look(state.who, `/boards/${state.number}/tasks/${task.uuid}`, PATIENCE).then((text) => new Task(text), () => shown);
 }
 
-function worded(name, value) {
-    if (value === null) return "nothing";
-    if (name === "priority") return PRIORITIES[value];
-    return ["due", "wait", "scheduled", "until"].includes(name) ? inFull(seconds(value)) : value;
+// Who set a field of the task last, where the server tells that.
+async function settersOf(task) {
+    const told = await lookAtDeedsOf(state.who, state.number, task.uuid, PATIENCE).catch(() => null);
+    return (name) => said(told?.entries.findLast(sets(name))?.member ?? "someone else", 40);
 }
 
 // Both texts beside each other; the one that is chosen is what Save goes on with.
-function choice(name, mine, theirs) {
+function choice(name, mine, theirs, by) {
     const option = (value, label, text) =>
         make("label", { class: "side" }, make("span", {}, make("input", { type: "radio", name: `side-${name}`, value, required: true }), ` ${label}`), make("bdi", { class: "long" }, worded(name, text)));
-    return make("fieldset", { class: "conflict", "data-name": name }, make("legend", {}, `${LABELS[name]} was changed by someone else meanwhile. Choose one:`), option("mine", "Yours", mine), option("theirs", "Theirs", theirs));
+    return make("fieldset", { class: "conflict", "data-name": name }, make("legend", {}, `T${labelOf(name).slice(1)} was changed by `, by, " meanwhile. Choose one:"), option("mine", "Yours", mine), option("theirs", "Theirs", theirs));
 }
 
 // Takes the choices that were made into the form: from here on the freshest task is what was changed.
@@ -153,7 +152,9 @@ async function save() {
     takeChoices(fresh);
     const [mine, theirs] = [fields.read(), fresh.read()];
     const { edits, conflicts } = merge(before, mine, theirs);
-    if (conflicts.length > 0) return ask(conflicts.map((name) => choice(name, mine[name], theirs[name])));
+    const setterOf = conflicts.length > 0 ? await settersOf(now) : null;
+    if (fields !== form) return;
+    if (conflicts.length > 0) return ask(conflicts.map((name) => choice(name, mine[name], theirs[name], setterOf(name))));
     if (Object.keys(edits).length > 0 && !now.isOpen && !reopens) return askToReopen(now);
     const change = { ...changes.modify(state.number, now, edits), form: { before, typed: fields.typed() } };
     if (Object.keys(edits).length > 0) await keep(...(reopens ? [changes.act(state.number, now, "reopen")] : []), change);

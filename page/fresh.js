@@ -1,23 +1,32 @@
-// Keeps what is shown fresh. The board is asked for anew after each change, when the window is looked at, every 15 s while it is in sight and
-// someone does something in it, and every 60 s else; a hidden tab asks for nothing. Until the server answers, the board is shown as it was
-// seen last, with its age. Where the export is the text that came before nothing is done. A look by the clock waits while someone types, so
-// that nothing moves under their hands.
+// Keeps what is shown fresh. While the page is in sight it asks every 3 s what has happened on the board, by the next number of its history;
+// a hidden page asks every 60 s. The board itself is loaded where something has happened that isn't shown yet, or a wait or a repeat came due.
+// A server without a history is asked for the board: every 15 s while it is in sight and someone does something in it, every 60 s else, and a
+// hidden page asks for nothing. Until the server answers, the board is shown as it was seen last, with its age. What is found by the clock
+// waits while someone types, so that nothing moves under their hands.
 import { look, NoAnswer } from "./asking.js";
 import { Board } from "./board.js";
+import { BEYOND, hasHistory, lookFrom } from "./deeds.js";
 import { find } from "./dom.js";
-import { ago } from "./moments.js";
+import { readDraft } from "./drafts.js";
+import { ago, now } from "./moments.js";
+import { isShownBy } from "./pending.js";
 import { forgetSeen, keepSeen, lastSeen } from "./seen.js";
 import { doubtKey } from "./sending.js";
 import { announce, here, listen, state } from "./state.js";
 
-// How often the server is asked, after how long someone counts as idle, how long a pause in typing is, and how long a board that was seen
-// before is shown without its age; in milliseconds.
-const [ACTIVE, IDLE, IDLE_AFTER, LEAST, TYPING, PATIENCE] = [15000, 60000, 60000, 1000, 2000, 1500];
+// How often the history is asked in sight and the server else, after how long someone counts as idle, how long a pause in typing is, and how
+// long a board that was seen before is shown without its age; in milliseconds.
+const [NEWS, ACTIVE, IDLE, IDLE_AFTER, LEAST, TYPING, PATIENCE] = [3000, 15000, 60000, 60000, 1000, 2000, 1500];
+// What people do to a board that its people's lists of boards show.
+const CHANGE_BOARDS = ["role", "take", "title"];
 const ACTS = ["keydown", "pointerdown", "pointermove", "wheel", "touchstart"];
-// Whether a look is under way, another one is wanted, and the boards with it; and whether the server answered the last one.
-let [isAsking, isWanted, wantsBoards, isThere] = [false, false, false, true];
-// When the last look, the last act and the last typing were; the boards as they were told; and the work of showing what was seen.
-let [lastLook, lastAct, lastTyped, lastBoards, showing] = [0, 0, 0, "", Promise.resolve()];
+// Whether a look is under way, what is wanted of the next one, and whether the server answered the last one.
+let [isAsking, wants, isThere] = [false, { board: false, boards: false, news: false }, true];
+// When the last looks at the board, at its history and at the boards were, the last tick, the last act and the last typing; the boards as they
+// were told; and the work of showing what was seen.
+let [lastLook, lastNews, lastMe, lastTick, lastAct, lastTyped, lastBoards, showing] = [0, 0, 0, 0, 0, 0, "", Promise.resolve()];
+// The board whose history is known, and up to which number; and whether something has happened on it that isn't shown.
+let [heard, isStale] = [{ number: 0, last: 0 }, false];
 
 function setBoards(text) {
     state.boards = JSON.parse(text).boards;
@@ -30,6 +39,7 @@ function setBoards(text) {
 // Asks for the boards of whoever is signed in, and announces them where they are others than before.
 export async function lookAtBoards() {
     const { who } = state;
+    lastMe = performance.now();
     const text = await look(who, "/me");
     if (state.who !== who || (text === lastBoards && state.boards.length > 0)) return;
     lastBoards = text;
@@ -46,7 +56,7 @@ async function showSeenBoards(who) {
 const exportOf = (number) => `/boards/${number}/export`;
 
 function show(board, isNew, about) {
-    state.board = Object.assign(board, about);
+    state.board = Object.assign(board, about, { changesAt: board.nextChange() });
     announce("board", isNew);
     drawAge();
 }
@@ -68,7 +78,9 @@ async function lookAtBoard() {
     const { who, number } = state;
     if (!here()) return;
     const askedAt = Date.now();
+    lastLook = performance.now();
     const text = await look(who, exportOf(number));
+    isStale = false;
     await showing; // What it read needn't be read again.
     const board = state.board?.number === number ? state.board : Object.assign(new Board(), { number });
     const isNew = await board.take(text, askedAt);
@@ -78,30 +90,71 @@ async function lookAtBoard() {
     keepSeen(who, exportOf(number), isNew ? text : undefined);
 }
 
+const isTyping = () => performance.now() - lastTyped <= TYPING;
+const isActive = () => performance.now() - lastAct < IDLE_AFTER;
+const isLoaded = () => state.board?.number === state.number && !state.board.isSeen;
+
+// Asks what has happened on the board, from the next number on; at first from the last one that its reader saw. Gives whether the board has to
+// be loaded at once.
+async function lookAtNews() {
+    const { who, number } = state;
+    lastNews = performance.now();
+    if (!here()) return false;
+    const isFirst = heard.number !== number;
+    const last = isFirst ? readDraft("looked")?.last ?? BEYOND - 1 : heard.last;
+    const told = await lookFrom(who, number, last + 1);
+    if (!told || state.who !== who || state.number !== number) return false;
+    heard = { number, last: told.last };
+    if (isLoaded()) state.board.at = Date.now();
+    if (isFirst || told.last !== last) hear({ ...told, number, isFirst });
+    return isStale && !document.hidden && !isTyping();
+}
+
+// What is one's own, and shown already, needs no look.
+function hear({ entries, isFirst, ...told }) {
+    const isShown = entries.length > 0 && entries.every(({ call }) => isShownBy(call, state.board?.askedAt));
+    if (!isFirst) {
+        isStale ||= !isShown;
+        wants.boards ||= entries.some(({ what }) => CHANGE_BOARDS.includes(what));
+    }
+    announce("deeds", { ...told, entries, isFirst, isWatched: !document.hidden && isActive() });
+}
+
+// Whether the server shows some task otherwise by now. Where its clock lags, or nobody makes the instance that is due, that is asked again.
+function isDue() {
+    const { changesAt, askedAt } = state.board;
+    return changesAt <= now() && (askedAt < 1000 * changesAt || Date.now() - askedAt > IDLE);
+}
+
 function setReach(reached) {
     isThere = reached;
     announce("reach", reached);
     drawAge();
 }
 
+// What is wanted by now, one after the other. The history is asked before the board is loaded for the first time: so nothing that happens
+// between the two is missed. A server that was away is asked for all of it.
+async function lookOnce() {
+    const { boards, news } = wants;
+    const wantsBoard = wants.board || !isThere || (news && !hasHistory());
+    Object.assign(wants, { board: false, boards: false, news: false });
+    if (boards) await lookAtBoards();
+    const isFirst = hasHistory() && heard.number !== state.number;
+    const isNews = (news || isFirst) && (await lookAtNews());
+    if (wantsBoard || isNews) await lookAtBoard();
+    if (boards || here()) setReach(true);
+}
+
 // Asks anew, once more where something happened meanwhile.
-export async function lookAgain(withBoards = false) {
-    isWanted = true;
-    wantsBoards ||= withBoards;
+async function ask(wanted) {
+    for (const [name, isWanted] of Object.entries(wanted)) wants[name] ||= isWanted;
     if (isAsking) return;
     isAsking = true;
     const { who } = state;
     const key = who?.key;
     let isRekeyed = false;
     try {
-        while (isWanted && state.who) {
-            lastLook = performance.now();
-            isWanted = false;
-            if (wantsBoards) await lookAtBoards();
-            wantsBoards = false;
-            await lookAtBoard();
-            setReach(true);
-        }
+        while ((wants.board || wants.news || wants.boards) && state.who) await lookOnce();
     } catch (fault) {
         // Where a board is refused its people have changed.
         if (fault instanceof NoAnswer) setReach(false);
@@ -113,6 +166,9 @@ export async function lookAgain(withBoards = false) {
     }
     if (isRekeyed && state.who === who) lookAgain(true);
 }
+
+// Loads the board, and asks for the boards first where that is wanted.
+export const lookAgain = (withBoards = false) => ask({ board: true, boards: withBoards });
 
 function write(id, text) {
     if (find(id).textContent !== text) find(id).textContent = text;
@@ -128,18 +184,45 @@ function drawAge() {
     write("loading", isThere ? "Asking the server for the tasks." : "The server doesn't answer, and this device hasn't seen these tasks. They come when it answers.");
 }
 
+// Where someone looks at the page.
 function lookIfSeen() {
     if (!state.who || document.hidden || performance.now() - lastLook < LEAST) return;
+    tick();
+    if (hasHistory() && isLoaded()) ask({ news: true, board: isStale });
+    else lookAgain(true);
+}
+
+// What goes by the clock of who looks is drawn anew: how urgent tasks are, and which are overdue.
+function tick() {
+    lastTick = performance.now();
     announce("tick");
-    lookAgain(true);
+    if (!hasHistory()) return;
+    const isLate = lastTick - lastMe >= IDLE;
+    wants.boards ||= isLate;
+    if (!isLoaded()) return;
+    if (isLate && isThere && !isStale) keepSeen(state.who, exportOf(state.number));
+    state.board.rank();
+    announce("board", false);
+}
+
+function lookByClock() {
+    if (state.who) hasHistory() ? hearByClock() : loadByClock();
+    drawAge();
+}
+
+// Asks for what has happened where it is time, and loads the board once nobody is typing.
+function hearByClock() {
+    const past = performance.now();
+    const isFree = !document.hidden && !isTyping();
+    if (isFree && past - lastTick >= (isActive() ? ACTIVE : IDLE)) tick();
+    if (isFree && isLoaded() && past - lastLook > LEAST && (isStale || isDue())) lookAgain();
+    else if (past - Math.max(lastNews, lastLook) >= (document.hidden ? IDLE : NEWS)) ask({ news: true, board: isFree && !isLoaded() });
 }
 
 // Looks where it is time, and nobody is typing.
-function lookByClock() {
-    const now = performance.now();
-    const every = now - lastAct < IDLE_AFTER ? ACTIVE : IDLE;
-    if (now - lastLook >= every && now - lastTyped > TYPING) lookIfSeen();
-    drawAge();
+function loadByClock() {
+    const isTime = performance.now() - lastLook >= (isActive() ? ACTIVE : IDLE);
+    if (isTime && !isTyping()) lookIfSeen();
 }
 
 const changesBoards = ({ path }) => ["roles", "take", "title"].includes(path.split("/").at(-1));

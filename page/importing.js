@@ -1,8 +1,7 @@
 // What an import of a file would do, before anything is sent: the bodies of its calls, which tasks can't be taken and why, what is spelled
 // anew, and what is lost.
-import { inCircles } from "./circles.js";
 import { clean, membersOf } from "./cleaning.js";
-import { cut, inOrder, linesOf, listOf, objectTexts } from "./cutting.js";
+import { cut, inCircles, inOrder, linesOf, listOf, objectTexts } from "./cutting.js";
 import { breathe, counted, oneLine } from "./dom.js";
 import { dependsOf, faultIn, lossesOf, placesFor } from "./judging.js";
 import { faultInText, MOST_TASKS } from "./rules.js";

@@ -15,6 +15,7 @@ import { beginFiles } from "./files.js";
 import { beginFilters } from "./filterbar.js";
 import { beginFocus } from "./focus.js";
 import { beginLooking, lookAgain, lookAtBoards } from "./fresh.js";
+import { beginHistory } from "./history.js";
 import { beginKeys } from "./keys.js";
 import { beginNotices, tellFault } from "./notices.js";
 import { beginOffline } from "./start.js";
@@ -106,6 +107,7 @@ const PARTS = [
     beginBulk,
     beginEditing,
     beginPanel,
+    beginHistory,
     beginBecoming,
     beginRepeating,
     beginPeople,

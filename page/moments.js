@@ -76,15 +76,17 @@ function dayText(day, withYear) {
     return `${date.getUTCDate()} ${MONTHS[date.getUTCMonth()]}${withYear ? ` ${date.getUTCFullYear()}` : ""}`;
 }
 
-// The day in few words: today, tomorrow, Friday, 31 Jan, 31 Jan 2027; of today its time too, where there is one.
-export function inWords(second) {
+// The day in few words: today, tomorrow, Friday, 31 Jan, 31 Jan 2027.
+export function dayInWords(second) {
     const day = dayOf(second);
     const ahead = day - today();
-    if (ahead === 0 && isTimed(second)) return `today, ${timeOf(second)}`;
     if (ahead >= -1 && ahead <= 1) return ["yesterday", "today", "tomorrow"][ahead + 1];
     if (ahead > 1 && ahead < 7) return WEEKDAYS[day % 7];
     return dayText(day, Math.abs(ahead) > 300);
 }
+
+// So too, and of today its time, where there is one.
+export const inWords = (second) => (dayOf(second) === today() && isTimed(second) ? `today, ${timeOf(second)}` : dayInWords(second));
 
 // The whole of a moment: its day and, where there is one, its time.
 export function inFull(second) {

@@ -84,7 +84,8 @@ function refusal(change) {
 
 // Someone else did the same before: nothing is lost, and nothing left to do.
 function already(change) {
-    const words = make("p", {}, make("strong", {}, change.by ? said(change.by) : "Someone else"), ` had ${DONE_BEFORE[change.path.split("/").at(-1)]} `, quoted(change.subject), " already.");
+    const by = change.by === change.member ? "You" : change.by ? said(change.by) : "Someone else";
+    const words = make("p", {}, make("strong", {}, by), ` had ${DONE_BEFORE[change.path.split("/").at(-1)]} `, quoted(change.subject), " already.");
     return make("li", { class: "notice already" }, words, button("Dismiss", () => forget(change), { class: "quiet" }));
 }
 
@@ -111,10 +112,10 @@ function hiddenOne(change) {
 // A change that waited while its task became another is sent once its person says so.
 function question(change) {
     if (change.doubt.name === "key") return hiddenOne(change);
-    const { name, was, is } = change.doubt;
+    const { name, was, is, by } = change.doubt;
     const told = [
         make("p", {}, make("strong", {}, "Not sent yet: "), about(change)),
-        make("p", {}, `While it waited, the task's ${name} changed on the server from `, quoted(worded(was)), " to ", quoted(worded(is)), "."),
+        make("p", {}, "While it waited, ", by ? [said(by), " changed the task's "] : "the task's ", name, by ? "" : " changed on the server", " from ", quoted(worded(was)), " to ", quoted(worded(is)), "."),
     ];
     const edit = wayOf(change) === "form" ? button("Edit it first", attempt(() => openAgain(change))) : "";
     const ways = [edit, button("Send it all the same", attempt(() => sendAllTheSame(change))), button("Throw away", () => forget(change), { class: "quiet" })];

@@ -1,13 +1,14 @@
 // One task beside the list: what it says, what can be done with it, its notes, what it waits for and what waits for it.
 import { PRIORITIES, urgencyText } from "./board.js";
+import { endRepeat } from "./becoming.js";
 import { changes } from "./changes.js";
 import { check, isWhole } from "./checking.js";
 import { button, fill, find, make, oneLine, said, span, whenSent } from "./dom.js";
 import { isGone } from "./crew.js";
 import { keepDraft, readDraft } from "./drafts.js";
 import { beginTask, closeEdit, isEditing, openEdit } from "./editing.js";
-import { endRepeat } from "./ending.js";
 import { shown as select } from "./filters.js";
+import { authorOf, lastBy } from "./history.js";
 import { linked } from "./links.js";
 import { inFull, seconds } from "./moments.js";
 import { tellFault } from "./notices.js";
@@ -17,6 +18,8 @@ import { go, listen, state } from "./state.js";
 
 const MOST_CHOICES = 6;
 const MOMENTS = { due: "Due", wait: "Waits until", scheduled: "Scheduled", until: "Until", start: "Started", entry: "Made", modified: "Changed", end: "Ended" };
+// Which deeds of somebody those moments are of.
+const DEEDS = { start: ["start"], entry: ["add"], modified: ["modify"], end: ["done", "delete"] };
 // What is shown elsewhere. Any other member is one of the user's own, and is shown under its name.
 const KNOWN = "uuid description status project priority tags recur annotations depends parent imask mask assignee".split(" ");
 // The uuid of the task that is shown; the task as it was drawn, and what was drawn of others.
@@ -42,12 +45,14 @@ function actions(one) {
     ];
 }
 
+const by = (name) => (name ? ` by ${oneLine(name, 40)}` : "");
+
 function facts(one) {
     const { told } = one;
     const texts = { Assignee: one.assignee && `${one.assignee}${isGone(one.assignee) ? " (no role any more)" : ""}`, Priority: PRIORITIES[one.priority], Project: one.project, Tags: one.tags.map((tag) => `@${tag}`).join(" "), Repeats: one.recur };
     const facts = [
         ...Object.entries(texts).filter(([, text]) => text),
-        ...Object.entries(MOMENTS).filter(([name]) => told[name]).map(([name, label]) => [label, inFull(seconds(told[name]))]),
+        ...Object.entries(MOMENTS).filter(([name]) => told[name]).map(([name, label]) => [label, inFull(seconds(told[name])) + by(lastBy(one.uuid, ...(DEEDS[name] ?? [])))]),
         ...Object.entries(told).filter(([name]) => !(name in MOMENTS) && !KNOWN.includes(name)).map(([name, value]) => [name, String(value)]),
     ];
     const rows = facts.map(([name, text]) => [make("dt", {}, said(name, 60)), make("dd", {}, make("bdi", {}, linked(text)))]);
@@ -58,9 +63,10 @@ function facts(one) {
 
 const remove = (label, change) => button("Remove", () => hold(change), { class: "quiet", "aria-label": label });
 
-function noteRow(one, { description, entry }) {
+function noteRow(one, note) {
+    const { description, entry } = note;
     const away = remove(`Remove the note: ${oneLine(description, 60)}`, changes.denotate(state.number, one, description));
-    return make("li", {}, make("bdi", { class: "long" }, linked(description)), span("about", inFull(seconds(entry)), away));
+    return make("li", {}, make("bdi", { class: "long" }, linked(description)), span("about", inFull(seconds(entry)) + by(authorOf(one.uuid, note)), away));
 }
 
 function taskRow(other, ...beside) {
@@ -158,6 +164,10 @@ export function beginPanel() {
         form.reset();
     });
     for (const news of ["board", "route", "kept"]) listen(news, draw);
+    listen("told", (uuid) => {
+        if (uuid === drawn?.uuid) drawn = null;
+        draw();
+    });
     listen("draft", () => {
         shown = "";
         draw();

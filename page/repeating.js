@@ -10,6 +10,9 @@ import { go, here, listen, state } from "./state.js";
 
 const MARKS = { "-": ["pending", "open"], "+": ["completed", "completed"], X: ["deleted", "deleted"], W: ["waiting", "waiting"] };
 const MOST_CELLS = 60;
+// How long pages wait at most before one of them sweeps a board on which a repeat came due, in milliseconds; and for which boards and dues this
+// one did.
+const PATIENCE = 20000;
 const swept = new Set();
 
 function cell(template, number) {
@@ -32,20 +35,20 @@ function card(template) {
 }
 
 // A template always has an instance that isn't due yet; where the last one is, time has passed since the board was last changed.
-function isBehind(template) {
-    const last = state.board.instances.get(`${template.uuid} ${template.mask.length - 1}`);
-    const isOver = seconds(template.told.until) < now();
-    return !isOver && (template.mask === "" ? template.due <= now() : last?.due !== undefined && last.due <= now());
-}
+const dueNow = () => state.board.templates.map((template) => state.board.dueOfNext(template)).filter((due) => due <= now());
 
 const sweep = () => keep(changes.sweep(state.number)).catch(tellFault);
 
-// A board that lags is swept once by each page that shows it; every accepted change sweeps it too.
+// A board that lags is swept once by each page that shows it, and once more where another repeat comes due: then each page waits a little, so
+// that one of them does it for all. Every accepted change sweeps it too.
 function sweepIfBehind() {
-    if (!swept.has(state.number) && ["owner", "member"].includes(here()?.role) && state.board.templates.some(isBehind)) {
-        swept.add(state.number);
-        sweep();
-    }
+    const dues = ["owner", "member"].includes(here()?.role) ? dueNow() : [];
+    const behind = `${state.number} ${Math.max(...dues)}`;
+    if (dues.length === 0 || swept.has(behind)) return;
+    const isFirst = ![...swept].some((other) => other.startsWith(`${state.number} `));
+    swept.add(behind);
+    if (isFirst) sweep();
+    else setTimeout(() => state.board && `${state.number} ${Math.max(...dueNow())}` === behind && sweep(), PATIENCE * Math.random());
 }
 
 function draw() {
@@ -65,6 +68,9 @@ export function beginRepeating() {
         keep(changes.ahead(state.number, Number(find("ahead").value))).catch(tellFault);
         form.reset();
     });
-    listen("board", (isNew) => isNew && [sweepIfBehind, draw].forEach((part) => part()));
+    listen("board", (isNew) => {
+        sweepIfBehind();
+        if (isNew) draw();
+    });
     listen("route", draw);
 }

@@ -1,6 +1,7 @@
 // What becomes of a change on this device once it is answered, and whether one that waited over a broken line may still be sent.
 import { look, NoAnswer } from "./asking.js";
 import { descriptionAt } from "./cutting.js";
+import { lookAtDeedsOf, sets } from "./deeds.js";
 
 // How a task looks after each action: where it looks so already, somebody else did the same before.
 const AFTER = {
@@ -14,8 +15,10 @@ const AFTER = {
 const actionOf = (change) => change.path.split("/").at(-1);
 const taskOf = async (who, change) => JSON.parse(await look(who, `/boards/${change.board}/tasks/${change.task}`));
 
-// Who else can have done it: a name where only one other person may change the board.
-async function anotherOn(who, board) {
+// Who did something to a task last, of those deeds that count; where the server has no history, the only other person who may change the board.
+async function lastOf(who, { board, task }, counts) {
+    const told = await lookAtDeedsOf(who, board, task);
+    if (told) return told.entries.findLast(counts)?.member ?? "";
     const { people } = JSON.parse(await look(who, `/boards/${board}/people`));
     const others = people.filter(({ name, role }) => name !== who.name && role !== "reader");
     return others.length === 1 ? others[0].name : "";
@@ -23,10 +26,10 @@ async function anotherOn(who, board) {
 
 // Where a refused action has happened all the same: who did it, where that is known. Nothing where it hasn't.
 async function doneBefore(who, change, body) {
-    const isSo = AFTER[actionOf(change)];
-    if (body.name !== "WrongStatus" || !isSo) return null;
+    const action = actionOf(change);
+    if (body.name !== "WrongStatus" || !AFTER[action]) return null;
     try {
-        return isSo(await taskOf(who, change)) ? { by: await anotherOn(who, change.board) } : null;
+        return AFTER[action](await taskOf(who, change)) ? { by: await lastOf(who, change, ({ what }) => what === action) } : null;
     } catch {
         return null;
     }
@@ -49,12 +52,13 @@ const isSame = (one, other) => JSON.stringify(one ?? null) === JSON.stringify(ot
 // effect is no such news, since it may have acted with its answer lost.
 export async function doubtAbout(who, change) {
     if (!change.task || change.adds) return null;
+    const whoSet = (name) => lastOf(who, change, sets(name));
     try {
         const now = await taskOf(who, change);
         const edits = change.base ? JSON.parse(change.body) : {};
-        if (![...change.known, edits.description].includes(now.description)) return { name: "description", was: change.subject, is: now.description };
+        if (![...change.known, edits.description].includes(now.description)) return { name: "description", was: change.subject, is: now.description, by: await whoSet("description") };
         const name = Object.keys(edits).find((name) => !isSame(now[name], change.base[name]) && !isSame(now[name], edits[name]));
-        return name ? { name, was: change.base[name], is: now[name] ?? null } : null;
+        return name ? { name, was: change.base[name], is: now[name] ?? null, by: await whoSet(name) } : null;
     } catch (fault) {
         if (fault instanceof NoAnswer) throw fault;
         return null; // It is refused when it is sent.

@@ -2,7 +2,7 @@
 // it draws.
 import { editDrafts, keepDraft, readDraft } from "./drafts.js";
 
-export const VIEWS = ["day", "tasks", "repeating", "people", "files"];
+export const VIEWS = ["day", "tasks", "repeating", "people", "files", "history"];
 // What a board's tasks are filtered, sorted and grouped by, and whether they stand in columns. Each stands in the address under its name.
 const WHOLE = { text: "", status: "open", assignee: "", due: "", project: "", tag: "", sort: "urgency", group: "", as: "list" };
 
@@ -22,8 +22,8 @@ export const state = {
 export const here = () => state.boards.find((known) => known.board === state.number);
 
 // "signed" in, "boards" and "board" (they came), "people" (of the board; they came), "route" (another view), "filter" (another one), "picked"
-// (rows, to change several at once), "kept" (changes are held or were settled), "answered" (with the change, the status and the body),
-// "reach" (the server is there or not), "unknown" (it doesn't know who is signed in), "rekeyed" (whoever is signed in has another key), "tick" (15 s are over), "draft" (a form has a draft
+// (rows, to change several at once), "deeds" (what the history of the board tells anew), "told" (that of the open task, by its uuid), "kept" (changes are held or were settled), "answered" (with the change, the status and the body),
+// "reach" (the server is there or not), "unknown" (it doesn't know who is signed in), "rekeyed" (whoever is signed in has another key), "tick" (15 s are over in sight), "draft" (a form has a draft
 // from elsewhere), "left" (with the name of who signs out).
 const news = new EventTarget();
 export const announce = (name, detail) => news.dispatchEvent(new CustomEvent(name, { detail }));

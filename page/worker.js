@@ -3,7 +3,7 @@
 //
 // A browser asks for the worker at each start, and installs it anew where a byte of it differs. The next line, made by tests/page_content.py,
 // differs with every other file, so a new version is found at the next start, also where its files are as long as before.
-// Content of the other files: ce9b7abb0103d0442621ddcd2749d7ba969aba45c3f188cf61d2e2f62ae01859
+// Content of the other files: 697284fa63265d0ab91d56ef42c8fbe0e226fc78b89aae18c93748289840b0b7
 
 const VERSION = "taskboard ";
 const FILE = /^\/(?:[a-z0-9_.-]+\.(?:html|css|js|svg|png|ico))?$/;

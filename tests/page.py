@@ -17,6 +17,7 @@ import page_day
 import page_days
 import page_everywhere
 import page_files
+import page_history
 import page_judging
 import page_keys
 import page_several
@@ -405,7 +406,7 @@ def last_steps(office):
     browser = office.browser
     browser.click("#sign-out")
     browser.wait("return document.getElementById('sign-in-form').offsetParent")
-    expect("what is kept but filters", [[], []], browser.run("return [sessionStorage, localStorage].map((place) => Object.keys(place).filter((key) => !key.endsWith(' filters')))"))
+    expect("what is kept but filters", [[], []], browser.run("return [sessionStorage, localStorage].map((place) => Object.keys(place).filter((key) => !/ (filters|looked)$/.test(key)))"))
     kept = browser.run("return JSON.stringify({ ...localStorage })")
     expect("the key, and what was searched for", [False, False], [KEYS["ann"] in kept, "text=" in kept])
     told = [message for message in browser.messages() if "Failed to load resource" not in message]
@@ -423,6 +424,7 @@ SCENES = (
     *page_words.SCENES,
     *page_days.SCENES,
     *page_keys.SCENES,
+    *page_history.SCENES,
     *(large_board, last_steps),
 )
 
@@ -431,6 +433,8 @@ def play(office):
     chosen = os.environ.get("SCENES", "").split(",")
     for scene in SCENES:
         if scene.__name__ not in chosen and chosen != [""]:
+            continue
+        if scene in page_history.SCENES and not page_history.has_history():
             continue
         begun = time.monotonic()
         scene(office)

@@ -7,6 +7,7 @@ import time
 
 import page_content
 from office import ALL_ANSWERED, ENTER, ESCAPE, IS_LISTED, IS_TOLD, KEYS, PAGE, SHOTS, TAB, add, ask, descriptions, expect, know, new_board, tasks, tell
+from page_history import CLOCK, PASS, without_history
 
 # The names of what the worker keeps, and the paths of the files in it.
 KEPT = """return caches.keys().then(async (names) => {
@@ -287,25 +288,27 @@ def on_a_phone(office):
 
 
 def asked_seldom(office):
-    """The board is asked for every 15 s while someone acts, and every 60 s while nobody does. Time is made to pass."""
+    """Where the server has no history the board is asked for every 15 s while someone acts, and every 60 s while nobody does. Time is made to
+    pass."""
     browser, board = office.browser, new_board("Seldom")
+    end_without = without_history(browser)
     office.begin(board)
-    browser.run("const real = performance.now.bind(performance); window.ahead = 0; performance.now = () => real() + window.ahead")
-    pass_time = "window.ahead += 1000 * arguments[0]; if (arguments[1]) dispatchEvent(new Event('pointermove'))"
+    browser.run(CLOCK)
 
     def times_asked():
         return office.relay.asked.count(("GET", f"/boards/{board}/export"))
 
     for seconds, acts in ((16, True), (16, True), (61, False), (61, False)):
         before, end = times_asked(), time.monotonic() + browser.patience
-        browser.run(pass_time, seconds, acts)
+        browser.run(PASS, seconds, acts)
         while times_asked() == before and time.monotonic() < end:
             time.sleep(0.05)
         expect(f"asked after {seconds} s", True, times_asked() > before)
     before = times_asked()
-    browser.run(pass_time, 16, False)
+    browser.run(PASS, 16, False)
     time.sleep(2.5)
     expect("asked after 16 s in which nobody acts", before, times_asked())
+    end_without()
 
 
 SCENES = (asked_seldom, without_a_line, newer_version, by_keys, keeps_its_button, on_paper, on_a_phone, for_readers, on_no_board)

@@ -1,0 +1,232 @@
+"""Scenes of the page's history: who did what and when, what others did meanwhile, what two changed at once, and how seldom the board is asked for."""
+import datetime
+import json
+import time
+import urllib.error
+
+from office import ALL_ANSWERED, ENTER, IS_LISTED, IS_TOLD, KEYS, add, ask, expect, new_board, tell
+from page_words import beside, heal, one_of, open_edit, open_task, press, type_into
+from relay import LOSES_POSTS
+
+KEYS["cleo"] = "cleo-key-1"
+IS_SHOWN = "return Boolean(document.getElementById(arguments[0])?.checkVisibility())"
+# What was done, a line each, without its moment.
+DEEDS = "return [...document.querySelectorAll(`${arguments[0]} .deed`)].map((row) => row.firstChild.innerText)"
+ARE_DEEDS = DEEDS.replace("return", "return JSON.stringify(", 1) + ") === JSON.stringify(arguments[1])"
+CHOOSE = "const select = document.getElementById(arguments[0]); select.value = arguments[1]; select.dispatchEvent(new Event('input'))"
+# From here on the page's clock for pauses is ahead by so many seconds.
+CLOCK = "const real = performance.now.bind(performance); window.ahead = 0; performance.now = () => real() + window.ahead"
+PASS = "window.ahead += 1000 * arguments[0]; if (arguments[1]) dispatchEvent(new Event('pointermove'))"
+# A server of before answers so for the history's views.
+WITHOUT = """const asked = window.fetch;
+window.fetch = (path, ...rest) => (/\\/history(\\/|$)/.test(path) ? Promise.resolve(new Response('{"name":"NoRoute"}', { status: 404 })) : asked(path, ...rest));"""
+
+
+def has_history():
+    """Whether the server has a history: a board that nobody has is no board then, and else its history is no view."""
+    try:
+        ask("/boards/4000000000/history")
+    except urllib.error.HTTPError as refused:
+        return json.load(refused)["name"] != "NoRoute"
+
+
+def without_history(browser):
+    """From the next page on the server seems to be one of before. What ends that."""
+    made = browser.tell("Page.addScriptToEvaluateOnNewDocument", source=WITHOUT)
+    return lambda: browser.tell("Page.removeScriptToEvaluateOnNewDocument", **made)
+
+
+def at(ahead):
+    """A moment so many seconds from now."""
+    return f"{datetime.datetime.now(datetime.timezone.utc) + datetime.timedelta(seconds=ahead):%Y%m%dT%H%M%SZ}"
+
+
+def times_asked(office, path):
+    return office.relay.asked.count(("GET", path))
+
+
+def of_task(office):
+    """A task's panel shows who did what, from what to what, who wrote a note and who ended it; also what happens while it is open."""
+    browser, board = office.browser, new_board("Of a task", bob="member")
+    office.begin(board)
+    browser.type("#add-line", "Buy paint due:2026-12-01" + ENTER)
+    browser.wait(IS_LISTED, "Buy paint")
+    browser.wait(ALL_ANSWERED)
+    [task] = json.loads(ask(f"/boards/{board}/export"))
+    path = f"/boards/{board}/tasks/{task['uuid']}"
+    tell(f"{path}/modify", "bob", due="20261203T000000Z", priority="H", tags=["shop"])
+    tell(f"{path}/annotate", "bob", description="The green one")
+    open_task(office, board, task["uuid"])
+    told = ["bob added the note The green one", "bob changed the due date from 1 Dec 2026 to 3 Dec 2026; set the priority to high; tagged it @shop", "You added it"]
+    browser.wait(ARE_DEEDS, "#task-history", told)
+    browser.wait("return document.getElementById('task-notes').textContent.includes('by bob')")
+    for name, by in (("Made", "ann"), ("Changed", "bob")):
+        browser.wait("return document.getElementById('task-facts').innerText.match(`${arguments[0]}\\\\s[^\\n]* by ${arguments[1]}`)", name, by)
+    tell(f"{path}/done", "bob")
+    browser.wait(ARE_DEEDS, "#task-history", ["bob completed it", *told])
+    browser.wait("return document.getElementById('task-facts').innerText.match(/Ended\\s[^\\n]* by bob/)")
+    office.shot("task-history")
+    other = add(board, description="Wash the brush")
+    tell(f"{path}/reopen")
+    tell(f"{path}/depend", on=other)
+    tell(f"{path}/modify", "bob", due=None, own="x" * 5000)
+    tell(f"{path}/modify", "bob", due="20261204T000000Z")
+    browser.wait(ARE_DEEDS, "#task-history", ["bob set the due date to 4 Dec 2026", "bob changed it", "You made it wait for Wash the brush", "You reopened it", "bob completed it"])
+    press(browser, "Show all 8", "#task-history")
+    browser.wait("return document.querySelectorAll('#task-history .deed').length === 8")
+
+
+def of_board(office):
+    """A board's history: filters by person and word, and older entries by their numbers."""
+    browser, board = office.browser, new_board("Of a board", bob="member")
+    first = add(board, description="First of all")
+    for number in range(118):
+        tell(f"/boards/{board}/tasks/{first}/annotate", ["ann", "bob"][number % 2], description=f"Note {number}")
+    tell(f"/boards/{board}/title", title="Of the board")
+    tell(f"/boards/{board}/tasks/{first}/done", "bob")
+    office.begin(board)
+    browser.wait(IS_SHOWN, "to-history")
+    browser.click("#to-history")
+    browser.wait("return document.querySelectorAll('#history-list .deed').length === 100")
+    expect("the last ones", ["bob completed First of all", "You renamed the board to Of the board", "bob added the note Note 117: First of all"], browser.run(DEEDS, "#history-list")[:3])
+    office.shot("history")
+    browser.wait(IS_TOLD, "100 of 122 changes, looked at down to number 23")
+    press(browser, "Show older ones, from 1 on", "#history-view")
+    browser.wait("return document.querySelectorAll('#history-list .deed').length === 122")
+    expect("the first ones", ["You added First of all", "You gave the role member to bob"], browser.run(DEEDS, "#history-list")[-2:])
+    expect("older ones than all", False, browser.run(IS_SHOWN, "history-older"))
+    browser.run(CHOOSE, "history-person", "bob")
+    browser.wait(IS_TOLD, "60 of 122 changes")
+    browser.run(CHOOSE, "history-what", "done")
+    browser.wait(ARE_DEEDS, "#history-list", ["bob completed First of all"])
+    browser.run(CHOOSE, "history-what", "import")
+    browser.wait(IS_TOLD, "Nothing is so.")
+    browser.run(CHOOSE, "history-what", "")
+    tell(f"/boards/{board}/tasks/{first}/reopen", "bob")
+    browser.wait(IS_TOLD, "61 of 123 changes")
+    browser.run("document.querySelector('#history-list .link').click()")
+    browser.wait("return document.getElementById('task-text').textContent === 'First of all'")
+    browser.click("#close-panel")
+
+
+def since_looked(office):
+    """Who comes back is told how many changes others made, and sees them in the history; once read they aren't told again."""
+    browser, board = office.browser, new_board("Since", bob="member", cleo="member")
+    task = add(board, description="Paint the fence")
+    office.begin(board)
+    browser.wait(IS_LISTED, "Paint the fence")
+    browser.wait(IS_SHOWN, "to-history")
+    expect("told of one's own", False, browser.run(IS_SHOWN, "news"))
+    browser.open("about:blank")
+    tell(f"/boards/{board}/tasks/{task}/start", "bob")
+    tell(f"/boards/{board}/tasks", "bob", description="Of bob")
+    office.begin(board)
+    browser.wait(IS_TOLD, "2 changes by bob since you looked")
+    office.shot("since")
+    tell(f"/boards/{board}/tasks/{task}/done", "cleo")
+    browser.wait(IS_TOLD, "2 changes by bob, 1 by cleo since you looked")
+    press(browser, "Show what was done", "#news")
+    browser.wait("return document.querySelectorAll('#history-list .deed.new').length === 3")
+    expect("told once it is shown", False, browser.run(IS_SHOWN, "news"))
+    office.begin(board)
+    browser.wait(IS_SHOWN, "to-history")
+    expect("told again", False, browser.run(IS_SHOWN, "news"))
+    browser.run(PASS.replace("window.ahead += 1000 * arguments[0]; ", ""), 0, True)
+    tell(f"/boards/{board}/tasks/{task}/reopen", "bob")
+    browser.wait(IS_LISTED, "Paint the fence")
+    expect("told of what came before one's eyes", False, browser.run(IS_SHOWN, "news"))
+
+
+def at_once(office):
+    """Two people change one description at once: who wrote first sees both texts, and takes theirs back."""
+    browser, board = office.browser, new_board("At once", bob="member")
+    task = add(board, description="Buy paint", entry="20260101T000000Z")
+    office.begin(board)
+    open_edit(office, board, task, "Buy paint")
+    type_into(browser, "#edit-fields textarea", "Buy green paint")
+    press(browser, "Save", "#edit-form")
+    browser.wait("return !document.getElementById('edit-form').offsetParent")
+    browser.wait(ALL_ANSWERED)
+    tell(f"/boards/{board}/tasks/{task}/modify", "bob", description="Buy red paint")
+    browser.wait(IS_TOLD, "You and bob changed Buy red paint at once.")
+    browser.wait("return document.querySelector('#task-history .once')?.textContent.startsWith('You had set the description to Buy green paint')")
+    office.shot("at-once")
+    press(browser, "Take theirs back", "#overlaps")
+    browser.wait(ALL_ANSWERED)
+    browser.wait("return document.getElementById('task-text').textContent === 'Buy green paint'")
+    expect("after it is taken back", "Buy green paint", one_of(board, task)["description"])
+    expect("told after that", 0, browser.run("return document.querySelectorAll('#overlaps li').length"))
+
+
+def named(office):
+    """Of three people who may change a board the one who completed a task first is named, and so is whoever changed a field."""
+    browser, relay = office.browser, office.relay
+    board = new_board("Named", bob="member", cleo="member")
+    bins, roof = add(board, description="Take the bins out"), add(board, description="Fix the roof")
+    office.begin(board)
+    open_edit(office, board, roof, "Fix the roof")
+    type_into(browser, "#edit-fields textarea", "Fix the whole roof")
+    tell(f"/boards/{board}/tasks/{roof}/modify", "cleo", description="Fix half the roof")
+    press(browser, "Save", "#edit-form")
+    browser.wait(IS_TOLD, "The description was changed by cleo meanwhile. Choose one:")
+    browser.click("#cancel-edit")
+    browser.click("#close-panel")
+    relay.break_off(LOSES_POSTS)
+    browser.run("[...document.querySelectorAll('#list .row')].find((row) => row.textContent.includes('bins')).querySelector('.tick').click()")
+    browser.wait(IS_TOLD, "1 change isn't answered yet")
+    tell(f"/boards/{board}/tasks/{bins}/done", "cleo")
+    heal(office)
+    browser.wait(IS_TOLD, "cleo had completed Take the bins out already.")
+    press(browser, "Dismiss", "#notices .already")
+
+
+def asked_little(office):
+    """The history is asked every 3 s in sight, and the board only where something has happened, or a wait is over; a hidden page asks every 60 s."""
+    browser, board = office.browser, new_board("Little", bob="member")
+    task = add(board, description="Paint the fence")
+    office.begin(board)
+    browser.wait(IS_SHOWN, "to-history")
+    export = f"/boards/{board}/export"
+    last = json.loads(ask(f"/boards/{board}/history"))["last"]
+    before = times_asked(office, export)
+    end = time.monotonic() + 12
+    while times_asked(office, f"/boards/{board}/history/{last + 1}") < 3 and time.monotonic() < end:
+        time.sleep(0.1)
+    expect("asked for what is next, at least", 3, min(3, times_asked(office, f"/boards/{board}/history/{last + 1}")))
+    expect("the board, while nothing happens", before, times_asked(office, export))
+    tell(f"/boards/{board}/tasks/{task}/modify", "bob", description="Paint the long fence")
+    browser.wait(IS_LISTED, "Paint the long fence")
+    expect("the board, once something happened", before + 1, times_asked(office, export))
+    browser.run("document.querySelector('#list .tick').click()")
+    browser.wait(ALL_ANSWERED)
+    browser.wait("return document.getElementById('count').textContent.startsWith('0 of')")
+    number = last + 3
+    browser.run(CLOCK)
+    while not times_asked(office, f"/boards/{board}/history/{number}"):
+        browser.run(PASS, 1, True)
+        time.sleep(0.2)
+    expect("the board, after one's own change", before + 2, times_asked(office, export))
+    tell(f"/boards/{board}/tasks/{task}/reopen")
+    tell(f"/boards/{board}/tasks/{task}/modify", wait=at(5))
+    browser.wait("return document.querySelector('#list .chip.waiting')")
+    browser.wait("return document.querySelector('#list .row') && !document.querySelector('#list .chip.waiting')")
+
+
+def before_history(office):
+    """With a server that has no history all is as before: no view of it, no part of a task's, and the board is asked for by the clock."""
+    browser, board = office.browser, new_board("Before")
+    end = without_history(browser)
+    task = add(board, description="Paint the fence")
+    office.begin(board)
+    open_task(office, board, task)
+    browser.wait("return document.getElementById('task-facts').textContent.includes('Made')")
+    expect("shown", [False] * 3, [browser.run(IS_SHOWN, name) for name in ("to-history", "history-part", "news")])
+    browser.click("#close-panel")
+    add(board, description="From elsewhere")
+    browser.run(CLOCK)
+    browser.run(PASS, 16, True)
+    browser.wait(IS_LISTED, "From elsewhere")
+    end()
+
+
+SCENES = (of_task, of_board, since_looked, at_once, named, asked_little, before_history)
