@@ -1,9 +1,9 @@
 // Opens the form of a change that was refused, or that asks before it is sent, as it was filled: so it can be mended and sent under a new
 // identifier.
-import { isOwnKey } from "./changes.js";
+import { changes, isOwnKey } from "./changes.js";
 import { keepDraft, readDraft } from "./drafts.js";
 import { find } from "./dom.js";
-import { bodyOf, forget } from "./sending.js";
+import { bodyOf, forget, keep } from "./sending.js";
 import { announce, go, state } from "./state.js";
 
 // What has the focus in a form without a task of its own, or beside one; the form that changes a task takes it itself.
@@ -53,10 +53,23 @@ const actionOf = (change) => change.path.split("/").at(-1);
 const withForm = ({ behind = [], ...change }) => [change, ...behind].find((one) => one.form);
 const isOn = ({ board }) => board === 0 || state.boards.some((known) => known.board === board && known.role !== "reader");
 
-// Which way there is for a change: its form, for whoever may change the board still, or sending it as it is where it has none.
+// Whether something is left of an import of which a part was refused. A full board takes none of it.
+const hasRest = ({ answer, body, behind }) => answer?.name !== "Full" && Boolean(body || behind?.length);
+
+// Which way there is for a change: its form, for whoever may change the board still; the rest of an import; or sending it as it is where it has
+// no form.
 export function wayOf(change) {
     const one = withForm(change);
-    return one ? (isOn(one) ? "form" : "none") : change.reports ? "none" : "as it is";
+    if (one) return isOn(one) ? "form" : "none";
+    if (change.reports) return isOn(change) && hasRest(change) ? "rest" : "none";
+    return "as it is";
+}
+
+// Sends what is left of an import: the part without the task that was refused, where that is known, and the parts after it.
+export async function sendRest(change) {
+    const parts = [change, ...change.behind].filter(({ body }) => body);
+    await keep(...parts.map(({ board, path, body, subject, file, parts, losses }) => ({ ...changes.part(board, path.split("/").at(-1), body, subject), file, parts, losses })));
+    await forget(change);
 }
 
 export async function openAgain(change) {

@@ -85,8 +85,16 @@ export const listOf = (part) => `[${part.join(",\n")}]`;
 export const linesOf = (part) => `${part.join("\n")}\n`;
 export const cutTasks = (texts) => cut(inOrder(texts.map((text) => ({ text }))).map(({ text }) => text)).map(listOf);
 
-// The description of one task of a part, to name the one that was refused.
-export const descriptionAt = (text, at) => String(read(objectTexts(text).texts[at]).description ?? "");
+const isOfLines = (path) => path.endsWith("import-todo");
+const textsIn = (path, body) => (isOfLines(path) ? body.split("\n").filter((line) => !/^[ \t]*$/.test(line)) : objectTexts(body).texts);
+
+// Of a part whose task at that place was refused: what names that task, and the part without it; empty where it has no other.
+export function withoutOne(path, body, at) {
+    const texts = textsIn(path, body);
+    const others = texts.filter((_, place) => place !== at);
+    const culprit = isOfLines(path) ? texts[at] ?? "" : String(read(texts[at]).description ?? "");
+    return { culprit, rest: others.length === 0 ? "" : (isOfLines(path) ? linesOf : listOf)(others) };
+}
 
 // Which nodes of a graph stand in a circle of its links, by Tarjan's strongly connected components.
 export function inCircles(ids, linksOf) {

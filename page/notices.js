@@ -1,5 +1,5 @@
 // What the page tells: whether all is answered, what isn't yet, what was refused and why, what an import did, and a way back.
-import { openAgain, textsOf, wayOf } from "./again.js";
+import { openAgain, sendRest, textsOf, wayOf } from "./again.js";
 import { NoAnswer } from "./asking.js";
 import { changes, isOwnKey, reason } from "./changes.js";
 import { button, counted, fill, find, make, said, span, tasksTold } from "./dom.js";
@@ -66,19 +66,21 @@ const attempt = (act) => () => Promise.resolve(act()).catch(tellFault);
 
 // A refused change keeps its text until its sender throws it away.
 function refusal(change) {
-    const parts = "The parts behind it weren't sent. Mend the file, and import it again: tasks that are there already stay as they are.";
+    const way = wayOf(change);
+    const parts = `${change.takenBack ? "The parts after it weren't sent. " : ""}${way === "rest" ? "Import the rest, or mend" : "Mend"} the file, and import it again: tasks that are there already stay as they are.`;
     const texts = change.reports ? [] : textsOf(change);
     const told = [
         make("p", {}, make("strong", {}, "Refused: "), about(change)),
         make("p", {}, reason(change)),
         change.culprit ? make("p", {}, "It is the task ", quoted(change.culprit), ".") : "",
-        change.takenBack ? make("p", {}, change.reports ? parts : "What belonged to it wasn't sent.") : "",
+        change.reports ? make("p", {}, parts) : change.takenBack ? make("p", {}, "What belonged to it wasn't sent.") : "",
         texts.length ? make("details", {}, make("summary", {}, "What was to be sent"), texts.map((text) => make("p", { class: "long" }, make("bdi", {}, text)))) : "",
     ];
-    const ways = { form: ["Edit and send again", () => openAgain(change)], "as it is": ["Send again", () => sendAgain(change)] };
-    const [label, act] = ways[wayOf(change)] ?? [];
+    const rest = change.body ? "Import the rest without it" : "Import the parts after it";
+    const ways = { form: ["Edit and send again", () => openAgain(change)], "as it is": ["Send again", () => sendAgain(change)], rest: [rest, () => sendRest(change)] };
+    const [label, act] = ways[way] ?? [];
     const again = label ? button(label, attempt(act)) : "";
-    const away = button(texts.length ? "Throw away" : "Dismiss", () => forget(change), { class: "quiet" });
+    const away = button(texts.length || way === "rest" ? "Throw away" : "Dismiss", () => forget(change), { class: "quiet" });
     return make("li", { class: "notice refused" }, make("div", {}, told), buttons(again, away));
 }
 

@@ -1,6 +1,6 @@
 // What becomes of a change on this device once it is answered, and whether one that waited over a broken line may still be sent.
 import { look, NoAnswer } from "./asking.js";
-import { descriptionAt } from "./cutting.js";
+import { withoutOne } from "./cutting.js";
 import { lookAtDeedsOf, sets } from "./deeds.js";
 
 // How a task looks after each action: where it looks so already, somebody else did the same before.
@@ -36,14 +36,15 @@ async function doneBefore(who, change, body) {
 }
 
 // What is set of a change that was answered, which is told until it is read; nothing where all is said. A refused one keeps its text, and
-// those of its group that were to follow it; the file of an import is there still.
+// those of its group that were to follow it; a part of an import keeps what is left without the task that was refused.
 export async function afterAnswer(who, change, { status, body }, behind) {
     if (status === 200) return change.reports ? { state: "done", body: "", answer: body } : null;
     const before = await doneBefore(who, change, body);
     if (before) return { ...before, state: "already" };
-    const culprit = change.reports && body.at !== undefined ? descriptionAt(change.body, body.at) : "";
-    const file = change.reports ? { body: "", behind: [] } : { behind };
-    return { ...file, state: "refused", answer: body, culprit, takenBack: behind.length };
+    const refused = { state: "refused", answer: body, behind, takenBack: behind.length };
+    if (!change.reports) return refused;
+    const { culprit, rest } = body.at === undefined ? { culprit: "", rest: "" } : withoutOne(change.path, change.body, body.at);
+    return { ...refused, culprit, body: rest };
 }
 
 const isSame = (one, other) => JSON.stringify(one ?? null) === JSON.stringify(other ?? null);

@@ -1,6 +1,10 @@
 // Begins the page, and has the worker keep its files on this device. A browser has workers on https and on the loopback alone; elsewhere the
 // page comes from the server each time. This file needs no other one, so that it can say where one doesn't come.
 const HOUR = 3600000;
+// How often a page that stays open asks whether the server has another version, in milliseconds: by the worker's file alone, which says what
+// the others contain.
+const OFTEN = 300000;
+const LEAST = 5000;
 // How often the page was loaded anew in a row since a file of it didn't come, and how often it is at most.
 const TRIES = "taskboard.tries";
 const MOST_TRIES = 3;
@@ -16,6 +20,15 @@ function loadAnew(fault) {
     reportError(fault);
 }
 
+function askOften(registration) {
+    let last = performance.now();
+    setInterval(() => {
+        if (document.hidden || performance.now() - last < OFTEN) return;
+        last = performance.now();
+        registration.update().catch(() => {});
+    }, LEAST);
+}
+
 export async function beginOffline() {
     const { serviceWorker } = navigator;
     if (!serviceWorker) return;
@@ -25,7 +38,7 @@ export async function beginOffline() {
     find("load-renewed").addEventListener("click", () => location.reload());
     try {
         const known = await serviceWorker.getRegistration();
-        await serviceWorker.register("worker.js");
+        askOften(await serviceWorker.register("worker.js"));
         const compare = async (kind) => (await serviceWorker.ready).active.postMessage(kind);
         if (known) compare(isPast ? "whole" : "marks");
         setInterval(() => document.hidden || compare("marks"), HOUR);

@@ -1,9 +1,10 @@
 // Keeps the page's own files on the device: it opens without a line, and doesn't load them at each start. All files that are kept are of one
 // version, which is named by their content. The worker answers for these files alone; what is asked of the boards never comes by here.
 //
-// A browser asks for the worker at each start, and installs it anew where a byte of it differs. The next line, made by tests/page_content.py,
-// differs with every other file, so a new version is found at the next start, also where its files are as long as before.
-// Content of the other files: 697284fa63265d0ab91d56ef42c8fbe0e226fc78b89aae18c93748289840b0b7
+// A browser asks for the worker at each start, and a page that stays open every few minutes; it is installed anew where a byte of it differs. The
+// next line, made by tests/page_content.py, differs with every other file, so a new version is found then, also where its files are as long as
+// before.
+// Content of the other files: 5b2b253514566428aeaa32e51ea0eeec461e9497fc4f79e87c66345fafe68114
 
 const VERSION = "taskboard ";
 const FILE = /^\/(?:[a-z0-9_.-]+\.(?:html|css|js|svg|png|ico))?$/;

@@ -93,7 +93,8 @@ def newer_version(office):
 
 
 def as_long_as_before(office, board):
-    """A version whose files are as long as before, so that nothing but their content tells of it, is found at the next start too."""
+    """A version whose files are as long as before, so that nothing but their content tells of it, is found at the next start too, and within
+    minutes by a page that stays open."""
     browser = office.browser
     office.page = "page-as-long"
     shutil.copytree(PAGE, office.page)
@@ -108,6 +109,16 @@ def as_long_as_before(office, board):
         office.begin(board)
         wanted = "Add a task" if page == PAGE else "Put a task"
         expect("the version after the next start", wanted, browser.run("return document.getElementById('add-line').placeholder"))
+    browser.run(CLOCK)
+    office.page = "page-as-long"
+    office.restart()
+    browser.run(PASS, 301, True)
+    browser.wait(IS_SHOWN, "#renewed")
+    office.page = PAGE
+    office.restart()
+    office.begin(board)
+    browser.wait(IS_SHOWN, "#renewed")
+    office.begin(board)
 
 
 def by_keys(office):

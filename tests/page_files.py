@@ -205,4 +205,33 @@ def template_that_waits(office):
     office.go(board)
 
 
-SCENES = (made_to_repeat, full_board, the_rest, places_of_instances, template_that_waits, lost_in_export)
+# Has the server refuse each part with such a task in it, for a reason that the page doesn't know.
+REFUSES = """const real = window.fetch;
+window.fetch = (path, settings) => {
+    const at = path.endsWith("/import") ? JSON.parse(settings.body).findIndex((task) => task.description === arguments[0]) : -1;
+    return at < 0 ? real(path, settings) : Promise.resolve(new Response(JSON.stringify({ at, field: "BadText", name: "BadTask", refused: 8 }), { status: 422 }));
+}"""
+
+
+def rest_of_a_part(office):
+    """Of an import of which the server refuses a task the rest is offered: its part without that task, and the parts after it."""
+    browser, board = office.browser, new_board("Rest of a part")
+    sent = [{"uuid": f"00000000-0000-4000-b000-{at:012d}", "description": f"Number {at}", "status": "pending", "entry": "20260101T000000Z"} for at in range(2300)]
+    office.begin(board)
+    office.go(board, "files")
+    browser.run(REFUSES.replace("arguments[0]", json.dumps("Number 1400")))
+    choose_file(browser, "parts.json", json.dumps(sent))
+    browser.click("#import-send")
+    browser.wait(IS_TOLD, "It is the task Number 1400.")
+    browser.wait(IS_TOLD, "The parts after it weren't sent.")
+    expect("before it is sent on", 1000, len(tasks(board)))
+    office.begin(board)
+    browser.run("[...document.querySelectorAll('#notices button')].find((button) => button.textContent === 'Import the rest without it').click()")
+    browser.wait(IS_TOLD, "(2 of 3 parts): 1,299 new; 0 known already")
+    browser.wait(ALL_ANSWERED)
+    expect("tasks of it", sorted(task["uuid"] for task in sent if task["description"] != "Number 1400"), sorted(task["uuid"] for task in tasks(board)))
+    browser.run("document.querySelectorAll('#notices button').forEach((button) => button.click())")
+    browser.wait("return document.querySelectorAll('#notices li').length === 0")
+
+
+SCENES = (made_to_repeat, rest_of_a_part, full_board, the_rest, places_of_instances, template_that_waits, lost_in_export)
