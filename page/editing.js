@@ -5,7 +5,7 @@ import { changes } from "./changes.js";
 import { isWhole } from "./checking.js";
 import { labelOf, lookAtDeedsOf, sets, worded } from "./deeds.js";
 import { keepDraft, readDraft } from "./drafts.js";
-import { fill, find, make, said, whenSent } from "./dom.js";
+import { fill, find, make, whenSent } from "./dom.js";
 import { Fields } from "./fields.js";
 import { lookAgain } from "./fresh.js";
 import { tellFault } from "./notices.js";
@@ -100,14 +100,14 @@ async function freshest(task) {
 // Who set a field of the task last, where the server tells that.
 async function settersOf(task) {
     const told = await lookAtDeedsOf(state.who, state.number, task.uuid, PATIENCE).catch(() => null);
-    return (name) => said(told?.entries.findLast(sets(name))?.member ?? "someone else", 40);
+    return (name) => told?.entries.findLast(sets(name))?.member ?? "someone else";
 }
 
 // Both texts beside each other; the one that is chosen is what Save goes on with.
 function choice(name, mine, theirs, by) {
     const option = (value, label, text) =>
         make("label", { class: "side" }, make("span", {}, make("input", { type: "radio", name: `side-${name}`, value, required: true }), ` ${label}`), make("bdi", { class: "long" }, worded(name, text)));
-    return make("fieldset", { class: "conflict", "data-name": name }, make("legend", {}, `T${labelOf(name).slice(1)} was changed by `, by, " meanwhile. Choose one:"), option("mine", "Yours", mine), option("theirs", "Theirs", theirs));
+    return make("fieldset", { class: "conflict", "data-name": name }, make("legend", {}, `T${labelOf(name).slice(1)} was changed by ${by} meanwhile. Choose one:`), option("mine", "Yours", mine), option("theirs", "Theirs", theirs));
 }
 
 // Takes the choices that were made into the form: from here on the freshest task is what was changed.
