@@ -1,5 +1,6 @@
 // Who did what, and when: the view of a board's history, what happened to the open task, what others did since its reader looked last, and
 // what two people changed at once. Where the server has no history none of it is shown.
+import { NoAnswer } from "./asking.js";
 import { changes } from "./changes.js";
 import { names } from "./crew.js";
 import { deedsIn, hasHistory, isHistoryKnown, labelOf, lookAtDeedsOf, lookAtLast, lookFrom, saidBy, toldOf, worded, WORDS } from "./deeds.js";
@@ -12,13 +13,21 @@ import { baseOf } from "./pending.js";
 import { keep } from "./sending.js";
 import { announce, go, here, listen, state } from "./state.js";
 
-const [PAGE, FEW, MOST_TRIES] = [100, 5, 10];
+// How many entries an answer has at most, how many of a task are shown at first, how many answers are looked through for one that passes the
+// filters, and how many entries are kept while the view isn't shown.
+const [PAGE, FEW, MOST_TRIES, MOST_KEPT] = [100, 5, 10, 1000];
 // The entries of the shown board that came, by their numbers; the last number; and whether the last ones came.
 let board = { number: 0, entries: new Map(), last: 0, isRead: false };
 // The entries of the open task, whether all of them are shown, and the deeds that they tell.
 let task = { uuid: "", entries: new Map(), isWhole: false, deeds: [] };
 // From which number on entries are new to the reader, and the first of those that were when they were told; and what two changed at once.
 let [newFrom, firstNew, overlaps] = [0, Infinity, []];
+
+// Fills an element where what it shows is other than before, so that the focus stays where it is.
+function refill(element, ...children) {
+    const fresh = make("div", {}, ...children);
+    if (fresh.innerHTML !== element.innerHTML) fill(element, ...fresh.childNodes);
+}
 
 const inOrder = (entries) => [...entries.values()].sort((one, other) => one.number - other.number);
 const isMine = ({ member }) => member === state.who.name;
@@ -27,9 +36,9 @@ const taskHere = (uuid) => (state.board?.number === state.number ? state.board.b
 
 // Another task by its uuid, or this one.
 function taskLink(uuid) {
-    const known = taskHere(uuid);
+    const known = taskHere(String(uuid).toLowerCase());
     const label = known ? said(known.description, 120) : "a task that isn't here";
-    return known ? button(label, () => go(state.number, "tasks", uuid), { class: known.isOpen ? "link" : "link over" }) : span("about", label);
+    return known ? button(label, () => go(state.number, "tasks", known.uuid), { class: known.isOpen ? "link" : "link over" }) : span("about", label);
 }
 
 // What is told of the notes and moments of the open task, once its history came: who wrote a note, and who did something last.
@@ -48,10 +57,7 @@ function undoOf(deed) {
 
 const undoLabel = (deed) => (isMine(deed) ? "Take mine back" : "Take theirs back");
 
-function undoButton(deed) {
-    const undo = undoOf(deed);
-    return undo ? button(undoLabel(deed), undo, { class: "quiet" }) : "";
-}
+const undoButton = (deed) => (undoOf(deed) ? button(undoLabel(deed), () => undoOf(deed)?.(), { class: "quiet" }) : "");
 
 // What somebody else had changed of the same at the same time.
 function atOnce(deed) {
@@ -72,7 +78,7 @@ function drawTask() {
         drawTask();
     }, { class: "quiet" });
     const isCut = !task.isWhole && all.length > FEW + 1;
-    fill(find("task-history"), all.slice(0, isCut ? FEW : undefined).map(deedRow), isCut ? make("li", {}, more) : "");
+    refill(find("task-history"), all.slice(0, isCut ? FEW : undefined).map(deedRow), isCut ? make("li", {}, more) : "");
 }
 
 function setDeeds() {
@@ -87,7 +93,8 @@ async function askForTask() {
     if (!here() || !chosen || task.uuid === chosen) return;
     task = { uuid: chosen, entries: new Map(), isWhole: false, deeds: [] };
     drawTask();
-    const told = await lookAtDeedsOf(who, number, chosen).catch(() => null);
+    // (a task that isn't on the server yet comes with the news)
+    const told = await lookAtDeedsOf(who, number, chosen).catch((fault) => (fault instanceof NoAnswer ? null : { entries: [] }));
     if (task.uuid !== chosen || state.who !== who) return;
     if (!told) return void (task.uuid = "");
     for (const entry of told.entries) task.entries.set(entry.number, entry);
@@ -121,7 +128,7 @@ function drawView() {
     drawFilters(all);
     const found = all.filter((entry) => passes(entry, wanted()));
     const days = Map.groupBy(found, (entry) => dayInWords(seconds(entry.moment)));
-    fill(find("history-list"), [...days].flatMap(([day, entries]) => [dayRow(day), ...entries.map(entryRow)]));
+    refill(find("history-list"), [...days].flatMap(([day, entries]) => [dayRow(day), ...entries.map(entryRow)]));
     const first = all.at(-1)?.number ?? 0;
     find("history-told").textContent = board.isRead ? `${counted(found.length)} of ${counted(board.last)} changes${first > 1 ? `, looked at down to number ${counted(first)}` : ""}` : "";
     find("history-older").hidden = first <= 1;
@@ -143,7 +150,10 @@ function drawFilters(all) {
 function add(number, entries, last) {
     if (board.number !== number) board = { number, entries: new Map(), last: 0, isRead: false };
     for (const entry of entries) board.entries.set(entry.number, entry);
-    board.last = Math.max(board.last, last);
+    board.last = last;
+    if (board.entries.size <= MOST_KEPT || state.view === "history") return;
+    board.entries = new Map(inOrder(board.entries).slice(-PAGE).map((entry) => [entry.number, entry]));
+    board.isRead = false;
 }
 
 // Asks for the last entries, which the view begins with. Those that came before and don't reach up to them are left out.
@@ -234,14 +244,14 @@ function drawOverlaps() {
         const told = make("div", {}, make("p", {}, make("strong", {}, "You and ", said(other, 40)), " changed ", taskLink(deed.task), " at once."), texts);
         return make("li", { class: "notice asks" }, told, make("div", { class: "line" }, undoOf(deed) ? button(undoLabel(deed), take) : "", button("Leave it so", () => dismiss(deed), { class: "quiet" })));
     };
-    fill(find("overlaps"), overlaps.filter((deed) => deed.board === state.number).map(row));
+    refill(find("overlaps"), overlaps.filter((deed) => deed.board === state.number).map(row));
 }
 
 // Takes what the board's history told: at first what happened since its reader looked last, and then what happens.
 function take({ number, entries, last, isFirst, isWatched }) {
-    const isCut = board.number === number && entries.length > 0 && entries[0].number > board.last + 1;
-    if (isCut) board = { number: 0 };
     add(number, entries, last);
+    // (of very many that came at once the answer has the first ones)
+    if (entries.length > 0 && entries.at(-1).number < last) board.isRead = false;
     if (isFirst) [newFrom, firstNew, task.uuid] = [Math.min(readDraft("looked", "", number)?.last ?? last, last) + 1, Infinity, ""];
     find("to-history").hidden = false;
     if (!isFirst) overlaps = [...overlaps, ...entries.flatMap(overlapOf).map((deed) => ({ ...deed, board: number }))];
@@ -249,6 +259,7 @@ function take({ number, entries, last, isFirst, isWatched }) {
     if ((isWatched && !isFirst && !isTold) || drawNews() === 0) noteLooked();
     for (const entry of entries.filter((entry) => entry.task && entry.task === task.uuid)) task.entries.set(entry.number, entry);
     if (entries.some((entry) => entry.task === task.uuid)) setDeeds();
+    drawOverlaps();
     drawView();
 }
 
@@ -258,7 +269,7 @@ export function beginHistory() {
     find("history-older").addEventListener("click", () => askForOlder().catch(console.error));
     find("news-show").addEventListener("click", showNews);
     find("news-dismiss").addEventListener("click", noteLooked);
-    listen("board", () => [drawOverlaps, drawTask, drawView].forEach((part) => part()));
+    listen("board", (isNew) => isNew && [drawOverlaps, drawTask, drawView].forEach((part) => part()));
     for (const news of ["route", "deeds", "reach"]) listen(news, (told) => told === false || [askForTask, askForLast].forEach((part) => part().catch(console.error)));
     listen("route", () => {
         find("news").hidden ||= board.number !== state.number;

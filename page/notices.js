@@ -5,7 +5,7 @@ import { changes, isOwnKey, reason } from "./changes.js";
 import { button, counted, fill, find, make, said, span, tasksTold } from "./dom.js";
 import { ago } from "./moments.js";
 import { forget, keep, sendAgain, sendAllTheSame, sendHidden, sendNow, settled, vainTries, waiting } from "./sending.js";
-import { listen, state } from "./state.js";
+import { go, listen, state } from "./state.js";
 
 const [TOLD_FOR, LATE, MOST_SHOWN] = [10000, 400, 20];
 const WAYS_BACK = { done: "Completed", delete: "Deleted" };
@@ -119,7 +119,7 @@ function question(change) {
         make("p", {}, make("strong", {}, "Not sent yet: "), about(change)),
         make("p", {}, "While it waited, ", by ? [said(by), " changed the task's "] : "the task's ", name, by ? "" : " changed on the server", " from ", quoted(worded(was)), " to ", quoted(worded(is)), "."),
     ];
-    const edit = wayOf(change) === "form" ? button("Edit it first", attempt(() => openAgain(change))) : "";
+    const edit = wayOf(change) === "form" ? button("Edit it first", attempt(() => openAgain(change))) : button("Look at the task", () => go(change.board, "tasks", change.task));
     const ways = [edit, button("Send it all the same", attempt(() => sendAllTheSame(change))), button("Throw away", () => forget(change), { class: "quiet" })];
     return make("li", { class: "notice asks" }, make("div", {}, told), buttons(...ways));
 }

@@ -14,6 +14,8 @@ const MOST_CELLS = 60;
 // one did.
 const PATIENCE = 20000;
 const swept = new Set();
+// The board that was shown last.
+let shown = 0;
 
 function cell(template, number) {
     const [kind, word] = MARKS[template.mask[number]] ?? ["deleted", "gone"];
@@ -39,16 +41,17 @@ const dueNow = () => state.board.templates.map((template) => state.board.dueOfNe
 
 const sweep = () => keep(changes.sweep(state.number)).catch(tellFault);
 
-// A board that lags is swept once by each page that shows it, and once more where another repeat comes due: then each page waits a little, so
-// that one of them does it for all. Every accepted change sweeps it too.
+// A board that lags is swept once by each page that begins to show it, and once more where another repeat comes due: then each page waits a
+// little, so that one of them does it for all. Every accepted change sweeps it too.
 function sweepIfBehind() {
+    const isFirst = shown !== state.number;
+    shown = state.number;
     const dues = ["owner", "member"].includes(here()?.role) ? dueNow() : [];
     const behind = `${state.number} ${Math.max(...dues)}`;
     if (dues.length === 0 || swept.has(behind)) return;
-    const isFirst = ![...swept].some((other) => other.startsWith(`${state.number} `));
     swept.add(behind);
-    if (isFirst) sweep();
-    else setTimeout(() => state.board && `${state.number} ${Math.max(...dueNow())}` === behind && sweep(), PATIENCE * Math.random());
+    const isStill = () => state.board?.number === shown && `${shown} ${Math.max(...dueNow())}` === behind;
+    setTimeout(() => isStill() && sweep(), isFirst ? 0 : PATIENCE * Math.random());
 }
 
 function draw() {

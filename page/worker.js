@@ -4,7 +4,7 @@
 // A browser asks for the worker at each start, and a page that stays open every few minutes; it is installed anew where a byte of it differs. The
 // next line, made by tests/page_content.py, differs with every other file, so a new version is found then, also where its files are as long as
 // before.
-// Content of the other files: b6c60c1ac735c705b0a8e80fb3ea4334cc4488316fab2a8f768665c91a3b082b
+// Content of the other files: 72147a5f165bbffcd2dacddf2c36b5d1ba6900e3ca5a1640860b568b105c4618
 
 const VERSION = "taskboard ";
 const FILE = /^\/(?:[a-z0-9_.-]+\.(?:html|css|js|svg|png|ico))?$/;

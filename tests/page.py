@@ -55,8 +55,14 @@ SCROLLED = f"""return new Promise((done) => {{
     }};
     step();
 }})"""
+# How long real keys and clicks took until they were shown, as the browser itself times them, to 8 ms; those of less than 16 ms aren't told. Each
+# waits for the next frame, at most so long beyond its work. And how long the frames of scrolling took.
+TIMED = "window.timed = []; new PerformanceObserver((list) => timed.push(...list.getEntries().map(({ name, duration }) => [name, duration]))).observe({ type: 'event', durationThreshold: 16 })"
+UNTIL_FRAME = 24
+PACED = SCROLLED.replace("let left", "const at = []; let left").replace("const step = () => {", "const step = () => { at.push(performance.now());").replace("done(true)", "done(at.slice(1).map((one, place) => one - at[place]))")
 EMPTIED = "const field = document.getElementById(arguments[0]); field.focus(); field.value = ''; field.dispatchEvent(new Event('input', { bubbles: true }))"
-CLICKS = [f"document.querySelector('{what}').click()" for what in ("#list .row:nth-child(3) .open", "#close-panel", "#list .tick:not(.ticked)", "#as-columns", "#as-list")]
+CLICKED = ("#list .row:nth-child(3) .open", "#close-panel", "#list .tick:not(.ticked)", "#as-columns", "#as-list")
+CLICKS = [f"document.querySelector('{what}').click()" for what in CLICKED]
 # Once what was put on the device before stands there.
 IS_KEPT = """return new Promise((done) => {
     indexedDB.open("taskboard").onsuccess = ({ target }) => {
@@ -358,6 +364,33 @@ def costs(office):
     return *(max(map(statistics.median, tries)) for tries in (keys, clicks)), frames
 
 
+def times(office):
+    """How long a key, a click and a frame of scrolling take on the board that is shown, by the clock: of each the middle of its tries."""
+    browser, relay = office.browser, office.relay
+
+    def middle(name, count, act):
+        browser.run("timed.length = 0")
+        act()
+        browser.run(PAINTED)
+        told = [duration for kind, duration in browser.run("return timed") if kind == name]
+        return statistics.median(told + [0] * (count - len(told)))
+
+    def type_letters():
+        for letter in "number 9":
+            browser.type("#filter-text", letter)
+
+    browser.run(TIMED)
+    key = middle("keydown", 8, type_letters)
+    browser.run(EMPTIED, "filter-text")
+    relay.break_off(LOSES_POSTS)
+    click = max(statistics.median(tries) for tries in zip(*([middle("click", 1, lambda: browser.click(what)) for what in CLICKED] for _ in range(3))))
+    frame = statistics.median(browser.run(PACED))
+    relay.heal()
+    browser.run("scrollTo(0, 0); dispatchEvent(new Event('online'))")
+    browser.wait(ALL_ANSWERED)
+    return key, click, frame
+
+
 def large_board(office):
     """A board of 10,000 tasks: shown soon, in the listing's order, typed into without a stall, and cheap to look at."""
     browser = office.browser
@@ -393,10 +426,13 @@ def large_board(office):
         ask(f"/boards/{board}/export")
     used = office.server.seconds_used() - used
     key, click, frame = costs(office)
+    shown_key, shown_click, shown_frame = times(office)
     figures = f"10,000 tasks shown after {shown:.2f} s, the longest stall {stall:.0f} ms where work takes up to {max(busy):.1f} times its time, ten looks {used:.2f} s of the server"
-    figures += f", until it is painted a key {key:.0f} ms of a processor, a click {click:.0f}, a frame of scrolling {frame:.0f}"
+    figures += f", until it is painted a key {key:.0f} ms of a processor, a click {click:.0f}, a frame of scrolling {frame:.0f}; by the clock {shown_key:.0f}, {shown_click:.0f} and {shown_frame:.0f} ms"
     slack = max(SLACK, *busy)
-    if shown > SHOWN_WITHIN * slack or stall > STALL * slack or used > LOOKS or key > KEY * slack or click > CLICK * slack or frame > FRAME * slack:
+    is_dear = key > KEY * slack or click > CLICK * slack or frame > FRAME * slack
+    is_late = shown_key > (KEY + UNTIL_FRAME) * slack or shown_click > (CLICK + UNTIL_FRAME) * slack or shown_frame > FRAME * slack
+    if shown > SHOWN_WITHIN * slack or stall > STALL * slack or used > LOOKS or is_dear or is_late:
         sys.exit(f"too slow: {figures}")
     office.figures.append(figures)
 

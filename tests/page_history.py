@@ -212,6 +212,35 @@ def asked_little(office):
     browser.wait("return document.querySelector('#list .row') && !document.querySelector('#list .chip.waiting')")
 
 
+def comes_due(office):
+    """A repeat that comes due while the page is open has its next instance made, though nobody does anything."""
+    browser, board = office.browser, new_board("Comes due")
+    add(board, description="Water the plants", due=at(6), recur="daily")
+    office.begin(board)
+    browser.run("Math.random = () => 0")
+    browser.wait("return document.getElementById('count').textContent === '1 of 1 tasks'")
+    browser.wait("return document.getElementById('count').textContent === '2 of 2 tasks'")
+    expect("who made it", ["ann", "sweep"], [json.loads(ask(f"/boards/{board}/history"))["entries"][-1][name] for name in ("member", "what")])
+
+
+def day_asked_little(office):
+    """My day asks a board for its history alone where nothing has happened on it."""
+    browser, first, second = office.browser, new_board("Of a day"), new_board("Of a day, too")
+    tasks = [add(board, description=f"Due on {board}", due=at(60)) for board in (first, second)]
+    browser.open("about:blank")
+    browser.open(f"{office.address}#/day")
+    listed = "return [...document.querySelectorAll('#day-list .open')].filter((row) => row.textContent.startsWith(arguments[0])).length"
+    for board in (first, second):
+        browser.wait(listed + " === 1", f"Due on {board}")
+    browser.wait("return !document.getElementById('day-told').textContent.includes(' of 1 ')")
+    browser.run(CLOCK)
+    before = [times_asked(office, f"/boards/{board}/export") for board in (first, second)]
+    tell(f"/boards/{second}/tasks/{tasks[1]}/modify", description="Moved")
+    browser.run(PASS, 61, True)
+    browser.wait(listed + " === 1", "Moved")
+    expect("exports", [before[0], before[1] + 1], [times_asked(office, f"/boards/{board}/export") for board in (first, second)])
+
+
 def before_history(office):
     """With a server that has no history all is as before: no view of it, no part of a task's, and the board is asked for by the clock."""
     browser, board = office.browser, new_board("Before")
@@ -229,4 +258,4 @@ def before_history(office):
     end()
 
 
-SCENES = (of_task, of_board, since_looked, at_once, named, asked_little, before_history)
+SCENES = (of_task, of_board, since_looked, at_once, named, asked_little, comes_due, day_asked_little, before_history)

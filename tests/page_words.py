@@ -368,6 +368,8 @@ def changed_while_waiting(office):
     heal(office)
     browser.wait(ALL_ANSWERED)
     expect("before the answer", ["pending", "completed"], [one_of(board, uuid)["status"] for uuid in (call, write)])
+    press(browser, "Look at the task")
+    browser.wait(OPENED, "Call the office")
     press(browser, "Send it all the same")
     browser.wait("return document.querySelectorAll('#notices .asks').length === 0")
     browser.wait(ALL_ANSWERED)
