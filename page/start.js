@@ -25,7 +25,7 @@ function askOften(registration) {
     setInterval(() => {
         if (document.hidden || performance.now() - last < OFTEN) return;
         last = performance.now();
-        registration.update().catch(() => {});
+        registration.update().catch(() => (last = -Infinity));
     }, LEAST);
 }
 

@@ -4,7 +4,7 @@
 // A browser asks for the worker at each start, and a page that stays open every few minutes; it is installed anew where a byte of it differs. The
 // next line, made by tests/page_content.py, differs with every other file, so a new version is found then, also where its files are as long as
 // before.
-// Content of the other files: 72147a5f165bbffcd2dacddf2c36b5d1ba6900e3ca5a1640860b568b105c4618
+// Content of the other files: 54bef2ed65795c21803d4c9676befe9ee90e4d00baa2dd7ac3a27a01ec2ecbc1
 
 const VERSION = "taskboard ";
 const FILE = /^\/(?:[a-z0-9_.-]+\.(?:html|css|js|svg|png|ico))?$/;
@@ -89,7 +89,7 @@ async function compare(isWhole) {
     if (cache && !isWhole && (await isCompared(cache)) && (await looksAlike(cache))) return;
     const found = await loadAll();
     if (found.name === name) return cache.put(COMPARED, new Response(String(Date.now())));
-    if (cache && (await loadAll()).name !== found.name) return;
+    if (cache && (await loadAll()).name !== found.name) throw new Error("the server is being renewed");
     await keep(found);
     // (a worker that is being installed controls no window yet)
     const windows = await clients.matchAll({ includeUncontrolled: true });
@@ -98,13 +98,8 @@ async function compare(isWhole) {
 
 let comparing = null;
 
-// One comparison at a time; without a line there is none.
-function compareOnce(isWhole) {
-    comparing ??= compare(isWhole)
-        .catch(() => {})
-        .finally(() => (comparing = null));
-    return comparing;
-}
+// One comparison at a time.
+const compareOnce = (isWhole) => (comparing ??= compare(isWhole).finally(() => (comparing = null)));
 
 async function answer({ request, clientId, resultingClientId }, path) {
     const before = request.mode === "navigate" ? null : opened.get(clientId);
@@ -113,6 +108,7 @@ async function answer({ request, clientId, resultingClientId }, path) {
     return (await cache?.match(path)) ?? fetch(request);
 }
 
+// (a worker that can't compare the files isn't installed, and is tried again)
 addEventListener("install", (event) => {
     skipWaiting();
     event.waitUntil(compareOnce(true));
@@ -120,7 +116,8 @@ addEventListener("install", (event) => {
 
 addEventListener("activate", (event) => event.waitUntil(clients.claim()));
 
-addEventListener("message", (event) => event.waitUntil(compareOnce(event.data === "whole")));
+// Without a line there is no comparison.
+addEventListener("message", (event) => event.waitUntil(compareOnce(event.data === "whole").catch(() => {})));
 
 addEventListener("fetch", (event) => {
     const { origin, pathname, search } = new URL(event.request.url);
