@@ -96,7 +96,7 @@ export function deedsIn(entries) {
 }
 
 const LABELS = { description: "description", project: "project", priority: "priority", assignee: "assignee", due: "due date", wait: "date until which it waits", scheduled: "scheduled date", until: "date until which it repeats or counts", recur: "repeat", tags: "tags", start: "start" };
-export const labelOf = (name) => (Object.hasOwn(LABELS, name) ? `the ${LABELS[name]}` : `“${name}”`);
+export const labelOf = (name) => `the ${Object.hasOwn(LABELS, name) ? LABELS[name] : `attribute “${name}”`}`;
 
 // A member's value in words.
 export function worded(name, value) {

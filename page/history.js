@@ -56,12 +56,17 @@ function undoOf(deed) {
 }
 
 const undoLabel = (deed) => (isMine(deed) ? "Take mine back" : "Take theirs back");
-
 const undoButton = (deed) => (undoOf(deed) ? button(undoLabel(deed), () => undoOf(deed)?.(), { class: "quiet" }) : "");
+
+// Whether one's own change knew what somebody else had set, as it does where its form showed that; of changes that weren't made here nobody knows.
+function isSeen(deed, { name, over }) {
+    const base = baseOf(deed.call);
+    return isMine(deed) && (!base || JSON.stringify(base[name] ?? null) === JSON.stringify(over.value));
+}
 
 // What somebody else had changed of the same at the same time.
 function atOnce(deed) {
-    const over = deed.changes.filter((change) => change.over);
+    const over = deed.changes.filter((change) => change.over && !isSeen(deed, change));
     const quoted = (name, value) => make("q", {}, said(String(worded(name, value)), 80));
     return over.map(({ name, over: { by, at, value } }) => span("once", by === state.who.name ? "You" : said(by, 40), ` had set ${labelOf(name)} to `, quoted(name, value), ` ${Math.max(0, seconds(deed.moment) - at)} s before.`));
 }
@@ -130,10 +135,17 @@ function drawView() {
     const days = Map.groupBy(found, (entry) => dayInWords(seconds(entry.moment)));
     refill(find("history-list"), [...days].flatMap(([day, entries]) => [dayRow(day), ...entries.map(entryRow)]));
     const first = all.at(-1)?.number ?? 0;
-    find("history-told").textContent = board.isRead ? `${counted(found.length)} of ${counted(board.last)} changes${first > 1 ? `, looked at down to number ${counted(first)}` : ""}` : "";
     find("history-older").hidden = first <= 1;
     find("history-older").textContent = `Show older ones, from ${counted(Math.max(1, first - PAGE))} on`;
-    find("history-nothing").textContent = found.length > 0 || !board.isRead ? "" : first > 1 ? "None of those that were looked at is so." : board.last > 0 ? "Nothing is so." : "Nothing has happened on this board since its server keeps a history.";
+    if (board.isRead) drawCounts(found.length, first);
+}
+
+// How many of the entries are shown, where they were looked at down to this one.
+function drawCounts(count, first) {
+    const lookedAt = first > 1 ? `, looked at down to number ${counted(first)}` : "";
+    find("history-told").textContent = `${counted(count)} of ${counted(board.last)} changes${lookedAt}`;
+    const none = first > 1 ? "None of those that were looked at is so." : "Nothing is so.";
+    find("history-nothing").textContent = count > 0 ? "" : board.last > 0 ? none : "Nothing has happened on this board since its server keeps a history.";
 }
 
 function drawFilters(all) {
@@ -223,9 +235,7 @@ function overlapOf(entry) {
     if (!said) return [];
     const deeds = deedsIn(inOrder(board.entries).filter((other) => other.task === entry.task && other.number <= entry.number));
     const deed = deeds.at(-1);
-    const base = baseOf(entry.call);
-    const isSeen = ({ name, over }) => isMine(entry) && (!base || JSON.stringify(base[name] ?? null) === JSON.stringify(over.value));
-    const over = deed.changes.filter((change) => change.over && !isSeen(change) && (isMine(entry) || change.over.by === state.who.name));
+    const over = deed.changes.filter((change) => change.over && !isSeen(deed, change) && (isMine(entry) || change.over.by === state.who.name));
     return over.length > 0 ? [{ ...deed, changes: over }] : [];
 }
 
@@ -236,7 +246,9 @@ function drawOverlaps() {
     };
     const row = (deed) => {
         const other = isMine(deed) ? deed.changes[0].over.by : deed.member;
-        const texts = deed.changes.map(({ name, from, to }) => make("p", {}, `Of ${labelOf(name)}, `, isMine(deed) ? "yours" : [said(other, 40), "’s"], " counts now: ", make("q", {}, said(String(worded(name, to)), 300)), ". It took the place of ", make("q", {}, said(String(worded(name, from)), 300)), "."));
+        const quoted = (name, value) => make("q", {}, said(String(worded(name, value)), 300));
+        const [now, before] = isMine(deed) ? ["yours", [said(other, 40), "’s was "]] : [[said(other, 40), "’s"], ["Yours was "]];
+        const texts = deed.changes.map(({ name, from, to }) => make("p", {}, `T${labelOf(name).slice(1)} is now `, now, ": ", quoted(name, to), ". ", before, quoted(name, from), "."));
         const take = () => {
             undoOf(deed)?.();
             dismiss(deed);

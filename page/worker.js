@@ -4,7 +4,7 @@
 // A browser asks for the worker at each start, and a page that stays open every few minutes; it is installed anew where a byte of it differs. The
 // next line, made by tests/page_content.py, differs with every other file, so a new version is found then, also where its files are as long as
 // before.
-// Content of the other files: 54bef2ed65795c21803d4c9676befe9ee90e4d00baa2dd7ac3a27a01ec2ecbc1
+// Content of the other files: 7a130fde7bf8947197cd2fd1ef4e42aab69c44260243bad02e29edb29a1e36ca
 
 const VERSION = "taskboard ";
 const FILE = /^\/(?:[a-z0-9_.-]+\.(?:html|css|js|svg|png|ico))?$/;
