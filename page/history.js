@@ -19,7 +19,7 @@ const [PAGE, FEW, MOST_TRIES, MOST_KEPT] = [100, 5, 10, 1000];
 // The entries of the shown board that came, by their numbers; the last number; and whether the last ones came.
 let board = { number: 0, entries: new Map(), last: 0, isRead: false };
 // The entries of the open task, whether all of them are shown, and the deeds that they tell.
-let task = { uuid: "", entries: new Map(), isWhole: false, deeds: [] };
+let task = { number: 0, uuid: "", entries: new Map(), isWhole: false, deeds: [] };
 // From which number on entries are new to the reader, and the first of those that were when they were told; and what two changed at once.
 let [newFrom, firstNew, overlaps] = [0, Infinity, []];
 
@@ -44,7 +44,7 @@ function taskLink(uuid) {
 // What is told of the notes and moments of the open task, once its history came: who wrote a note, and who did something last.
 export const authorOf = (uuid, { description, entry }) => deedsOf(uuid).find((deed) => deed.what === "annotate" && deed.moment === entry && deed.said?.description === description)?.member ?? "";
 export const lastBy = (uuid, ...words) => deedsOf(uuid).findLast((deed) => words.includes(deed.what))?.member ?? "";
-const deedsOf = (uuid) => (task.uuid === uuid ? task.deeds : []);
+const deedsOf = (uuid) => (task.uuid === uuid && task.number === state.number ? task.deeds : []);
 
 // Undoes what somebody changed, where nobody has changed it since.
 function undoOf(deed) {
@@ -68,7 +68,8 @@ function isSeen(deed, { name, over }) {
 function atOnce(deed) {
     const over = deed.changes.filter((change) => change.over && !isSeen(deed, change));
     const quoted = (name, value) => make("q", {}, said(String(worded(name, value)), 80));
-    return over.map(({ name, over: { by, at, value } }) => span("once", by === state.who.name ? "You" : said(by, 40), ` had set ${labelOf(name)} to `, quoted(name, value), ` ${Math.max(0, seconds(deed.moment) - at)} s before.`));
+    const when = (at) => (seconds(deed.moment) > at ? `${seconds(deed.moment) - at} s before` : "in the same second");
+    return over.map(({ name, over: { by, at, value } }) => span("once", by === state.who.name ? "You" : said(by, 40), ` had set ${labelOf(name)} to `, quoted(name, value), ` ${when(at)}.`));
 }
 
 function deedRow(deed) {
@@ -95,12 +96,12 @@ function setDeeds() {
 // Asks what happened to the task that is open. What happens later comes with the news of its board.
 async function askForTask() {
     const { who, number, chosen } = state;
-    if (!here() || !chosen || task.uuid === chosen) return;
-    task = { uuid: chosen, entries: new Map(), isWhole: false, deeds: [] };
+    if (!here() || !chosen || (task.uuid === chosen && task.number === number)) return;
+    task = { number, uuid: chosen, entries: new Map(), isWhole: false, deeds: [] };
     drawTask();
     // (a task that isn't on the server yet comes with the news)
     const told = await lookAtDeedsOf(who, number, chosen).catch((fault) => (fault instanceof NoAnswer ? null : { entries: [] }));
-    if (task.uuid !== chosen || state.who !== who) return;
+    if (task.uuid !== chosen || task.number !== number || state.who !== who) return;
     if (!told) return void (task.uuid = "");
     for (const entry of told.entries) task.entries.set(entry.number, entry);
     setDeeds();

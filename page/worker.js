@@ -4,7 +4,7 @@
 // A browser asks for the worker at each start, and a page that stays open every few minutes; it is installed anew where a byte of it differs. The
 // next line, made by tests/page_content.py, differs with every other file, so a new version is found then, also where its files are as long as
 // before.
-// Content of the other files: 7a130fde7bf8947197cd2fd1ef4e42aab69c44260243bad02e29edb29a1e36ca
+// Content of the other files: d1b3301a9f2c308c1e51c99089db8634a74c1b4a68cfe9bb0d01eec4d53823ad
 
 const VERSION = "taskboard ";
 const FILE = /^\/(?:[a-z0-9_.-]+\.(?:html|css|js|svg|png|ico))?$/;

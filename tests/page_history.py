@@ -241,6 +241,31 @@ def day_asked_little(office):
     expect("exports", [before[0], before[1] + 1], [times_asked(office, f"/boards/{board}/export") for board in (first, second)])
 
 
+def said_in_scripts(office):
+    """What a script's call said is read like a message's; what the history leaves out, or can't be read, is told without it."""
+    task = "00000001-0000-8000-8000-000000000001"
+    contents = (
+        ("add", 'add\t1\t{"description":"Buy milk","due":"20260301T000000Z"}'),
+        ("modify", f'modify\t1\t{task}\t{{"due":null,"project":"Home"}}'),
+        ("annotate", f"annotate\t1\t{task}\tThe white one"),
+        ("depend", f"depend\t1\t{task}\t{task}"),
+        ("done", f"done\t1\t{task}"),
+        ("modify", f'POST /boards/1/tasks/{task}/modify\n{{"due":"20260302T000000Z"}}'),
+        ("role", "role\t1\tbob\tnone"),
+        ("modify", None),
+        ("modify", "POST /boards/1/tasks\n{"),
+        ("title", "title\t1\tHome"),
+    )
+    entries = [{"what": what, "number": number, "member": "ann", "moment": "20260101T000000Z"} | ({} if content is None else {"content": content}) for number, (what, content) in enumerate(contents, 1)]
+    told = office.browser.run("""return import("/deeds.js").then(({ deedsIn, toldOf }) => deedsIn(arguments[0]).map((deed) => {
+        const line = document.createElement("p");
+        line.append(...toldOf(deed, () => "another"));
+        return line.textContent;
+    }))""", entries)
+    wanted = ["added it", "took the due date 1 Mar 2026 out; set the project to Home", "added the note The white one", "made it wait for another", "completed it", "set the due date to 2 Mar 2026"]
+    expect("told", [*wanted, "ended the role of bob", "changed it", "changed it", "renamed the board to Home"], told)
+
+
 def before_history(office):
     """With a server that has no history all is as before: no view of it, no part of a task's, and the board is asked for by the clock."""
     browser, board = office.browser, new_board("Before")
@@ -258,4 +283,4 @@ def before_history(office):
     end()
 
 
-SCENES = (of_task, of_board, since_looked, at_once, named, asked_little, comes_due, day_asked_little, before_history)
+SCENES = (of_task, of_board, since_looked, at_once, named, asked_little, comes_due, day_asked_little, said_in_scripts, before_history)
