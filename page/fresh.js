@@ -141,7 +141,7 @@ async function lookOnce() {
     if (boards) await lookAtBoards();
     const isFirst = hasHistory() && heard.number !== state.number;
     const isNews = (news || isFirst) && (await lookAtNews());
-    if (wantsBoard || isNews) await lookAtBoard();
+    if (wantsBoard || isFirst || isNews) await lookAtBoard();
     if (boards || here()) setReach(true);
 }
 
