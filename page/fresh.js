@@ -9,7 +9,6 @@ import { BEYOND, hasHistory, lookFrom } from "./deeds.js";
 import { find } from "./dom.js";
 import { readDraft } from "./drafts.js";
 import { ago, now } from "./moments.js";
-import { isShownBy } from "./pending.js";
 import { forgetSeen, keepSeen, lastSeen } from "./seen.js";
 import { doubtKey } from "./sending.js";
 import { announce, here, listen, state } from "./state.js";
@@ -20,8 +19,8 @@ const [NEWS, ACTIVE, IDLE, IDLE_AFTER, LEAST, TYPING, PATIENCE] = [3000, 15000, 
 // What people do to a board that its people's lists of boards show.
 const CHANGE_BOARDS = ["role", "take", "title"];
 const ACTS = ["keydown", "pointerdown", "pointermove", "wheel", "touchstart"];
-// Whether a look is under way, what is wanted of the next one, and whether the server answered the last one.
-let [isAsking, wants, isThere] = [false, { board: false, boards: false, news: false }, true];
+// Whether a look is under way, another one is wanted, and the board or the boards with it; and whether the server answered the last one.
+let [isAsking, isWanted, wantsBoard, wantsBoards, isThere] = [false, false, false, false, true];
 // When the last looks at the board, at its history and at the boards were, the last tick, the last act and the last typing; the boards as they
 // were told; and the work of showing what was seen.
 let [lastLook, lastNews, lastMe, lastTick, lastAct, lastTyped, lastBoards, showing] = [0, 0, 0, 0, 0, 0, "", Promise.resolve()];
@@ -106,18 +105,12 @@ async function lookAtNews() {
     if (!told || state.who !== who || state.number !== number) return false;
     heard = { number, last: told.last };
     if (isLoaded()) state.board.at = Date.now();
-    if (isFirst || told.last !== last) hear({ ...told, number, isFirst });
-    return isStale && !document.hidden && !isTyping();
-}
-
-// What is one's own, and shown already, needs no look.
-function hear({ entries, isFirst, ...told }) {
-    const isShown = entries.length > 0 && entries.every(({ call }) => isShownBy(call, state.board?.askedAt));
-    if (!isFirst) {
-        isStale ||= !isShown;
-        wants.boards ||= entries.some(({ what }) => CHANGE_BOARDS.includes(what));
+    if (!isFirst && told.last !== last) {
+        isStale = true;
+        wantsBoards ||= told.entries.some(({ what }) => CHANGE_BOARDS.includes(what));
     }
-    announce("deeds", { ...told, entries, isFirst, isWatched: !document.hidden && isActive() });
+    if (isFirst || told.last !== last) announce("deeds", { ...told, number, isFirst, isWatched: !document.hidden && isActive() });
+    return isStale && !document.hidden && !isTyping();
 }
 
 // Whether the server shows some task otherwise by now. Where its clock lags, or nobody makes the instance that is due, that is asked again.
@@ -132,29 +125,32 @@ function setReach(reached) {
     drawAge();
 }
 
-// What is wanted by now, one after the other. The history is asked before the board is loaded for the first time: so nothing that happens
-// between the two is missed. A server that was away is asked for all of it.
+// Asks for the boards where that is wanted, for what has happened, and then for the board where it has to be loaded: so nothing that happens
+// between the two is missed. A server that was away, or has no history, is asked for all of it.
 async function lookOnce() {
-    const { boards, news } = wants;
-    const wantsBoard = wants.board || !isThere || (news && !hasHistory());
-    Object.assign(wants, { board: false, boards: false, news: false });
-    if (boards) await lookAtBoards();
-    const isFirst = hasHistory() && heard.number !== state.number;
-    const isNews = (news || isFirst) && (await lookAtNews());
-    if (wantsBoard || isFirst || isNews) await lookAtBoard();
-    if (boards || here()) setReach(true);
+    const withBoards = wantsBoards;
+    wantsBoards = false;
+    if (withBoards) await lookAtBoards();
+    const withBoard = wantsBoard || !isThere || !hasHistory() || heard.number !== state.number;
+    [isWanted, wantsBoard] = [false, false];
+    const isNews = await lookAtNews();
+    if (withBoard || isNews) await lookAtBoard();
+    isWanted ||= wantsBoards;
+    if (withBoards || here()) setReach(true);
 }
 
 // Asks anew, once more where something happened meanwhile.
-async function ask(wanted) {
-    for (const [name, isWanted] of Object.entries(wanted)) wants[name] ||= isWanted;
+async function ask(withBoard = false, withBoards = false) {
+    isWanted = true;
+    wantsBoard ||= withBoard;
+    wantsBoards ||= withBoards;
     if (isAsking) return;
     isAsking = true;
     const { who } = state;
     const key = who?.key;
     let isRekeyed = false;
     try {
-        while ((wants.board || wants.news || wants.boards) && state.who) await lookOnce();
+        while (isWanted && state.who) await lookOnce();
     } catch (fault) {
         // Where a board is refused its people have changed.
         if (fault instanceof NoAnswer) setReach(false);
@@ -168,7 +164,7 @@ async function ask(wanted) {
 }
 
 // Loads the board, and asks for the boards first where that is wanted.
-export const lookAgain = (withBoards = false) => ask({ board: true, boards: withBoards });
+export const lookAgain = (withBoards = false) => ask(true, withBoards);
 
 function write(id, text) {
     if (find(id).textContent !== text) find(id).textContent = text;
@@ -188,7 +184,7 @@ function drawAge() {
 function lookIfSeen() {
     if (!state.who || document.hidden || performance.now() - lastLook < LEAST) return;
     tick();
-    if (hasHistory() && isLoaded()) ask({ news: true, board: isStale });
+    if (hasHistory() && isLoaded()) ask(isStale);
     else lookAgain(true);
 }
 
@@ -198,7 +194,7 @@ function tick() {
     announce("tick");
     if (!hasHistory()) return;
     const isLate = lastTick - lastMe >= IDLE;
-    wants.boards ||= isLate;
+    wantsBoards ||= isLate;
     if (!isLoaded()) return;
     if (isLate && isThere && !isStale) keepSeen(state.who, exportOf(state.number));
     state.board.rank();
@@ -216,7 +212,7 @@ function hearByClock() {
     const isFree = !document.hidden && !isTyping();
     if (isFree && past - lastTick >= (isActive() ? ACTIVE : IDLE)) tick();
     if (isFree && isLoaded() && past - lastLook > LEAST && (isStale || isDue())) lookAgain();
-    else if (past - Math.max(lastNews, lastLook) >= (document.hidden ? IDLE : NEWS)) ask({ news: true, board: isFree && !isLoaded() });
+    else if (past - Math.max(lastNews, lastLook) >= (document.hidden ? IDLE : NEWS)) ask(isFree && !isLoaded());
 }
 
 // Looks where it is time, and nobody is typing.

@@ -21,8 +21,7 @@ export function unseen(number, askedAt) {
     return [...late, ...waiting().filter(({ id }) => !known.has(id))].filter((change) => change.board === number && change.task);
 }
 
-// Whether a board that was asked for then shows the change with this identifier, which was answered here before; and what such a change changed.
-export const isShownBy = (id, askedAt) => answered.some(({ change, at }) => change.id === id && at < askedAt);
+// What a change with this identifier, which was answered here, changed.
 export const baseOf = (id) => answered.find(({ change }) => change.id === id)?.change.base;
 
 const isTemplate = (told) => told.recur && !told.parent;

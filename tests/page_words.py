@@ -321,14 +321,16 @@ def two_edit_one_task(office):
         browser.wait(OPENED, "Paint the fence white")
         stored = one_of(board, task)
         expect("joined", ["Paint the fence white", ["anns", "bobs", "house"], "H"], [stored[name] for name in ("description", "tags", "priority")])
-        open_edit(bobs, board, task, "Paint the fence green")
+        bobs.browser.wait("dispatchEvent(new Event('focus')); " + OPENED, "Paint the fence white")
+        open_edit(bobs, board, task, "Paint the fence white")
         type_into(bobs.browser, "#edit-fields textarea", "Paint nothing")
+        tell(f"/boards/{board}/tasks/{task}/modify", description="Paint the fence red")
         press(bobs.browser, "Save", "#edit-form")
         bobs.browser.wait("return document.querySelectorAll('#edit-conflicts fieldset').length === 1")
         bobs.browser.click("#edit-conflicts input[value=theirs]")
         save(bobs.browser)
-        expect("theirs is chosen", "Paint the fence white", one_of(board, task)["description"])
-        bobs.browser.wait(OPENED, "Paint the fence white")
+        expect("theirs is chosen", "Paint the fence red", one_of(board, task)["description"])
+        bobs.browser.wait(OPENED, "Paint the fence red")
 
 
 def two_complete_one_task(office):
