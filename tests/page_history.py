@@ -212,6 +212,30 @@ def asked_little(office):
     browser.wait("return document.querySelector('#list .row') && !document.querySelector('#list .chip.waiting')")
 
 
+def while_hidden(office):
+    """A hidden page asks every 60 s, says in its title how much others did, and loads the board once it is looked at."""
+    browser, board = office.browser, new_board("Hidden", bob="member")
+    task = add(board, description="Paint the fence")
+    office.begin(board)
+    browser.wait(IS_SHOWN, "to-history")
+    browser.wait(IS_LISTED, "Paint the fence")
+    browser.run(CLOCK)
+    browser.run("window.isAway = true; Object.defineProperty(document, 'hidden', { configurable: true, get: () => window.isAway })")
+    # (a look that is under way ends)
+    time.sleep(1.5)
+    exports, asked = times_asked(office, f"/boards/{board}/export"), len(office.relay.asked)
+    tell(f"/boards/{board}/tasks/{task}/modify", "bob", description="Paint the long fence")
+    browser.run(PASS, 30, False)
+    time.sleep(2.5)
+    expect("asked within 30 s", asked, len(office.relay.asked))
+    browser.run(PASS, 31, False)
+    browser.wait("return document.title.startsWith('(1) Hidden')")
+    expect("the board, while nobody looks", exports, times_asked(office, f"/boards/{board}/export"))
+    browser.run("window.isAway = false; document.dispatchEvent(new Event('visibilitychange'))")
+    browser.wait(IS_LISTED, "Paint the long fence")
+    browser.wait(IS_TOLD, "1 change by bob since you looked")
+
+
 def comes_due(office):
     """A repeat that comes due while the page is open has its next instance made, though nobody does anything."""
     browser, board = office.browser, new_board("Comes due")
@@ -283,4 +307,4 @@ def before_history(office):
     end()
 
 
-SCENES = (of_task, of_board, since_looked, at_once, named, asked_little, comes_due, day_asked_little, said_in_scripts, before_history)
+SCENES = (of_task, of_board, since_looked, at_once, named, asked_little, while_hidden, comes_due, day_asked_little, said_in_scripts, before_history)
