@@ -17,7 +17,7 @@ export const hasHistory = () => isThere !== false;
 export const isHistoryKnown = () => isThere === true;
 
 // What a view of a history shows; null where the server has none.
-export async function lookAtHistory(who, path, patience) {
+async function lookAtHistory(who, path, patience) {
     if (!hasHistory()) return null;
     try {
         const told = JSON.parse(await look(who, path, patience));
@@ -30,8 +30,7 @@ export async function lookAtHistory(who, path, patience) {
     }
 }
 
-const atNumber = (board, number) => `/boards/${board}/history/${number}`;
-export const lookFrom = (who, board, number) => lookAtHistory(who, atNumber(board, Math.min(number, BEYOND)));
+export const lookFrom = (who, board, number) => lookAtHistory(who, `/boards/${board}/history/${Math.min(number, BEYOND)}`);
 export const lookAtLast = (who, board) => lookAtHistory(who, `/boards/${board}/history`);
 export const lookAtDeedsOf = (who, board, task, patience) => lookAtHistory(who, `/boards/${board}/tasks/${task}/history`, patience);
 

@@ -46,11 +46,12 @@ export const authorOf = (uuid, { description, entry }) => deedsOf(uuid).find((de
 export const lastBy = (uuid, ...words) => deedsOf(uuid).findLast((deed) => words.includes(deed.what))?.member ?? "";
 const deedsOf = (uuid) => (task.uuid === uuid && task.number === state.number ? task.deeds : []);
 
-// Undoes what somebody changed, where nobody has changed it since.
+// Undoes what somebody changed, where it is known what it was, and nobody has changed it since. (JavaScript rounds larger numbers.)
 function undoOf(deed) {
     const one = taskHere(deed.task);
+    const isKnown = ({ from }) => from !== undefined && (typeof from !== "number" || Number.isSafeInteger(from));
     const isStill = ({ name, to }) => JSON.stringify(one.told[name] ?? null) === JSON.stringify(to);
-    const undone = one && deed.changes.filter((change) => change.from !== undefined && isStill(change));
+    const undone = one && deed.changes.filter((change) => isKnown(change) && isStill(change));
     if (!undone?.length || !one.isOpen || here()?.role === "reader") return null;
     return () => keep(changes.modify(state.number, one, Object.fromEntries(undone.map(({ name, from }) => [name, from])))).catch(tellFault);
 }

@@ -4,7 +4,7 @@
 // A browser asks for the worker at each start, and a page that stays open every few minutes; it is installed anew where a byte of it differs. The
 // next line, made by tests/page_content.py, differs with every other file, so a new version is found then, also where its files are as long as
 // before.
-// Content of the other files: c778718c39e2057e640a978d9d6ca31aafe08bd4efb6536399ff7d812f559378
+// Content of the other files: 91fcaf9fdbedbf97d2d5572ba50323646d5001e1321f7d0a2365be7e3ee0221f
 
 const VERSION = "taskboard ";
 const FILE = /^\/(?:[a-z0-9_.-]+\.(?:html|css|js|svg|png|ico))?$/;
