@@ -58,12 +58,13 @@ class Scenes(Week):
         """A call that is refused is told by each run, and made once; --again makes it anew."""
         self.user.bring({**BASE, "uuid": D, "description": "First"}, {**BASE, "uuid": E, "description": "Second", "depends": [D]})
         self.runs.complete()
-        self.user.bring({**BASE, "uuid": D, "description": "First", "depends": [E]})
+        self.user.bring({**BASE, "uuid": D, "description": "First\u009b31m", "depends": [E]})
         told = self.runs.complete(statuses=(1,))
         expect("a circle", True, f"refused: {D[:8]} \"First\": depend waits for {E[:8]}: Cycle" in told)
         posts = self.line.posts
         told = self.runs.complete(statuses=(1,))
         expect("a circle again", (True, posts), ("Cycle, as before" in told, self.line.posts))
+        expect("nothing is printed that a terminal might obey", (True, False), ("\"First 31m\"" in told, "\u009b" in told))
         self.runs.complete("--again", statuses=(1,))
         expect("tried anew", posts + 1, self.line.posts)
         self.editor.change(E, "undepend", {"on": D})
@@ -72,7 +73,7 @@ class Scenes(Week):
         long = "l" * 20000
         self.user.bring({**self.user.tasks()[D], "description": long, "priority": "H"})
         self.runs.complete()
-        expect("a text that is too long", ("First", "H"), (self.editor.tasks()[D]["description"], self.editor.tasks()[D]["priority"]))
+        expect("a text that is too long", ("First\u009b31m", "H"), (self.editor.tasks()[D]["description"], self.editor.tasks()[D]["priority"]))
         self.user.bring({**self.user.tasks()[D], "description": "First"})
         self.runs.complete()
         expect_alike("the end of refusals", *({it: task for it, task in side.items() if it != C} for side in (self.editor.tasks(), self.user.tasks())))

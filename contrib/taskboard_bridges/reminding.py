@@ -52,7 +52,7 @@ class Kept:
 
 def plain_line(text):
     """A text on one line."""
-    return re.sub(r"[\x00-\x1f\x7f\x85\u2028\u2029]", " ", str(text))
+    return re.sub(r"[\x00-\x1f\x7f-\x9f\u2028\u2029]", " ", str(text))
 
 
 def when(task, zone):

@@ -1,6 +1,7 @@
 """The words of the bridges' command lines, and how a run ends. Nothing is kept here."""
 import argparse
 import os
+import re
 import sys
 
 from taskboard_bridges.asking import Boards, Fault, read_key
@@ -44,6 +45,11 @@ def state_file(options, kind, more=""):
     return os.path.abspath(options.state) if options.state else state_path(kind, options.address, options.board, more)
 
 
+def tell(text, file=None):
+    """Prints a line with a space for each control character, which a terminal might obey."""
+    print(re.sub(r"[\x00-\x1f\x7f-\x9f]", " ", text), file=file, flush=True)
+
+
 def bridge(options, path, make_right):
     """Runs a bridge with the state of a path. `make_right` gets the marks of what it writes, and the state. The status is 0 where both sides have the same
     now, and 1 where something was refused or failed."""
@@ -51,9 +57,9 @@ def bridge(options, path, make_right):
         boards = Boards(options.address, options.member, key_of(options), options.patience, options.cacert)
         lock = Lock(path)
         state = State(path, boards.address, options.board)
-        return 0 if Sync(boards, options.board, make_right(Marks(path, lock), state), state, options, lambda text: print(text, flush=True)).run() else 1
+        return 0 if Sync(boards, options.board, make_right(Marks(path, lock), state), state, options, tell).run() else 1
     except Fault as fault:
-        print(f"{sys.argv[0].rpartition('/')[2]}: {fault}", file=sys.stderr)
+        tell(f"{sys.argv[0].rpartition('/')[2]}: {fault}", sys.stderr)
         return 1
     except OSError as fault:
         print(f"{sys.argv[0].rpartition('/')[2]}: {fault.filename or ''}: {fault.strerror}: nothing is lost, run it again", file=sys.stderr)
