@@ -5,7 +5,7 @@ import time
 import urllib.error
 
 from office import ALL_ANSWERED, ENTER, IS_LISTED, IS_TOLD, KEYS, add, ask, expect, new_board, tell
-from page_words import beside, heal, one_of, open_edit, open_task, press, type_into
+from page_words import heal, one_of, open_edit, open_task, press, type_into
 from relay import LOSES_POSTS
 
 KEYS["cleo"] = "cleo-key-1"
