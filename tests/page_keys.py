@@ -320,8 +320,7 @@ def hidden_under_former_key(office):
     expect("ida's key", False, is_refused("ida", "ida-key-00"))
     tell("/me/key", key=former, old=later)
     KEYS["ann"] = former
-    # (a look that follows another within a second asks nothing)
-    browser.wait(LOOKED + IS_SHOWN, "#sign-in-form")
+    browser.run(LOOKED)
     sign_in(office, "ann", former)
     browser.wait(IS_IN)
 
