@@ -9,4 +9,3 @@ pub mod History
 pub mod Journal
 pub mod Logging
 pub mod Places
-pub mod Sharing

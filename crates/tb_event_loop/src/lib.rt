@@ -16,7 +16,6 @@ mod logging;
 mod places;
 mod request_line;
 mod service;
-mod sharing;
 mod turn;
 mod watch;
 
