@@ -55,34 +55,19 @@ _taskboard_of_send() {
     esac
     case $2 in
     -*) _taskboard_words "--id --for" "$2" ;;
-    *) _taskboard_words "list export todo task people history history-of me add done delete reopen start stop modify annotate denotate depend undepend sweep import import-todo person board role ahead title take key own-key" "$2" ;;
+    *) _taskboard_words "list export todo task people me add done delete reopen start stop modify annotate denotate depend undepend sweep import import-todo person board role ahead title take key own-key" "$2" ;;
     esac
 }
 
 # The first word of `my`, or of `tb`.
 _taskboard_of_my() {
-    _taskboard_words "list boards people show add change done delete reopen start stop note unnote needs free undo use import export todo setup" "$1"
-}
-
-# What stands behind the first word of `my`.
-_taskboard_behind_my() {
-    case $1 in
-    list) _taskboard_words "mine overdue blocked waiting due:today due:week done:week --sort --json" "$2" ;;
-    --sort) _taskboard_words "urgency due project" "$2" ;;
-    import) _taskboard_files "$2" ;;
-    esac
+    _taskboard_words "list boards people show add change done delete reopen start stop note unnote needs free" "$1"
 }
 
 _tb() {
     COMPREPLY=()
-    if [ "$COMP_CWORD" -eq 1 ] && [ "${2#-}" != "$2" ]; then
-        _taskboard_words "--board" "$2"
-    elif [ "$COMP_CWORD" -eq 1 ]; then
+    if [ "$COMP_CWORD" -eq 1 ]; then
         _taskboard_of_my "$2"
-    elif [ "${COMP_WORDS[COMP_CWORD - 1]}" = --sort ]; then
-        _taskboard_behind_my --sort "$2"
-    else
-        _taskboard_behind_my "${COMP_WORDS[1]}" "$2"
     fi
 }
 

@@ -470,6 +470,8 @@ def play(office):
     for scene in SCENES:
         if scene.__name__ not in chosen and chosen != [""]:
             continue
+        if scene in page_history.SCENES and not page_history.has_history():
+            continue
         begun = time.monotonic()
         scene(office)
         if SHOTS or chosen != [""]:

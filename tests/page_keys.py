@@ -320,7 +320,8 @@ def hidden_under_former_key(office):
     expect("ida's key", False, is_refused("ida", "ida-key-00"))
     tell("/me/key", key=former, old=later)
     KEYS["ann"] = former
-    browser.run(LOOKED)
+    # (a look that follows another within a second asks nothing)
+    browser.wait(LOOKED + IS_SHOWN, "#sign-in-form")
     sign_in(office, "ann", former)
     browser.wait(IS_IN)
 

@@ -1,5 +1,4 @@
 pub mod Call
-pub mod History
 pub mod Keep
 pub mod Leaving
 pub mod Roles

@@ -32,8 +32,6 @@ pub enum Word {
     Take,
     Title,
     People,
-    History,
-    HistoryOf,
     Me,
 }
 
@@ -71,8 +69,6 @@ impl Word {
             "take" => Word::Take,
             "title" => Word::Title,
             "people" => Word::People,
-            "history" => Word::History,
-            "history-of" => Word::HistoryOf,
             "me" => Word::Me,
             _ => return None,
         };

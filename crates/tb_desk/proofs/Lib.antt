@@ -1,8 +1,5 @@
 pub mod Admitted
 pub mod Commits
-pub mod Deeds
-pub mod Entries
-pub mod Histories
 pub mod Keys
 pub mod Lists
 pub mod Moves

@@ -7,8 +7,6 @@ pub enum BoardView {
     Export,
     Todo,
     People,
-    /// The last entries of its history.
-    History,
 }
 
 /// What a call does to a board.
@@ -44,10 +42,6 @@ pub enum Kind {
     BoardView(BoardView),
     /// One task.
     Task,
-    /// The entries of a board's history from a number on.
-    HistoryFrom,
-    /// The last entries about one task.
-    TaskHistory,
     /// A new person.
     People,
     /// The sender's own key.

@@ -1,5 +1,4 @@
 pub mod Auditing
-pub mod Committing
 pub mod Counts
 pub mod Ending
 pub mod Exporting
@@ -9,5 +8,4 @@ pub mod Laws
 pub mod Lending
 pub mod Looking
 pub mod Noting
-pub mod SoundHistories
 pub mod Versions

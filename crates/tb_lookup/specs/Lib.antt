@@ -1,4 +1,3 @@
-pub mod Histories
 pub mod Named
 pub mod People
 pub mod Replies

@@ -1,3 +1,2 @@
-pub mod Clock
 pub mod Fault
 pub mod Listening

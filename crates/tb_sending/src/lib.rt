@@ -14,7 +14,6 @@ mod sending;
 mod server_line;
 mod settling;
 
-pub use identifier::{name_call, new_id};
-pub use key_folder::{KeyFolder, key_in_file, path_at_home, private_text};
+pub use identifier::name_call;
 pub use sending::send_order;
 pub use server_line::ServerLine;
