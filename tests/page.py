@@ -466,21 +466,15 @@ SCENES = (
 
 
 def play(office):
-    """Plays the chosen scenes, or all of them. What was played, and what this server can't show."""
+    """Plays the chosen scenes, or all of them. How many those were."""
     chosen = os.environ.get("SCENES", "").split(",")
     scenes = [scene for scene in SCENES if scene.__name__ in chosen or chosen == [""]]
-    # (a server is asked once it has someone who may ask)
-    left_out = []
     for scene in scenes:
-        if scene in page_history.SCENES and not page_history.has_history():
-            left_out.append(scene)
-            continue
         begun = time.monotonic()
         scene(office)
         if SHOTS or chosen != [""]:
             print(f"{scene.__name__}: {time.monotonic() - begun:.1f} s", flush=True)
-    played = f"{len(scenes) - len(left_out)} scenes"
-    return f"{played}; {len(left_out)} of histories not played, since this server keeps none" if left_out else played
+    return len(scenes)
 
 
 end_by_signal()
@@ -494,4 +488,4 @@ with Browser(BROWSER, 10 * SLACK) as browser:
         office.server.end()
 checked = subprocess.run([PROGRAM, "check", "b.db"], check=True, stdout=subprocess.PIPE, text=True).stdout.strip()
 expect("faults of the file", True, checked.endswith("faults 0"))
-print("; ".join([f"the page in a browser: {played}", *office.figures]))
+print("; ".join([f"the page in a browser: {played} scenes", *office.figures]))

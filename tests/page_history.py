@@ -2,7 +2,6 @@
 import datetime
 import json
 import time
-import urllib.error
 
 from office import ALL_ANSWERED, ENTER, IS_LISTED, IS_TOLD, KEYS, add, ask, expect, new_board, tell
 from page_words import heal, one_of, open_edit, open_task, press, type_into
@@ -20,14 +19,6 @@ PASS = "window.ahead += 1000 * arguments[0]; if (arguments[1]) dispatchEvent(new
 # A server of before answers so for the history's views.
 WITHOUT = """const asked = window.fetch;
 window.fetch = (path, ...rest) => (/\\/history(\\/|$)/.test(path) ? Promise.resolve(new Response('{"name":"NoRoute"}', { status: 404 })) : asked(path, ...rest));"""
-
-
-def has_history():
-    """Whether the server has a history: a board that nobody has is no board then, and else its history is no view."""
-    try:
-        ask("/boards/4000000000/history")
-    except urllib.error.HTTPError as refused:
-        return json.load(refused)["name"] != "NoRoute"
 
 
 def without_history(browser):

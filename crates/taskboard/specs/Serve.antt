@@ -52,6 +52,7 @@ module _ {D : Type 0} {d : DiskGhosts D} (g : Ghosts (SqlKeep (FileStore D d))) 
     pub talks : List Talk
     pub later : List Talk
     pub begin : (c : ℕ) → talk_at talks c ≡ silent
-    pub serves : Serves site kept false history talks later (g.is_honest old) (g.is_honest new)
+    pub serves : Serves {T = Unit {0}} (λ moments clock later_clock. Unit {0}) tt tt
+        site kept false history talks later (g.is_honest old) (g.is_honest new)
         (g.holds old) (g.after_stop old) (g.holds new) (g.after_stop new)
     pub ended : limit_of order.connections ≡ Some (ends_in history)

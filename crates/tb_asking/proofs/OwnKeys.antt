@@ -110,6 +110,8 @@ at_resource : (r : Resource) (message : Message) (at : ℕ) (call : Call) → re
 at_resource resource.Me message at call is e = no_view view.Me (sender_of message) call _ e
 at_resource (resource.Board n v) message at call is e = no_view (board_view n v) (sender_of message) call _ e
 at_resource (resource.Task n id) message at call is e = no_view (view.One n id) (sender_of message) call _ e
+at_resource (resource.HistoryFrom n from) message at call is e = no_view (view.HistoryFrom n from) (sender_of message) call _ e
+at_resource (resource.TaskHistory n id) message at call is e = no_view (view.HistoryOf n id) (sender_of message) call _ e
 at_resource (resource.Call t) message at call is e = record {
   target = t;
   posted = call_method message.method message.target t is;

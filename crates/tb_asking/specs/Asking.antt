@@ -7,7 +7,7 @@ use Rattle.tb_asking.specs.Bodies.{text_in}
 use Rattle.tb_calls.specs.declared.view.View.{View}
 use Rattle.tb_calls.specs.declared.view.View.TheVariants as view
 use Rattle.tb_http.specs.declared.kind.BoardView.{BoardView}
-use Rattle.tb_http.specs.declared.kind.BoardView.TheVariants.{List as ListTasks, Export, Todo, People}
+use Rattle.tb_http.specs.declared.kind.BoardView.TheVariants.{List as ListTasks, Export, Todo, People, History}
 use Rattle.tb_http.specs.declared.message.Message.{Message}
 use Rattle.tb_http.specs.declared.resource.CallTarget.{CallTarget}
 use Rattle.tb_http.specs.declared.resource.Resource.{Resource}
@@ -65,6 +65,7 @@ board_view board ListTasks = view.Listing board
 board_view board Export = view.Export board
 board_view board Todo = view.Todo board
 board_view board People = view.People board
+board_view board History = view.History board
 
 -- a call has an identifier, then a body of what it is made on
 abbrev pub asked_under : Option ℕ → CallTarget → Message → ℕ → Result Asked Rejection
@@ -82,6 +83,10 @@ asked_at (resource.Board board asked) message at =
     Ok (view_from (board_view board asked) (sender_of message))
 asked_at (resource.Task board id) message at =
     Ok (view_from (view.One board id) (sender_of message))
+asked_at (resource.HistoryFrom board number) message at =
+    Ok (view_from (view.HistoryFrom board number) (sender_of message))
+asked_at (resource.TaskHistory board id) message at =
+    Ok (view_from (view.HistoryOf board id) (sender_of message))
 asked_at (resource.Call target) message at = asked_by target message at
 
 -- what is asked on a route, if there is one

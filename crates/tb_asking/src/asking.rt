@@ -50,6 +50,8 @@ fn ask_for(
         Resource::Me => View::Me,
         Resource::Board(board, view) => board_view(board, view),
         Resource::Task(board, id) => View::One(board, id),
+        Resource::HistoryFrom(board, number) => View::HistoryFrom(board, number),
+        Resource::TaskHistory(board, id) => View::HistoryOf(board, id),
         Resource::Call(target) => return ask_call(alloc, target, message, at),
     };
     Ok(ask_view(alloc, view, message)?)
@@ -63,6 +65,7 @@ fn board_view(board: u32, view: BoardView) -> View
         BoardView::Export => View::Export(board),
         BoardView::Todo => View::Todo(board),
         BoardView::People => View::People(board),
+        BoardView::History => View::History(board),
     }
 }
 

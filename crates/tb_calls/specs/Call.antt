@@ -12,6 +12,8 @@ use Rattle.tb_core.specs.Apply.{apply}
 use Rattle.tb_core.specs.GoodLaws.{own_keys}
 use Rattle.tb_core.specs.Outcomes.{Outcome}
 use Rattle.tb_board.specs.World.{has_key, key_of, opening as opening_world}
+use Rattle.tb_deeds.specs.Deeds.{deed_of}
+use Rattle.tb_history.specs.History.{Histories, noted}
 use Rattle.tb_calls.specs.declared.call.Call.{Call}
 use Rattle.tb_calls.specs.declared.call.KeptReply.{KeptReply}
 use Rattle.tb_calls.specs.declared.reply.Reply.{Reply}
@@ -25,10 +27,11 @@ CallName = List ℕ × ℕ
 abbrev pub name_cmp : CallName → CallName → Ordering
 name_cmp a b = ordering_then (slice_cmp nat_cmp a.0 b.0) (nat_cmp a.1 b.1)
 
--- People, boards and roles, and the replies that are kept under the names of calls.
+-- People, boards and roles, the replies that are kept under the names of calls, and each board's history.
 pub record State : Type 0 where
   pub world : World
   pub kept : FinMap name_cmp KeptReply
+  pub history : Histories
 
 -- Rule: two people may use one identifier. Tried by one_identifier_two_people.
 abbrev pub name_of : Call → CallName
@@ -78,13 +81,18 @@ id_reused = reply_of (Err IdReused)
 unfoldable pub outcome : State → Call → Outcome
 outcome s c = apply s.world c.member c.command c.moment
 
--- a state after a call, its content and reply kept under its name: no name is compared
+-- the histories after a call that did something, or nothing, on a board
+abbrev pub noted_by : State → Call → Histories
+noted_by s c = noted s.history c.member c.id c.moment (deed_of s.world c.member c.command c.moment)
+
+-- a state after a call, its content and reply kept under its name, and its deed noted: no name is compared
 -- Rule: a refusal is kept as any reply is. Tried by refusal_kept.
 abbrev pub after_call : State → Call → State
 after_call s c = record {
   world = (outcome s c).world;
   kept = insert s.kept (name_of c)
       (record { content = c.content; reply = reply_of (outcome s c).answer });
+  history = noted_by s c;
 }
 
 -- a state after calls, each of which acts and is kept
@@ -131,6 +139,6 @@ replies_after s before (c ∷ cs) = reply s before c ∷ replies_after s (before
 abbrev pub replies_to : State → List Call → List Reply
 replies_to s cs = replies_after s [] cs
 
--- one person, who owns the one board, and no kept reply
+-- one person, who owns the one board, no kept reply and no entry
 abbrev pub opening : List ℕ → List ℕ → State
-opening name key = record { world = opening_world name key; kept = empty }
+opening name key = record { world = opening_world name key; kept = empty; history = empty }

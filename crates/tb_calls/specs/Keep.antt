@@ -1,12 +1,15 @@
 -- What a keeper's calls leave, and what a stop leaves.
-use Rattle.std.specs.Prelude.{◌≡◌, ◌⊎◌, Bool, true, false, List, [], ◌∷◌, None, Result, Ok, Err, IsSome}
+use Rattle.std.specs.Prelude.{◌≡◌, ◌⊎◌, ℕ, ◌<◌, Bool, true, false, List, [], ◌∷◌, length, Option, Some, None, Result, Ok, Err, IfSome, IsSome}
 use Rattle.std.specs.FinMap.{insert}
 use Rattle.tb_board.specs.declared.change.Change.{Change}
 use Rattle.tb_board.specs.Changing.{changed}
 use Rattle.tb_board.specs.Extends.{Extends}
 use Rattle.tb_core.specs.GoodWorld.{IsGoodWorld}
 use Rattle.tb_core.specs.Shapes.{AreOfOne}
-use Rattle.tb_board.specs.World.{number_of}
+use Rattle.tb_board.specs.declared.world.World.{World}
+use Rattle.tb_board.specs.World.{find_board, number_of}
+use Rattle.tb_deeds.specs.declared.deed.Deed.{Deed}
+use Rattle.tb_history.specs.History.{noted}
 use Rattle.tb_calls.specs.declared.call.Call.{Call}
 use Rattle.tb_calls.specs.declared.reply.Reply.{Reply}
 use Rattle.tb_calls.specs.declared.fault.KeepFault.{KeepFault}
@@ -31,22 +34,33 @@ pub record HoldsEither (before after : State) (now : State → Type 0)
   pub held : now before ⊎ now after
   pub stops : (t : State) → may_leave t → (t ≡ before) ⊎ (t ≡ after)
 
--- a state with changes made, and a reply kept for a call
-abbrev pub with_reply : State → List Change → Call → Reply → State
-with_reply s changes c r =
+-- a state with changes made, a reply kept for a call, and its deed noted, if it has one
+abbrev pub with_reply : State → List Change → Option Deed → Call → Reply → State
+with_reply s changes deed c r =
     record {
       world = changed s.world changes;
       kept = insert s.kept (name_of c) (record { content = c.content; reply = r });
+      history = noted s.history c.member c.id c.moment deed;
     }
 
--- when a call's changes and reply may be put: its person is there, its name is new, the world stays good and keeps what it has, and the
--- changes are of one board or of one person
-pub record MayCommit (s : State) (changes : List Change) (c : Call) : Type 0 where
+-- a task stands at this place of a board, counted from 0
+abbrev pub HasPlace : World → ℕ → ℕ → Type 0
+HasPlace w board place = IfSome (find_board w board) (λ b. place < length b.tasks)
+
+-- a deed is on a board that is there, and about a task of that board, if it is about one
+pub record IsDeedIn (w : World) (deed : Deed) : Type 0 where
+  pub board : IsSome (find_board w deed.board)
+  pub place : IfSome deed.place (HasPlace w deed.board)
+
+-- when a call's changes, deed and reply may be put: its person is there, its name is new, the world stays good and keeps what it has, the
+-- changes are of one board or of one person, and the deed is on a board that is there then
+pub record MayCommit (s : State) (changes : List Change) (deed : Option Deed) (c : Call) : Type 0 where
   pub known : IsSome (number_of s.world c.member)
   pub new : kept_for s c ≡ None
   pub good : IsGoodWorld (changed s.world changes)
   pub extends : Extends s.world (changed s.world changes)
   pub shape : AreOfOne changes
+  pub does : IfSome deed (IsDeedIn (changed s.world changes))
 
 -- the call's caller is known, and nothing is kept under its name
 pub record IsNew (s : State) (c : Call) : Type 0 where

@@ -1,4 +1,5 @@
 pub mod Call
+pub mod History
 pub mod Keep
 pub mod Leaving
 pub mod Roles

@@ -33,5 +33,7 @@ word_named name =
     else if bytes_eq name (codes "take") then Some word.Take
     else if bytes_eq name (codes "title") then Some word.Title
     else if bytes_eq name (codes "people") then Some word.People
+    else if bytes_eq name (codes "history") then Some word.History
+    else if bytes_eq name (codes "history-of") then Some word.HistoryOf
     else if bytes_eq name (codes "me") then Some word.Me
     else None

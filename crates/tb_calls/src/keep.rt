@@ -5,6 +5,7 @@ ghost use Rattle.tb_core.specs.GoodWorld.{IsGoodWorld};
 ghost use Rattle.tb_board.specs.World.{key_of};
 ghost use Rattle.tb_calls.specs.declared.fault.KeepFault.TheVariants.{Memory, Store};
 ghost use Rattle.tb_calls.specs.Call.{State};
+ghost use Rattle.tb_calls.specs.History.{history_seen};
 ghost use Rattle.tb_calls.specs.Keep.{HoldsEither, IsStill, MayCommit, is_store, with_reply};
 ghost use Rattle.tb_calls.specs.Leaving.{Only};
 ghost use Rattle.tb_calls.specs.Roles.{boards_of, people_for};
@@ -14,12 +15,23 @@ use crate::fault::KeepFault;
 use crate::reply::Reply;
 use crate::role_bodies::{BoardRole, PersonRole};
 use std::alloc::Global;
-use tb_board::{Change, Key, Name};
+use tb_board::{Board, Change, Key, Name};
 use tb_core::{Command, Seen};
+use tb_deeds::Deed;
+use tb_history::{HistoryPage, Which};
 use tb_task::TaskId;
 use tb_values::Items;
 
-/// Keeps people, boards and roles, and the replies given. A keeper is sound where it holds a state, and its content is the state that
+/// How many bytes calls have written since a keeper was made.
+#[derive(Clone, Copy, Debug, PartialEq, Eq)]
+pub struct Written {
+    /// The calls themselves: their contents, their replies, and the tasks that they name.
+    pub own: u64,
+    /// Instances that came by sweeps.
+    pub swept: u64,
+}
+
+/// Keeps people, boards and roles, the replies given, and each board's history. A keeper is sound where it holds a state, and its content is the state that
 /// it holds: what is promised is promised for each state that it holds. A keeper may look in a store at each call: what it answers is
 /// true where the store has given back, to the end of the call, what was put into it.
 pub trait Keep {
@@ -100,23 +112,42 @@ pub trait Keep {
         ensures honest { is_honest self.new ≡ true → is_honest self.old ≡ true }
         ensures closed { has_failed self.old ≡ true → IsErrOf result Store };
 
-    /// Makes the changes of a call and keeps its reply, both at once. A refusal has no changes.
+    /// A page of a board's history. Its entries name the tasks that the board has at their places.
+    fn history(
+        &mut self,
+        alloc: Global,
+        board: &Board,
+        which: Which,
+    ) -> Result<HistoryPage, KeepFault>
+        ensures answer { is_honest self.new ≡ true → (s : State) → holds self.old s
+            → IfOk result (λ page. page ≡ history_seen s board.now which) }
+        ensures same { IsStill (holds self.old) (after_stop self.old) (holds self.new)
+            (after_stop self.new) }
+        ensures failed { has_failed self.new ≡ is_store result }
+        ensures honest { is_honest self.new ≡ true → is_honest self.old ≡ true }
+        ensures closed { has_failed self.old ≡ true → IsErrOf result Store };
+
+    /// How many bytes calls have written so far. Nothing is promised of it: by it, who writes much is made to wait.
+    fn written(&self) -> Written;
+
+    /// Makes the changes of a call, keeps its reply and notes its deed, if it has one, all at once. A refusal has no changes and no deed.
     fn commit(
         &mut self,
         alloc: Global,
         changes: &[Change],
+        deed: Option<Deed>,
         call: &Call,
         reply: &Reply,
     ) -> Result<(), KeepFault>
-        ensures ok { (s : State) → holds self.old s → MayCommit s changes.now call.now
-            → OnOk result (holds self.new (with_reply s changes.now call.now reply.now)) }
-        ensures memory { (s : State) → holds self.old s → MayCommit s changes.now call.now
+        ensures ok { (s : State) → holds self.old s → MayCommit s changes.now deed call.now
+            → OnOk result (holds self.new (with_reply s changes.now deed call.now reply.now)) }
+        ensures memory { (s : State) → holds self.old s → MayCommit s changes.now deed call.now
             → IsErrOf result Memory → holds self.new s }
-        ensures store { (s : State) → holds self.old s → MayCommit s changes.now call.now
+        ensures store { (s : State) → holds self.old s → MayCommit s changes.now deed call.now
             → has_failed self.old ≡ false
-            → HoldsEither s (with_reply s changes.now call.now reply.now) (holds self.new)
+            → HoldsEither s (with_reply s changes.now deed call.now reply.now) (holds self.new)
             (after_stop self.new) }
-        ensures stays { (s : State) → holds self.old s → MayCommit s changes.now call.now
+        ensures stays { (s : State) → holds self.old s → MayCommit s changes.now deed call.now
             → has_failed self.old ≡ true
             → IsStill (holds self.old) (after_stop self.old) (holds self.new)
             (after_stop self.new) }

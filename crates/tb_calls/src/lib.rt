@@ -18,7 +18,7 @@ mod writing;
 
 pub use call::{Call, KeptReply};
 pub use fault::KeepFault;
-pub use keep::Keep;
+pub use keep::{Keep, Written};
 pub use lookup::{kept_reply, key_in};
 pub use reply::Reply;
 pub use role_bodies::{BoardRole, PersonRole, write_me, write_people};

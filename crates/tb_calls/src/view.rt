@@ -13,6 +13,12 @@ pub enum View {
     One(u32, TaskId),
     /// Those who have a role on a board.
     People(u32),
+    /// The last entries of a board's history.
+    History(u32),
+    /// The entries of a board's history from a number on.
+    HistoryFrom(u32, u32),
+    /// The last entries about one task of a board.
+    HistoryOf(u32, TaskId),
     /// The boards on which the person who looks has a role.
     Me,
 }

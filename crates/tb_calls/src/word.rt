@@ -32,6 +32,8 @@ pub enum Word {
     Take,
     Title,
     People,
+    History,
+    HistoryOf,
     Me,
 }
 
@@ -69,6 +71,8 @@ impl Word {
             "take" => Word::Take,
             "title" => Word::Title,
             "people" => Word::People,
+            "history" => Word::History,
+            "history-of" => Word::HistoryOf,
             "me" => Word::Me,
             _ => return None,
         };

@@ -54,6 +54,8 @@ task_count word.Key size = 0
 task_count word.Take size = 0
 task_count word.Title size = 0
 task_count word.People size = 0
+task_count word.History size = 0
+task_count word.HistoryOf size = one_task size
 task_count word.Me size = 0
 
 -- the same by the word's name, of which none is no word

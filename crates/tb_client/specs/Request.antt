@@ -19,18 +19,24 @@ Text = List ℕ
 
 -- ---- targets
 
--- the path behind a board, whose number has no zero in front
+-- a path below a board, whose number has no zero in front
 abbrev pub board_target : Text → Text → Option Text
 board_target board suffix = if is_some (number_to 4294967295 board)
     then Some (codes "/boards/" ++ (board ++ suffix)) else None
 
--- the path behind a task of a board
+-- the path of a board's history from a number on
+abbrev pub history_target : Text → Text → Option Text
+history_target board first =
+    if is_some (number_to 4294967295 board) && is_some (number_to 4294967295 first)
+    then Some (codes "/boards/" ++ (board ++ (codes "/history/" ++ first))) else None
+
+-- a path below a task of a board
 abbrev pub task_target : Text → Text → Text → Option Text
 task_target board uuid suffix =
     if is_some (number_to 4294967295 board) && is_some (read_id uuid)
     then Some (codes "/boards/" ++ (board ++ (codes "/tasks/" ++ (uuid ++ suffix)))) else None
 
--- the path behind the key of a person
+-- the path of the key of a person
 abbrev pub key_target : Text → Option Text
 key_target name = if is_name name
     then Some (codes "/people/" ++ (name ++ codes "/key")) else None
@@ -53,11 +59,18 @@ board_view suffix (board ∷ []) = option_map view_at (board_target board suffix
 board_view suffix [] = None
 board_view suffix (a ∷ b ∷ more) = None
 
-abbrev pub task_view : List Text → Option Request
-task_view (board ∷ uuid ∷ []) = option_map view_at (task_target board uuid [])
-task_view [] = None
-task_view (a ∷ []) = None
-task_view (a ∷ b ∷ c ∷ more) = None
+-- the last entries of a history, or those from a number on
+abbrev pub history_view : List Text → Option Request
+history_view (board ∷ []) = option_map view_at (board_target board (codes "/history"))
+history_view (board ∷ first ∷ []) = option_map view_at (history_target board first)
+history_view [] = None
+history_view (a ∷ b ∷ c ∷ more) = None
+
+abbrev pub task_view : Text → List Text → Option Request
+task_view suffix (board ∷ uuid ∷ []) = option_map view_at (task_target board uuid suffix)
+task_view suffix [] = None
+task_view suffix (a ∷ []) = None
+task_view suffix (a ∷ b ∷ c ∷ more) = None
 
 -- the boards of who asks
 abbrev pub me_view : List Text → Option Request
@@ -201,7 +214,9 @@ request_for word.Export arguments = board_view (codes "/export") arguments
 request_for word.Todo arguments = board_view (codes "/todo") arguments
 request_for word.People arguments = board_view (codes "/people") arguments
 request_for word.Me arguments = me_view arguments
-request_for word.Task arguments = task_view arguments
+request_for word.History arguments = history_view arguments
+request_for word.HistoryOf arguments = task_view (codes "/history") arguments
+request_for word.Task arguments = task_view [] arguments
 request_for word.Add arguments = add_call arguments
 request_for word.Import arguments = board_call (codes "/import") arguments
 request_for word.ImportTodo arguments = lines_call arguments

@@ -58,8 +58,13 @@ fn task_count(word: Word, size: usize) -> usize
     ensures { result ≡ task_count word size }
 {
     match word {
-        Word::Task | Word::Done | Word::Delete | Word::Reopen | Word::Start | Word::Stop =>
-            count_at(1, size, 1),
+        Word::Task
+        | Word::HistoryOf
+        | Word::Done
+        | Word::Delete
+        | Word::Reopen
+        | Word::Start
+        | Word::Stop => count_at(1, size, 1),
         Word::Annotate | Word::Denotate | Word::Modify => count_at(2, size, 1),
         Word::Depend | Word::Undepend => count_at(2, size, 2),
         Word::List
@@ -78,6 +83,7 @@ fn task_count(word: Word, size: usize) -> usize
         | Word::Take
         | Word::Title
         | Word::People
+        | Word::History
         | Word::Me => 0,
     }
 }

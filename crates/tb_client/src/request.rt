@@ -2,7 +2,7 @@
 ghost use Rattle.std.specs.Prelude.{◌≡◌, ◌++◌, ◌∷◌, IfOk, codes, false, option_map};
 ghost use Rattle.serde_json.specs.View.{view};
 ghost use Rattle.serde_json.specs.Written.{compact_text, has_float};
-ghost use Rattle.tb_client.specs.Request.{add_call, ahead_call, ahead_data, ahead_request, bare_call, board_call, board_target, board_view, call_at, key_call, key_data, key_target, lines_call, lines_text, link_body, link_data, me_view, note_body, note_data, own_key_call, own_key_data, person_call, person_data, request_for, request_named, request_of, retitle_call, role_call, role_data, task_call, task_call_with, task_target, task_view, title_call, title_data, view_at};
+ghost use Rattle.tb_client.specs.Request.{add_call, ahead_call, ahead_data, ahead_request, bare_call, board_call, board_target, board_view, history_target, history_view, call_at, key_call, key_data, key_target, lines_call, lines_text, link_body, link_data, me_view, note_body, note_data, own_key_call, own_key_data, person_call, person_data, request_for, request_named, request_of, retitle_call, role_call, role_data, task_call, task_call_with, task_target, task_view, title_call, title_data, view_at};
 
 use crate::line::add_body;
 use serde_json::{Value, json};
@@ -53,7 +53,9 @@ fn request_for(alloc: Global, word: Word, arguments: &[Text]) -> Result<Option<R
         Word::Todo => board_view(alloc, "/todo", arguments),
         Word::People => board_view(alloc, "/people", arguments),
         Word::Me => me_view(alloc, arguments),
-        Word::Task => task_view(alloc, arguments),
+        Word::History => history_view(alloc, arguments),
+        Word::HistoryOf => task_view(alloc, "/history", arguments),
+        Word::Task => task_view(alloc, "", arguments),
         Word::Add => add_call(alloc, arguments),
         Word::Import => board_call(alloc, "/import", arguments),
         Word::ImportTodo => lines_call(alloc, arguments),
@@ -103,13 +105,25 @@ fn me_view(alloc: Global, arguments: &[Text]) -> Result<Option<Request>, AllocEr
     Ok(view_at(Some(target)))
 }
 
-fn task_view(alloc: Global, arguments: &[Text]) -> Result<Option<Request>, AllocError>
-    ensures { IfOk result (λ found. found ≡ task_view arguments.now) }
+/// The last entries of a board's history, or those from a number on.
+fn history_view(alloc: Global, arguments: &[Text]) -> Result<Option<Request>, AllocError>
+    ensures { IfOk result (λ found. found ≡ history_view arguments.now) }
+{
+    let target = match arguments {
+        [board] => board_target(alloc, board, "/history")?,
+        [board, first] => history_target(alloc, board, first)?,
+        _ => return Ok(None),
+    };
+    Ok(view_at(target))
+}
+
+fn task_view(alloc: Global, suffix: &str, arguments: &[Text]) -> Result<Option<Request>, AllocError>
+    ensures { IfOk result (λ found. found ≡ task_view suffix.now arguments.now) }
 {
     let [board, uuid] = arguments else {
         return Ok(None);
     };
-    let target = task_target(alloc, board, uuid, "")?;
+    let target = task_target(alloc, board, uuid, suffix)?;
     Ok(view_at(target))
 }
 
@@ -387,7 +401,7 @@ fn call_at(target: Option<Text>, body: Text) -> Option<Request>
     }
 }
 
-/// The path behind a board.
+/// A path below a board.
 pub(crate) fn board_target(
     alloc: Global,
     board: &Text,
@@ -404,7 +418,21 @@ pub(crate) fn board_target(
     Ok(Some(Text::from_string(target)))
 }
 
-/// The path behind the key of a person.
+/// The path of a board's history from a number on.
+fn history_target(alloc: Global, board: &Text, first: &Text) -> Result<Option<Text>, AllocError>
+    ensures { IfOk result (λ target. target ≡ history_target board.now first.now) }
+{
+    let board = board.as_str();
+    let first = first.as_str();
+    if read_number(board, u32::MAX).is_none() || read_number(first, u32::MAX).is_none() {
+        return Ok(None);
+    }
+    let mut target = String::new(alloc);
+    write!(target, "/boards/{board}/history/{first}")?;
+    Ok(Some(Text::from_string(target)))
+}
+
+/// The path of the key of a person.
 fn key_target(alloc: Global, name: &Text) -> Result<Option<Text>, AllocError>
     ensures { IfOk result (λ target. target ≡ key_target name.now) }
 {
@@ -417,7 +445,7 @@ fn key_target(alloc: Global, name: &Text) -> Result<Option<Text>, AllocError>
     Ok(Some(Text::from_string(target)))
 }
 
-/// The path behind a task of a board.
+/// A path below a task of a board.
 fn task_target(
     alloc: Global,
     board: &Text,

@@ -1,6 +1,6 @@
 -- Why views are refused, and what their refusals are told.
-use Rattle.std.proofs.Common.{◌≡◌, ◌≢◌, ◌⊎◌, ◌∙◌, ℕ, ◌+◌, ◌≤◌, ◌<◌, ◌==◌, ◌&&◌, Bool, true, false, true≢false, List, [], ◌∷◌, find, length, Option, Some, None, Result, Ok, Err, option_map, refl, sym, ap, subst, inl, inr, arith}
-use Rattle.std.specs.Prelude.{IsSome, if◌then◌else◌, is_some}
+use Rattle.std.proofs.Common.{◌≡◌, ◌≢◌, ◌⊎◌, ◌∙◌, ℕ, ◌+◌, ◌≤◌, ◌<◌, ◌==◌, ◌&&◌, ◌||◌, Bool, true, false, true≢false, List, [], ◌∷◌, find, length, Option, Some, None, Result, Ok, Err, option_map, refl, sym, ap, subst, inl, inr, arith}
+use Rattle.std.specs.Prelude.{IsSome, MatchOption, if◌then◌else◌, is_some}
 use Rattle.std.specs.List.{AllByRecursion, list_any, range_with_len}
 use Rattle.std.proofs.lemmas.Bool.{cases_Bool, eqb-true, eqb-false}
 use Rattle.tb_task.specs.declared.task.Task.{Task}
@@ -9,11 +9,14 @@ use Rattle.tb_board.specs.declared.world.Role.{Role}
 use Rattle.tb_board.specs.declared.world.RoleOn.{RoleOn}
 use Rattle.tb_board.specs.declared.world.World.{World}
 use Rattle.tb_board.specs.Board.{is_on}
-use Rattle.tb_board.specs.Tasks.{has_id}
+use Rattle.tb_board.specs.First.{IsFirst, IsNone}
+use Rattle.tb_board.specs.Tasks.{has_id, ids, place_in}
 use Rattle.tb_board.specs.World.{find_board, has_key, has_number, is_role_of, key_of, number_of, role_of}
+use Rattle.tb_board.proofs.Places.{place}
+use Rattle.tb_history.specs.declared.page.Which.TheVariants as which
 use Rattle.tb_calls.specs.Call.{State, unknown_caller}
 use Rattle.tb_calls.specs.declared.view.View.{View}
-use Rattle.tb_calls.specs.declared.view.View.TheVariants.{Export, Listing, One, People, Todo}
+use Rattle.tb_calls.specs.declared.view.View.TheVariants.{Export, History, HistoryFrom, HistoryOf, Listing, One, People, Todo}
 use Rattle.tb_calls.specs.Roles.{people_for, people_on, role_on, where_some}
 use Rattle.tb_core.specs.Apply.{board_for, seen_with}
 use Rattle.tb_core.specs.GoodWorld.{IsGoodWorld, IsRoleIn, numbers}
@@ -27,7 +30,7 @@ use Rattle.tb_report.specs.Lists.{listing}
 use Rattle.tb_report.specs.Showing.{shown}
 use Rattle.tb_todotxt.specs.FileTexts.{file_text}
 use Rattle.tb_desk.specs.Admitting.{admission, refusal_in, refusal_without}
-use Rattle.tb_desk.specs.Viewing.{export_text, on_board, one_text, people_shown, seen_on, shown_in, view_of, view_reply}
+use Rattle.tb_desk.specs.Viewing.{export_text, on_board, one_text, page_about, page_text, people_shown, seen_on, shown_in, view_of, view_reply}
 
 -- ---- replies
 
@@ -62,19 +65,19 @@ known_has_key None key has = absurd (true≢false (sym has))
 known_has_key (Some own) key has = refl
 
 module _ (s : State) (name key : List ℕ) (v : View) (m : ℕ) where
-  told_where : (known : Bool) → has_key (key_of s.world name) key ≡ known → admission (shown_in s name key v m) ≡ admission (if known then view_reply (view_of s.world name v m) else unknown_caller)
-  told_where known is = ap (λ k. admission (if k then view_reply (view_of s.world name v m) else unknown_caller)) is
+  told_where : (known : Bool) → has_key (key_of s.world name) key ≡ known → admission (shown_in s name key v m) ≡ admission (if known then view_reply (view_of s name v m) else unknown_caller)
+  told_where known is = ap (λ k. admission (if k then view_reply (view_of s name v m) else unknown_caller)) is
 
   pub stranger_told : (r : Reply) → has_key (key_of s.world name) key ≡ false → r ≡ reply_of (Err UnknownCaller) → Some r ≡ admission (shown_in s name key v m)
   stranger_told r not_so is = ap (λ x. Some x) is ∙ sym (refused UnknownCaller) ∙ sym (told_where false not_so)
 
-  pub refusal_told : (refusal : Refusal) (r : Reply) → has_key (key_of s.world name) key ≡ true → Some refusal ≡ refusal_in (view_of s.world name v m) → r ≡ reply_of (Err refusal)
+  pub refusal_told : (refusal : Refusal) (r : Reply) → has_key (key_of s.world name) key ≡ true → Some refusal ≡ refusal_in (view_of s name v m) → r ≡ reply_of (Err refusal)
       → Some r ≡ admission (shown_in s name key v m)
   refusal_told refusal r so why is =
-      ap (λ x. Some x) is ∙ ap (λ o. option_map (λ x. reply_of (Err x)) o) why ∙ sym (admission_of (view_of s.world name v m)) ∙ sym (told_where true so)
+      ap (λ x. Some x) is ∙ ap (λ o. option_map (λ x. reply_of (Err x)) o) why ∙ sym (admission_of (view_of s name v m)) ∙ sym (told_where true so)
 
-  pub nothing_told : has_key (key_of s.world name) key ≡ true → None ≡ refusal_in (view_of s.world name v m) → None ≡ admission (shown_in s name key v m)
-  nothing_told so why = ap (λ o. option_map (λ x. reply_of (Err x)) o) why ∙ sym (admission_of (view_of s.world name v m)) ∙ sym (told_where true so)
+  pub nothing_told : has_key (key_of s.world name) key ≡ true → None ≡ refusal_in (view_of s name v m) → None ≡ admission (shown_in s name key v m)
+  nothing_told so why = ap (λ o. option_map (λ x. reply_of (Err x)) o) why ∙ sym (admission_of (view_of s name v m)) ∙ sym (told_where true so)
 
 -- ---- one task
 
@@ -99,6 +102,26 @@ module _ (b : Board) (id m : ℕ) where
 
   pub task_missing : is_on b id ≡ false → Some NoTask ≡ refusal_in (one_text b (find (has_id id) b.tasks) m)
   task_missing off = missing (find (has_id id) b.tasks) (sym (on_found id b.tasks) ∙ off)
+
+-- its place is there where it is
+place_where : (s : State) (b : Board) (id : ℕ) (o : Option ℕ) → MatchOption o (IsNone (λ i. i == id) (ids b.tasks)) (IsFirst (λ i. i == id) (ids b.tasks))
+    → refusal_in (page_about s b o) ≡ (if list_any (λ i. i == id) (ids b.tasks) then None else Some NoTask)
+place_where s b id None none = rw none.none refl
+place_where s b id (Some at) first = rw first.stands refl
+
+among_ids : (id : ℕ) (ts : List Task) → list_any (λ i. i == id) (ids ts) ≡ list_any (has_id id) ts
+among_ids id [] = refl
+among_ids id (t ∷ ts) = ap (λ rest. (t.id == id) || rest) (among_ids id ts)
+
+about_where : (s : State) (b : Board) (id : ℕ) → refusal_in (page_about s b (place_in (ids b.tasks) id)) ≡ (if is_on b id then None else Some NoTask)
+about_where s b id =
+    place_where s b id (place_in (ids b.tasks) id) (place (λ i. i == id) (ids b.tasks)) ∙ ap (λ is. if is then None else Some NoTask) (among_ids id b.tasks)
+
+pub history_there : (s : State) (b : Board) (id : ℕ) → is_on b id ≡ true → None ≡ refusal_in (page_about s b (place_in (ids b.tasks) id))
+history_there s b id on = sym (about_where s b id ∙ ap (λ is. if is then None else Some NoTask) on)
+
+pub history_missing : (s : State) (b : Board) (id : ℕ) → is_on b id ≡ false → Some NoTask ≡ refusal_in (page_about s b (place_in (ids b.tasks) id))
+history_missing s b id off = sym (about_where s b id ∙ ap (λ is. if is then None else Some NoTask) off)
 
 -- ---- a board
 
@@ -172,20 +195,36 @@ pub shows_people : (w : World) (name : List ℕ) (n : ℕ) → refusal_without (
 shows_people w name n = people_to n (role_on w n (number_of w name)) (people_on w n)
 
 -- the views of a board that look at none of its tasks alone
-pub shows_role : (w : World) (name : List ℕ) (v : View) (n m : ℕ) (r : Option Refusal) → IsGoodWorld w → (v ≡ Listing n) ⊎ ((v ≡ Export n) ⊎ ((v ≡ Todo n) ⊎ (v ≡ People n)))
-    → r ≡ refusal_without (role_on w n (number_of w name)) → r ≡ refusal_in (view_of w name v m)
-shows_role w name v n m r good is told =
+abbrev IsOfBoard : ℕ → View → Type 0
+IsOfBoard n v = (v ≡ Listing n) ⊎ ((v ≡ Export n) ⊎ ((v ≡ Todo n) ⊎ ((v ≡ People n) ⊎ ((v ≡ History n) ⊎ ((from : ℕ) × (v ≡ HistoryFrom n from))))))
+
+pub shows_role : (s : State) (name : List ℕ) (v : View) (n m : ℕ) (r : Option Refusal) → IsGoodWorld s.world → IsOfBoard n v
+    → r ≡ refusal_without (role_on s.world n (number_of s.world name)) → r ≡ refusal_in (view_of s name v m)
+shows_role s name v n m r good is told =
     elim is [
-      | inl here ↦ told ∙ shows_board (λ b. listing b m) w name n good ∙ ap (λ x. refusal_in (view_of w name x m)) (sym here)
-      | inr (inl here) ↦ told ∙ shows_board (λ b. export_text b m) w name n good ∙ ap (λ x. refusal_in (view_of w name x m)) (sym here)
-      | inr (inr (inl here)) ↦ told ∙ shows_board (λ b. file_text (shown b m)) w name n good ∙ ap (λ x. refusal_in (view_of w name x m)) (sym here)
-      | inr (inr (inr here)) ↦ told ∙ shows_people w name n ∙ ap (λ x. refusal_in (view_of w name x m)) (sym here)
+      | inl here ↦ told ∙ shows_board (λ b. listing b m) s.world name n good ∙ ap (λ x. refusal_in (view_of s name x m)) (sym here)
+      | inr (inl here) ↦ told ∙ shows_board (λ b. export_text b m) s.world name n good ∙ ap (λ x. refusal_in (view_of s name x m)) (sym here)
+      | inr (inr (inl here)) ↦ told ∙ shows_board (λ b. file_text (shown b m)) s.world name n good ∙ ap (λ x. refusal_in (view_of s name x m)) (sym here)
+      | inr (inr (inr (inl here))) ↦ told ∙ shows_people s.world name n ∙ ap (λ x. refusal_in (view_of s name x m)) (sym here)
+      | inr (inr (inr (inr (inl here)))) ↦ told ∙ shows_board (λ b. page_text s b which.Last) s.world name n good ∙ ap (λ x. refusal_in (view_of s name x m)) (sym here)
+      | inr (inr (inr (inr (inr (from, here))))) ↦
+          told ∙ shows_board (λ b. page_text s b (which.From from)) s.world name n good ∙ ap (λ x. refusal_in (view_of s name x m)) (sym here)
     ]
 
-pub shows_one : (w : World) (name : List ℕ) (v : View) (n id m : ℕ) (seen : Option SeenBoard) (r : Option Refusal) → v ≡ One n id → seen ≡ board_for w (number_of w name) (Some n)
-    → r ≡ refusal_in (seen_on seen (λ b. one_text b (find (has_id id) b.tasks) m)) → r ≡ refusal_in (view_of w name v m)
-shows_one w name v n id m seen r is saw told =
-    told ∙ ap (λ o. refusal_in (seen_on o (λ b. one_text b (find (has_id id) b.tasks) m))) saw ∙ ap (λ x. refusal_in (view_of w name x m)) (sym is)
+-- the views of one task of a board
+abbrev IsOfTask : ℕ → ℕ → View → Type 0
+IsOfTask n id v = (v ≡ One n id) ⊎ (v ≡ HistoryOf n id)
+
+pub shows_one : (s : State) (name : List ℕ) (v : View) (n id m : ℕ) (seen : Option SeenBoard) (r : Option Refusal) → IsOfTask n id v → seen ≡ board_for s.world (number_of s.world name) (Some n)
+    → r ≡ refusal_in (seen_on seen (λ b. one_text b (find (has_id id) b.tasks) m)) → r ≡ refusal_in (seen_on seen (λ b. page_about s b (place_in (ids b.tasks) id)))
+    → r ≡ refusal_in (view_of s name v m)
+shows_one s name v n id m seen r is saw told noted =
+    elim is [
+      | inl here ↦
+          told ∙ ap (λ o. refusal_in (seen_on o (λ b. one_text b (find (has_id id) b.tasks) m))) saw ∙ ap (λ x. refusal_in (view_of s name x m)) (sym here)
+      | inr here ↦
+          noted ∙ ap (λ o. refusal_in (seen_on o (λ b. page_about s b (place_in (ids b.tasks) id)))) saw ∙ ap (λ x. refusal_in (view_of s name x m)) (sym here)
+    ]
 
 -- ---- a view that is accepted
 
@@ -228,8 +267,8 @@ module _ (s : State) (name key : List ℕ) (n m : ℕ) where
   accepted_where : (known : Bool) → has_key (key_of s.world name) key ≡ known → None ≡ admission (shown_in s name key (Export n) m) → IsExportOf (shown_in s name key (Export n) m)
   accepted_where false unknown accepted = absurd (none_some (accepted ∙ told_where s name key (Export n) m false unknown ∙ refused UnknownCaller))
   accepted_where true known accepted =
-      let shows : shown_in s name key (Export n) m ≡ view_reply (view_of s.world name (Export n) m) =
-      ap (λ k. if k then view_reply (view_of s.world name (Export n) m) else unknown_caller) known in
+      let shows : shown_in s name key (Export n) m ≡ view_reply (view_of s name (Export n) m) =
+      ap (λ k. if k then view_reply (view_of s name (Export n) m) else unknown_caller) known in
       subst IsExportOf (sym shows) (exported (board_for s.world (number_of s.world name) (Some n)) refl (accepted ∙ ap admission shows))
 
   pub accepted_export : None ≡ admission (shown_in s name key (Export n) m) → IsExportOf (shown_in s name key (Export n) m)

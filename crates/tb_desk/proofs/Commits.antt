@@ -1,6 +1,6 @@
 -- Decided changes may be committed, and with their reply they are the state after the call.
-use Rattle.std.proofs.Common.{◌≡◌, ℕ, ◌+◌, true, false, true≢false, List, Option, Some, None, MatchOption, option_map, option_and_then, position, refl, sym, ap, ◌∙◌, subst, rules}
-use Rattle.std.specs.Prelude.{IsSome, is_some}
+use Rattle.std.proofs.Common.{◌≡◌, ℕ, ◌+◌, true, true≢false, List, Option, Some, None, MatchOption, option_map, option_and_then, position, refl, sym, ap, ◌∙◌, subst, rules}
+use Rattle.std.specs.Prelude.{IfSome, IsSome, is_some}
 use Rattle.std.specs.FinMap.{insert}
 use Rattle.tb_board.specs.declared.change.Change.{Change}
 use Rattle.tb_core.specs.declared.deciding.Decision.{Decision}
@@ -16,11 +16,15 @@ use Rattle.tb_board.specs.World.{has_key, has_name, key_of, number_of}
 use Rattle.tb_board.proofs.Places.{place}
 use Rattle.tb_core.proofs.Extending.{extends}
 use Rattle.tb_core.proofs.Stays.{stays_good}
+use Rattle.tb_deeds.specs.declared.deed.Deed.{Deed}
+use Rattle.tb_deeds.specs.Deeds.{deed_of}
+use Rattle.tb_history.specs.History.{noted}
 use Rattle.tb_calls.specs.declared.call.Call.{Call}
 use Rattle.tb_calls.specs.declared.reply.Reply.{Reply}
 use Rattle.tb_calls.specs.Call.{State, after_call, is_known, name_of, outcome}
 use Rattle.tb_calls.specs.Reply.{reply_of}
-use Rattle.tb_calls.specs.Keep.{IsNew, MayCommit, with_reply}
+use Rattle.tb_calls.specs.Keep.{IsDeedIn, IsNew, MayCommit, with_reply}
+use Rattle.tb_desk.proofs.Deeds.{deed_in}
 
 someone : (key : Option (List ℕ)) (shown : List ℕ) → has_key key shown ≡ true → IsSome key
 someone None shown h = absurd (cc)
@@ -48,9 +52,9 @@ pub told_new : (s : State) (c : Call) (d : Decision) (r : Reply) → IsMade s c 
 unfolding outcome
 told_new s c d r made told = told ∙ ap reply_of made.answer
 
-pub may_commit : (s : State) (c : Call) (d : Decision) (changes : List Change) → changes ≡ d.changes → AreOfOne d.changes
-    → IsGoodWorld s.world → IsNew s c → IsMade s c d → MayCommit s changes c
-may_commit s c d changes same shape good new made =
+pub may_commit : (s : State) (c : Call) (d : Decision) (changes : List Change) (deed : Option Deed) → changes ≡ d.changes → AreOfOne d.changes
+    → deed ≡ deed_of s.world c.member c.command c.moment → IsGoodWorld s.world → IsNew s c → IsMade s c d → MayCommit s changes deed c
+may_commit s c d changes deed same shape did good new made =
     let later = sym (ap (changed s.world) same ∙ made.world) in
     record {
       known = is_there s.world c.member (known_is_some s c new.known);
@@ -58,14 +62,22 @@ may_commit s c d changes same shape good new made =
       good = subst IsGoodWorld later (stays_good s.world c.member c.command c.moment good);
       extends = subst (Extends s.world) later (extends s.world c.member c.command c.moment);
       shape = subst AreOfOne (sym same) shape;
+      does = subst (λ w. IfSome deed (IsDeedIn w)) later (subst (λ o. IfSome o (IsDeedIn (apply s.world c.member c.command c.moment).world)) (sym did) (deed_in s.world c.member c.moment c.command));
     }
 
--- the state with the reply
-abbrev answered_by : State → Call → World → Reply → State
-answered_by s c w r = record { world = w; kept = insert s.kept (name_of c) (record { content = c.content; reply = r }) }
+-- the state with the reply and the deed
+abbrev answered_by : State → Call → World → Reply → Option Deed → State
+answered_by s c w r deed =
+    record {
+      world = w;
+      kept = insert s.kept (name_of c) (record { content = c.content; reply = r });
+      history = noted s.history c.member c.id c.moment deed;
+    }
 
-pub with_reply-after_call : (s : State) (c : Call) (d : Decision) (changes : List Change) (r : Reply) → changes ≡ d.changes → IsMade s c d → r ≡ reply_of d.answer → with_reply s changes c r ≡ after_call s c
+pub with_reply-after_call : (s : State) (c : Call) (d : Decision) (changes : List Change) (deed : Option Deed) (r : Reply) → changes ≡ d.changes
+    → deed ≡ deed_of s.world c.member c.command c.moment → IsMade s c d → r ≡ reply_of d.answer → with_reply s changes deed c r ≡ after_call s c
 unfolding outcome
-with_reply-after_call s c d changes r same made told =
-    ap (λ w. answered_by s c w r) (ap (changed s.world) same ∙ made.world)
-    ∙ ap (answered_by s c (apply s.world c.member c.command c.moment).world) (told ∙ ap reply_of made.answer)
+with_reply-after_call s c d changes deed r same did made told =
+    ap (λ w. answered_by s c w r deed) (ap (changed s.world) same ∙ made.world)
+    ∙ ap (λ q. answered_by s c (apply s.world c.member c.command c.moment).world q deed) (told ∙ ap reply_of made.answer)
+    ∙ ap (answered_by s c (apply s.world c.member c.command c.moment).world (reply_of (apply s.world c.member c.command c.moment).answer)) did

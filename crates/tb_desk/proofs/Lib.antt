@@ -1,5 +1,8 @@
 pub mod Admitted
 pub mod Commits
+pub mod Deeds
+pub mod Entries
+pub mod Histories
 pub mod Keys
 pub mod Lists
 pub mod Moves

@@ -1,5 +1,5 @@
 -- Held states under other names.
-use Rattle.std.proofs.Common.{◌≡◌, ◌⊎◌, ℕ, ◌+◌, ◌≤◌, ◌<◌, zero, suc, get_or, Bool, true, false, if◌then◌else◌, List, [], ◌∷◌, length, take, Option, Some, None, ◌≢◌, Result, Ok, Err, refl, sym, ap, ◌∙◌, subst, inl, inr, true≢false, ⊎_elim, arith}
+use Rattle.std.proofs.Common.{◌≡◌, ◌⊎◌, ℕ, ◌+◌, ◌<◌, zero, suc, get_or, Bool, true, false, if◌then◌else◌, List, [], ◌∷◌, length, take, Option, Some, None, ◌≢◌, Result, Ok, Err, refl, sym, ap, ◌∙◌, subst, inl, true≢false, ⊎_elim, arith}
 use Rattle.std.specs.Prelude.{OnOk, IsErr, IsErrOf, MatchOption, is_ok}
 use Rattle.tb_calls.specs.declared.call.Call.{Call}
 use Rattle.tb_calls.specs.declared.reply.Reply.{Reply}

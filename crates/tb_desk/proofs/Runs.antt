@@ -1,11 +1,10 @@
 -- Runs of calls, in parts.
-use Rattle.std.proofs.Common.{◌≡◌, ◌⊎◌, ℕ, ◌+◌, ◌≤◌, ◌<◌, Bool, true, false, not, ◌&&◌, ◌||◌, cond, if◌then◌else◌, List, [], ◌∷◌, ◌++◌, length, take, get_or, zero, suc, Option, Some, None, refl, sym, ap, ◌∙◌, subst, rules, arith, append_assoc}
+use Rattle.std.proofs.Common.{◌≡◌, ℕ, ◌+◌, ◌<◌, Bool, true, false, not, ◌&&◌, ◌||◌, cond, if◌then◌else◌, List, [], ◌∷◌, ◌++◌, length, take, get_or, Option, Some, refl, sym, ap, ◌∙◌, append_assoc}
 use Rattle.std.specs.Prelude.{is_some}
 use Rattle.std.specs.List.{list_any}
 use Rattle.tb_calls.specs.declared.call.Call.{Call}
 use Rattle.tb_calls.specs.declared.reply.Reply.{Reply}
-use Rattle.tb_calls.specs.declared.call.KeptReply.{KeptReply}
-use Rattle.tb_calls.specs.Call.{State, after_call, counts, is_known, kept_for, same_name, plain, once_after, once, reply, replies_after, replies_to, told_in}
+use Rattle.tb_calls.specs.Call.{State, after_call, counts, is_known, kept_for, same_name, plain, once_after, once, reply, replies_after, replies_to}
 use Rattle.std.proofs.lemmas.List.{take_more}
 use Rattle.tb_calls.proofs.Names.{kept_for-after_call, kept_of}
 

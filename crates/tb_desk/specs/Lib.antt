@@ -1,4 +1,6 @@
 pub mod Admitting
+pub mod EntryList
+pub mod Histories
 pub mod ListKeep
 pub mod Resuming
 pub mod Sessions

@@ -1,13 +1,13 @@
 //! Whether a view is accepted, over any keeper.
 ghost use Rattle.std.specs.Prelude.{◌≡◌, ℕ, IfOk, IsErrOf, IsSome, false, find, true};
-ghost use Rattle.tb_board.specs.Tasks.{has_id};
+ghost use Rattle.tb_board.specs.Tasks.{has_id, ids, place_in};
 ghost use Rattle.tb_board.specs.World.{has_key, key_of, number_of};
 ghost use Rattle.tb_calls.specs.declared.fault.KeepFault.TheVariants.{Store};
 ghost use Rattle.tb_calls.specs.Call.{State};
 ghost use Rattle.tb_calls.specs.Keep.{IsStill, is_store};
 ghost use Rattle.tb_calls.specs.Roles.{role_on};
 ghost use Rattle.tb_desk.specs.Admitting.{admission, refusal_in, refusal_without};
-ghost use Rattle.tb_desk.specs.Viewing.{one_text, seen_on, shown_in, view_of};
+ghost use Rattle.tb_desk.specs.Viewing.{one_text, page_about, seen_on, shown_in, view_of};
 
 use crate::desk::Desk;
 use crate::viewing::see;
@@ -71,17 +71,20 @@ fn find_refusal<K: Keep>(
     ensures told { K.is_honest keep.new ≡ true → (s : State) → K.holds keep.old s
         → IsSome (key_of s.world name.now) → (at : ℕ)
         → IfOk result
-        (λ refusal. refusal ≡ refusal_in (view_of s.world name.now view.now at)) }
+        (λ refusal. refusal ≡ refusal_in (view_of s name.now view.now at)) }
     ensures same { IsStill (K.holds keep.old) (K.after_stop keep.old) (K.holds keep.new)
         (K.after_stop keep.new) }
     ensures honest { K.is_honest keep.new ≡ true → K.is_honest keep.old ≡ true }
     ensures failed { K.has_failed keep.old ≡ false → K.has_failed keep.new ≡ is_store result }
 {
     match view {
-        View::Listing(board) | View::Export(board) | View::Todo(board) | View::People(board) => {
-            refusal_on(keep, alloc, name, *board)
-        }
-        View::One(board, id) => {
+        View::Listing(board)
+        | View::Export(board)
+        | View::Todo(board)
+        | View::People(board)
+        | View::History(board)
+        | View::HistoryFrom(board, _) => refusal_on(keep, alloc, name, *board),
+        View::One(board, id) | View::HistoryOf(board, id) => {
             let seen = see(keep, alloc, name, *board)?;
             Ok(refusal_of_one(&seen, *id))
         }
@@ -110,10 +113,12 @@ fn refusal_on<K: Keep>(
     }
 }
 
-/// Why a view of a task is refused, if it is.
+/// Why a view of a task or of its history is refused, if it is.
 fn refusal_of_one(seen: &Option<SeenBoard>, id: TaskId) -> Option<Refusal>
-    ensures { (at : ℕ) → result
+    ensures one { (at : ℕ) → result
         ≡ refusal_in (seen_on seen.now (λ b. one_text b (find (has_id id) b.tasks) at)) }
+    ensures history { (s : State) → result
+        ≡ refusal_in (seen_on seen.now (λ b. page_about s b (place_in (ids b.tasks) id))) }
 {
     match seen {
         Some(seen) => refusal_of_task(seen.board.get(), id),
@@ -121,10 +126,12 @@ fn refusal_of_one(seen: &Option<SeenBoard>, id: TaskId) -> Option<Refusal>
     }
 }
 
-#[tactic(auto, using(crate::proofs::Admitted::task_there, crate::proofs::Admitted::task_missing))]
+#[tactic(auto, using(crate::proofs::Admitted::task_there, crate::proofs::Admitted::task_missing, crate::proofs::Admitted::history_there, crate::proofs::Admitted::history_missing))]
 fn refusal_of_task(board: &Board, id: TaskId) -> Option<Refusal>
-    ensures { (at : ℕ) → result
+    ensures one { (at : ℕ) → result
         ≡ refusal_in (one_text board.now (find (has_id id) board.now.tasks) at) }
+    ensures history { (s : State) → result
+        ≡ refusal_in (page_about s board.now (place_in (ids board.now.tasks) id)) }
 {
     if board.has(id) {
         None

@@ -6,7 +6,7 @@ ghost use Rattle.tb_calls.specs.Leaving.{Only, StandsAfter};
 
 use std::alloc::Global;
 use std::marker::Model;
-use tb_calls::{Call, Keep, KeepFault, Reply};
+use tb_calls::{Call, Keep, KeepFault, Reply, Written};
 use tb_values::Items;
 
 /// Handles calls over a keeper. A contract sees the keeper.
@@ -40,6 +40,11 @@ impl<K: Keep> Desk<K> {
     {
         let Desk { keep } = self;
         keep
+    }
+
+    /// How many bytes calls have written so far.
+    pub fn written(&self) -> Written {
+        self.keep.written()
     }
 
     /// Handles calls in order, up to the first fault. The place of a reply is made before its call is handled, so a keeper that has

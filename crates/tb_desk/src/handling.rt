@@ -13,6 +13,7 @@ use std::alloc::Global;
 use tb_board::Key;
 use tb_calls::{Call, Keep, KeepFault, Reply, reply_to, reply_to_refused};
 use tb_core::{Command, Refusal, decide};
+use tb_deeds::deed_of;
 
 impl<K: Keep> Desk<K> {
     /// Handles one call: it acts where its name is new, and is told what is kept for it otherwise.
@@ -144,7 +145,8 @@ fn answer_new<K: Keep>(keep: &mut K, alloc: Global, call: &Call) -> Result<Reply
     let seen = keep.look(alloc, &call.member, &call.command)?;
     let decision = decide(alloc, &seen, &call.command, call.moment)?;
     let reply = reply_to(alloc, &decision.answer)?;
+    let deed = deed_of(&seen, &call.command, call.moment, &decision);
     drop(seen);
-    keep.commit(alloc, decision.changes.as_slice(), call, &reply)?;
+    keep.commit(alloc, decision.changes.as_slice(), deed, call, &reply)?;
     Ok(reply)
 }

@@ -4,14 +4,18 @@ ghost use Rattle.tb_board.specs.World.{key_of};
 ghost use Rattle.tb_calls.specs.Call.{name_cmp, opening};
 ghost use Rattle.tb_desk.specs.ListKeep.{call_name, named};
 
+use crate::entry_list::{BoardEntry, entry_by, put_last};
+use crate::pages::page_of;
 use std::alloc::{AllocError, Global};
 use std::collections::BTreeMap;
-use tb_board::{Change, Key, Name, World};
+use tb_board::{Board, Change, Key, Name, World};
 use tb_calls::{
-    BoardRole, Call, Keep, KeepFault, KeptReply, PersonRole, Reply, boards_of, kept_reply, key_in,
-    people_for,
+    BoardRole, Call, Keep, KeepFault, KeptReply, PersonRole, Reply, Written, boards_of, kept_reply,
+    key_in, people_for,
 };
 use tb_core::{Command, Seen, look_for};
+use tb_deeds::Deed;
+use tb_history::{HistoryPage, Which};
 use tb_task::TaskId;
 use tb_values::{Duplicate, Items};
 
@@ -22,11 +26,13 @@ pub(crate) struct KeptUnder {
     pub id: TaskId,
 }
 
-/// Keeps a world, and the replies given in the order of their names. It has no store that could fail.
+/// Keeps a world, the replies given in the order of their names, and the entries of all boards in the order in which they came. It has
+/// no store that could fail.
 #[derive(Drop)]
 pub struct ListKeep {
     world: World,
     kept: BTreeMap<KeptUnder, KeptReply>,
+    entries: Vec<BoardEntry>,
 }
 
 impl ListKeep {
@@ -38,6 +44,7 @@ impl ListKeep {
         Ok(ListKeep {
             world,
             kept: BTreeMap::new(alloc),
+            entries: Vec::new(alloc),
         })
     }
 }
@@ -46,9 +53,9 @@ impl Keep for ListKeep {
     ghost use Rattle.std.specs.Prelude.{◌≡◌, false, refl, true};
     ghost use Rattle.tb_desk.specs.ListKeep.{IsListed, listed, only};
 
-    ghost holds = { λ k s. IsListed k.world k.kept.entries s };
+    ghost holds = { λ k s. IsListed k.world k.kept.entries k.entries.items s };
 
-    ghost after_stop = { λ k s. s ≡ listed k.world k.kept.entries };
+    ghost after_stop = { λ k s. s ≡ listed k.world k.kept.entries k.entries.items };
 
     ghost has_failed = { λ _. false };
 
@@ -97,23 +104,40 @@ impl Keep for ListKeep {
         Ok(people_for(alloc, &self.world, name, board)?)
     }
 
+    fn history(
+        &mut self,
+        alloc: Global,
+        board: &Board,
+        which: Which,
+    ) -> Result<HistoryPage, KeepFault> {
+        Ok(page_of(alloc, &self.kept, self.entries.as_slice(), board, which)?)
+    }
+
+    fn written(&self) -> Written {
+        Written { own: 0, swept: 0 }
+    }
+
     fn commit(
         &mut self,
         alloc: Global,
         changes: &[Change],
+        deed: Option<Deed>,
         call: &Call,
         reply: &Reply,
     ) -> Result<(), KeepFault> {
         let name = kept_under(alloc, &call.member, call.id)?;
         let kept = kept_reply(call, reply)?;
         let world = self.world.changed(alloc, changes)?;
+        let entry = entry_by(call, deed)?;
+        self.entries.reserve(1)?;
         self.kept.insert(name, kept)?;
+        put_last(&mut self.entries, entry);
         self.world = world;
         Ok(())
     }
 }
 
-fn kept_under(alloc: Global, member: &Name, id: TaskId) -> Result<KeptUnder, AllocError>
+pub(crate) fn kept_under(alloc: Global, member: &Name, id: TaskId) -> Result<KeptUnder, AllocError>
     ensures { IfOk result (λ name. call_name name ≡ (member.now, id)) }
 {
     let member = String::from_str(alloc, member.as_str())?;

@@ -13,12 +13,14 @@ ghost use Rattle.tb_calls.specs.Keep.{IsStill, is_store};
 ghost use Rattle.tb_desk.specs.Viewing.{export_text, one_text, people_shown, seen_on, shown_in, view_of, view_reply};
 
 use crate::desk::Desk;
+use crate::looking_back::{show_history, show_history_of};
 use std::alloc::{AllocError, Global};
 use tb_board::{Board, Key, Name};
 use tb_calls::{
     Keep, KeepFault, PersonRole, Reply, View, reply_to_refused, write_me, write_people,
 };
 use tb_core::{BoardCommand, Command, Refusal, SeenBoard};
+use tb_history::Which;
 use tb_json::{write_task, write_tasks};
 use tb_report::{listing, shown, shown_task};
 use tb_task::{Moment, Task, TaskId};
@@ -62,7 +64,7 @@ fn look_at<K: Keep>(
 ) -> Result<Result<Text, Refusal>, KeepFault>
     ensures told { K.is_honest keep.new ≡ true → (s : State) → K.holds keep.old s
         → IsSome (key_of s.world name.now)
-        → IfOk result (λ shown. shown ≡ view_of s.world name.now view.now at) }
+        → IfOk result (λ shown. shown ≡ view_of s name.now view.now at) }
     ensures same { IsStill (K.holds keep.old) (K.after_stop keep.old) (K.holds keep.new)
         (K.after_stop keep.new) }
     ensures honest { K.is_honest keep.new ≡ true → K.is_honest keep.old ≡ true }
@@ -90,6 +92,11 @@ fn look_at<K: Keep>(
             let people = keep.people_for(alloc, name, *board)?;
             Ok(show_people(alloc, *board, &people)?)
         }
+        View::History(board) => show_history(keep, alloc, name, *board, Which::Last),
+        View::HistoryFrom(board, from) => {
+            show_history(keep, alloc, name, *board, Which::From(*from))
+        }
+        View::HistoryOf(board, id) => show_history_of(keep, alloc, name, *board, *id),
         View::Me => {
             let boards = keep.boards_of(alloc, name)?;
             Ok(Ok(write_me(alloc, name, boards.as_slice())?))

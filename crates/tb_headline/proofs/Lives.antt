@@ -1,14 +1,15 @@
 -- Sessions in a row, whenever they stop, are sessions that resume.
-use Rattle.std.proofs.Common.{◌≡◌, List, [], ◌∷◌, refl, sym, ap₂, ◌∙◌, subst}
+use Rattle.std.proofs.Common.{◌≡◌, length, List, [], ◌∷◌, refl, sym, ap₂, ◌∙◌, subst}
 use Rattle.tb_calls.specs.Call.{State, once, plain}
 use Rattle.tb_core.specs.GoodWorld.{IsGoodWorld}
-use Rattle.tb_desk.specs.Sessions.{Sending}
+use Rattle.tb_desk.specs.Sessions.{Sending, calls_of}
 use Rattle.tb_desk.specs.Resuming.{led_to, sessions_of, told}
 use Rattle.tb_desk.proofs.Repeats.{good_all}
 use Rattle.tb_desk.proofs.Resumed.{resumed}
 use Rattle.tb_calls.specs.declared.reply.Reply.{Reply}
-use Rattle.tb_headline.specs.Headline.{Headline, Lives, as_came}
+use Rattle.tb_headline.specs.Headline.{Headline, Lives, LivesOn, as_came}
 use Rattle.tb_headline.proofs.Came.{AreBounded, resumes}
+use Rattle.tb_headline.proofs.Replies.{replies_front}
 
 pub bounded : (s : State) (xs : List Sending) (rs : List (List Reply)) (t : State) → Lives s xs rs t → AreBounded xs
 bounded s [] [] t is = tt
@@ -26,6 +27,10 @@ lived s (x ∷ xs) (r ∷ rs) t (tells, low, high, mid, stands, rest) =
       subst (λ u. led_to u (sessions_of xs) ≡ t) stands later.0,
       ap₂ (λ q qs. q ∷ qs) (sym tells) (subst (λ u. told u (sessions_of xs) ≡ rs) stands later.1),
     )
+
+pub lives_on : LivesOn
+lives_on s t end sent replies xs more told (stood, low, high, is) lives =
+    (stood, (told ∙ replies_front s [] (calls_of sent) (length replies), low, high, t, is, lives))
 
 pub headline : Headline
 headline s calls xs rs t good sends known lives =

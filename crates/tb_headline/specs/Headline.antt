@@ -10,7 +10,7 @@ use Rattle.tb_lookup.specs.Stored.{AreOldTreesOf, AreTreesOf}
 use Rattle.tb_serve.specs.Server.{Stops, Timed, calls_among, calls_at, server}
 use Rattle.tb_calls.specs.declared.reply.Reply.{Reply}
 use Rattle.tb_serve.specs.Telling.{after, told_reply, told_text}
-use Rattle.tb_serve.specs.Turns.{IsSame, IsServed, handled, Happening, Run, Step, Talk, done_in}
+use Rattle.tb_serve.specs.Turns.{EachServed, handled, Happening, Run, Step, Talk, done_in}
 use Rattle.tb_site.specs.declared.site.Site.{Site}
 use Rattle.tb_core.specs.GoodWorld.{IsGoodWorld}
 use Rattle.tb_desk.specs.Sessions.{IsAgain, IsCopy, Sending, Sent, WasKnown, calls_of, comes_at_once, is_key_at, next_after, replies_at, stands}
@@ -56,12 +56,11 @@ pub record IsSession (s : State) (calls : List Call) (replies : List Reply) (now
 abbrev pub calls_handled : List (Step (Option ℕ) Timed) → List Call
 calls_handled steps = calls_among (handled steps)
 
--- Each connection is served what its own messages ask for, up to where another is opened in its
--- place.
+-- Each connection, from where it is opened on, is served what its own messages ask for, up to
+-- anywhere before another is opened in its place.
 abbrev pub AllServed : Site → State → (ℕ → Talk) → List (Step (Option ℕ) Timed)
     → (ℕ → Talk) → Type 0
-AllServed site s talks steps later = (c : ℕ) → IsSame c steps
-    → IsServed (server site) c s (talks c) steps (later c)
+AllServed site s talks steps later = EachServed (server site) s talks steps later
 
 -- All that was done to connections was done in these steps, and nothing else. They lead to the
 -- state of all their calls, each acting once; and this state alone is left.
@@ -106,6 +105,17 @@ Lives s (x ∷ xs) (r ∷ rs) t =
     (r ≡ take x.answered (replies_to s (calls_of x.sent))) × (x.answered ≤ x.stood)
     × (x.stood ≤ x.answered + 1)
     × (mid : State) × (mid ≡ plain s (once s (take x.stood (calls_of x.sent)))) × Lives mid xs rs t
+
+-- A session to which these calls were sent, which told these replies, and one of the states that a stop may leave of it:
+-- the life that continues from that state is one that began with this session. The parts are those of `IsSession`.
+abbrev pub LivesOn : Type 0
+LivesOn = (s t end : State) (sent : List Sent) (replies : List Reply) (xs : List Sending)
+    (more : List (List Reply))
+    → replies ≡ replies_to s (take (length replies) (calls_of sent))
+    → IsAfterSome s (calls_of sent) (length replies) t → Lives t xs more end
+    → (stood : ℕ)
+    × Lives s (record { sent = sent; answered = length replies; stood = stood } ∷ xs)
+    (replies ∷ more) end
 
 -- ---- how a list is sent
 

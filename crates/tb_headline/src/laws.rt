@@ -1,15 +1,16 @@
 //! Laws over whole runs.
 
-ghost use Rattle.tb_headline.specs.Headline.{HeadlineOfConnections, StopsJoin, TellsReplies, Headline, RestIsFree};
+ghost use Rattle.tb_headline.specs.Headline.{HeadlineOfConnections, StopsJoin, TellsReplies, Headline, LivesOn, RestIsFree};
 ghost use Rattle.tb_headline.specs.ImportAgain.{ImportJsonAgain};
 
 /// Whenever sessions stop, and whatever is sent again at whatever moment: once every call of a list was answered, the boards and the
 /// kept replies are those of the list handled once, each answer is the one that the list without a stop gives, and the boards are good.
 /// The list is of all calls, whoever sends them. Of each call the moment counts at which it stood first. Nothing need be known of who
-/// sends what remains of the list, and nothing besides.
+/// sends what remains of the list, and nothing besides. What `session::run` leaves of a session is what the next of them begins with.
 pub fn headline()
     ensures whole { Headline }
     ensures rest { RestIsFree }
+    ensures join { LivesOn }
 {}
 
 /// The same where the calls come over many connections, whatever turns these take: the list is of

@@ -1,12 +1,14 @@
 //! A session over a file: it begins with an empty database or with a store that stands, and handles
 //! calls, or serves connections, until it stops.
-ghost use Rattle.std.specs.Prelude.{◌≡◌, ◌≢◌, ◌⊎◌, false, length, take, true, IfErr, IfOk, IsErr, MatchResult, None, Ok, OnErr, OnOk, Some};
+ghost use Rattle.std.specs.Prelude.{◌≡◌, ◌≢◌, ◌⊎◌, ℕ, false, length, take, true, IfErr, IfOk, IsErr, List, MatchResult, None, Ok, OnErr, OnOk, Some};
 ghost use Rattle.sqlite.specs.Held.{state};
 ghost use Rattle.sqlite.specs.State.{HasCleanDisk, IsLive, Opens};
 ghost use Rattle.tb_calls.specs.declared.fault.KeepFault.TheVariants.{Store};
+ghost use Rattle.tb_calls.specs.declared.call.Call.{Call};
 ghost use Rattle.tb_calls.specs.Call.{State, once, plain, opening};
+ghost use Rattle.tb_calls.specs.Leaving.{StandsAfter};
 ghost use Rattle.tb_headline.specs.Refusals.{IsFilled, IsRefused, IsUnmade, Says};
-ghost use Rattle.tb_headline.specs.Headline.{IsAt, IsCut, IsFileOf, IsPlayed, IsSession, StopLeaves, WhileHonest};
+ghost use Rattle.tb_headline.specs.Headline.{IsAt, IsCut, IsFileOf, IsPlayed, IsSession, Leaves, StopLeaves, WhileHonest};
 ghost use Rattle.tb_sql.specs.Opening.{has_tables, is_old, is_second, IsAsBefore};
 ghost use Rattle.tb_lookup.specs.Stored.{AreTreesOf};
 ghost use Rattle.tb_serve.specs.Server.{done_at, talk_at};
@@ -100,6 +102,15 @@ pub fn run<S: Alter>(alloc: Global, desk: &mut Desk<SqlKeep<S>>, calls: &[Call])
 {
     desk.run(alloc, calls)
 }
+
+/// What a stop leaves of a desk's file: where the desk stands after some calls, the rows of the state after all that were answered,
+/// and after one more at most.
+pub fn leaves_rows<S: Alter>(desk: &Desk<SqlKeep<S>>)
+    ensures { WhileHonest (state S.Store desk.now.conn) ((s : State) (calls : List Call) (answered : ℕ)
+        → StandsAfter s calls answered (⟦<SqlKeep<S> as Keep>⟧.holds desk.now)
+        (⟦<SqlKeep<S> as Keep>⟧.after_stop desk.now)
+        → Leaves s calls answered (state S.Store desk.now.conn)) }
+{}
 
 /// Serves connections: things are done to them, one after the other, up to a failure of the store.
 /// Each connection is told what its own messages ask for, and whenever the session stops then, what

@@ -15,8 +15,8 @@ alone_fit = (refl, (refl, (refl, (refl, (refl, tt)))))
 
 pub boards_fit : AllFit board_routes alone_rows
 unfolding matchit_on_literals fits with_route alone_rows
-boards_fit = (refl, (refl, (refl, (refl, (refl, (refl, (refl, (refl, (refl, (refl, (refl, (refl, tt))))))))))))
+boards_fit = (refl, (refl, (refl, (refl, (refl, (refl, (refl, (refl, (refl, (refl, (refl, (refl, (refl, (refl, tt))))))))))))))
 
 pub tasks_fit : AllFit task_routes board_rows
 unfolding matchit_on_literals fits with_route alone_rows board_rows
-tasks_fit = (refl, (refl, (refl, (refl, (refl, (refl, (refl, (refl, (refl, (refl, (refl, tt)))))))))))
+tasks_fit = (refl, (refl, (refl, (refl, (refl, (refl, (refl, (refl, (refl, (refl, (refl, (refl, tt))))))))))))

@@ -8,7 +8,7 @@ use Rattle.tb_board.specs.Names.{read_name}
 use Rattle.tb_http.specs.declared.fault.WireFault.{WireFault}
 use Rattle.tb_http.specs.declared.fault.WireFault.TheVariants as wire
 use Rattle.tb_http.specs.declared.kind.Kind.{Kind}
-use Rattle.tb_http.specs.declared.kind.Kind.TheVariants.{Me, BoardView, Task, People, OwnKey, PersonKey, Boards, Roles, Take, BoardCall, TaskCall}
+use Rattle.tb_http.specs.declared.kind.Kind.TheVariants.{Me, BoardView, Task, HistoryFrom, TaskHistory, People, OwnKey, PersonKey, Boards, Roles, Take, BoardCall, TaskCall}
 use Rattle.tb_http.specs.declared.resource.CallTarget.TheVariants as target
 use Rattle.tb_http.specs.declared.resource.Resource.{Resource}
 use Rattle.tb_http.specs.declared.resource.Resource.TheVariants as resource
@@ -19,7 +19,7 @@ use Rattle.tb_http.specs.declared.route.Verb.TheVariants.{Get, Post}
 use Rattle.tb_values.specs.Numerals.{number_to}
 use Rattle.tb_http.specs.Route.{verb_name, kind_of}
 
--- the part of a path behind so many slashes, up to the next one
+-- the part of a path after so many slashes, up to the next one
 abbrev pub segment : List ℕ → ℕ → List ℕ
 segment path slashes = unwrap_or (slice_get (slice_split (λ byte. byte == 47) path) slashes) []
 
@@ -35,20 +35,26 @@ person_in path = read_name (segment path 2)
 abbrev pub board_in : List ℕ → Option ℕ
 board_in path = board_number (segment path 2)
 
+-- or `/history/{n}`
+abbrev pub entry_in : List ℕ → Option ℕ
+entry_in path = board_number (segment path 4)
+
 abbrev pub task_in : List ℕ → Option ℕ
 task_in path = read_id (segment path 4)
 
--- a resource of a board and a task
-abbrev pub of_task : (ℕ → ℕ → Resource) → Option ℕ → Option ℕ → Option Resource
-of_task resource (Some board) (Some task) = Some (resource board task)
-of_task resource (Some board) None = None
-of_task resource None task = None
+-- a resource of a board and of something of it, a task or an entry
+abbrev pub of_both : (ℕ → ℕ → Resource) → Option ℕ → Option ℕ → Option Resource
+of_both resource (Some board) (Some part) = Some (resource board part)
+of_both resource (Some board) None = None
+of_both resource None part = None
 
 -- what a path of this kind asks for, if its parts can be read
 unfoldable pub resource_of : Kind → List ℕ → Option Resource
 resource_of Me path = Some resource.Me
 resource_of (BoardView view) path = option_map (λ board. resource.Board board view) (board_in path)
-resource_of Task path = of_task resource.Task (board_in path) (task_in path)
+resource_of Task path = of_both resource.Task (board_in path) (task_in path)
+resource_of HistoryFrom path = of_both resource.HistoryFrom (board_in path) (entry_in path)
+resource_of TaskHistory path = of_both resource.TaskHistory (board_in path) (task_in path)
 resource_of People path = Some (resource.Call target.People)
 resource_of OwnKey path = Some (resource.Call target.OwnKey)
 resource_of PersonKey path =
@@ -59,7 +65,7 @@ resource_of Take path = option_map (λ board. resource.Call (target.Take board))
 resource_of (BoardCall call) path =
     option_map (λ board. resource.Call (target.Board board call)) (board_in path)
 resource_of (TaskCall call) path =
-    of_task (λ board task. resource.Call (target.Task board task call))
+    of_both (λ board task. resource.Call (target.Task board task call))
     (board_in path) (task_in path)
 
 -- the one method by which a resource is asked for
@@ -67,6 +73,8 @@ abbrev pub verb_of : Resource → Verb
 verb_of resource.Me = Get
 verb_of (resource.Board board view) = Get
 verb_of (resource.Task board task) = Get
+verb_of (resource.HistoryFrom board number) = Get
+verb_of (resource.TaskHistory board task) = Get
 verb_of (resource.Call target) = Post
 
 abbrev pub has_verb : List ℕ → Verb → Bool

@@ -8,9 +8,9 @@ use Rattle.matchit.specs.Order.{placed}
 use Rattle.matchit.specs.Seek.{first}
 use Rattle.matchit.specs.declared.error.InsertError.{InsertError}
 use Rattle.tb_http.specs.declared.kind.BoardCall.TheVariants.{Add, Sweep, Ahead, Title, Import, ImportTodo}
-use Rattle.tb_http.specs.declared.kind.BoardView.TheVariants.{List as ListTasks, Export, Todo, People as PeopleOn}
+use Rattle.tb_http.specs.declared.kind.BoardView.TheVariants.{List as ListTasks, Export, Todo, People as PeopleOn, History}
 use Rattle.tb_http.specs.declared.kind.Kind.{Kind}
-use Rattle.tb_http.specs.declared.kind.Kind.TheVariants.{Me, BoardView, Task, People, OwnKey, PersonKey, Boards, Roles, Take, BoardCall, TaskCall}
+use Rattle.tb_http.specs.declared.kind.Kind.TheVariants.{Me, BoardView, Task, HistoryFrom, TaskHistory, People, OwnKey, PersonKey, Boards, Roles, Take, BoardCall, TaskCall}
 use Rattle.tb_http.specs.declared.kind.TaskCall.TheVariants.{Done, Delete, Reopen, Start, Stop, Modify, Annotate, Denotate, Depend, Undepend}
 use Rattle.tb_http.specs.declared.route.Verb.{Verb}
 use Rattle.tb_http.specs.declared.route.Verb.TheVariants.{Get, Post}
@@ -39,6 +39,8 @@ board_routes =
     ∷ (codes "/boards/{b}/export", BoardView Export)
     ∷ (codes "/boards/{b}/todo", BoardView Todo)
     ∷ (codes "/boards/{b}/people", BoardView PeopleOn)
+    ∷ (codes "/boards/{b}/history", BoardView History)
+    ∷ (codes "/boards/{b}/history/{n}", HistoryFrom)
     ∷ []
 
 abbrev pub task_routes : List (List ℕ × Kind)
@@ -54,6 +56,7 @@ task_routes =
     ∷ (codes "/boards/{b}/tasks/{uuid}/denotate", TaskCall Denotate)
     ∷ (codes "/boards/{b}/tasks/{uuid}/depend", TaskCall Depend)
     ∷ (codes "/boards/{b}/tasks/{uuid}/undepend", TaskCall Undepend)
+    ∷ (codes "/boards/{b}/tasks/{uuid}/history", TaskHistory)
     ∷ []
 
 abbrev pub verb_name : Verb → List ℕ

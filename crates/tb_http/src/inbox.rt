@@ -32,7 +32,7 @@ impl FieldRoom {
 }
 
 /// The room that is kept where nothing is held, in bytes.
-const KEPT_ROOM: usize = 65_536;
+const KEPT_ROOM: usize = 4_096;
 
 // Gives the room of what is empty back, if it is much.
 fn release_room(alloc: Global, held: &mut Vec<u8>)
@@ -40,6 +40,17 @@ fn release_room(alloc: Global, held: &mut Vec<u8>)
 {
     if held.is_empty() && held.capacity() > KEPT_ROOM {
         *held = Vec::new(alloc);
+    }
+}
+
+// Makes room for the rest of a message of this length, and for the first piece behind it, where it would have to grow. Without memory
+// it grows as it has to.
+fn make_room(held: &mut Vec<u8>, whole: usize, more: usize)
+    ensures { held.new.items ≡ held.old.items }
+{
+    let len = held.len();
+    if len < whole && held.capacity() - len < more {
+        let _ = held.reserve_exact((whole - len).saturating_add(HEAD_LIMIT));
     }
 }
 
@@ -200,9 +211,19 @@ impl Inbox {
             (self.new ≡ record self.old { bytes = self.old.bytes ++ piece.now }) }
         ensures err { OnErr result (self.new ≡ self.old) }
     {
+        let wanted = self.wanted();
+        make_room(&mut self.held, wanted, piece.len());
         append(&mut self.held, piece)?;
         self.so_far.search(&self.held);
         Ok(())
+    }
+
+    /// How many bytes the message at the front has in all, once its head was read, and else 0.
+    pub fn wanted(&self) -> usize {
+        match &self.begun {
+            Some(begun) => begun.len + begun.size,
+            None => 0,
+        }
     }
 
     // Whether no message can be whole before more bytes come: by the length of a body that was begun, or because a

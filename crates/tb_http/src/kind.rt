@@ -7,6 +7,8 @@ pub enum BoardView {
     Export,
     Todo,
     People,
+    /// The last entries of its history.
+    History,
 }
 
 /// What a call does to a board.
@@ -42,6 +44,10 @@ pub enum Kind {
     BoardView(BoardView),
     /// One task.
     Task,
+    /// The entries of a board's history from a number on.
+    HistoryFrom,
+    /// The last entries about one task.
+    TaskHistory,
     /// A new person.
     People,
     /// The sender's own key.

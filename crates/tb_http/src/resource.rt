@@ -25,12 +25,15 @@ pub enum CallTarget<'a> {
     Task(u32, TaskId, TaskCall),
 }
 
-/// What a path asks for: the boards of the sender, a view of a board or of a task, or a call.
+/// What a path asks for: the boards of the sender, a view of a board or of a task, a part of a history, or a call.
 #[derive(Debug, Drop)]
 pub enum Resource<'a> {
     Me,
     Board(u32, BoardView),
     Task(u32, TaskId),
+    /// The entries of a board's history from a number on.
+    HistoryFrom(u32, u32),
+    TaskHistory(u32, TaskId),
     Call(CallTarget<'a>),
 }
 
@@ -65,7 +68,7 @@ impl RouteFault {
     }
 }
 
-// The part of a path behind so many slashes, up to the next one; the empty text where there is none.
+// The part of a path after so many slashes, up to the next one; the empty text where there is none.
 fn segment(path: &str, slashes: usize) -> &str
     ensures { result.now ≡ resources.segment path.now slashes }
 {
@@ -88,6 +91,13 @@ fn person_in(path: &str) -> Option<PersonName<'_>>
     PersonName::read(segment(path, 2))
 }
 
+#[tactic(auto, unfolding(crate::specs::Resource::board_number))]
+fn entry_in(path: &str) -> Option<u32>
+    ensures { result ≡ resources.entry_in path.now }
+{
+    read_number(segment(path, 4), u32::MAX)
+}
+
 fn task_in(path: &str) -> Option<TaskId>
     ensures { result ≡ resources.task_in path.now }
 {
@@ -103,6 +113,8 @@ fn resource_of(kind: Kind, path: &str) -> Option<Resource<'_>>
         Kind::Me => return Some(Resource::Me),
         Kind::BoardView(view) => return Some(Resource::Board(board_in(path)?, view)),
         Kind::Task => return Some(Resource::Task(board_in(path)?, task_in(path)?)),
+        Kind::HistoryFrom => return Some(Resource::HistoryFrom(board_in(path)?, entry_in(path)?)),
+        Kind::TaskHistory => return Some(Resource::TaskHistory(board_in(path)?, task_in(path)?)),
         Kind::People => CallTarget::People,
         Kind::OwnKey => CallTarget::OwnKey,
         Kind::PersonKey => CallTarget::PersonKey(person_in(path)?),
@@ -127,7 +139,11 @@ impl Resource<'_> {
         ensures { result ≡ resources.verb_of self.now }
     {
         match self {
-            Resource::Me | Resource::Board(_, _) | Resource::Task(_, _) => Verb::Get,
+            Resource::Me
+            | Resource::Board(_, _)
+            | Resource::Task(_, _)
+            | Resource::HistoryFrom(_, _)
+            | Resource::TaskHistory(_, _) => Verb::Get,
             Resource::Call(_) => Verb::Post,
         }
     }

@@ -28,7 +28,7 @@ impl Verb {
     }
 }
 
-// Adds a route that the router takes, so that only memory can be wanting.
+// Adds a route that the router takes, so that it can only run out of memory.
 fn add(to: &mut Router<Kind>, text: &str, kind: Kind) -> Result<(), InsertError>
     requires { IsTrue (routes.fits text.now to.old) }
     ensures row { OnOk result (to.new ≡ routes.with_route text.now kind to.old) }
@@ -79,10 +79,16 @@ fn add_boards(to: &mut Router<Kind>) -> Result<(), InsertError>
     add(to, "/boards/{b}/list", Kind::BoardView(BoardView::List))?;
     add(to, "/boards/{b}/export", Kind::BoardView(BoardView::Export))?;
     add(to, "/boards/{b}/todo", Kind::BoardView(BoardView::Todo))?;
-    add(to, "/boards/{b}/people", Kind::BoardView(BoardView::People))
+    add(to, "/boards/{b}/people", Kind::BoardView(BoardView::People))?;
+    add(
+        to,
+        "/boards/{b}/history",
+        Kind::BoardView(BoardView::History),
+    )?;
+    add(to, "/boards/{b}/history/{n}", Kind::HistoryFrom)
 }
 
-// The paths with the identifier of a task, behind the others.
+// The paths with the identifier of a task, after the others.
 fn add_tasks(to: &mut Router<Kind>) -> Result<(), InsertError>
     requires { to.old ≡ routes.board_rows }
     ensures rows { OnOk result (to.new ≡ routes.route_rows) }
@@ -98,7 +104,8 @@ fn add_tasks(to: &mut Router<Kind>) -> Result<(), InsertError>
     add_call(to, "/boards/{b}/tasks/{uuid}/annotate", TaskCall::Annotate)?;
     add_call(to, "/boards/{b}/tasks/{uuid}/denotate", TaskCall::Denotate)?;
     add_call(to, "/boards/{b}/tasks/{uuid}/depend", TaskCall::Depend)?;
-    add_call(to, "/boards/{b}/tasks/{uuid}/undepend", TaskCall::Undepend)
+    add_call(to, "/boards/{b}/tasks/{uuid}/undepend", TaskCall::Undepend)?;
+    add(to, "/boards/{b}/tasks/{uuid}/history", Kind::TaskHistory)
 }
 
 // The rows of the table.

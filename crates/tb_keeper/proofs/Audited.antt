@@ -1,5 +1,5 @@
 -- What an audit tells of a state.
-use Rattle.std.proofs.Common.{◌≡◌, ◌+◌, ◌==◌, ℕ, List, [], ◌∷◌, Option, Some, None, Result, Ok, Err, filter, map, flat_map, inr, refl, ap, subst, IsPermutation}
+use Rattle.std.proofs.Common.{◌≡◌, ◌+◌, ◌==◌, ℕ, List, [], ◌∷◌, Option, Some, None, Result, Ok, Err, filter, length, map, flat_map, inr, refl, ap, subst, IsPermutation}
 use Rattle.std.specs.Prelude.{IfOk}
 use Rattle.std.specs.List.{AllByRecursion}
 use Rattle.std.proofs.lemmas.List.Sorted.{IsPermutation-map, IsPermutation-sym}
@@ -25,11 +25,13 @@ use Rattle.tb_sql_tables.specs.declared.rows.InstanceRow.{InstanceRow}
 use Rattle.tb_sql_tables.specs.Content.{AreRows, Content, IsContent, Stands}
 use Rattle.tb_sql_tables.specs.Found.{AreFound}
 use Rattle.tb_keeper.specs.declared.auditing.Audit.{Audit}
-use Rattle.tb_keeper.specs.Auditing.{is_instance_on, is_link_on, sound, without_low, without_mask, HasBoardsOf, HasHorizonOrNone, HasItsRows, StandFor, Tells}
+use Rattle.tb_keeper.specs.Auditing.{is_instance_on, is_link_on, sound, without_low, without_mask, HasBoardsOf, HasHorizonOrNone, HasItsRows, HasItsTables, StandFor, Tells}
+use Rattle.tb_keeper.specs.SoundHistories.{IsSoundHistory}
 use Rattle.tb_lookup.specs.Reopening.{OfContent}
 use Rattle.tb_lookup.specs.Stored.{AreRowsOf, IsStored}
 use Rattle.tb_keeper.proofs.Counting.{no_faults}
 use Rattle.tb_keeper.proofs.FoundBoards.{boards_stand}
+use Rattle.tb_keeper.proofs.SoundStates.{sound_histories}
 
 -- two facts of what is answered give a third
 pub both_ok : {X E : Type 0} (r : Result X E) (P Q R : X → Type 0) → IfOk r P → IfOk r Q → ((x : X) → P x → Q x → R x) → IfOk r R
@@ -66,7 +68,7 @@ module _ (c : Content) (w : World) (same : HaveSameRows c (world_rows w)) where
       → AllByRecursion (λ (b : Board). filter (is_horizon b.number) (world_rows w).horizon ≡ horizon_row b ∷ []) bs
       → AllByRecursion (λ (b : Board). filter (λ (r : TaskRow). r.board == b.number) (world_rows w).tasks ≡ board_tasks b) bs
       → AllByRecursion (λ (b : Board). filter (is_link_on b.number) (world_rows w).links ≡ board_links b) bs
-      → AllByRecursion (λ (b : Board). filter (is_instance_on b.number) (world_rows w).instances ≡ board_instances b) bs → AllByRecursion (HasItsRows c) bs
+      → AllByRecursion (λ (b : Board). filter (is_instance_on b.number) (world_rows w).instances ≡ board_instances b) bs → AllByRecursion (HasItsTables c) bs
   each_has [] rows horizons tasks links instances = tt
   each_has (b ∷ bs) rows horizons tasks links instances = (
     record {
@@ -79,7 +81,7 @@ module _ (c : Content) (w : World) (same : HaveSameRows c (world_rows w)) where
     each_has bs rows.1 horizons.1 tasks.1 links.1 instances.1,
   )
 
-  all_have : IsGoodWorld w → AllByRecursion (HasItsRows c) w.boards
+  all_have : IsGoodWorld w → AllByRecursion (HasItsTables c) w.boards
   all_have good =
       let numbered = numbered_from 1 w.boards good.numbered in
       let rows = subst (λ l. AllByRecursion (λ (b : Board). filter (is_board b.number) l ≡ board_row b ∷ []) w.boards) (row_each w.boards)
@@ -107,13 +109,19 @@ world_tables s c of_s =
     let t = of_s.same.tables in
     record { people = t.people; boards = t.boards; roles = t.roles; tasks = t.tasks; links = t.links; instances = t.instances; gone = t.gone; horizon = t.horizon }
 
+-- where each board has its tables and a sound history, it has its rows
+both_have : (c : Content) (bs : List Board) → AllByRecursion (HasItsTables c) bs → AllByRecursion (λ (b : Board). IsSoundHistory c b.number (length b.tasks)) bs → AllByRecursion (HasItsRows c) bs
+both_have c [] tables histories = tt
+both_have c (b ∷ bs) tables histories = (record { tables = tables.0; history = histories.0 }, both_have c bs tables.1 histories.1)
+
 -- on the rows of a state there are no faults
 pub audit_sound : (old new : Database) (audit : Audit) → OfContent old new (λ c. (w : World) → IsGoodWorld w → HasForm w → HasBoardsOf w c → Tells c w.boards audit)
     → HasCleanDisk new → (s : State) → IsStored s old → audit ≡ sound s.world
 audit_sound old new audit counted clean s stored =
     let same = world_tables s stored.content stored.rows in
     let tells = counted clean stored.content stored.stands s.world stored.rows.good stored.rows.form (has_boards stored.content s.world same stored.rows.good) in
-    let none = no_faults stored.content s.world.boards audit.faults (all_have stored.content s.world same stored.rows.good) tells.faults_are in
+    let each = both_have stored.content s.world.boards (all_have stored.content s.world same stored.rows.good) (sound_histories s stored.content stored.rows) in
+    let none = no_faults stored.content s.world.boards audit.faults each tells.faults_are in
     λ i.
     let is : Audit = record { boards = tells.boards_are i; tasks = tells.tasks_are i; faults = none i } in
     is

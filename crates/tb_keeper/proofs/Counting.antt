@@ -28,7 +28,7 @@ use Rattle.tb_sql_tables.specs.Found.{AreFound, IsOneOf}
 use Rattle.tb_sql_tables.proofs.Effects.{all_left}
 use Rattle.tb_keeper.specs.declared.auditing.Audit.{Audit}
 use Rattle.tb_keeper.specs.declared.auditing.Checked.{Checked}
-use Rattle.tb_keeper.specs.Auditing.{is_instance_on, is_link_on, task_count, without_mask, AreFaults, HasHorizonOrNone, HasItsRows, IsCheckOf, StandFor, StandsFor, Tells}
+use Rattle.tb_keeper.specs.Auditing.{is_instance_on, is_link_on, task_count, without_mask, AreFaults, HasHorizonOrNone, HasItsRows, HasItsTables, IsCheckOf, IsTablesCheck, StandFor, StandsFor, Tells}
 use Rattle.tb_lookup.specs.Reopening.{OfContent}
 
 -- ---- what is found tells whether the content has the rows of a board
@@ -82,7 +82,7 @@ module _ (c : Content) (row : BoardRow) (b : Board) (stands : StandsFor c row b)
       no_row : horizon_row b ∷ [] ≡ [] → ⊥
       no_row e = absurd (cc)
 
-  has_rows : AreAsStored b row horizon tasks links instances → HasItsRows c b
+  has_rows : AreAsStored b row horizon tasks links instances → HasItsTables c b
   has_rows are = record {
     row_is = subst (λ r. IsPermutation (filter (is_board b.number) c.boards) (r ∷ [])) are.row_is stands.own;
     horizon_is = horizon_there are.horizon_is;
@@ -91,7 +91,7 @@ module _ (c : Content) (row : BoardRow) (b : Board) (stands : StandsFor c row b)
     instances_are = IsPermutation-trans _ _ _ of_instances.same are.instances_are;
   }
 
-  as_stored : HasItsRows c b → AreAsStored b row horizon tasks links instances
+  as_stored : HasItsTables c b → AreAsStored b row horizon tasks links instances
   as_stored has = record {
     row_is = only row (board_row b) (IsPermutation-trans _ _ _ (IsPermutation-sym _ _ stands.own) has.row_is);
     horizon_is = there_horizon has.horizon_is;
@@ -100,7 +100,7 @@ module _ (c : Content) (row : BoardRow) (b : Board) (stands : StandsFor c row b)
     instances_are = IsPermutation-trans _ _ _ (IsPermutation-sym _ _ of_instances.same) has.instances_are;
   }
 
-  tells_rows : (checked : Checked) → checked.tasks ≡ length b.tasks → IsTrue checked.as_stored ↔ AreAsStored b row horizon tasks links instances → IsCheckOf c b checked
+  tells_rows : (checked : Checked) → checked.tasks ≡ length b.tasks → IsTrue checked.as_stored ↔ AreAsStored b row horizon tasks links instances → IsTablesCheck c b checked
   tells_rows checked size tells = record { size = size; tells = (λ is. has_rows (tells.0 is), λ has. tells.1 (as_stored has)) }
 
 -- what is read of a board between looks that change nothing
@@ -112,7 +112,7 @@ pub checks : (start second third fourth after : Database) (row : BoardRow) (hori
     → OfContent fourth after (λ c. AreFound IsInstanceBefore (filter (is_instance_on row.id) c.instances) instances)
     → ((b : Board) → board_of row (Some (horizon_row b)) tasks gone ≡ Ok b → checked.tasks ≡ length b.tasks)
     → ((b : Board) → board_of row (Some (horizon_row b)) tasks gone ≡ Ok b → (horizon ≡ None) ⊎ (horizon ≡ Some (horizon_row b)) → IsTrue checked.as_stored ↔ AreAsStored b row horizon tasks links instances)
-    → OfContent start after (λ c. (b : Board) → StandsFor c row b → IsOneOf (filter (is_horizon b.number) c.horizon) horizon → IsCheckOf c b checked)
+    → OfContent start after (λ c. (b : Board) → StandsFor c row b → IsOneOf (filter (is_horizon b.number) c.horizon) horizon → IsTablesCheck c b checked)
 checks start second third fourth after row horizon tasks gone links instances checked one two three four of_tasks of_gone of_links of_instances size tells clean c stands b for_b of_horizon =
     let clean_fourth : HasCleanDisk fourth = four.clean clean in
     let clean_third : HasCleanDisk third = three.clean clean_fourth in

@@ -16,6 +16,9 @@ pub mod NotedMarks
 pub mod NotedRows
 pub mod SeenPeople
 pub mod Settled
+pub mod SoundHistories
+pub mod SoundStates
+pub mod SoundSteps
 pub mod Taken
 pub mod WholeCount
 pub mod WokenMasks

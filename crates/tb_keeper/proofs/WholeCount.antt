@@ -1,10 +1,11 @@
 -- Boards that are counted one after the other, whatever their rows are.
-use Rattle.std.proofs.Common.{◌≡◌, ◌∙◌, ◌+◌, ◌<◌, ◌≤◌, ℕ, Bool, true, false, cond, List, [], ◌∷◌, ◌++◌, Option, filter, length, length-append, get_or, take, refl, sym, ap, subst, arith}
-use Rattle.std.specs.Prelude.{not, sum_by}
+use Rattle.std.proofs.Common.{◌≡◌, ◌∙◌, ◌+◌, ◌<◌, ◌≤◌, ℕ, Bool, true, false, cond, List, [], ◌∷◌, ◌++◌, Option, filter, length, length-append, get_or, take, true≢false, refl, sym, ap, subst, subst₂, arith}
+use Rattle.std.specs.Prelude.{◌↔◌, IsTrue, not, sum_by}
 use Rattle.std.proofs.lemmas.List.{take_all, take_more}
 use Rattle.std.proofs.lemmas.List.Elements.{filter-append}
 use Rattle.std.proofs.lemmas.List.Sums.{sum_by-append}
 use Rattle.sqlite.specs.State.{HasCleanDisk, State as Database}
+use Rattle.tb_board.specs.declared.board.Board.{Board}
 use Rattle.tb_rows.specs.Reading.{is_gone_on, is_task_on}
 use Rattle.tb_sql.specs.Changes.{is_horizon, IsBoardBefore, IsGoneBefore, IsInstanceBefore, IsLinkBefore, IsTaskBefore}
 use Rattle.tb_sql.specs.Opening.{IsAsBefore}
@@ -18,7 +19,8 @@ use Rattle.tb_sql_tables.specs.Content.{Content}
 use Rattle.tb_sql_tables.specs.Found.{AreFound, IsOneOf}
 use Rattle.tb_keeper.specs.declared.auditing.Audit.{Audit}
 use Rattle.tb_keeper.specs.declared.auditing.Checked.{Checked}
-use Rattle.tb_keeper.specs.Auditing.{differs, is_instance_on, is_link_on, AreChecksOf, CountsRows, IsCheckBy, IsCheckOfRow, IsCountOf, IsOwned, IsRowCheck}
+use Rattle.tb_keeper.specs.Auditing.{differs, is_instance_on, is_link_on, AreChecksOf, CountsRows, IsCheckBy, IsCheckOf, IsCheckOfRow, IsCheckWith, IsCountOf, IsOwned, IsRowCheck, IsTablesCheck, StandsFor}
+use Rattle.tb_keeper.specs.SoundHistories.{IsSoundHistory}
 use Rattle.tb_lookup.specs.Reopening.{OfContent}
 use Rattle.tb_keeper.proofs.Counting.{IsOneMore}
 use Rattle.tb_lookup.proofs.Standing.{stood}
@@ -52,10 +54,39 @@ check_whole start second third fourth after row horizon tasks gone links instanc
       check = check;
     }
 
--- what is found of a row, its roles first
-pub row_whole : (start mid after : Database) (row : BoardRow) (checked : Checked) → IsAsBefore start mid → IsAsBefore mid after
-    → OfContent start mid (λ c. IsOwned c row.id) → OfContent mid after (λ c. IsCheckOfRow c row checked) → OfContent start after (λ c. IsRowCheck c row checked)
-row_whole start mid after row checked one two owned check clean c stands = record { owned = owned (two.clean clean) c stands; board = check clean c (stood c start mid stands one) }
+-- what is found of a row: its roles first, its history last
+pub row_whole : (start second third after : Database) (row : BoardRow) (tables checked : Checked) → IsAsBefore start second → IsAsBefore second third → IsAsBefore third after
+    → OfContent start second (λ c. IsOwned c row.id) → OfContent second third (λ c. IsCheckOfRow c row tables) → OfContent third after (λ c. IsCheckWith c row.id tables checked) → OfContent start after (λ c. IsRowCheck c row checked)
+row_whole start second third after row tables checked one two three owned check history clean c stands =
+    let clean_third = three.clean clean in
+    let at_second = stood c start second stands one in
+    record {
+      owned = owned (two.clean clean_third) c stands;
+      tables = tables;
+      board = check clean_third c at_second;
+      history = history clean c (stood c second third at_second two);
+    }
+
+-- what is found of the board of a row
+pub row_checked : (start second third after : Database) (row : BoardRow) (tables checked : Checked) → IsAsBefore start second → IsAsBefore second third → IsAsBefore third after
+    → OfContent second third (λ c. (b : Board) → StandsFor c row b → IsTablesCheck c b tables) → OfContent third after (λ c. IsCheckWith c row.id tables checked) → OfContent start after (λ c. (b : Board) → StandsFor c row b → IsCheckOf c b checked)
+row_checked start second third after row tables checked one two three check history clean c stands b for_b =
+    let at_second = stood c start second stands one in
+    let is = check (three.clean clean) c at_second b for_b in
+    let all = history clean c (stood c second third at_second two) in
+    let own : IsSoundHistory c row.id tables.tasks → IsSoundHistory c b.number (length b.tasks) = subst₂ (IsSoundHistory c) for_b.number is.size in
+    let back : IsSoundHistory c b.number (length b.tasks) → IsSoundHistory c row.id tables.tasks = subst₂ (IsSoundHistory c) (sym for_b.number) (sym is.size) in
+    record {
+      size = all.size ∙ is.size;
+      tells = (λ so. let both = all.tells.0 so in record { tables = is.tells.0 both.0; history = own both.1 }, λ has. all.tells.1 (is.tells.1 has.tables, back has.history));
+    }
+
+-- a check with a history, where the tables are as they should be and where they aren't
+pub with_history : (c : Content) (board tasks : ℕ) (tables sound : Bool) → tables ≡ true → IsTrue sound ↔ IsSoundHistory c board tasks → IsTrue sound ↔ IsTrue tables × IsSoundHistory c board tasks
+with_history c board tasks tables sound is tells = (λ so. (is, tells.0 so), λ both. tells.1 both.1)
+
+pub without_tables : (c : Content) (board tasks : ℕ) (tables : Bool) → tables ≡ false → IsTrue tables ↔ IsTrue tables × IsSoundHistory c board tasks
+without_tables c board tasks tables not = (λ so. absurd (true≢false (sym so ∙ not)), λ both. both.0)
 
 -- once it is found how far ahead a board looks, the rest is found
 pub with_horizon : (P : Content → Type 0) (Q : Content → Type 0) (start mid after : Database) → IsAsBefore start mid → IsAsBefore mid after → OfContent start mid P → OfContent mid after (λ c. P c → Q c) → OfContent start after Q

@@ -17,6 +17,7 @@ use Rattle.tb_sql.specs.Changes.{is_board, is_horizon, IsBoardBefore, IsGoneBefo
 use Rattle.tb_rows.specs.AsStored.{AreAsStored}
 use Rattle.tb_rows.specs.Rows.{board_instances, board_links, board_row, board_tasks, horizon_row, world_rows}
 use Rattle.tb_rows.specs.Reading.{board_of, is_gone_on, is_task_on}
+use Rattle.tb_keeper.specs.SoundHistories.{IsSoundHistory}
 use Rattle.tb_keeper.specs.declared.auditing.Audit.{Audit}
 use Rattle.tb_keeper.specs.declared.auditing.Checked.{Checked}
 
@@ -29,13 +30,18 @@ abbrev pub is_instance_on : ℕ → InstanceRow → Bool
 is_instance_on n row = row.board == n
 
 -- on the board's number the content has its row, that of how far ahead it looks, and its tasks, links and instances, in any order
-pub record HasItsRows (c : Content) (b : Board) : Type 0 where
+pub record HasItsTables (c : Content) (b : Board) : Type 0 where
   pub row_is : IsPermutation (filter (is_board b.number) c.boards) (board_row b ∷ [])
   pub horizon_is : IsPermutation (filter (is_horizon b.number) c.horizon) (horizon_row b ∷ [])
   pub tasks_are : IsPermutation (filter (is_task_on b.number) c.tasks) (board_tasks b)
   pub links_are : IsPermutation (filter (is_link_on b.number) c.links) (board_links b)
   pub instances_are : IsPermutation (filter (is_instance_on b.number) c.instances)
       (board_instances b)
+
+-- it has them, and the board's history is sound
+pub record HasItsRows (c : Content) (b : Board) : Type 0 where
+  pub tables : HasItsTables c b
+  pub history : IsSoundHistory c b.number (length b.tasks)
 
 -- ---- the numbers
 
@@ -107,6 +113,17 @@ StandFor c [] (b ∷ bs) = ⊥
 StandFor c (row ∷ rows) [] = ⊥
 StandFor c (row ∷ rows) (b ∷ bs) = StandsFor c row b × StandFor c rows bs
 
+-- how many tasks the board has, and whether it has its rows but for its history
+pub record IsTablesCheck (c : Content) (b : Board) (checked : Checked) : Type 0 where
+  pub size : checked.tasks ≡ length b.tasks
+  pub tells : IsTrue checked.as_stored ↔ HasItsTables c b
+
+-- a check of a board but for its history, with its history
+pub record IsCheckWith (c : Content) (board : ℕ) (tables checked : Checked) : Type 0 where
+  pub size : checked.tasks ≡ tables.tasks
+  pub tells : IsTrue checked.as_stored
+      ↔ IsTrue tables.as_stored × IsSoundHistory c board tables.tasks
+
 -- how many tasks the board has, and whether it has its rows
 pub record IsCheckOf (c : Content) (b : Board) (checked : Checked) : Type 0 where
   pub size : checked.tasks ≡ length b.tasks
@@ -151,10 +168,12 @@ pub record IsOwned (c : Content) (n : ℕ) : Type 0 where
   pub found : AreFound IsRoleBefore (filter (is_role_on n) c.roles) roles
   pub owned : list_any is_owners roles ≡ true
 
--- so is that of a row, and so it is with what is found on its number
+-- so is that of a row, and so it is with what is found on its number, and with its history
 pub record IsRowCheck (c : Content) (row : BoardRow) (checked : Checked) : Type 0 where
   pub owned : IsOwned c row.id
-  pub board : IsCheckOfRow c row checked
+  pub tables : Checked
+  pub board : IsCheckOfRow c row tables
+  pub history : IsCheckWith c row.id tables checked
 
 -- a check for each row
 abbrev pub AreChecksOf : Content → List BoardRow → List Checked → Type 0

@@ -1,4 +1,5 @@
 pub mod Auditing
+pub mod Committing
 pub mod Counts
 pub mod Ending
 pub mod Exporting
@@ -8,4 +9,5 @@ pub mod Laws
 pub mod Lending
 pub mod Looking
 pub mod Noting
+pub mod SoundHistories
 pub mod Versions

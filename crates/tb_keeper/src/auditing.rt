@@ -16,12 +16,13 @@ ghost use Rattle.tb_sql.specs.Changes.{is_horizon, IsInstanceBefore, IsLinkBefor
 ghost use Rattle.tb_sql.specs.Opening.{IsAsBefore};
 ghost use Rattle.tb_sql_tables.specs.Content.{Content, Stands};
 ghost use Rattle.tb_sql_tables.specs.Found.{AreFound, IsOneOf};
-ghost use Rattle.tb_keeper.specs.Auditing.{is_instance_on, is_link_on, known_horizon, sound, CountsRows, HasBoardsOf, IsCheckBy, IsCheckOf, IsCheckOfRow, IsCountOf, IsRowCheck, StandFor, StandsFor, Tells};
+ghost use Rattle.tb_keeper.specs.Auditing.{is_instance_on, is_link_on, known_horizon, sound, CountsRows, HasBoardsOf, IsCheckBy, IsCheckOf, IsCheckOfRow, IsCheckWith, IsCountOf, IsRowCheck, IsTablesCheck, StandFor, StandsFor, Tells};
 ghost use Rattle.tb_keeper.specs.Holds.{Holds};
 ghost use Rattle.tb_lookup.specs.Reopening.{OfContent};
 ghost use Rattle.tb_lookup.specs.Stored.{IsStored, MayLeave};
 ghost use Rattle.tb_task.specs.Limits.{most_boards, most_tasks};
 
+use crate::sound_histories::is_sound_history;
 use crate::sound_rows::{are_numbered, hold_board, hold_people, hold_roles};
 use crate::sql_keep::SqlKeep;
 use sqlite::{Alter, Connection};
@@ -39,7 +40,7 @@ use tb_task::{MOST_BOARDS, ids_are_read};
 use tb_values::Items;
 
 /// How many boards and tasks are stored, and how many of the boards have a least free number, a mask, a link or an instance that isn't
-/// theirs, or lack the row of how far ahead they look.
+/// theirs, lack the row of how far ahead they look, or have a history that isn't sound.
 #[derive(Clone, Copy, Debug, PartialEq, Eq)]
 pub struct Audit {
     pub boards: u64,
@@ -245,7 +246,29 @@ fn check_row<S: Alter>(
     ensures same { IsAsBefore (state S.Store conn.old) (state S.Store conn.new) }
 {
     hold_roles(conn, row.id, people)?;
-    check_board(alloc, conn, row)
+    let tables = check_board(alloc, conn, row)?;
+    check_history(conn, row.id, tables)
+}
+
+/// Looks at the history of a board, whose other tables were looked at.
+fn check_history<S: Alter>(
+    conn: &mut Connection<S>,
+    board: u32,
+    tables: Checked,
+) -> Result<Checked, StoreFault>
+    requires { conn.old.in_transaction ≡ false }
+    ensures idle { conn.new.in_transaction ≡ false }
+    ensures checked { IfOk result
+        (λ checked. OfContent (state S.Store conn.old) (state S.Store conn.new)
+        (λ c. IsCheckWith c board tables checked)) }
+    ensures size { IfOk result (λ checked. checked.tasks ≡ tables.tasks) }
+    ensures same { IsAsBefore (state S.Store conn.old) (state S.Store conn.new) }
+{
+    let sound = is_sound_history(conn, board, tables.tasks as usize)?;
+    Ok(Checked {
+        tasks: tables.tasks,
+        as_stored: tables.as_stored && sound,
+    })
 }
 
 /// Reads the board of a row, and compares it with its rows.
@@ -258,7 +281,7 @@ fn check_board<S: Alter>(
     ensures idle { conn.new.in_transaction ≡ false }
     ensures checked { IfOk result
         (λ checked. OfContent (state S.Store conn.old) (state S.Store conn.new)
-        (λ c. (b : Board) → StandsFor c row.now b → IsCheckOf c b checked)) }
+        (λ c. (b : Board) → StandsFor c row.now b → IsTablesCheck c b checked)) }
     ensures whole { IfOk result
         (λ checked. OfContent (state S.Store conn.old) (state S.Store conn.new)
         (λ c. IsCheckOfRow c row.now checked)) }
@@ -281,7 +304,7 @@ fn check_tables<S: Alter>(
     ensures checked { IfOk result
         (λ checked. OfContent (state S.Store conn.old) (state S.Store conn.new)
         (λ c. (b : Board) → StandsFor c row.now b
-        → IsOneOf (filter (is_horizon b.number) c.horizon) horizon → IsCheckOf c b checked)) }
+        → IsOneOf (filter (is_horizon b.number) c.horizon) horizon → IsTablesCheck c b checked)) }
     ensures whole { IfOk result
         (λ checked. OfContent (state S.Store conn.old) (state S.Store conn.new)
         (λ c. IsOneOf (filter (is_horizon row.now.id) c.horizon) horizon

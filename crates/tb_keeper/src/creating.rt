@@ -10,6 +10,7 @@ ghost use Rattle.tb_lookup.specs.Migrating.{IsEmptyOrStored};
 ghost use Rattle.tb_keeper.specs.Holds.{Holds};
 
 use crate::sql_keep::SqlKeep;
+use crate::written_bytes::NO_BYTES;
 use sqlite::{Alter, Connection};
 use std::alloc::{AllocError, Global};
 use tb_board::{Key, Name};
@@ -70,6 +71,7 @@ impl<S: Alter> SqlKeep<S> {
                 cache: first.cache,
                 failed: false,
                 found: Version::Third,
+                written: NO_BYTES,
             }),
             Err(StoreFault::Memory) => Err((conn, CreateFault::Memory)),
             Err(StoreFault::Store) => Err((conn, CreateFault::Store)),

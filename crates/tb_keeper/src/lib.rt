@@ -14,15 +14,18 @@ mod exporting;
 mod first_person;
 pub mod first_version;
 mod forms;
+mod histories;
 mod lending;
 mod looking;
 mod members;
 mod noting;
 mod opening;
 mod row_changes;
+mod sound_histories;
 mod sound_rows;
 mod sql_keep;
 mod writing;
+mod written_bytes;
 
 pub use auditing::Audit;
 pub use creating::CreateFault;

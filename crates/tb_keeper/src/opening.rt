@@ -12,6 +12,7 @@ ghost use Rattle.tb_keeper.specs.Holds.{Holds, IsAtHand};
 ghost use Rattle.tb_keeper.specs.Versions.{OfFirstState, OfSecondState};
 
 use crate::sql_keep::SqlKeep;
+use crate::written_bytes::NO_BYTES;
 use sqlite::{Alter, Connection};
 use std::alloc::Global;
 use tb_cache::BoardCache;
@@ -127,6 +128,7 @@ impl AtHand {
           cache = self.cache;
           failed = false;
           found = found;
+          written = record { own = 0; swept = 0 };
         } }
     {
         SqlKeep {
@@ -136,6 +138,7 @@ impl AtHand {
             cache: self.cache,
             failed: false,
             found,
+            written: NO_BYTES,
         }
     }
 }

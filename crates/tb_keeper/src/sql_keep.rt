@@ -12,14 +12,18 @@ ghost use Rattle.tb_keeper.specs.Ending.{ended};
 ghost use Rattle.tb_keeper.specs.Holds.{Holds};
 ghost use Rattle.tb_keeper.specs.Looking.{IsSeenAtHand};
 
+use crate::histories::find_history;
 use crate::looking::{find_key, find_reply, look_up};
 use crate::members::{find_boards, find_people};
+use crate::written_bytes::both;
 use sqlite::{Alter, Connection};
 use std::alloc::Global;
 use tb_board::{Board, Change, Key, Name};
 use tb_cache::BoardCache;
-use tb_calls::{BoardRole, Call, Keep, KeepFault, KeptReply, PersonRole, Reply};
+use tb_calls::{BoardRole, Call, Keep, KeepFault, KeptReply, PersonRole, Reply, Written};
 use tb_core::{Command, Seen};
+use tb_deeds::Deed;
+use tb_history::{HistoryPage, Which};
 use tb_sql::opening::Version;
 use tb_sql::store::StoreFault;
 use tb_task::TaskId;
@@ -35,6 +39,7 @@ pub struct SqlKeep<S: Alter> {
     pub(crate) cache: BoardCache,
     pub(crate) failed: bool,
     pub(crate) found: Version,
+    pub(crate) written: Written,
 }
 
 impl<S: Alter> SqlKeep<S> {
@@ -190,18 +195,37 @@ impl<S: Alter> Keep for SqlKeep<S> {
         self.settle(end)
     }
 
+    fn history(
+        &mut self,
+        alloc: Global,
+        board: &Board,
+        which: Which,
+    ) -> Result<HistoryPage, KeepFault> {
+        if self.failed {
+            return Err(KeepFault::Store);
+        }
+        let end = find_history(alloc, &mut self.conn, board, which);
+        self.settle(end)
+    }
+
+    fn written(&self) -> Written {
+        self.written
+    }
+
     fn commit(
         &mut self,
         alloc: Global,
         changes: &[Change],
+        deed: Option<Deed>,
         call: &Call,
         reply: &Reply,
     ) -> Result<(), KeepFault> {
         if self.failed {
             return Err(KeepFault::Store);
         }
-        match self.write_call(alloc, changes, call, reply) {
-            Ok(()) => {
+        match self.write_call(alloc, changes, deed, call, reply) {
+            Ok(more) => {
+                self.written = both(self.written, more);
                 self.follow(alloc, changes);
                 Ok(())
             }

@@ -1,6 +1,6 @@
 -- The rows of the kept replies of a state.
 use Rattle.std.proofs.Common.{◌≡◌, List, [], ◌∷◌, map, None, refl, ap₂, subst, IsPermutation}
-use Rattle.std.specs.Prelude.{IsSome, ◌-◌, List}
+use Rattle.std.specs.Prelude.{IsSome, List}
 use Rattle.std.specs.List.{AllByRecursion}
 use Rattle.std.specs.FinMap.{FinMap, entries, get, insert}
 use Rattle.std.proofs.lemmas.List.Sorted.{IsPermutation-cons, IsPermutation-map, IsPermutation-sym, IsPermutation-trans, All-permutation}

@@ -1,5 +1,6 @@
 -- The rows of the first version become those of the same state.
 use Rattle.std.proofs.Common.{◌≡◌, List, [], ◌∷◌, map, refl, ap₂, subst, IsPermutation}
+use Rattle.std.specs.FinMap.{empty}
 use Rattle.std.specs.List.{AllByRecursion}
 use Rattle.std.proofs.lemmas.List.Sorted.{IsPermutation-map}
 use Rattle.tb_board.specs.declared.board.Board.{Board}
@@ -7,7 +8,8 @@ use Rattle.tb_calls.specs.Call.{State}
 use Rattle.tb_rows.specs.Rows.{board_row, horizon_row}
 use Rattle.tb_sql.specs.Migrating.{first_horizon, migrated}
 use Rattle.tb_sql_tables.specs.Content.{Content}
-use Rattle.tb_lookup.specs.Stored.{AreOldRowsOf, AreRowsOf}
+use Rattle.tb_lookup.specs.Stored.{AreOldRowsOf, AreRowsOf, AreSecondRowsOf}
+use Rattle.tb_lookup.proofs.SameHistories.{no_history}
 
 each_first : (bs : List Board) → AllByRecursion (λ (b : Board). b.ahead ≡ 1) bs → map first_horizon (map board_row bs) ≡ map horizon_row bs
 each_first [] all = refl
@@ -27,6 +29,7 @@ migrated_rows s content old =
       good = was.good;
       form = was.form;
       people = was.people;
+      histories = was.histories;
       same = record {
         tables = record {
           people = same.people;
@@ -42,3 +45,10 @@ migrated_rows s content old =
         history = was.same.history;
       };
     }
+
+-- states in the tables of a version before have no history
+pub old_history : (s : State) (content : Content) → AreOldRowsOf s content → s.history ≡ empty
+old_history s content old = no_history s _ old.rows refl
+
+pub second_history : (s : State) (content : Content) → AreSecondRowsOf s content → s.history ≡ empty
+second_history s content rows = no_history s _ rows refl

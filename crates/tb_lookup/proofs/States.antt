@@ -10,6 +10,7 @@ use Rattle.tb_rows.specs.Rows.{world_rows, HaveSameRows}
 use Rattle.tb_sql_tables.specs.Content.{AreRows, Content}
 use Rattle.tb_lookup.specs.Stored.{kept_row, state_rows, AreRowsOf, IsKnown, IsStored, IsStoredAsEither, MayLeave}
 use Rattle.tb_lookup.proofs.KeptRows.{same_replies}
+use Rattle.tb_lookup.proofs.SameHistories.{same_histories}
 use Rattle.tb_lookup.proofs.SameTables.{same_contents}
 
 meet : (a b c d : Content) → HaveSameRows a c → HaveSameRows b d → HaveSameRows a b → HaveSameRows c d
@@ -27,7 +28,7 @@ meet a b c d ac bd ab = record {
     via : {X : Type 0} {p q r s : List X} → IsPermutation p r → IsPermutation q s → IsPermutation p q → IsPermutation r s
     via pr qs pq = IsPermutation-trans _ _ _ (IsPermutation-sym _ _ pr) (IsPermutation-trans _ _ _ pq qs)
 
--- the tables of a state but the kept replies are those of its world
+-- the tables of a state but the kept replies and the history are those of its world
 plain : (c : Content) (s : State) → HaveSameRows c (state_rows s) → HaveSameRows c (world_rows s.world)
 plain c s same = record { people = same.people; boards = same.boards; roles = same.roles; tasks = same.tasks; links = same.links; instances = same.instances; gone = same.gone; horizon = same.horizon }
 
@@ -41,7 +42,9 @@ same_states s t a b db of_s of_t is_a is_b =
     let known : AllByRecursion (IsKnown s.world) (entries t.kept) = subst (λ w. AllByRecursion (IsKnown w) (entries t.kept)) (sym world) of_t.people in
     let rows_of_one = subst (λ w. IsPermutation (map (kept_row s.world) (entries s.kept)) (map (kept_row w) (entries t.kept))) (sym world) rows in
     let kept = same_replies s.world s.kept t.kept of_s.people known rows_of_one in
-    λ i. record { world = world i; kept = kept i }
+    let history_rows = IsPermutation-trans _ _ _ (IsPermutation-sym _ _ of_s.same.history) (IsPermutation-trans _ _ _ same.history of_t.same.history) in
+    let history = same_histories s t world of_s.histories of_t.histories history_rows in
+    λ i. record { world = world i; kept = kept i; history = history i }
 
 -- where the rows of a state are stored, a stop leaves that state
 pub stored_alone : (s t : State) (d : Database) → IsStored s d → MayLeave d t → t ≡ s

@@ -1,3 +1,4 @@
+pub mod Histories
 pub mod Named
 pub mod People
 pub mod Replies

@@ -1,5 +1,5 @@
 -- What a file holds while it is made, and while it is brought from version 1 or 2 to today's tables.
-use Rattle.std.specs.Prelude.{◌≡◌, ◌-◌, ◌⊎◌, false}
+use Rattle.std.specs.Prelude.{◌≡◌, ◌⊎◌, false}
 use Rattle.sqlite.specs.State.{State as Database}
 use Rattle.tb_calls.specs.Call.{State}
 use Rattle.tb_sql_tables.specs.Content.{Content}

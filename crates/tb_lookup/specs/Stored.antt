@@ -1,19 +1,27 @@
 -- When the tables are the rows of a state, and what a stop may leave.
-use Rattle.std.specs.Prelude.{◌≡◌, ◌-◌, ◌⊎◌, false, List, map, IsSome}
-use Rattle.std.specs.List.{AllByRecursion}
+use Rattle.std.specs.Prelude.{◌≡◌, ◌≢◌, ◌+◌, ◌⊎◌, ℕ, false, List, [], map, IfSome, IsSome, option_map}
+use Rattle.std.specs.List.{AllByRecursion, flat_map}
 use Rattle.std.specs.Option.{unwrap_or}
-use Rattle.std.specs.FinMap.{entries}
+use Rattle.std.specs.FinMap.{entries, get}
 use Rattle.sqlite_trees.specs.Tree.{Trees}
 use Rattle.sqlite.specs.State.{HasCleanDisk, State as Database}
 use Rattle.tb_board.specs.declared.board.Board.{Board}
 use Rattle.tb_board.specs.declared.world.World.{World}
-use Rattle.tb_board.specs.World.{number_of}
+use Rattle.tb_board.specs.World.{find_board, number_of}
 use Rattle.tb_core.specs.GoodWorld.{IsGoodWorld}
+use Rattle.tb_calls.specs.declared.call.Call.{Call}
 use Rattle.tb_calls.specs.declared.call.KeptReply.{KeptReply}
 use Rattle.tb_calls.specs.Call.{CallName, State}
+use Rattle.tb_calls.specs.Keep.{HasPlace}
+use Rattle.tb_deeds.specs.declared.deed.Deed.{Deed}
+use Rattle.tb_deeds.specs.Kinds.{number_of as number_of_kind}
+use Rattle.tb_history.specs.declared.entry.Entry.{Entry}
+use Rattle.tb_history.specs.History.{entry_of, numbered}
 use Rattle.tb_rows.specs.Forms.{HasForm}
 use Rattle.tb_rows.specs.Laws.{AreApart}
 use Rattle.tb_rows.specs.Rows.{world_rows, IsSameContent}
+use Rattle.tb_task.specs.Storable.{IsMoment}
+use Rattle.tb_sql_tables.specs.declared.rows.HistoryRow.{HistoryRow}
 use Rattle.tb_sql_tables.specs.declared.rows.HorizonRow.{HorizonRow}
 use Rattle.tb_sql_tables.specs.declared.rows.KeptRow.{KeptRow}
 use Rattle.tb_sql_tables.specs.Content.{without_history, AreOldRows, AreRows, AreSecondRows, Content, Stands, StandsAsEither}
@@ -38,8 +46,31 @@ reply_in row = record {
   reply = record { number = row.number; status = row.status; body = row.body };
 }
 
+-- an entry of a board's history with its number, under the number of its person; a row counts places from 1
+abbrev pub entry_row : World → ℕ → ℕ × Entry → HistoryRow
+entry_row w board e = record {
+  board = board;
+  number = e.0;
+  moment = e.1.moment;
+  person = unwrap_or (number_of w e.1.member) 0;
+  call = e.1.id;
+  what = number_of_kind e.1.what;
+  task = option_map (λ place. place + 1) e.1.place;
+}
+
+-- the row of what a call did, where its board had so many entries
+abbrev pub noted_row : World → Call → Deed → ℕ → HistoryRow
+noted_row w c deed count =
+    entry_row w deed.board (count + 1, entry_of c.member c.id c.moment deed)
+
+abbrev pub board_history : World → ℕ × List Entry → List HistoryRow
+board_history w e = map (entry_row w e.0) (numbered 1 e.1)
+
 abbrev pub state_rows : State → Content
-state_rows s = record (world_rows s.world) { kept = map (kept_row s.world) (entries s.kept) }
+state_rows s = record (world_rows s.world) {
+  kept = map (kept_row s.world) (entries s.kept);
+  history = flat_map (board_history s.world) (entries s.history);
+}
 
 -- the entry is kept for a person of the world
 abbrev pub IsKnown : World → CallName × KeptReply → Type 0
@@ -48,6 +79,22 @@ IsKnown w e = IsSome (number_of w e.0.0)
 abbrev pub AreOfPeople : State → Type 0
 AreOfPeople s = AllByRecursion (IsKnown s.world) (entries s.kept)
 
+-- the entry has a moment, and is of a person, a call and a task that are there
+pub record IsEntryOf (s : State) (board : ℕ) (e : Entry) : Type 0 where
+  pub moment : IsMoment e.moment
+  pub person : IsSome (number_of s.world e.member)
+  pub call : IsSome (get s.kept (e.member, e.id))
+  pub place : IfSome e.place (HasPlace s.world board)
+
+-- the history is of a board that is there, and has an entry
+pub record IsHistoryOf (s : State) (e : ℕ × List Entry) : Type 0 where
+  pub board : IsSome (find_board s.world e.0)
+  pub some : e.1 ≢ []
+  pub each : AllByRecursion (IsEntryOf s e.0) e.1
+
+abbrev pub AreHistories : State → Type 0
+AreHistories s = AllByRecursion (IsHistoryOf s) (entries s.history)
+
 -- the content is the rows of the state, in any order
 pub record AreRowsOf (s : State) (content : Content) : Type 0 where
   -- no two good worlds have the same rows: a law, which is kept here for the laws of a keeper
@@ -55,6 +102,7 @@ pub record AreRowsOf (s : State) (content : Content) : Type 0 where
   pub good : IsGoodWorld s.world
   pub form : HasForm s.world
   pub people : AreOfPeople s
+  pub histories : AreHistories s
   pub same : IsSameContent content (state_rows s)
 
 -- the trees are the rows of the state

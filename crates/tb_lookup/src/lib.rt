@@ -11,6 +11,8 @@ pub mod by_key;
 pub mod faults;
 mod gathering;
 mod halves;
+pub mod histories;
+pub mod history_rows;
 pub mod own_roles;
 pub mod people;
 pub mod people_on;

@@ -10,7 +10,7 @@ mod input;
 mod listening;
 mod printing;
 
-pub use clock::machine_moment;
+pub use clock::{Clock, machine_moment};
 pub use fault::Fault;
 pub use input::read_text;
 pub use listening::loopback;

@@ -1,5 +1,6 @@
 -- A line of the listing. Widths are counted in characters.
-use Rattle.std.specs.Prelude.{ℕ, ℤ, pos, negsuc, Bool, true, false, List, [], ◌∷◌, ◌++◌, ◌+◌, ◌-◌, ◌*◌, ◌/◌, ◌%◌, ◌&&◌, ◌||◌, ◌==◌, map, replicate, decimal, nat_le, nat_lt, unsigned_abs, if◌then◌else◌}
+use Rattle.std.specs.Prelude.{ℕ, ℤ, pos, negsuc, Bool, true, false, List, [], ◌∷◌, ◌++◌, ◌+◌, ◌-◌, ◌*◌, ◌/◌, ◌%◌, ◌&&◌, ◌||◌, ◌==◌, map, replicate, decimal, nat_le, unsigned_abs, if◌then◌else◌}
+use Rattle.std.specs.Char.{is_ascii_control, is_control}
 use Rattle.std.specs.Fmt.{char_count}
 use Rattle.std.specs.Str.{chars, encode_utf8_all}
 
@@ -29,12 +30,13 @@ urgency_text z =
     (if is_negative z && nat_le unit (n * 1000) then 45 ∷ [] else [])
     ++ (decimal (n / unit) ++ 46 ∷ three_digits (n % unit * 1000 / unit))
 
-abbrev pub is_control : ℕ → Bool
-is_control c = nat_lt c 32 || (c == 127)
-
--- a control character is shown as a space
+-- Rule: a listing has a space for each control character, U+0000 to U+001F and U+007F to U+009F. Tried by controls_are_listed.
 abbrev pub shown_char : ℕ → ℕ
 shown_char c = if is_control c then 32 else c
+
+-- a control character of ASCII, or the byte with which U+0080 to U+00BF begin
+abbrev pub may_be_control : ℕ → Bool
+may_be_control byte = is_ascii_control byte || (byte == 0xC2)
 
 unfoldable pub shown_text : List ℕ → List ℕ
 shown_text text = encode_utf8_all (map shown_char (chars text))

@@ -2,7 +2,7 @@ ghost use Rattle.std.specs.Prelude.{◌&&◌, ◌*◌, ◌^◌, ◌<◌, length,
 ghost use Rattle.std.specs.Cow.{cow_str_bytes};
 ghost use Rattle.std.specs.List.{list_any};
 ghost use Rattle.std.specs.Str.{chars, encode_utf8_all};
-ghost use Rattle.tb_report.specs.Row.{urgency_text, row_text, shown_text, is_control, is_negative, unit, shown_char as visible_char};
+ghost use Rattle.tb_report.specs.Row.{urgency_text, row_text, shown_text, may_be_control, is_negative, unit, shown_char as visible_char};
 
 use std::alloc::{AllocError, Global};
 use std::borrow::CowStr;
@@ -74,26 +74,27 @@ fn sized(text: &str) -> &str
     text
 }
 
-/// A text in which each control character is a space. It is copied only where it has one.
+/// A text in which each control character is a space. It is copied only where it may have one.
 pub(crate) fn shown_cell(alloc: Global, text: &str) -> Result<CowStr<'_>, AllocError>
     ensures { IfOk result (λ shown. cow_str_bytes shown ≡ shown_text text.now) }
 {
-    if has_control(text.as_bytes()) {
+    if may_have_control(text.as_bytes()) {
         return Ok(CowStr::Owned(without_controls(alloc, text)?));
     }
     Ok(CowStr::Borrowed(text))
 }
 
-fn has_control(bytes: &[u8]) -> bool
-    ensures { result ≡ list_any is_control bytes.now }
+fn may_have_control(bytes: &[u8]) -> bool
+    ensures { result ≡ list_any may_be_control bytes.now }
 {
-    bytes.iter().any(|byte| is_control_byte(*byte))
+    bytes.iter().any(|byte| may_be_control(*byte))
 }
 
-fn is_control_byte(byte: u8) -> bool
-    ensures { result ≡ is_control byte }
+/// Whether a byte is a control character of ASCII, or the one with which U+0080 to U+00BF begin.
+fn may_be_control(byte: u8) -> bool
+    ensures { result ≡ may_be_control byte }
 {
-    byte < b' ' || byte == 0x7f
+    byte.is_ascii_control() || byte == 0xc2
 }
 
 /// A text in which each control character is a space.
@@ -111,7 +112,7 @@ pub fn without_controls(alloc: Global, text: &str) -> Result<String, AllocError>
 fn shown_char(character: char) -> char
     ensures { result ≡ visible_char character }
 {
-    if character < ' ' || character == '\u{7f}' {
+    if character.is_control() {
         ' '
     } else {
         character

@@ -30,7 +30,7 @@ use Rattle.tb_rows.proofs.Kept.{are_kept, IsLater}
 use Rattle.tb_rows.proofs.PeopleAndRoles.{inert-people, inert-roles, people_turn, roles_turn}
 use Rattle.tb_rows.proofs.Places.{IsElsewhere, Matches, turns_boards}
 use Rattle.tb_rows.proofs.Staying.{all_at, front_at, front_length, matches_from}
-use Rattle.tb_rows.proofs.Tables.{board_by, boards_by, boards_unordered, gone_all_by, gone_by, gone_unordered, history_same, horizon_by, horizons_by, horizons_unordered, instance_by, instances_by, instances_unordered, kept_same, link_by, links_by, links_unordered, people_by, person_by, role_by, roles_by, task_by, tasks_by, tasks_unordered}
+use Rattle.tb_rows.proofs.Tables.{board_by, boards_by, boards_unordered, entries_by, entry_by, gone_all_by, gone_by, gone_unordered, horizon_by, horizons_by, horizons_unordered, instance_by, instances_by, instances_unordered, kept_same, link_by, links_by, links_unordered, people_by, person_by, role_by, roles_by, task_by, tasks_by, tasks_unordered}
 use Rattle.tb_rows.proofs.Turning.{all_by, all_by-append, inert-append, inert_then_turns, IsInert, IsUnordered, Turns, turns_all, turns_then_inert}
 
 -- what each row of a board's items has in common
@@ -48,6 +48,10 @@ person_leaves_tasks =
 
 role_leaves_tasks : LeavesTasks role_by
 role_leaves_tasks =
+    record { task = λ r rows. refl; text = λ n p body mask rows. refl; mask = λ n p mask rows. refl; link = λ r rows. refl; links = λ n p rows. refl; instance = λ r rows. refl }
+
+entry_leaves_tasks : LeavesTasks entry_by
+entry_leaves_tasks =
     record { task = λ r rows. refl; text = λ n p body mask rows. refl; mask = λ n p mask rows. refl; link = λ r rows. refl; links = λ n p rows. refl; instance = λ r rows. refl }
 
 module _ (w v : World) (cs : List Change) (good_before : IsGoodWorld w) (good_after : IsGoodWorld v) (extends : Extends w v) (made : v ≡ changed w cs) where
@@ -157,5 +161,13 @@ module _ (w v : World) (cs : List Change) (good_before : IsGoodWorld w) (good_af
           horizon = rw (horizons_by (world_changes w v cs) c) (horizons_table c.horizon same.horizon);
         };
         kept = kept_same (world_changes w v cs);
-        history = history_same (world_changes w v cs);
+        history = λ c. rw (
+          entries_by (world_changes w v cs) c,
+          all_by-append entry_by people (boards ++ roles) c.history,
+          (inert-people entry_by (record { added = λ r rows. refl; set = λ name secret rows. refl }) w cs).same c.history,
+          (inert-append entry_by boards roles
+              (inert-boards entry_by (record { added = λ r rows. refl; title = λ n title rows. refl; low = λ n low rows. refl }) (record { added = λ r rows. refl; set = λ n ahead rows. refl }) entry_leaves_tasks (record { added = λ r rows. refl; removed = λ n t k rows. refl }) cs w.boards v.boards)
+              (inert-roles entry_by (λ n p rows. refl) (λ r rows. refl) cs v.roles)).same c.history,
+        )
+            refl;
       }

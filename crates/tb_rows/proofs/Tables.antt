@@ -11,8 +11,9 @@ use Rattle.tb_sql_tables.specs.declared.rows.LinkRow.{LinkRow}
 use Rattle.tb_sql_tables.specs.declared.rows.InstanceRow.{InstanceRow}
 use Rattle.tb_sql_tables.specs.declared.rows.GoneRow.{GoneRow}
 use Rattle.tb_sql_tables.specs.declared.rows.HorizonRow.{HorizonRow}
+use Rattle.tb_sql_tables.specs.declared.rows.HistoryRow.{HistoryRow}
 use Rattle.tb_sql.specs.declared.changes.RowChange.{RowChange}
-use Rattle.tb_sql.specs.declared.changes.RowChange.TheVariants.{AddPerson, SetSecret, AddBoard, SetTitle, SetLow, AddRole, RemoveRole, AddTask, SetText, SetMask, AddLink, RemoveLinks, AddInstance, AddGone, RemoveGone, AddHorizon, SetHorizon}
+use Rattle.tb_sql.specs.declared.changes.RowChange.TheVariants.{AddPerson, SetSecret, AddBoard, SetTitle, SetLow, AddRole, RemoveRole, AddTask, SetText, SetMask, AddLink, RemoveLinks, AddInstance, AddGone, RemoveGone, AddHorizon, SetHorizon, AddEntry}
 use Rattle.tb_sql.specs.Writing.{changed_by, changed_by_all}
 use Rattle.tb_rows.proofs.Turning.{all_by, IsUnordered, Turns}
 
@@ -39,6 +40,9 @@ gone_by x rows = (changed_by x (record nothing { gone = rows })).gone
 
 abbrev pub horizon_by : RowChange → List HorizonRow → List HorizonRow
 horizon_by x rows = (changed_by x (record nothing { horizon = rows })).horizon
+
+abbrev pub entry_by : RowChange → List HistoryRow → List HistoryRow
+entry_by x rows = (changed_by x (record nothing { history = rows })).history
 
 -- ---- each table by itself
 
@@ -78,9 +82,9 @@ one_kept : (x : RowChange) (c : Content) → (changed_by x c).kept ≡ c.kept
 one_kept (AddPerson r) c = refl
 one_kept _ c = refl
 
-one_history : (x : RowChange) (c : Content) → (changed_by x c).history ≡ c.history
-one_history (AddPerson r) c = refl
-one_history _ c = refl
+one_entry : (x : RowChange) (c : Content) → (changed_by x c).history ≡ entry_by x c.history
+one_entry (AddEntry r) c = refl
+one_entry _ c = refl
 
 pub people_by : (xs : List RowChange) (c : Content) → (changed_by_all xs c).people ≡ all_by person_by xs c.people
 people_by [] c = refl
@@ -118,9 +122,9 @@ pub kept_same : (xs : List RowChange) (c : Content) → (changed_by_all xs c).ke
 kept_same [] c = refl
 kept_same (x ∷ xs) c = kept_same xs (changed_by x c) ∙ one_kept x c
 
-pub history_same : (xs : List RowChange) (c : Content) → (changed_by_all xs c).history ≡ c.history
-history_same [] c = refl
-history_same (x ∷ xs) c = history_same xs (changed_by x c) ∙ one_history x c
+pub entries_by : (xs : List RowChange) (c : Content) → (changed_by_all xs c).history ≡ all_by entry_by xs c.history
+entries_by [] c = refl
+entries_by (x ∷ xs) c = entries_by xs (changed_by x c) ∙ ap (all_by entry_by xs) (one_entry x c)
 
 -- ---- the order of rows doesn't matter
 

@@ -11,7 +11,7 @@ use Rattle.tb_core.specs.declared.command.Import.TheVariants.{Json, Todo as Line
 use Rattle.tb_script.specs.declared.asked.Request.{Request}
 use Rattle.tb_script.specs.declared.asked.Request.TheVariants.{Call, View as ViewOf}
 use Rattle.tb_calls.specs.Word.{word_named}
-use Rattle.tb_calls.specs.declared.view.View.TheVariants.{Listing, Export, Todo, One, People, Me}
+use Rattle.tb_calls.specs.declared.view.View.TheVariants.{Listing, Export, Todo, One, People, History, HistoryFrom, HistoryOf, Me}
 use Rattle.tb_calls.specs.declared.word.Word.{Word}
 use Rattle.tb_calls.specs.declared.word.Word.TheVariants as word
 use Rattle.tb_script.specs.declared.line_fault.Unreadable.{Unreadable}
@@ -86,6 +86,29 @@ abbrev pub people : List ℕ → Result Request Unreadable
 people board = do
   n ← or_bad_line (board_number board)
   Ok (ViewOf (People n))
+
+abbrev pub last_entries : List ℕ → Result Request Unreadable
+last_entries board = do
+  n ← or_bad_line (board_number board)
+  Ok (ViewOf (History n))
+
+abbrev pub entries_from : List ℕ → List ℕ → Result Request Unreadable
+entries_from board number = do
+  n ← or_bad_line (board_number board)
+  from ← or_bad_line (board_number number)
+  Ok (ViewOf (HistoryFrom n from))
+
+-- the number from which on is left out where the last entries are asked for
+abbrev pub history : List (List ℕ) → Result Request Unreadable
+history (board ∷ []) = last_entries board
+history (board ∷ number ∷ []) = entries_from board number
+history [] = Err BadLine
+history (a ∷ b ∷ c ∷ more) = Err BadLine
+
+abbrev pub history_of : List (List ℕ) → Result Request Unreadable
+history_of arguments = do
+  t ← two task arguments
+  Ok (ViewOf (HistoryOf t.0 t.1))
 
 -- ---- commands
 
@@ -217,6 +240,8 @@ request_for word.Key arguments at = two set_key arguments
 request_for word.Take arguments at = one taking arguments
 request_for word.Title arguments at = two retitling arguments
 request_for word.People arguments at = one people arguments
+request_for word.History arguments at = history arguments
+request_for word.HistoryOf arguments at = history_of arguments
 request_for word.Me arguments at = none (ViewOf Me) arguments
 
 -- a word that is none makes a line that can't be read

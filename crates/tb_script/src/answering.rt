@@ -118,7 +118,12 @@ fn write_view(alloc: Global, view: &View, reply: Reply) -> Result<Text, AllocErr
         return write_reply(alloc, &reply);
     }
     match view {
-        View::One(_, _) | View::People(_) | View::Me => end_line(reply.body),
+        View::One(_, _)
+        | View::People(_)
+        | View::History(_)
+        | View::HistoryFrom(_, _)
+        | View::HistoryOf(_, _)
+        | View::Me => end_line(reply.body),
         View::Listing(_) | View::Export(_) | View::Todo(_) => Ok(reply.body),
     }
 }

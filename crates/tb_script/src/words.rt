@@ -5,7 +5,7 @@ ghost use Rattle.tb_core.specs.declared.command.Command.TheVariants.{OnBoard};
 ghost use Rattle.tb_script.specs.Outcome.{Reads};
 ghost use Rattle.tb_script.specs.declared.asked.Request.TheVariants.{Call, View as ViewOf};
 ghost use Rattle.tb_calls.specs.declared.view.View.TheVariants.{Me};
-ghost use Rattle.tb_script.specs.Words.{acting, acting_with, adding, new_board, export, set_role, importing, importing_todo, new_person, link, linking, listing, modifying, none, one, own_key, people, request_for, request_in, retitling, set_ahead, set_key, showing, sweeping, taking, task, three, todo, two, unlinking};
+ghost use Rattle.tb_script.specs.Words.{acting, acting_with, adding, entries_from, history, history_of, last_entries, new_board, export, set_role, importing, importing_todo, new_person, link, linking, listing, modifying, none, one, own_key, people, request_for, request_in, retitling, set_ahead, set_key, showing, sweeping, taking, task, three, todo, two, unlinking};
 
 use crate::arguments::{
     read_ahead, read_board, read_heading, read_key_or_none, read_person, read_role, read_secret,
@@ -74,6 +74,8 @@ fn request_for(
         Word::Take => read_take(arguments),
         Word::Title => read_retitle(alloc, arguments),
         Word::People => read_people(arguments),
+        Word::History => read_history(arguments),
+        Word::HistoryOf => read_history_of(arguments),
         Word::Me => read_me(arguments),
     }
 }
@@ -165,6 +167,37 @@ fn read_people(arguments: &[&str]) -> Result<Request, LineFault>
         return Err(LineFault::bad_line());
     };
     Ok(Request::View(View::People(read_board(board)?)))
+}
+
+fn read_history(arguments: &[&str]) -> Result<Request, LineFault>
+    ensures { Reads result (history (map (λ argument. argument.now) arguments.entry.now)) }
+{
+    match arguments {
+        [board] => read_last_entries(board),
+        [board, number] => read_entries_from(board, number),
+        _ => Err(LineFault::bad_line()),
+    }
+}
+
+fn read_last_entries(board: &str) -> Result<Request, LineFault>
+    ensures { Reads result (last_entries board.now) }
+{
+    Ok(Request::View(View::History(read_board(board)?)))
+}
+
+fn read_entries_from(board: &str, number: &str) -> Result<Request, LineFault>
+    ensures { Reads result (entries_from board.now number.now) }
+{
+    let board = read_board(board)?;
+    let number = read_board(number)?;
+    Ok(Request::View(View::HistoryFrom(board, number)))
+}
+
+fn read_history_of(arguments: &[&str]) -> Result<Request, LineFault>
+    ensures { Reads result (history_of (map (λ argument. argument.now) arguments.entry.now)) }
+{
+    let (board, id) = read_task_alone(arguments)?;
+    Ok(Request::View(View::HistoryOf(board, id)))
 }
 
 fn read_me(arguments: &[&str]) -> Result<Request, LineFault>

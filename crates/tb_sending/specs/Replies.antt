@@ -40,6 +40,8 @@ is_lines word.Key = false
 is_lines word.Take = false
 is_lines word.Title = false
 is_lines word.People = false
+is_lines word.History = false
+is_lines word.HistoryOf = false
 is_lines word.Me = false
 
 abbrev pub asks_for_lines : List Text → Bool

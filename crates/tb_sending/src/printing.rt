@@ -103,6 +103,8 @@ fn is_lines(word: Word) -> bool
         | Word::Take
         | Word::Title
         | Word::People
+        | Word::History
+        | Word::HistoryOf
         | Word::Me => false,
     }
 }

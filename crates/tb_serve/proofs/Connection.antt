@@ -15,7 +15,8 @@ use Rattle.tb_serve.specs.declared.serving.Exchange.{Exchange}
 use Rattle.tb_serve.specs.declared.serving.ServeEnd.{ServeEnd}
 use Rattle.tb_serve.specs.declared.serving.MessageOutcome.{MessageOutcome}
 use Rattle.tb_serve.specs.declared.serving.MessageOutcome.TheVariants.{Replied, Failed, Unread}
-use Rattle.tb_serve.specs.Serving.{Exchanges, Handles, HandlesMessage, IsServingEnd, Sends, Turns, answer_to, answers, calls_of, ended_by, ended_well, ends_last, goes_on, later, left_by, next, no_start, none_closes}
+use Rattle.tb_program.specs.Clock.{later, next}
+use Rattle.tb_serve.specs.Serving.{Exchanges, Handles, HandlesMessage, IsServingEnd, Sends, Turns, answer_to, answers, calls_of, ended_by, ended_well, ends_last, goes_on, left_by, no_start, none_closes}
 use Rattle.tb_serve.specs.Telling.{StandsAt, after, calls_in}
 use Rattle.tb_serve.proofs.Lists.{answers-push, brings-push, calls-push, ends-push, left-push, none-push, reached, reached-after}
 use Rattle.tb_site.specs.declared.site.Site.{Site}

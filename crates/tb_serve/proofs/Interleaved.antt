@@ -1,7 +1,7 @@
 -- Whatever turns connections take, each is told what its own messages are told, and the state is the one that all messages lead to.
 use Rattle.std.proofs.Common.{◌≡◌, ℕ, ◌+◌, Bool, true, false, true≢false, if◌then◌else◌, List, [], ◌∷◌, ◌++◌, refl, sym, ap, ◌∙◌, subst, append_assoc, append-nil, inl, inr}
 use Rattle.std.specs.Prelude.{◌==◌}
-use Rattle.tb_serve.specs.Turns.{Event, opened, came, gone, took, failed, refused, rested, went, Happening, opens, comes, turns, goes, done_in, Fits, Moves, MovesIf, Run, Serving, Step, Talk, after_event, sent_of, Brings, IsSame, IsServed, IsSteady, NoneBehind, NoneGone, brought_by, brought_to, came_by, came_on, loses_bytes, handled, led_to, opens_one, taken_on, told_on, went_on}
+use Rattle.tb_serve.specs.Turns.{Event, opened, came, gone, took, failed, refused, rested, went, Happening, opens, comes, turns, goes, done_in, Fits, Moves, MovesIf, Run, Serving, Step, Talk, after_event, sent_of, silent, Brings, EachServed, EndsOpening, IsLeft, IsSame, IsServed, IsSteady, NoneBehind, NoneGone, begins_as, brought_by, brought_to, came_by, came_on, loses_bytes, handled, led_to, opens_one, taken_on, told_on, went_on}
 
 -- the state is the one that the messages lead to, in the order in which they were handled
 state_step : {S A M : Type 0} (v : Serving S A M) (s : S) (c : ℕ) (h : Happening A) (e : Event M) (ks : List (Step A M)) (end : S)
@@ -189,3 +189,56 @@ run_then v s talks (k ∷ ks) mid middle ls end later first second =
 pub done_then : {A M : Type 0} (ks ls : List (Step A M)) → done_in (ks ++ ls) ≡ done_in ks ++ done_in ls
 done_then [] ls = refl
 done_then (k ∷ ks) ls = ap (λ hs. (k.place, k.happening) ∷ hs) (done_then ks ls)
+
+-- a run over steps and more steps is two runs
+pub run_split : {S A M : Type 0} (v : Serving S A M) (s : S) (talks : ℕ → Talk) (ks ls : List (Step A M)) (end : S) (later : ℕ → Talk)
+    → Run v s talks (ks ++ ls) end later
+    → (middle : ℕ → Talk) × Run v s talks ks (led_to v s (handled ks)) middle × Run v (led_to v s (handled ks)) middle ls end later
+run_split v s talks [] ls end later run = (talks, (refl, λ c. refl), run)
+run_split {S = S} v s talks (k ∷ ks) ls end later (fits, mid, moves, run) =
+    let next = after_event v s k.event in
+    let more = run_split v next mid ks ls end later run in
+    let is = state_step v s k.place k.happening k.event ks (led_to v next (handled ks)) refl in (
+      more.0,
+      (fits, mid, moves, subst (λ (u : S). Run v next mid ks u more.0) is more.1),
+      subst (λ (u : S). Run v u more.0 ls end later) is more.2,
+    )
+
+-- a connection that is opened is a new one
+opened_here : {S A M : Type 0} (v : Serving S A M) (is : Bool) (s : S) (e : Event M) (old new : Talk)
+    → (if is then opens_one e else false) ≡ true → MovesIf v is s e old new → new ≡ silent
+opened_here v true s opened old new made moves = moves
+opened_here v true s (came piece) old new made moves = absurd (true≢false (sym made))
+opened_here v true s gone old new made moves = absurd (true≢false (sym made))
+opened_here v true s (took m is_whole) old new made moves = absurd (true≢false (sym made))
+opened_here v true s (failed m text is_whole) old new made moves = absurd (true≢false (sym made))
+opened_here v true s (refused text is_whole) old new made moves = absurd (true≢false (sym made))
+opened_here v true s rested old new made moves = absurd (true≢false (sym made))
+opened_here v true s (went front) old new made moves = absurd (true≢false (sym made))
+opened_here v false s e old new made moves = absurd (true≢false (sym made))
+
+opened_last : {S A M : Type 0} (v : Serving S A M) (c : ℕ) (s : S) (talks : ℕ → Talk) (ks : List (Step A M)) (end : S) (later : ℕ → Talk)
+    → Run v s talks ks end later → EndsOpening c ks → later c ≡ begins_as c talks ks
+opened_last v c s talks [] end later run ends = run.1 c
+opened_last v c s talks (k ∷ []) end later (fits, mid, moves, run) ends =
+    run.1 c ∙ opened_here v (k.place == c) s k.event (talks c) (mid c) ends (moves c)
+opened_last v c s talks (k ∷ l ∷ ks) end later (fits, mid, moves, run) ends =
+    opened_last v c (after_event v s k.event) mid (l ∷ ks) end later run ends
+
+is_left : {S A M : Type 0} (v : Serving S A M) (c : ℕ) (s : S) (talks : ℕ → Talk) (ks : List (Step A M)) (end : S) (later : ℕ → Talk)
+    → Run v s talks ks end later → IsLeft ks (talks c) (later c)
+is_left v c s talks [] end later run = sym (run.1 c)
+is_left v c s talks (k ∷ ks) end later run = tt
+
+pub each_served : {S A M : Type 0} (v : Serving S A M) → IsSteady v → (s : S) (talks : ℕ → Talk) (ks : List (Step A M)) (end : S) (later : ℕ → Talk)
+    → Run v s talks ks end later → EachServed v s talks ks later
+each_served {A = A} {M = M} v steady s talks ks end later run c before mine rest is ends same =
+    let split = run_split v s talks before (mine ++ rest) end later (subst (λ (all : List (Step A M)). Run v s talks all end later) (sym is) run) in
+    let from = led_to v s (handled before) in
+    let inner = run_split v from split.0 mine rest end later split.2 in
+    let first = opened_last v c s talks before from split.0 split.1 ends in (
+      inner.0 c,
+      subst (λ (old : Talk). IsServed v c from old mine (inner.0 c)) first
+          (served v steady c from split.0 mine (led_to v from (handled mine)) inner.0 inner.1 same),
+      is_left v c (led_to v from (handled mine)) inner.0 rest end later inner.2,
+    )

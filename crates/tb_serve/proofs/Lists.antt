@@ -5,7 +5,8 @@ use Rattle.tb_calls.specs.Call.{State}
 use Rattle.tb_desk.proofs.Runs.{after_all-append}
 use Rattle.tb_http.specs.Stream.{Brings, Received}
 use Rattle.tb_http.specs.Wire.{BeginsWithMessage, is_last}
-use Rattle.tb_serve.specs.Serving.{answer_to, answers, calls_of, ends_last, later, left_by, next, none_closes}
+use Rattle.tb_program.specs.Clock.{later, next}
+use Rattle.tb_serve.specs.Serving.{answer_to, answers, calls_of, ends_last, left_by, none_closes}
 use Rattle.tb_serve.specs.Telling.{after, calls_in}
 use Rattle.tb_site.specs.declared.site.Site.{Site}
 

@@ -8,7 +8,7 @@ use Rattle.tb_serve.specs.Server.{Timed, calls_among, calls_at, server}
 use Rattle.tb_serve.specs.Serving.{answer_to, answers}
 use Rattle.tb_serve.specs.Telling.{after}
 use Rattle.tb_serve.specs.Turns.{IsSteady, handled, led_to, taken_on, texts}
-use Rattle.tb_serve.proofs.Interleaved.{served, state_is}
+use Rattle.tb_serve.proofs.Interleaved.{each_served, state_is}
 use Rattle.tb_serve.proofs.Alone.{alone}
 use Rattle.tb_site.specs.declared.site.Site.{Site}
 
@@ -21,7 +21,7 @@ led_is site s (m ∷ ms) = led_is site (after s (calls_at m)) ms ∙ sym (after_
 
 pub any_turns : AnyTurns
 any_turns site s talks ks end later run =
-    (state_is (server site) s talks ks end later run ∙ led_is site s (handled ks), λ c same. served (server site) (steady site) c s talks ks end later run same)
+    (state_is (server site) s talks ks end later run ∙ led_is site s (handled ks), each_served (server site) (steady site) s talks ks end later run)
 
 texts_are : (site : Site) (s : State) (before : ℕ) (ms : List Timed) → texts (server site) s before ms ≡ answers site s (moments_of ms) before (received_of ms)
 texts_are site s before [] = refl

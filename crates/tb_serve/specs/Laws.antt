@@ -5,13 +5,14 @@ use Rattle.tb_http.specs.Stream.{Received}
 use Rattle.tb_serve.specs.Server.{Timed, calls_among, server}
 use Rattle.tb_serve.specs.Serving.{answers}
 use Rattle.tb_serve.specs.Telling.{after}
-use Rattle.tb_serve.specs.Turns.{Run, Step, Talk, AllAt, AllWell, IsSame, IsServed, handled, taken_on, told_on}
+use Rattle.tb_serve.specs.Turns.{Run, Step, Talk, AllAt, AllWell, EachServed, handled, taken_on, told_on}
 use Rattle.tb_site.specs.declared.site.Site.{Site}
 
 -- Whatever turns connections take: the state is the one that all their calls lead to, each acting once, in the order in
 -- which they were handled. The messages of each connection are those that its bytes bring, none behind one that closes
 -- it. Each is answered as in the state that all calls before it, of whatever connection, led to; and what a connection
--- was handed is a front of its answers, in their order. All this is said up to where another is opened in its place.
+-- was handed is a front of its answers, in their order. All this is said of each connection, from where it is opened on,
+-- up to anywhere before another is opened in its place.
 -- Rule: answers go in the order of a connection's messages. Tried by two_messages.
 abbrev pub AnyTurns : Type 0
 AnyTurns =
@@ -19,7 +20,7 @@ AnyTurns =
     (later : ℕ → Talk)
     → Run (server site) s talks ks end later
     → (end ≡ after s (calls_among (handled ks)))
-    × ((c : ℕ) → IsSame c ks → IsServed (server site) c s (talks c) ks (later c))
+    × EachServed (server site) s talks ks later
 
 abbrev pub moments_of : List Timed → List (Option ℕ)
 moments_of [] = []

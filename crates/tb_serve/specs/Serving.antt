@@ -14,6 +14,7 @@ use Rattle.tb_http.specs.Fault.{body_of, status_of}
 use Rattle.tb_http.specs.Message.{takes_body}
 use Rattle.tb_http.specs.Stream.{Brings, Received}
 use Rattle.tb_http.specs.Wire.{BeginsWithMessage, Faults, is_last}
+use Rattle.tb_program.specs.Clock.{later, next}
 use Rattle.tb_serve.specs.declared.serving.Exchange.{Exchange}
 use Rattle.tb_serve.specs.declared.serving.ServeEnd.{ServeEnd}
 use Rattle.tb_serve.specs.declared.serving.ServeFault.{ServeFault}
@@ -24,15 +25,6 @@ use Rattle.tb_serve.specs.Telling.{FailedAt, StandsAt, after, calls_in, failed_t
 use Rattle.tb_site.specs.declared.site.Site.{Site}
 
 -- ---- moments
-
--- what the clock gives next, and what it has behind that; at its end it gives no moment
-abbrev pub next : List (Option ℕ) → Option ℕ
-next [] = None
-next (at ∷ more) = at
-
-abbrev pub later : List (Option ℕ) → List (Option ℕ)
-later [] = []
-later (at ∷ more) = more
 
 -- what the clock has left behind so many messages
 abbrev pub left_by : List (Option ℕ) → List Received → List (Option ℕ)

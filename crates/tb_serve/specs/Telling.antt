@@ -41,6 +41,9 @@ view_type (view.Todo board) number = if number == 0 then PlainText else Json
 view_type (view.Export board) number = Json
 view_type (view.One board id) number = Json
 view_type (view.People board) number = Json
+view_type (view.History board) number = Json
+view_type (view.HistoryFrom board from) number = Json
+view_type (view.HistoryOf board id) number = Json
 view_type view.Me number = Json
 
 abbrev pub told_view : View → Reply → Response

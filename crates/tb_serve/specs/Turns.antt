@@ -283,6 +283,32 @@ pub record IsServed {S A M : Type 0} (v : Serving S A M) (c : ℕ) (s : S) (old 
   pub last : NoneBehind v old.is_closing old.messages (taken_on c ks)
   pub told : old.out ++ told_on v c s old.messages ks ≡ went_on c ks ++ new.out
 
+-- the last of these steps opens a connection in this place, or there are none
+abbrev pub EndsOpening : {A M : Type 0} → ℕ → List (Step A M) → Type 0
+EndsOpening c [] = Unit {0}
+EndsOpening c (k ∷ []) = (if k.place == c then opens_one k.event else false) ≡ true
+EndsOpening c (k ∷ l ∷ ks) = EndsOpening c (l ∷ ks)
+
+-- what a connection is after such steps: what it was at first, or a new one
+abbrev pub begins_as : {A M : Type 0} → ℕ → (ℕ → Talk) → List (Step A M) → Talk
+begins_as c talks [] = talks c
+begins_as c talks (k ∷ ks) = silent
+
+-- it is what is left in the end, unless steps follow
+abbrev pub IsLeft : {A M : Type 0} → List (Step A M) → Talk → Talk → Type 0
+IsLeft [] last left = last ≡ left
+IsLeft (k ∷ ks) last left = Unit {0}
+
+-- Each connection, from where it is opened on, up to anywhere before another is opened in its place, is served what its
+-- own messages ask for.
+abbrev pub EachServed : {S A M : Type 0} → Serving S A M → S → (ℕ → Talk) → List (Step A M)
+    → (ℕ → Talk) → Type 0
+EachServed {A = A} {M = M} v s talks ks later =
+    (c : ℕ) (before own rest : List (Step A M)) → before ++ (own ++ rest) ≡ ks → EndsOpening c before
+    → IsSame c own
+    → (last : Talk) × IsServed v c (led_to v s (handled before)) (begins_as c talks before) own last
+    × IsLeft rest last (later c)
+
 -- ---- one connection alone
 
 -- all steps are of one place

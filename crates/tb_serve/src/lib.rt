@@ -4,7 +4,6 @@
 //! the files of a page, `tb_asking` for what a message asks for, and `tb_desk` for calls and views.
 #![tactic(auto)]
 
-mod clock;
 mod exchanging;
 mod happening;
 pub mod laws;
@@ -16,7 +15,6 @@ mod serving;
 mod telling;
 mod tools;
 
-pub use clock::Clock;
 pub use happening::{PeerEvent, happen, stops_all};
 pub use list_clock::ListClock;
 pub use peer::Peer;

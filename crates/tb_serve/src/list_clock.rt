@@ -1,8 +1,8 @@
 //! A clock whose moments are known beforehand.
 ghost use Rattle.std.specs.Prelude.{◌≡◌};
 
-use crate::clock::Clock;
 use std::marker::Model;
+use tb_program::Clock;
 use tb_task::Moment;
 
 /// Gives the moments of a list in turn, and none behind its end.
@@ -29,9 +29,16 @@ impl<'a> ListClock<'a> {
 }
 
 impl Clock for ListClock<'_> {
-    ghost use Rattle.std.specs.Prelude.{Some};
+    ghost use Rattle.std.specs.Prelude.{refl, Some};
+    ghost use Rattle.tb_program.specs.Clock.{Gave, gave_more};
 
     ghost answers = { λ c. Some c };
+
+    ghost gives = { Gave };
+
+    ghost unasked = { λ c. refl };
+
+    ghost asked = { gave_more };
 
     fn now(&mut self) -> Option<Moment> {
         match self.moments.split_first() {

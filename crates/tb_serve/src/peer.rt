@@ -20,7 +20,7 @@ use tb_site::Paths;
 use tb_task::Moment;
 
 /// How many bytes of room a connection keeps for its answers.
-const ROOM_KEPT: usize = 65_536;
+const ROOM_KEPT: usize = 4_096;
 
 /// A connection, but for its socket.
 #[derive(Drop)]
@@ -117,6 +117,11 @@ impl Peer {
         ensures { result ≡ true → (begun : Begun) × IsBegun self.now.bytes begun }
     {
         self.inbox.has_head()
+    }
+
+    /// How many bytes the message at the front has in all, once its head was read, and else 0.
+    pub fn wanted(&self) -> usize {
+        self.inbox.wanted()
     }
 
     /// What is still to be sent: whole answers, but for the front of the first that was sent. The call of each stands.

@@ -7,13 +7,13 @@ ghost use Rattle.tb_http.specs.Closing.{message_limit};
 ghost use Rattle.tb_serve.specs.Serving.{Exchanges, HandlesMessage, IsServingEnd, Sends, Settles, answers_one, ended_by, exchange_fault, goes_on, owes_one, reads_one, turn_fault, unread_text};
 ghost use Rattle.tb_serve.specs.Telling as telling;
 
-use crate::clock::Clock;
 use crate::telling::tell;
 use std::alloc::Global;
 use std::io::{Read, Write};
 use tb_calls::{Keep, KeepFault};
 use tb_desk::Desk;
 use tb_http::{Answer, ContentType, HeadRoom, Message, Reader, WireFault};
+use tb_program::Clock;
 use tb_site::Paths;
 use tb_task::Moment;
 

@@ -12,7 +12,7 @@ use Rattle.tb_serve.proofs.Following as following
 use Rattle.tb_serve.proofs.Steps.{plays_none}
 use Rattle.tb_serve.specs.declared.serving.ServeFault.{ServeFault}
 use Rattle.tb_serve.specs.declared.serving.ServeFault.TheVariants.{ReadFailed, WriteFailed, Store, Memory}
-use Rattle.tb_server.specs.Serves.{IsTimed, Makes, Serves, at_places}
+use Rattle.tb_server.specs.Serves.{IsTimed, Makes, Serves, at_places, moment_of, moments_of}
 use Rattle.tb_serve.specs.Turns.{Event, Happening, Moves, MovesIf, Talk, after_event, silent}
 use Rattle.tb_site.specs.declared.site.Site.{Site}
 
@@ -56,21 +56,28 @@ one_there count place timed inside = ap (λ b. cond b ((place, timed) ∷ []) []
 none_there : (count place : ℕ) (timed : Happening (Option ℕ)) → count ≤ place → at_places count ((place, timed) ∷ []) ≡ []
 none_there count place timed past = ap (λ b. cond b ((place, timed) ∷ []) []) (le-ltb place count past)
 
+-- the clock gave the moment of the one thing that was done
+asked_once : {T : Type 0} (gives : List (Option ℕ) → T → T → Type 0) (clock later_clock : T) (place : ℕ) (timed : Happening (Option ℕ))
+    → gives (moment_of timed) clock later_clock → gives (moments_of ((place, timed) ∷ [])) clock later_clock
+asked_once gives clock later_clock place timed asked =
+    subst (λ (moments : List (Option ℕ)). gives moments clock later_clock) (sym (append-nil (moment_of timed))) asked
+
 -- one thing was done, at a place that there is, to the connections as they were lent
-pub one_served : {T : Type 0} (site : Site) (r : Result T ServeFault) (stopped : Bool) (place : ℕ) (one : Done) (timed : Happening (Option ℕ)) (talks lent later : List Talk)
+pub one_served : {C T : Type 0} (gives : List (Option ℕ) → C → C → Type 0) (clock later_clock : C) (site : Site) (r : Result T ServeFault) (stopped : Bool) (place : ℕ) (one : Done) (timed : Happening (Option ℕ)) (talks lent later : List Talk)
     (was_honest is_honest : Bool) (old old_stops now stops : State → Type 0)
-    → has_stopped r ≡ stopped → place < length talks → length later ≡ length talks → lent ≡ talks → IsTimed one timed
+    → has_stopped r ≡ stopped → place < length talks → length later ≡ length talks → lent ≡ talks → IsTimed one timed → gives (moment_of timed) clock later_clock
     → (is_honest ≡ true → was_honest ≡ true)
     → (is_honest ≡ true → (s : State) → old s → Only s old_stops → Happens site r s place timed (talk_at lent) (talk_at later) now stops)
     → Follows (has_stopped r) old old_stops now stops
-    → Serves site site stopped ((place, one) ∷ []) talks later was_honest is_honest old old_stops now stops
-one_served site r stopped place one timed talks lent later was_honest is_honest old old_stops now stops is inside places same fits honest happens follows =
-    subst (λ (b : Bool). Serves site site b ((place, one) ∷ []) talks later was_honest is_honest old old_stops now stops) is (record {
+    → Serves gives clock later_clock site site stopped ((place, one) ∷ []) talks later was_honest is_honest old old_stops now stops
+one_served gives clock later_clock site r stopped place one timed talks lent later was_honest is_honest old old_stops now stops is inside places same fits asked honest happens follows =
+    subst (λ (b : Bool). Serves gives clock later_clock site site b ((place, one) ∷ []) talks later was_honest is_honest old old_stops now stops) is (record {
       page = refl;
       places = places;
       calls = follows;
       timed = (place, timed) ∷ [];
       fits = (refl, fits, tt);
+      asked = asked_once gives clock later_clock place timed asked;
       honest = honest;
       run = λ y s held only. subst (λ (l : List (ℕ × Happening (Option ℕ))). Makes site (has_stopped r) s l (talk_at talks) (talk_at later) now stops)
           (sym (one_there (length talks) place timed inside))
@@ -79,14 +86,15 @@ one_served site r stopped place one timed talks lent later was_honest is_honest 
     })
 
 -- there is no such place
-pub passed : (site : Site) (place : ℕ) (one : Done) (timed : Happening (Option ℕ)) (talks : List Talk) (is_honest : Bool) (now stops : State → Type 0)
-    → length talks ≤ place → IsTimed one timed → Serves site site false ((place, one) ∷ []) talks talks is_honest is_honest now stops now stops
-passed site place one timed talks is_honest now stops past fits = record {
+pub passed : {C : Type 0} (gives : List (Option ℕ) → C → C → Type 0) (clock later_clock : C) (site : Site) (place : ℕ) (one : Done) (timed : Happening (Option ℕ)) (talks : List Talk) (is_honest : Bool) (now stops : State → Type 0)
+    → length talks ≤ place → IsTimed one timed → gives (moment_of timed) clock later_clock → Serves gives clock later_clock site site false ((place, one) ∷ []) talks talks is_honest is_honest now stops now stops
+passed gives clock later_clock site place one timed talks is_honest now stops past fits asked = record {
   page = refl;
   places = refl;
   calls = following.unchanged now stops;
   timed = (place, timed) ∷ [];
   fits = (refl, fits, tt);
+  asked = asked_once gives clock later_clock place timed asked;
   honest = λ y. y;
   run = λ y s held only. subst (λ (l : List (ℕ × Happening (Option ℕ))). Makes site false s l (talk_at talks) (talk_at talks) now stops)
       (sym (none_there (length talks) place timed past))

@@ -8,7 +8,7 @@ use Rattle.tb_event_loop.specs.Done.{Done}
 use Rattle.tb_serve.specs.Server.{Plays, talk_at, server}
 use Rattle.tb_serve.proofs.Following as following
 use Rattle.tb_serve.proofs.Steps.{plays_none, plays_then}
-use Rattle.tb_server.specs.Serves.{AreTimed, Makes, Serves, at_places}
+use Rattle.tb_server.specs.Serves.{AreTimed, Makes, Serves, at_places, moment_of, moments_of}
 use Rattle.tb_serve.specs.Turns.{Happening, Talk, done_in}
 use Rattle.tb_serve.proofs.Interleaved.{done_then, run_then}
 use Rattle.tb_site.specs.declared.site.Site.{Site}
@@ -20,6 +20,12 @@ timed_then [] more (other ∷ t) u is are = absurd is
 timed_then (one ∷ first) more [] u is are = absurd is
 timed_then (one ∷ first) more (other ∷ t) u is are =
     (is.0, is.1, timed_then first more t u is.2 are)
+
+pub moments_then : (t u : List (ℕ × Happening (Option ℕ)))
+    → moments_of (t ++ u) ≡ moments_of t ++ moments_of u
+moments_then [] u = refl
+moments_then (one ∷ t) u = ap (λ more. moment_of one.1 ++ more) (moments_then t u)
+    ∙ sym (append_assoc (moment_of one.1) (moments_of t) (moments_of u))
 
 both : (a b c d : List (ℕ × Happening (Option ℕ))) → a ≡ b → c ≡ d → a ++ c ≡ b ++ d
 both a b c d ab cd = ap (λ x. x ++ c) ab ∙ ap (λ y. b ++ y) cd
@@ -51,33 +57,42 @@ makes_then site true s done more talks middle later now stops next next_stops fi
     }
 
 -- nothing was done
-pub serves_none : (site : Site) (talks : List Talk) (is_honest : Bool) (now stops : State → Type 0)
-    → Serves site site false [] talks talks is_honest is_honest now stops now stops
-serves_none site talks is_honest now stops = record {
+pub serves_none : {T : Type 0} (gives : List (Option ℕ) → T → T → Type 0)
+    (unasked : (c : T) → gives [] c c) (clock : T)
+    (site : Site) (talks : List Talk) (is_honest : Bool) (now stops : State → Type 0)
+    → Serves gives clock clock site site false [] talks talks is_honest is_honest now stops now stops
+serves_none gives unasked clock site talks is_honest now stops = record {
   page = refl;
   places = refl;
   calls = following.unchanged now stops;
   timed = [];
   fits = tt;
+  asked = unasked clock;
   honest = λ honest. honest;
   run = λ honest s held only. plays_none site s (talk_at talks) now stops held only;
 }
 
-pub serves_then : (site between_site kept : Site) (stopped : Bool) (first more : List (ℕ × Done))
+pub serves_then : {T : Type 0} (gives : List (Option ℕ) → T → T → Type 0)
+    (joins : (first more : List (Option ℕ)) (a b c : T) → gives first a b → gives more b c
+    → gives (first ++ more) a c) (clock mid_clock later_clock : T) (site between_site kept : Site) (stopped : Bool) (first more : List (ℕ × Done))
     (talks middle later : List Talk) (was_honest between is_honest : Bool)
     (old old_stops mid mid_stops now stops : State → Type 0)
-    → Serves site between_site false first talks middle was_honest between old old_stops
+    → Serves gives clock mid_clock site between_site false first talks middle was_honest between old old_stops
     mid mid_stops
-    → Serves between_site kept stopped more middle later between is_honest mid mid_stops now stops
-    → Serves site kept stopped
+    → Serves gives mid_clock later_clock between_site kept stopped more middle later between is_honest mid mid_stops now stops
+    → Serves gives clock later_clock site kept stopped
     (first ++ more) talks later was_honest is_honest old old_stops now stops
-serves_then site between_site kept stopped first more talks middle later was_honest between
+serves_then gives joins clock mid_clock later_clock site between_site kept stopped first more talks middle later was_honest between
     is_honest old old_stops mid mid_stops now stops one two = record {
       page = two.page ∙ one.page;
       places = two.places ∙ one.places;
       calls = following.joined stopped old old_stops mid mid_stops now stops one.calls two.calls;
       timed = one.timed ++ two.timed;
       fits = timed_then first more one.timed two.timed one.fits two.fits;
+      asked = subst (λ (moments : List (Option ℕ)). gives moments clock later_clock)
+          (sym (moments_then one.timed two.timed))
+          (joins (moments_of one.timed) (moments_of two.timed) clock mid_clock later_clock one.asked
+          two.asked);
       honest = λ honest. one.honest (two.honest honest);
       run = λ honest s held only.
           let count = length talks in

@@ -6,19 +6,20 @@ use Rattle.tb_event_loop.specs.Done.{Done}
 use Rattle.tb_serve.specs.Server.{talk_at, Timed, calls_among, server}
 use Rattle.tb_serve.specs.Telling.{StandsAt, after}
 use Rattle.tb_server.specs.Serves.{Serves, at_places}
-use Rattle.tb_serve.specs.Turns.{IsSame, IsServed, handled, Step, Talk, done_in}
+use Rattle.tb_serve.specs.Turns.{EachServed, handled, Step, Talk, done_in}
 use Rattle.tb_site.specs.declared.site.Site.{Site}
 
 -- Whatever was done to the connections of a server whose store didn't fail, and was honest to the end: steps came of
 -- just that, in its order, and the desk stands where the calls of the messages lead that were handled in them, each
--- acting once. The messages of each connection are those that its bytes bring, and what it was handed is a front of
--- what these are told, up to where another is opened in its place.
-abbrev pub MakesTurns : Site → Site → List Talk → List Talk → Bool → Bool
-    → (State → Type 0) → (State → Type 0) → (State → Type 0) → (State → Type 0) → Type 0
-MakesTurns site kept talks later was_honest is_honest old old_stops now stops =
+-- acting once. The messages of each connection, from where it is opened on, are those that its bytes bring, and what it
+-- was handed is a front of what these are told, up to anywhere before another is opened in its place.
+abbrev pub MakesTurns : {T : Type 0} → (List (Option ℕ) → T → T → Type 0) → T → T → Site → Site
+    → List Talk → List Talk → Bool → Bool → (State → Type 0) → (State → Type 0) → (State → Type 0) → (State → Type 0) → Type 0
+MakesTurns gives clock later_clock site kept talks later was_honest is_honest old old_stops now stops =
     (history : List (ℕ × Done))
-    (serves : Serves site kept false history talks later was_honest is_honest old old_stops now stops)
+    (serves : Serves gives clock later_clock site kept false history talks later was_honest is_honest
+    old old_stops now stops)
     → is_honest ≡ true → (s : State) → old s → Only s old_stops
     → (ks : List (Step (Option ℕ) Timed)) × (done_in ks ≡ at_places (length talks) serves.timed)
     × StandsAt (after s (calls_among (handled ks))) now stops
-    × ((c : ℕ) → IsSame c ks → IsServed (server site) c s (talk_at talks c) ks (talk_at later c))
+    × EachServed (server site) s (talk_at talks) ks (talk_at later)

@@ -24,6 +24,18 @@ AreTimed (one ∷ history) [] = ⊥
 AreTimed (one ∷ history) (other ∷ timed) = (other.0 ≡ one.0) × IsTimed one.1 other.1
     × AreTimed history timed
 
+-- the moment that was asked for, where it was a turn
+abbrev pub moment_of : Happening (Option ℕ) → List (Option ℕ)
+moment_of (turns at) = at ∷ []
+moment_of opens = []
+moment_of (comes piece) = []
+moment_of (goes count) = []
+
+-- the moments of all turns, in their order
+abbrev pub moments_of : List (ℕ × Happening (Option ℕ)) → List (Option ℕ)
+moments_of [] = []
+moments_of (one ∷ timed) = moment_of one.1 ++ moments_of timed
+
 -- those at places that there are
 abbrev pub at_places : ℕ → List (ℕ × Happening (Option ℕ)) → List (ℕ × Happening (Option ℕ))
 at_places count timed = filter (λ one. nat_lt one.0 count) timed
@@ -51,7 +63,8 @@ Makes site true s timed talks later now stops = StopsAtLast site s timed talks l
 -- What was done to the connections of a server, one thing after the other, and what it made of them and of the desk:
 -- nothing but this is done to any of them, and to what the desk holds. What connections are told is said of a store that
 -- is honest to the end.
-pub record Serves (site kept : Site) (stopped : Bool) (history : List (ℕ × Done))
+pub record Serves {T : Type 0} (gives : List (Option ℕ) → T → T → Type 0) (clock later_clock : T)
+    (site kept : Site) (stopped : Bool) (history : List (ℕ × Done))
     (talks later : List Talk) (was_honest is_honest : Bool)
     (old old_stops now stops : State → Type 0) : Type 0 where
   -- the page stays
@@ -60,9 +73,10 @@ pub record Serves (site kept : Site) (stopped : Bool) (history : List (ℕ × Do
   pub places : length later ≡ length talks
   -- the desk stands where the calls lead that it handled
   pub calls : Follows stopped old old_stops now stops
-  -- each turn came at some moment
+  -- each turn came at the moment that the clock gave for it
   pub timed : List (ℕ × Happening (Option ℕ))
   pub fits : AreTimed history timed
+  pub asked : gives (moments_of timed) clock later_clock
   pub honest : is_honest ≡ true → was_honest ≡ true
   -- These very bytes came, these turns were had, this much was sent. The calls are those of the messages that the bytes
   -- bring, by the law of any turns of `tb_serve`.

@@ -4,7 +4,7 @@ ghost use Rattle.tb_event_loop.specs.History.{done_of as done_to};
 ghost use Rattle.tb_serve.specs.Server.{done_of, talk_at};
 ghost use Rattle.tb_http.specs.Route.{kind_of};
 ghost use Rattle.tb_server.specs.Files.{gives_file as gives_file_so, is_free_file};
-ghost use Rattle.tb_server.specs.Serves.{IsTimed, Serves};
+ghost use Rattle.tb_server.specs.Serves.{IsTimed, Serves, moment_of};
 ghost use Rattle.tb_site.specs.Site.{file_at};
 ghost use Rattle.tb_server.specs.Joining.{serves_none, serves_then};
 ghost use Rattle.tb_serve.specs.Turns.{silent};
@@ -13,7 +13,8 @@ use std::alloc::{AllocError, Global};
 use tb_calls::Keep;
 use tb_desk::Desk;
 use tb_event_loop::{Service, SocketEvent, StoreFailed};
-use tb_serve::{Clock, Peer, PeerEvent, Tools, happen, stops_all};
+use tb_program::Clock;
+use tb_serve::{Peer, PeerEvent, Tools, happen, stops_all};
 use tb_site::{Paths, Site};
 use tb_timeouts::CONNECTIONS;
 
@@ -98,7 +99,8 @@ fn gives_file(paths: &Paths, target: &[u8]) -> bool
 
 // What happens, at a moment where it is a turn.
 fn at_moment<'a, C: Clock>(clock: &mut C, happening: &SocketEvent<'a>) -> PeerEvent<'a>
-    ensures { IsTimed (done_to happening.now) (done_of result) }
+    ensures timed { IsTimed (done_to happening.now) (done_of result) }
+    ensures asked { C.gives (moment_of (done_of result)) clock.old clock.new }
 {
     match happening {
         SocketEvent::Opened => PeerEvent::Opened,
@@ -109,8 +111,8 @@ fn at_moment<'a, C: Clock>(clock: &mut C, happening: &SocketEvent<'a>) -> PeerEv
 }
 
 impl<K: Keep, C: Clock> Service for Server<K, C> {
-    ghost follows = { λ stopped history old new. Serves old.paths.site new.paths.site stopped
-        history old.peers.items new.peers.items
+    ghost follows = { λ stopped history old new. Serves C.gives old.clock new.clock
+        old.paths.site new.paths.site stopped history old.peers.items new.peers.items
         (K.is_honest old.desk) (K.is_honest new.desk)
         (K.holds old.desk) (K.after_stop old.desk) (K.holds new.desk) (K.after_stop new.desk) };
 
@@ -124,10 +126,12 @@ impl<K: Keep, C: Clock> Service for Server<K, C> {
 
     ghost gives_file = { λ server target. gives_file_so server.paths.site target };
 
-    ghost unchanged = { λ s. serves_none s.paths.site s.peers.items (K.is_honest s.desk)
+    ghost unchanged = { λ s. serves_none C.gives C.unasked s.clock s.paths.site s.peers.items
+        (K.is_honest s.desk)
         (K.holds s.desk) (K.after_stop s.desk) };
 
-    ghost joined = { λ stopped first more a b c. serves_then a.paths.site b.paths.site c.paths.site
+    ghost joined = { λ stopped first more a b c. serves_then C.gives C.asked a.clock b.clock c.clock
+        a.paths.site b.paths.site c.paths.site
         stopped first more a.peers.items b.peers.items c.peers.items
         (K.is_honest a.desk) (K.is_honest b.desk) (K.is_honest c.desk)
         (K.holds a.desk) (K.after_stop a.desk) (K.holds b.desk) (K.after_stop b.desk)

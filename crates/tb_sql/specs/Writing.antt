@@ -3,7 +3,8 @@ use Rattle.std.specs.Prelude.{List, fold}
 use Rattle.tb_sql_tables.specs.declared.rows.KeptRow.{KeptRow}
 use Rattle.tb_sql_tables.specs.Content.{Content, nothing}
 use Rattle.tb_sql.specs.declared.changes.RowChange.{RowChange}
-use Rattle.tb_sql.specs.declared.changes.RowChange.TheVariants.{AddPerson, SetSecret, AddBoard, SetTitle, SetLow, AddRole, RemoveRole, AddTask, SetText, SetMask, AddLink, RemoveLinks, AddInstance, AddGone, RemoveGone, AddHorizon, SetHorizon}
+use Rattle.tb_sql.specs.declared.changes.RowChange.TheVariants.{AddPerson, SetSecret, AddBoard, SetTitle, SetLow, AddRole, RemoveRole, AddTask, SetText, SetMask, AddLink, RemoveLinks, AddInstance, AddGone, RemoveGone, AddHorizon, SetHorizon, AddEntry}
+use Rattle.tb_sql_pages.specs.Entries.{with_entry}
 use Rattle.tb_sql.specs.Changes.{with_person, with_secret, with_board, with_title, with_low, with_role, without_role, with_task, with_text, with_mask, with_link, without_links, with_instance, with_gone, without_gone, with_kept, with_horizon, with_ahead}
 
 abbrev pub changed_by : RowChange → Content → Content
@@ -24,6 +25,7 @@ changed_by (AddGone gone) = with_gone gone
 changed_by (RemoveGone board template imask) = without_gone board template imask
 changed_by (AddHorizon horizon) = with_horizon horizon
 changed_by (SetHorizon board ahead) = with_ahead board ahead
+changed_by (AddEntry entry) = with_entry entry
 
 -- the changes one after the other
 abbrev pub changed_by_all : List RowChange → Content → Content

@@ -15,8 +15,9 @@ use crate::people::{insert_person, update_secret};
 use crate::roles::{delete_role, insert_role};
 use crate::tasks::{insert_task, update_mask, update_text};
 use sqlite::{Alter, Error, Transaction};
+use tb_sql_pages::histories::insert_entry;
 use tb_sql_tables::rows::{
-    BoardRow, GoneRow, HorizonRow, InstanceRow, LinkRow, PersonRow, RoleRow, TaskRow,
+    BoardRow, GoneRow, HistoryRow, HorizonRow, InstanceRow, LinkRow, PersonRow, RoleRow, TaskRow,
 };
 use tb_values::Text;
 
@@ -71,6 +72,7 @@ pub enum RowChange {
         board: u32,
         ahead: u32,
     },
+    AddEntry(HistoryRow),
 }
 
 /// Makes one change.
@@ -112,6 +114,7 @@ pub fn apply_change<S: Alter>(tx: &mut Transaction<'_, S>, change: &RowChange) -
         } => delete_gone(tx, *board, *template, *imask),
         RowChange::AddHorizon(horizon) => insert_horizon(tx, horizon),
         RowChange::SetHorizon { board, ahead } => update_horizon(tx, *board, *ahead),
+        RowChange::AddEntry(entry) => insert_entry(tx, entry),
     }
 }
 

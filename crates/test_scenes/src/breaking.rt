@@ -7,10 +7,12 @@ use crate::lines::ended;
 use crate::owner::Owner;
 use std::alloc::Global;
 use std::io;
-use tb_board::{Change, Key, Name};
-use tb_calls::{BoardRole, Call, Keep, KeepFault, KeptReply, PersonRole, Reply};
+use tb_board::{Board, Change, Key, Name};
+use tb_calls::{BoardRole, Call, Keep, KeepFault, KeptReply, PersonRole, Reply, Written};
 use tb_core::{Command, Seen};
+use tb_deeds::Deed;
 use tb_desk::Desk;
+use tb_history::{HistoryPage, Which};
 use tb_script::{LinesFault, run_lines_on};
 use tb_task::TaskId;
 use tb_values::Items;
@@ -101,13 +103,29 @@ impl<K: Keep> Keep for Breaking<K> {
         self.keep.people_for(alloc, name, board)
     }
 
-    fn commit(&mut self, alloc: Global, changes: &[Change], call: &Call, reply: &Reply) -> Got<()> {
+    fn history(&mut self, alloc: Global, board: &Board, which: Which) -> Got<HistoryPage> {
+        self.call()?;
+        self.keep.history(alloc, board, which)
+    }
+
+    fn written(&self) -> Written {
+        self.keep.written()
+    }
+
+    fn commit(
+        &mut self,
+        alloc: Global,
+        changes: &[Change],
+        deed: Option<Deed>,
+        call: &Call,
+        reply: &Reply,
+    ) -> Got<()> {
         let stands = self.commit_stands && !self.has_failed;
         if self.call().is_ok() {
-            return self.keep.commit(alloc, changes, call, reply);
+            return self.keep.commit(alloc, changes, deed, call, reply);
         }
         if stands {
-            let _ = self.keep.commit(alloc, changes, call, reply);
+            let _ = self.keep.commit(alloc, changes, deed, call, reply);
         }
         Err(KeepFault::Store)
     }

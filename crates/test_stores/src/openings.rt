@@ -9,12 +9,13 @@ use std::io;
 use test_scenes::Owner;
 use test_scenes::lines::unreadable;
 
-/// The steps that show all of a store: its audit, the boards as two people see them, and the rows of its tables.
-const SEEN: [&str; 6] = [
+/// The steps that show all of a store: its audit, the boards and a history as two people see them, and the rows of its tables.
+const SEEN: [&str; 7] = [
     "take",
     "audit",
     "20260201T000000Z\troot\troot-key-1\t00000009-0000-8000-8000-000000000999\texport\t1",
     "20260201T000000Z\troot\troot-key-1\t00000009-0000-8000-8000-000000000999\texport\t2",
+    "20260201T000000Z\troot\troot-key-1\t00000009-0000-8000-8000-000000000999\thistory\t1",
     "20260201T000000Z\tbob\tbob-key-01\t00000009-0000-8000-8000-000000000999\texport\t3",
     "rows",
 ];

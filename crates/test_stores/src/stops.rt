@@ -14,11 +14,13 @@ use tb_keeper::SqlKeep;
 use test_scenes::Owner;
 use test_scenes::lines::{answer_line, read_count, unreadable};
 
-/// The lines that show the boards: two as the first person sees them, one that tells whether that person has the key `root-key-2`, and
-/// one as another person sees them.
-const LOOKS: [&str; 4] = [
+/// The lines that show the boards and their histories: as the first person sees them, whether that person has the key `root-key-2`, and as
+/// another person sees them.
+const LOOKS: [&str; 6] = [
     "20260201T000000Z\troot\troot-key-1\t00000009-0000-8000-8000-000000000999\texport\t1",
     "20260201T000000Z\troot\troot-key-1\t00000009-0000-8000-8000-000000000999\texport\t2",
+    "20260201T000000Z\troot\troot-key-1\t00000009-0000-8000-8000-000000000999\thistory\t1",
+    "20260201T000000Z\troot\troot-key-1\t00000009-0000-8000-8000-000000000999\thistory\t2",
     "20260201T000000Z\troot\troot-key-2\t00000009-0000-8000-8000-000000000999\tme",
     "20260201T000000Z\tbob\tbob-key-01\t00000009-0000-8000-8000-000000000999\tlist\t1",
 ];

@@ -10,7 +10,7 @@ use tb_task::TaskId;
 const MOST_TASKS: usize = 10_000;
 
 /// What is told of each table: the word that its rows begin with, and what is selected of them. Where rows are of a board it is board 1.
-const TABLES: [(&str, &str); 9] = [
+const TABLES: [(&str, &str); 10] = [
     ("person", "SELECT id, name, secret FROM person ORDER BY id"),
     ("board", "SELECT id, title, low FROM board ORDER BY id"),
     ("horizon", "SELECT board, ahead FROM horizon ORDER BY board"),
@@ -35,6 +35,10 @@ const TABLES: [(&str, &str); 9] = [
         "SELECT template, imask, mark FROM gone WHERE board = 1 ORDER BY template, imask",
     ),
     ("kept", "SELECT person, id, number, status, body FROM kept"),
+    (
+        "entry",
+        "SELECT number, moment, person, call, what, task FROM history WHERE board = 1 ORDER BY number",
+    ),
 ];
 
 /// Runs the statements of another hand. Gives the word for what failed too, or none.

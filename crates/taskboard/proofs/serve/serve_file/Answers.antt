@@ -7,6 +7,7 @@ returns-in-Ok-clause-served c =
     let server = c.in_ok-server.server in
     let end = c.serve.new.service in
     let done = c.in-Ok.ensures.after in
+    let s = done.1 in
     let files = c.in_ok-close_desk-in-Ok.ensures.saved.0 in (
       refl,
       record {
@@ -24,7 +25,7 @@ returns-in-Ok-clause-served c =
         talks = server.peers.items;
         later = end.peers.items;
         begin = c.in_ok-server.ensures.silent;
-        serves = done.1;
+        serves = record { page = s.page; places = s.places; calls = s.calls; timed = s.timed; fits = s.fits; asked = tt; honest = s.honest; run = s.run };
         ended = sym c.in_ok-event_loop.ensures.limit ∙ done.2;
       },
     )

@@ -1,4 +1,4 @@
-use Rattle.std.proofs.Common.{◌≡◌, ◌∙◌, Some, ap}
+use Rattle.std.proofs.Common.{◌∙◌, Some, ap}
 use Rattle.tb_desk.proofs.Lists.{by_name, key_order, lookup_named}
 use Rattle.tb_desk.proofs.list_keep.kept_in.Goals as goal
 

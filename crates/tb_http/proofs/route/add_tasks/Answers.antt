@@ -35,6 +35,9 @@ add_call-requires-9 c = rw (c.in_ok-add_call-8.ensures.row, c.in_ok-add_call-7.e
 pub add_call-requires-10 : goal.add_call-requires-10
 add_call-requires-10 c = rw (c.in_ok-add_call-9.ensures.row, c.in_ok-add_call-8.ensures.row, c.in_ok-add_call-7.ensures.row, c.in_ok-add_call-6.ensures.row, c.in_ok-add_call-5.ensures.row, c.in_ok-add_call-4.ensures.row, c.in_ok-add_call-3.ensures.row, c.in_ok-add_call-2.ensures.row, c.in_ok-add_call.ensures.row, c.in_ok-add.ensures.row, c.requires) tasks_fit.1.1.1.1.1.1.1.1.1.1.0
 
+pub add-requires-2 : goal.add-requires-2
+add-requires-2 c = rw (c.in_ok-add_call-10.ensures.row, c.in_ok-add_call-9.ensures.row, c.in_ok-add_call-8.ensures.row, c.in_ok-add_call-7.ensures.row, c.in_ok-add_call-6.ensures.row, c.in_ok-add_call-5.ensures.row, c.in_ok-add_call-4.ensures.row, c.in_ok-add_call-3.ensures.row, c.in_ok-add_call-2.ensures.row, c.in_ok-add_call.ensures.row, c.in_ok-add.ensures.row, c.requires) tasks_fit.1.1.1.1.1.1.1.1.1.1.1.0
+
 pub returns-clause-rows : goal.returns-clause-rows
 unfolding route_rows
-returns-clause-rows c = rw (c.in_ok-add_call-9.ensures.row, c.in_ok-add_call-8.ensures.row, c.in_ok-add_call-7.ensures.row, c.in_ok-add_call-6.ensures.row, c.in_ok-add_call-5.ensures.row, c.in_ok-add_call-4.ensures.row, c.in_ok-add_call-3.ensures.row, c.in_ok-add_call-2.ensures.row, c.in_ok-add_call.ensures.row, c.in_ok-add.ensures.row, c.requires) at c.add_call-10.ensures.row
+returns-clause-rows c = rw (c.in_ok-add_call-10.ensures.row, c.in_ok-add_call-9.ensures.row, c.in_ok-add_call-8.ensures.row, c.in_ok-add_call-7.ensures.row, c.in_ok-add_call-6.ensures.row, c.in_ok-add_call-5.ensures.row, c.in_ok-add_call-4.ensures.row, c.in_ok-add_call-3.ensures.row, c.in_ok-add_call-2.ensures.row, c.in_ok-add_call.ensures.row, c.in_ok-add.ensures.row, c.requires) at c.add-2.ensures.row

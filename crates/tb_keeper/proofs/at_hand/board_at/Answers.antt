@@ -1,5 +1,5 @@
 use Rattle.std.proofs.Common.{◌∙◌, sym}
-use Rattle.tb_keeper.proofs.Looked.{at_hand_found, own_number, put_at_hand}
+use Rattle.tb_keeper.proofs.Looked.{at_hand_found, own_number}
 use Rattle.tb_keeper.proofs.at_hand.board_at.Goals as goal
 
 pub returns-in-Ok-Some-clause-found : goal.returns-in-Ok-Some-clause-found

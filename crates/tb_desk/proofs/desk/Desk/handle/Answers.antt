@@ -1,4 +1,4 @@
-use Rattle.std.proofs.Common.{◌≡◌, [], ◌∷◌, sym, ap, subst, ◌∙◌}
+use Rattle.std.proofs.Common.{[], ◌∷◌, sym, ap, subst, ◌∙◌}
 use Rattle.tb_calls.specs.Call.{plain}
 use Rattle.tb_calls.specs.Keep.{IsNew, IsSettled}
 use Rattle.tb_calls.specs.Leaving.{Only}

@@ -1,4 +1,4 @@
-use Rattle.std.proofs.Common.{◌≡◌, ◌<◌, ◌+◌, Err, length, take, refl, true≢false, sym, ap, ◌∙◌, subst, arith}
+use Rattle.std.proofs.Common.{◌<◌, ◌+◌, Err, length, take, refl, true≢false, sym, ap, ◌∙◌, subst, arith}
 use Rattle.tb_calls.specs.Call.{State}
 use Rattle.tb_desk.proofs.Runs.{told_more, after_all, after_all-more}
 use Rattle.tb_desk.proofs.Moves.{stands_all, stands_more, stands_counted, still_then, unfailed, unless_store}

@@ -1,4 +1,4 @@
-use Rattle.std.proofs.Common.{◌≡◌, ◌∙◌, sym, ap, map}
+use Rattle.std.proofs.Common.{◌∙◌, sym, ap, map}
 use Rattle.std.specs.FinMap.{find, get, get-from_entries}
 use Rattle.tb_calls.specs.Call.{State, name_cmp}
 use Rattle.tb_desk.specs.ListKeep.{named}

@@ -1,11 +1,11 @@
-use Rattle.std.proofs.Common.{◌≡◌, ◌∙◌, Err, true≢false, sym, ap, inl, inr, refl}
+use Rattle.std.proofs.Common.{◌∙◌, Err, true≢false, sym, ap, inl, inr, refl}
 use Rattle.sqlite.specs.Held.{state}
 use Rattle.tb_sql_tables.specs.Content.{AreRows, Stands}
 use Rattle.tb_lookup.specs.Stored.{IsStored}
 use Rattle.tb_lookup.specs.Migrating.{IsStoredOld, IsStoredSecond}
 use Rattle.tb_lookup.proofs.Standing.{before_then, fails_then, stored_again}
 use Rattle.tb_keeper.proofs.Holding.{first_held}
-use Rattle.tb_keeper.proofs.Taken.{first_not_second, first_not_third, in_first, in_second, left_old, second_not_third, stood_old, stood_second}
+use Rattle.tb_keeper.proofs.Taken.{first_not_second, first_not_third, left_old, second_not_third, stood_old, stood_second}
 use Rattle.tb_keeper.proofs.sql_keep.SqlKeep.open.Goals as goal
 
 -- ---- it is no store

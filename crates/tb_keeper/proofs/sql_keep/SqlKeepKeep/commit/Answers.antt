@@ -10,7 +10,7 @@ returns-in-Ok-clause-ok g c s held may =
     let k = c.args.self.now in
     let later = c.write_call.new.self in
     let last = c.follow.new.self in
-    commit_ok k.failed k.people k.boards k.cache.entries (state g.S.Store k.conn) s c.args.changes.now c.args.call.now c.if-self.false held may (state g.S.Store later.conn) later.failed later.people later.boards later.cache.entries
+    commit_ok k.failed k.people k.boards k.cache.entries (state g.S.Store k.conn) s c.args.changes.now c.args.deed c.args.call.now c.if-self.false held may (state g.S.Store later.conn) later.failed later.people later.boards later.cache.entries
     c.in-Ok.ensures.failed c.in-Ok.ensures.people c.in-Ok.ensures.boards c.in-Ok.ensures.clean c.in-Ok.ensures.cached
     c.args.reply.now last.failed last.people last.boards last.cache.entries (state g.S.Store last.conn) c.follow.ensures.failed (ap (λ h. state g.S.Store h) c.follow.ensures.conn) c.in-Ok.ensures.ok c.follow.ensures.hand
 
@@ -28,7 +28,7 @@ pub returns-in-Err-Memory-clause-memory : goal.returns-in-Err-Memory-clause-memo
 returns-in-Err-Memory-clause-memory g c s held may _ =
     let k = c.args.self.now in
     let later = c.write_call.new.self in
-    commit_memory k.failed k.people k.boards k.cache.entries (state g.S.Store k.conn) s c.args.changes.now c.args.call.now c.if-self.false held may (state g.S.Store later.conn) later.failed later.people later.boards later.cache.entries
+    commit_memory k.failed k.people k.boards k.cache.entries (state g.S.Store k.conn) s c.args.changes.now c.args.deed c.args.call.now c.if-self.false held may (state g.S.Store later.conn) later.failed later.people later.boards later.cache.entries
     c.in-Err-Memory.ensures.failed c.in-Err-Memory.ensures.people c.in-Err-Memory.ensures.boards c.in-Err-Memory.ensures.clean c.in-Err-Memory.ensures.cached
     (c.in-Err-Memory.ensures.memory (ap Err c.in-Err-Memory.field-0-is))
 
@@ -37,7 +37,7 @@ returns-in-Err-Memory-clause-store g c s held may fine =
     let k = c.args.self.now in
     let later = c.write_call.new.self in
     either_first later.failed later.people later.boards later.cache.entries (state g.S.Store later.conn) s _ (c.in-Err-Memory.ensures.failed ∙ fine)
-    (commit_memory k.failed k.people k.boards k.cache.entries (state g.S.Store k.conn) s c.args.changes.now c.args.call.now c.if-self.false held may (state g.S.Store later.conn) later.failed later.people later.boards later.cache.entries
+    (commit_memory k.failed k.people k.boards k.cache.entries (state g.S.Store k.conn) s c.args.changes.now c.args.deed c.args.call.now c.if-self.false held may (state g.S.Store later.conn) later.failed later.people later.boards later.cache.entries
     c.in-Err-Memory.ensures.failed c.in-Err-Memory.ensures.people c.in-Err-Memory.ensures.boards c.in-Err-Memory.ensures.clean c.in-Err-Memory.ensures.cached
     (c.in-Err-Memory.ensures.memory (ap Err c.in-Err-Memory.field-0-is)))
 
@@ -48,7 +48,7 @@ pub returns-in-Err-Store-clause-store : goal.returns-in-Err-Store-clause-store
 returns-in-Err-Store-clause-store g c s held may fine =
     let k = c.args.self.now in
     let later = c.write_call.new.self in
-    commit_store k.failed k.people k.boards k.cache.entries (state g.S.Store k.conn) s c.args.changes.now c.args.call.now c.if-self.false held may (state g.S.Store later.conn) later.failed later.people later.boards later.cache.entries
+    commit_store k.failed k.people k.boards k.cache.entries (state g.S.Store k.conn) s c.args.changes.now c.args.deed c.args.call.now c.if-self.false held may (state g.S.Store later.conn) later.failed later.people later.boards later.cache.entries
     c.in-Err-Store.ensures.failed c.in-Err-Store.ensures.people c.in-Err-Store.ensures.boards c.in-Err-Store.ensures.clean c.in-Err-Store.ensures.cached
     c.args.reply.now (c.in-Err-Store.ensures.store (ap Err c.in-Err-Store.field-0-is))
 

@@ -1,0 +1,22 @@
+use Rattle.sqlite.specs.Held.{state}
+use Rattle.tb_keeper.proofs.Commits.{all_lead}
+use Rattle.tb_keeper.proofs.sql_keep.SqlKeep.call_rows.Goals as goal
+
+pub returns-in_err-kept-clause-cached : goal.returns-in_err-kept-clause-cached
+returns-in_err-kept-clause-cached g c clean s stored are = c.in_ok-rows.ensures.cached (c.in_err-kept.ensures.same.clean clean) s stored are
+
+pub returns-in_err-entry-clause-cached : goal.returns-in_err-entry-clause-cached
+returns-in_err-entry-clause-cached g c clean s stored are = c.in_ok-rows.ensures.cached (c.in_ok-kept.ensures.same.clean (c.in_err-entry.ensures.same.clean clean)) s stored are
+
+pub returns-in-Ok-clause-cached : goal.returns-in-Ok-clause-cached
+returns-in-Ok-clause-cached g c clean s stored are = c.in_ok-rows.ensures.cached (c.in_ok-kept.ensures.same.clean (c.in_ok-entry.ensures.same.clean clean)) s stored are
+
+pub returns-in-Err-clause-cached : goal.returns-in-Err-clause-cached
+returns-in-Err-clause-cached g c clean s stored are = c.in_ok-rows.ensures.cached (c.in_ok-kept.ensures.same.clean (c.in_ok-entry.ensures.same.clean clean)) s stored are
+
+pub returns-in-Ok-clause-leads : goal.returns-in-Ok-clause-leads
+returns-in-Ok-clause-leads g c =
+    let k = c.args.self.now in
+    rw c.in-Ok.ensures (all_lead (state g.S.Store k.conn) (state g.S.Store c.rows_for.new.conn) (state g.S.Store c.kept_row_for.new.conn) (state g.S.Store c.entry_row_for.new.conn) k.people k.boards k.cache.entries
+    c.args.changes.now c.args.deed c.args.call.now c.args.reply.now c.in_ok-rows.rows c.in_ok-kept.kept c.in_ok-entry.entry c.in_ok-rows.ensures.same c.in_ok-rows.ensures.idle c.in_ok-kept.ensures.same c.in_ok-kept.ensures.idle
+    c.in_ok-entry.ensures.same c.in_ok-hold_to_forms.ensures.ok c.in_ok-rows.ensures.leads c.in_ok-kept.ensures.row c.in_ok-entry.ensures.row c.in_ok-entry.ensures.moment)
