@@ -227,4 +227,5 @@ def main():
     tell(f"{more:,} further kept replies", f"{reply_growth(more):.1f} MiB")
 
 
-main()
+if __name__ == "__main__":
+    main()
