@@ -1,6 +1,7 @@
 #!/bin/sh
 # Has 64 connections guess keys while a known caller, a browser and somebody who was never seen ask for theirs: at most 100 guesses a second
-# are answered, 500 at once, and only guesses wait. It needs python3, and takes some ten seconds once the program is there.
+# are answered, 500 at once, and only guesses wait. Then has persons add too much: their calls wait, and nobody else's. It needs python3,
+# and takes half a minute once the program is there.
 set -eu
 
 # How many times longer than on an idle machine an answer may take.
@@ -8,4 +9,6 @@ longest=${LONGEST:-1}
 . "$(dirname "$0")/prepare.sh"
 
 PYTHONPATH=$top/tests python3 "$top/tests/guessing.py" "$program" "$port" "$longest"
+rm -rf page
+PYTHONPATH=$top/tests python3 "$top/tests/charging.py" "$program" "$port" "$longest"
 echo ok

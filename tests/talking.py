@@ -101,6 +101,10 @@ def has_ended(client):
         client.setblocking(True)
 
 
+# What a server is told whose clients write much.
+UNBOUNDED = ("--connections", "1000000", "--growth", "0")
+
+
 class Server:
     """The program as it serves a file."""
 

@@ -57,7 +57,7 @@ const KEY_USAGE: &str =
 const RUN_USAGE: &str = "`run` takes no words, and lines on standard input.";
 
 const SERVE_USAGE: &str =
-    "`serve` takes FILE --port P, P from 1 to 65535, and --connections N, N from 1 to 1,000,000, or --forever, and --page FOLDER and --log.";
+    "`serve` takes FILE --port P, P from 1 to 65535, and --connections N, N from 1 to 1,000,000, or --forever, and --page FOLDER, --growth KIB from 0 to 1,048,576, --burst MIB from 1 to 1,048,576, and --log.";
 
 const SEND_USAGE: &str =
     "`send` takes [--id UUID] [--for SECONDS] ADDRESS:PORT MEMBER KEY WORD ARGUMENTS...";

@@ -5,7 +5,7 @@ use Rattle.std.specs.Str.{bytes_eq}
 use Rattle.std.proofs.lemmas.Bool.{and_parts}
 use Rattle.std.proofs.lemmas.Slice.Eq.{bytes_eq-Decides}
 use Rattle.tb_command_line.specs.declared.order.Order.{Order}
-use Rattle.tb_command_line.specs.Page.{without_page}
+use Rattle.tb_command_line.specs.Extra.{without_burst, without_extra, without_growth, without_option, without_page}
 use Rattle.tb_command_line.specs.declared.order.ViewKind.TheVariants as view
 use Rattle.tb_command_line.specs.Order.{Request, Text, Init, Serve, Run, Import, View, Check, Key, is_plain, texts_of, words_of}
 use Rattle.tb_command_line.specs.Sending.{told_of}
@@ -54,42 +54,52 @@ listed (Key file name (Some word)) = refl
 pub not_sent : (request : Request) (rest : List Text) → words_of request ≡ codes "send" ∷ rest → ⊥
 not_sent request rest e = true≢false (sym (ap is_send e) ∙ listed request)
 
--- ---- with `--page`
+-- ---- with the options that may stand anywhere
 
--- one word, and two of which the second is no `--page`, are without it as they are
-alone : (word : Text) (b : Bool) → bytes_eq word (codes "serve") ≡ b → without_page (word ∷ []) ≡ word ∷ []
-alone word false s = rw s refl
-alone word true s = rw s refl
+-- one word, and two of which the second is no option, are without it as they are
+alone : (option word : Text) (b : Bool) → bytes_eq word (codes "serve") ≡ b → without_option option (word ∷ []) ≡ word ∷ []
+alone option word false s = rw s refl
+alone option word true s = rw s refl
 
-order_alone : (name word : Text) (b : Bool) → bytes_eq name (codes "serve") ≡ b → bytes_eq word (codes "--help") ≡ true → without_page (name ∷ word ∷ []) ≡ name ∷ word ∷ []
-order_alone name word false s h = rw s refl
-order_alone name word true s h =
+order_alone : (option name word : Text) (b : Bool) → bytes_eq name (codes "serve") ≡ b → bytes_eq word (codes "--help") ≡ true
+    → bytes_eq (codes "--help") option ≡ false → without_option option (name ∷ word ∷ []) ≡ name ∷ word ∷ []
+order_alone option name word false s h other = rw s refl
+order_alone option name word true s h other =
     let is : name ≡ codes "serve" = (bytes_eq-Decides name (codes "serve")).0 s in
     let help : word ≡ codes "--help" = (bytes_eq-Decides word (codes "--help")).0 h in
-    rw (is, help) refl
+    rw (is, help, other) refl
 
-two_as : (name word : Text) (order : Order) (b : Bool) → bytes_eq word (codes "--help") ≡ b → told_of (name ∷ word ∷ []) ≡ Some order → without_page (name ∷ word ∷ []) ≡ name ∷ word ∷ []
+two_as : (option name word : Text) (order : Order) (b : Bool) → bytes_eq word (codes "--help") ≡ b → told_of (name ∷ word ∷ []) ≡ Some order
+    → bytes_eq (codes "--help") option ≡ false → without_option option (name ∷ word ∷ []) ≡ name ∷ word ∷ []
 unfolding told_of
-two_as name word order true h told = order_alone name word (bytes_eq name (codes "serve")) refl h
-two_as name word order false h told = let none : None ≡ Some order = rw h at told in absurd (cc)
+two_as option name word order true h told other = order_alone option name word (bytes_eq name (codes "serve")) refl h other
+two_as option name word order false h told other = let none : None ≡ Some order = rw h at told in absurd (cc)
 
-as_it_is : (words : List Text) (order : Order) → told_of words ≡ Some order → without_page words ≡ words
+as_it_is : (option : Text) (words : List Text) (order : Order) → told_of words ≡ Some order → bytes_eq (codes "--help") option ≡ false
+    → without_option option words ≡ words
 unfolding told_of
-as_it_is [] order told = refl
-as_it_is (word ∷ []) order told = alone word (bytes_eq word (codes "serve")) refl
-as_it_is (name ∷ word ∷ []) order told = two_as name word order (bytes_eq word (codes "--help")) refl told
-as_it_is (name ∷ word ∷ other ∷ rest) order told = let none : None ≡ Some order = told in absurd (cc)
+as_it_is option [] order told other = refl
+as_it_is option (word ∷ []) order told other = alone option word (bytes_eq word (codes "serve")) refl
+as_it_is option (name ∷ word ∷ []) order told other = two_as option name word order (bytes_eq word (codes "--help")) refl told other
+as_it_is option (name ∷ word ∷ next ∷ rest) order told other = let none : None ≡ Some order = told in absurd (cc)
 
--- what is told of the program is no form of the command line, also without `--page`
-pub told_apart : (words : List Text) (order : Order) (request : Request) → told_of words ≡ Some order → without_page words ≡ words_of request
+all_as_they_are : (words : List Text) (order : Order) → told_of words ≡ Some order → without_extra words ≡ words
+all_as_they_are words order told =
+    let page : without_page words ≡ words = as_it_is (codes "--page") words order told refl in
+    let growth : without_growth words ≡ words = as_it_is (codes "--growth") words order told refl in
+    let burst : without_burst words ≡ words = as_it_is (codes "--burst") words order told refl in
+    ap (λ rest. without_burst (without_growth rest)) page ∙ (ap without_burst growth ∙ burst)
+
+-- what is told of the program is no form of the command line, also without these options
+pub told_apart : (words : List Text) (order : Order) (request : Request) → told_of words ≡ Some order → without_extra words ≡ words_of request
     → list_all is_plain (texts_of request) ≡ true → ⊥
 told_apart words order request told is plain =
-    let same : words ≡ words_of request = sym (as_it_is words order told) ∙ is in
+    let same : words ≡ words_of request = sym (all_as_they_are words order told) ∙ is in
     let none : None ≡ Some order = sym (not_told request plain) ∙ (ap told_of (sym same) ∙ told) in
     absurd (cc)
 
 -- and neither is a sending
-pub sent_apart : (first : Text) (rest : List Text) (request : Request) → bytes_eq first (codes "send") ≡ true → without_page (first ∷ rest) ≡ words_of request → ⊥
+pub sent_apart : (first : Text) (rest : List Text) (request : Request) → bytes_eq first (codes "send") ≡ true → without_extra (first ∷ rest) ≡ words_of request → ⊥
 sent_apart first rest request send is =
     let named : first ≡ codes "send" = (bytes_eq-Decides first (codes "send")).0 send in
     not_sent request rest (sym is ∙ rw named refl)

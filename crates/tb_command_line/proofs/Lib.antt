@@ -1,7 +1,7 @@
 pub mod Apart
 pub mod Colons
 pub mod Entering
+pub mod Leaving
 pub mod Options
-pub mod Paging
 pub mod Positionals
 pub mod Requests

@@ -3,5 +3,5 @@ pub mod Words
 pub mod Reading
 pub mod Order
 pub mod Outcome
-pub mod Page
+pub mod Extra
 pub mod Sending

@@ -128,7 +128,15 @@ abbrev pub serve_of : Text → Text → Option Text → Bool → Bool → Result
 serve_of file port count is_forever log = do
   p ← or_bad (port_in port)
   n ← or_bad (connections_in count is_forever)
-  Ok (order.Serve (record { file = file; port = p; connections = n; page = None; log = log }))
+  Ok (order.Serve (record {
+    file = file;
+    port = p;
+    connections = n;
+    page = None;
+    growth = 4;
+    burst = 256;
+    log = log;
+  }))
 
 -- an import by one call, or in as many parts as it takes
 abbrev pub importing : Bool → ImportOrder → Order

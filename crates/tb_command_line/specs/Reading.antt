@@ -53,6 +53,8 @@ serve_at rows = do
     port = p;
     connections = n;
     page = None;
+    growth = 4;
+    burst = 256;
     log = flag_at (codes "log") rows;
   }))
 

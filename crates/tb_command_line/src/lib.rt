@@ -2,9 +2,9 @@
 //! Stands on `clap` for the splitting of words, on `tb_board` for names and keys, and on `tb_task` for identifiers.
 #![tactic(auto)]
 
+mod extra;
 mod help;
 mod order;
-mod page;
 mod reading;
 mod sending;
 mod server;

@@ -55,6 +55,9 @@ pub struct ServeOrder {
     pub connections: Connections,
     /// The folder whose files are answered beside the boards.
     pub page: Option<Text>,
+    /// How much each person may add in a second, in KiB: 0 for no bound. And at once, in MiB.
+    pub growth: u32,
+    pub burst: u32,
     /// Each message has a line on standard error.
     pub log: bool,
 }

@@ -25,6 +25,11 @@ const MOST_CONNECTIONS: u32 = 1_000_000;
 
 const USUAL_CONNECTIONS: u32 = 1_000;
 
+/// How much a person may add in a second, in KiB, and at once, in MiB.
+const USUAL_GROWTH: u32 = 4;
+
+const USUAL_BURST: u32 = 256;
+
 pub(crate) fn read_order(
     alloc: Global,
     matches: &ArgMatches<'_>,
@@ -82,6 +87,8 @@ fn read_serve(alloc: Global, found: &ArgMatches<'_>) -> Result<Order, WordsFault
         port,
         connections,
         page: None,
+        growth: USUAL_GROWTH,
+        burst: USUAL_BURST,
         log,
     }))
 }

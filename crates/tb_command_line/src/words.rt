@@ -6,12 +6,12 @@ ghost use Rattle.clap.specs.Walk.{rule_of};
 ghost use Rattle.tb_command_line.specs.Words.{IsShaped, bare, check_app, counted_serve_app, file_app, flag_rule, import_app, init_app, input_app, key_app, keyed_app, member_app, needed, one_import_app, option_rule, optional, program_app, serve_app, view_app};
 ghost use Rattle.tb_command_line.specs.Order.{Request, is_plain, order_of, texts_of, words_of};
 ghost use Rattle.tb_command_line.specs.Outcome.{Reads};
-ghost use Rattle.tb_command_line.specs.Page.{page_in, with_page, without_page};
+ghost use Rattle.tb_command_line.specs.Extra.{with_extra, without_extra};
 ghost use Rattle.tb_command_line.specs.Sending.{my_of, send_of, told_of};
 ghost use Rattle.tb_command_line.specs.declared.order.Order.{Order};
 
+use crate::extra::read_extra;
 use crate::order::{Order, WordsFault};
-use crate::page::read_paged;
 use crate::reading::read_order;
 use crate::sending::{read_my, read_send};
 use crate::telling::read_told;
@@ -25,9 +25,9 @@ use tb_board::Key;
 /// promised: tests show that they are bad.
 pub fn command_of(alloc: Global, words: &[&str], kept: &Option<Key>) -> Result<Order, WordsFault>
     ensures listed { (request : Request)
-        → without_page (map (λ word. word.now) words.entry.now) ≡ words_of request
+        → without_extra (map (λ word. word.now) words.entry.now) ≡ words_of request
         → list_all is_plain (texts_of request) ≡ true
-        → Reads result (with_page (page_in (map (λ word. word.now) words.entry.now))
+        → Reads result (with_extra (map (λ word. word.now) words.entry.now)
         (order_of kept.now request)) }
     ensures told { (order : Order) → told_of (map (λ word. word.now) words.entry.now) ≡ Some order
         → result ≡ Ok order }
@@ -44,7 +44,7 @@ pub fn command_of(alloc: Global, words: &[&str], kept: &Option<Key>) -> Result<O
     match words.split_first() {
         Some((first, rest)) if *first == "send" => read_send(alloc, rest),
         Some((first, rest)) if *first == "my" => read_my(alloc, rest),
-        _ => read_paged(alloc, words, kept),
+        _ => read_extra(alloc, words, kept),
     }
 }
 

@@ -7,6 +7,7 @@ use Rattle.mio.specs.Event.{is_error, is_read_closed, is_readable, is_writable}
 use Rattle.mio.specs.declared.event.Event.{Event}
 use Rattle.mio.specs.declared.net.TcpStream.{TcpStream}
 use Rattle.tb_event_loop.specs.declared.connection.Connection.{Connection}
+use Rattle.tb_rooms.specs.declared.holding.TheConstants.{STRANGER}
 
 -- one that may be ready, since the first read and the first write tell
 abbrev pub fresh : TcpStream → Connection
@@ -20,6 +21,7 @@ fresh stream = record {
   is_gone = false;
   has_asked = false;
   due = 0;
+  owner = STRANGER;
 }
 
 -- its message may be turned, as far as it was looked at
@@ -27,12 +29,13 @@ abbrev pub may_go : ℕ → Connection → Bool
 may_go now connection = not connection.has_asked || nat_le connection.due now
 
 -- the head of its message was looked at
-abbrev pub asked : ℕ → Connection → Connection
-asked due connection = record connection { has_asked = true; due = due }
+abbrev pub asked : ℕ → ℕ → Connection → Connection
+asked due owner connection =
+    record connection { has_asked = true; due = due; owner = owner }
 
 -- the next message is at the front
-abbrev pub unasked : Connection → Connection
-unasked connection = record connection { has_asked = false }
+abbrev pub unasked : ℕ → Connection → Connection
+unasked owner connection = record connection { has_asked = false; owner = owner }
 
 -- the socket has bytes, and they are not of a message behind the one that is held
 abbrev pub needs_bytes : Connection → Bool

@@ -1,13 +1,14 @@
--- Which messages wait, since they try a key that hasn't been right with its name.
-use Rattle.std.specs.Prelude.{ℕ, ◌+◌, ◌-◌, ◌^◌, ◌==◌, Bool, not, ◌&&◌, ◌||◌, nat_le, nat_lt, if◌then◌else◌, List, codes, Option, Some, None, length, min}
+-- Which messages wait: those that try a key that hasn't been right with its name, and those of who is in debt.
+use Rattle.std.specs.Prelude.{ℕ, ◌+◌, ◌-◌, ◌^◌, ◌==◌, Bool, not, ◌&&◌, ◌||◌, nat_le, nat_lt, if◌then◌else◌, List, codes, Option, Some, None, length, max, min}
 use Rattle.std.specs.Str.{bytes_eq}
-use Rattle.tb_event_loop.specs.Connection.{asked, may_go}
-use Rattle.tb_event_loop.specs.Head.{begun, has_whole_head, target_in, text_of}
+use Rattle.tb_event_loop.specs.Connection.{asked}
+use Rattle.tb_event_loop.specs.Head.{begun, board_in, has_whole_head, is_call_in, target_in, text_of}
 use Rattle.tb_event_loop.specs.Journal.{status_in}
 use Rattle.tb_event_loop.specs.declared.connection.Connection.{Connection}
 use Rattle.tb_event_loop.specs.declared.guesses.TheConstants.{LONGEST_HOLD}
 use Rattle.tb_rooms.specs.Bucket.{charged, wait}
-use Rattle.tb_rooms.specs.Claims.{forgotten, is_claimed, learned}
+use Rattle.tb_rooms.specs.Claims.{forgotten, is_claimed, number_under, taught}
+use Rattle.tb_rooms.specs.Rates.{call_cost, ledger_charged, wait_in}
 use Rattle.tb_rooms.specs.declared.bucket.Rate.{Rate}
 use Rattle.tb_rooms.specs.declared.rates.Rates.{Rates}
 
@@ -40,23 +41,71 @@ counted files text now rates =
     then record rates { strangers = charged guessers rates.strangers 1 now }
     else rates
 
--- ---- a message is looked at once, as soon as its head is whole
+-- ---- calls of who is in debt
 
-abbrev pub is_new : List ℕ → Connection → Bool
-is_new held connection = not connection.has_asked && has_whole_head (begun held)
+-- how long a call waits for what its person's calls and its board's sweeps wrote; a view doesn't
+-- Rule: a call waits where its person or its board wrote too much; no call is refused for it. Tried by rates.sh.
+unfoldable pub debt_of : Rates → List ℕ → ℕ → ℕ
+debt_of rates text now =
+    if is_call_in text
+    then max (wait_in rates.persons (member_in text) now) (wait_in rates.boards (board_in text) now)
+    else 0
+
+-- what a call wrote itself is charged to its person, and what its sweep made to its board
+unfoldable pub person_charged_with : List ℕ → ℕ → ℕ → ℕ → Rates → Rates
+person_charged_with text own swept now rates =
+    if own == 0 then rates
+    else record rates {
+      persons = ledger_charged rates.persons (member_in text) (call_cost own swept) now;
+    }
+
+unfoldable pub board_charged_with : List ℕ → ℕ → ℕ → Rates → Rates
+board_charged_with text swept now rates =
+    if swept == 0 then rates
+    else record rates { boards = ledger_charged rates.boards (board_in text) swept now }
+
+abbrev pub charged_with : List ℕ → ℕ → ℕ → ℕ → Rates → Rates
+charged_with held own swept now rates =
+    board_charged_with (begun held) swept now
+    (person_charged_with (begun held) own swept now rates)
+
+-- ---- a message is looked at once its head is whole, and a call again when its time has come
+
+-- whose a message is: a person's, where its key is known, or a stranger's
+abbrev pub owner_of : Rates → List ℕ → ℕ
+owner_of rates text = number_under (member_in text) (key_in text) rates.claims.claims
+
+unfoldable pub wait_of : (List ℕ → Bool) → Rates → List ℕ → ℕ → ℕ
+wait_of files rates text now = max (hold_of files rates text now) (debt_of rates text now)
 
 abbrev pub due_of : (List ℕ → Bool) → Rates → List ℕ → ℕ → ℕ
-due_of files rates held now = min (now + hold_of files rates (begun held) now) (2 ^ 64 - 1)
+due_of files rates text now = min (now + wait_of files rates text now) (2 ^ 64 - 1)
+
+abbrev pub is_due_again : Rates → List ℕ → ℕ → Connection → Bool
+is_due_again rates text now connection =
+    nat_le connection.due now && (debt_of rates text now == 0)
+
+abbrev pub put_off_at : Rates → List ℕ → ℕ → Connection → Connection
+put_off_at rates text now connection =
+    if nat_le connection.due now && not (debt_of rates text now == 0)
+    then record connection { due = min (now + debt_of rates text now) (2 ^ 64 - 1) }
+    else connection
 
 abbrev pub looked_at : (List ℕ → Bool) → Rates → List ℕ → ℕ → Connection → Connection
 looked_at files rates held now connection =
-    if is_new held connection then asked (due_of files rates held now) connection
+    if connection.has_asked then put_off_at rates (begun held) now connection
+    else if has_whole_head (begun held)
+    then asked (due_of files rates (begun held) now) (owner_of rates (begun held)) connection
     else connection
 
+-- one whose head isn't whole may be read on
 abbrev pub is_due : (List ℕ → Bool) → Rates → List ℕ → ℕ → Connection → Bool
 is_due files rates held now connection =
-    if is_new held connection then nat_le (due_of files rates held now) now
-    else may_go now connection
+    if connection.has_asked then is_due_again rates (begun held) now connection
+    else not (has_whole_head (begun held)) || nat_le (due_of files rates (begun held) now) now
+
+abbrev pub is_new : List ℕ → Connection → Bool
+is_new held connection = not connection.has_asked && has_whole_head (begun held)
 
 abbrev pub counted_by : (List ℕ → Bool) → Connection → List ℕ → ℕ → Rates → Rates
 counted_by files connection held now rates =
@@ -81,12 +130,14 @@ is_of_right_key answer =
 
 abbrev pub with_claim : List ℕ → Rates → Rates
 with_claim text rates = record rates {
-  claims = record { claims = learned (member_in text) (key_in text) rates.claims.claims };
+  claims = taught (member_in text) (key_in text) rates.claims;
 }
 
 abbrev pub without_claim : List ℕ → Rates → Rates
 without_claim text rates = record rates {
-  claims = record { claims = forgotten (member_in text) (key_in text) rates.claims.claims };
+  claims = record rates.claims {
+    claims = forgotten (member_in text) (key_in text) rates.claims.claims;
+  };
 }
 
 -- A guess that was right is known from now on, and a key that is wrong now no more. No other name loses its key.

@@ -1,8 +1,8 @@
 -- What the head of a message says, before the message is taken.
-use Rattle.std.specs.Prelude.{ℕ, ◌+◌, ◌-◌, ◌==◌, Bool, true, false, ◌||◌, List, [], Option, Some, None, drop, find, if◌then◌else◌, length, position, take}
+use Rattle.std.specs.Prelude.{ℕ, ◌+◌, ◌-◌, ◌==◌, Bool, true, false, ◌||◌, List, [], codes, Option, Some, None, drop, find, if◌then◌else◌, length, position, take}
 use Rattle.std.specs.Char.{is_ascii_whitespace}
 use Rattle.std.specs.List.{fold, list_all, prefix_len, slice_split, suffix_len}
-use Rattle.std.specs.Str.{is_utf8, str_eq_ignore_ascii_case}
+use Rattle.std.specs.Str.{bytes_eq, is_utf8, str_eq_ignore_ascii_case}
 use Rattle.tb_event_loop.specs.declared.head.Line.{Line}
 use Rattle.tb_event_loop.specs.declared.head.Line.TheVariants.{Full, Blank, Ended}
 use Rattle.tb_event_loop.specs.declared.journal.TheConstants.{LONGEST_HEAD}
@@ -59,6 +59,10 @@ behind sign text = behind_at (position (λ byte. byte == sign) text) text
 abbrev pub target_in : List ℕ → List ℕ
 target_in text = up_to 32 (behind 32 (up_to 10 text))
 
+-- its method is POST
+abbrev pub is_call_in : List ℕ → Bool
+is_call_in text = bytes_eq (up_to 32 (up_to 10 text)) (codes "POST")
+
 -- a blank line, behind which no field is, or one of this name
 abbrev pub ends_search : List ℕ → List ℕ → Bool
 ends_search name line = is_blank line || str_eq_ignore_ascii_case (up_to 58 line) name
@@ -68,6 +72,14 @@ line_of name text = find (ends_search name) (slice_split (λ byte. byte == 10) t
 
 abbrev pub text_in : List ℕ → List ℕ
 text_in value = if is_utf8 value then value else []
+
+-- the word behind `/boards/` in the target
+abbrev pub board_of : List ℕ → List ℕ
+board_of path =
+    if bytes_eq (up_to 47 path) (codes "boards") then text_in (up_to 47 (behind 47 path)) else []
+
+abbrev pub board_in : List ℕ → List ℕ
+board_in text = board_of (behind 47 (target_in text))
 
 abbrev pub text_of_line : Option (List ℕ) → List ℕ
 text_of_line None = []

@@ -9,3 +9,4 @@ pub mod History
 pub mod Journal
 pub mod Logging
 pub mod Places
+pub mod Sharing

@@ -7,6 +7,7 @@ use mio::net::TcpStream;
 use std::io;
 use std::io::{ErrorKind, Read};
 use std::net::Shutdown;
+use tb_rooms::STRANGER;
 
 /// How many bytes are read at a time.
 pub(crate) const PIECE: usize = 16_384;
@@ -28,6 +29,8 @@ pub(crate) struct Connection {
     pub(crate) has_asked: bool,
     /// The millisecond from which that message may be turned.
     pub(crate) due: u64,
+    /// The number of the person of that message, or that of strangers.
+    pub(crate) owner: u64,
 }
 
 impl Connection {
@@ -45,6 +48,7 @@ impl Connection {
             is_gone: false,
             has_asked: false,
             due: 0,
+            owner: STRANGER,
         }
     }
 
@@ -55,19 +59,28 @@ impl Connection {
         !self.has_asked || self.due <= now
     }
 
-    /// The head of its message was looked at, and it may be turned from this millisecond on.
-    pub(crate) fn ask(&mut self, due: u64)
-        ensures { self.new ≡ asked due self.old }
+    /// The head of its message was looked at: whose it is, and from which millisecond on it may be turned.
+    pub(crate) fn ask(&mut self, due: u64, owner: u64)
+        ensures { self.new ≡ asked due owner self.old }
     {
         self.has_asked = true;
         self.due = due;
+        self.owner = owner;
     }
 
-    /// Its message was answered, so that the next one is at the front.
-    pub(crate) fn end_message(&mut self)
-        ensures { self.new ≡ unasked self.old }
+    /// Its message may be turned from another millisecond on.
+    pub(crate) fn put_off(&mut self, due: u64)
+        ensures { self.new ≡ record self.old { due = due } }
+    {
+        self.due = due;
+    }
+
+    /// Its message was answered, so that the next one is at the front. Whose it was is known better now.
+    pub(crate) fn end_message(&mut self, owner: u64)
+        ensures { self.new ≡ unasked owner self.old }
     {
         self.has_asked = false;
+        self.owner = owner;
     }
 
     pub(crate) fn needs_bytes(&self) -> bool

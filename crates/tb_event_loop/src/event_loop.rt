@@ -12,7 +12,7 @@ ghost use Rattle.tb_timeouts.specs.Deciding.{IsLongestWait};
 use crate::arrivals::{Arrivals, LISTENER, RETRY};
 use crate::fault::LoopFault;
 use crate::journal::Journal;
-use crate::places::{Places, held_bytes};
+use crate::places::Places;
 use crate::service::{Service, SocketEvent, StoreFailed};
 use crate::watch::Watch;
 use mio::net::TcpListener;
@@ -21,6 +21,7 @@ use std::alloc::Global;
 use std::io::Write;
 use std::net::{Net, SocketAddr};
 use std::time::{Clock, Duration};
+use tb_rooms::Rate;
 use tb_timeouts::Limits;
 
 /// How many sockets are told of at once.
@@ -39,15 +40,18 @@ pub struct EventLoop {
     /// How many connections have still to end, if the loop ends with them.
     still_to_end: Option<u32>,
     now: u64,
+    /// When the last turn ended.
+    seen: u64,
 }
 
 impl EventLoop {
-    /// Listens on an address. Serves so many connections, or without end.
+    /// Listens on an address. Serves so many connections, or without end. Persons and boards may write at this rate, in bytes.
     pub fn listen(
         rt: &(impl Net + AllocGlobal),
         address: SocketAddr,
         connections: Option<u32>,
         limits: Limits,
+        rate: Rate,
     ) -> Result<EventLoop, LoopFault>
         ensures limit { IfOk result (λ event_loop. still_to_end event_loop ≡ connections) }
         ensures fault { IfErr result (λ fault. (fault ≡ Memory) ⊎ (fault ≡ Sockets)) }
@@ -69,9 +73,10 @@ impl EventLoop {
             poll,
             events: Events::with_capacity(rt.alloc(), EVENTS)?,
             arrivals: Arrivals::new(listener, connections),
-            places: Places::new(rt.alloc(), limits)?,
+            places: Places::new(rt.alloc(), limits, rate)?,
             still_to_end: connections,
             now: 0,
+            seen: 0,
         })
     }
 
@@ -164,10 +169,33 @@ impl EventLoop {
             (is_err result) self.old.still_to_end self.new.still_to_end service.old service.new }
         ensures failed { IsErr result → V.has_failed service.new ≡ true }
     {
-        'places: for place in 0..self.places.end {
-            self.visit(service, journal, place)?;
+        self.seen = self.now;
+        self.places.begin_round();
+        let end = self.places.end;
+        'places: for step in 0..end {
+            let place = self.places.place_at(step, end);
+            self.visit_next(service, journal, place)?;
         }
+        self.places.end_round();
+        self.places.share(self.now);
         Ok(())
+    }
+
+    // The turn of one place, unless its owner had enough of them in this round.
+    fn visit_next<V: Service, C: Clock, W: Write>(
+        &mut self,
+        service: &mut V,
+        journal: &mut Journal<C, W>,
+        place: usize,
+    ) -> Result<(), StoreFailed>
+        ensures after { Goes V.follows
+            (is_err result) self.old.still_to_end self.new.still_to_end service.old service.new }
+        ensures failed { IsErr result → V.has_failed service.new ≡ true }
+    {
+        if self.places.is_put_back(place, self.now) {
+            return Ok(());
+        }
+        self.visit(service, journal, place)
     }
 
     // The turn of one place, if it has one.
@@ -189,10 +217,21 @@ impl EventLoop {
         if !self.places.begin_turn(place, self.now) {
             return Ok(());
         }
-        let before = held_bytes(service, place);
         self.take_turn(service, journal, place)?;
-        self.places.count_held(before, held_bytes(service, place));
+        self.places.note(service, place);
+        self.count_time(journal, place);
         Ok(())
+    }
+
+    // How long the turn of a place took.
+    fn count_time<C: Clock, W: Write>(&mut self, journal: &mut Journal<C, W>, place: usize)
+        ensures left { connection_in self.new.places place ≡ connection_in self.old.places place }
+        ensures limit { self.new.still_to_end ≡ self.old.still_to_end }
+    {
+        let before = self.seen;
+        self.seen = journal.now();
+        self.places
+            .count_turn(place, self.seen.saturating_sub(before));
     }
 
     fn take_turn<V: Service, C: Clock, W: Write>(

@@ -1,41 +1,37 @@
-//! Which messages wait, since they try a key that hasn't been right with its name.
-ghost use Rattle.std.specs.Prelude.{◌≡◌, false, true, OnErr, OnOk, slice_set};
+//! Which messages wait: those that try a key that hasn't been right with its name, and those of who is in debt.
+ghost use Rattle.std.specs.Prelude.{◌≡◌, ◌-◌, false, true, nat_le, OnErr, OnOk, slice_set};
 ghost use Rattle.std.specs.Option.{option_map};
 ghost use Rattle.std.specs.Str.{bytes_eq};
-ghost use Rattle.tb_event_loop.specs.Connection.{unasked};
+ghost use Rattle.tb_event_loop.specs.Connection.{asked, unasked};
 ghost use Rattle.tb_event_loop.specs.Guesses as guesses;
-ghost use Rattle.tb_event_loop.specs.Head.{begun};
+ghost use Rattle.tb_event_loop.specs.Head.{begun, board_in, is_call_in};
 ghost use Rattle.tb_event_loop.specs.Journal.{status_in};
-ghost use Rattle.tb_event_loop.specs.Places.{Changes, IsUntilDue, connection_in, is_due_at, waits_until};
+ghost use Rattle.tb_event_loop.specs.Places.{Changes, IsUntilDue, connection_in, has_room_at, is_due_at, is_turned_at, waits_until};
 
 use crate::connection::Connection;
+use crate::head;
 use crate::head::{begun, has_whole_head, target_in, text_of};
 use crate::journal::status_in as status_of;
 use crate::places::Places;
 use crate::service::Service;
-use std::alloc::AllocError;
-use tb_rooms::{Asking, Rate, Rates};
+use std::alloc::{AllocError, Global};
+use tb_rooms::{Asking, Hold, Rates, Rooms, Written, may_turn};
 
 /// How long a guess waits at most, in milliseconds: less than a message that was begun keeps its place.
 const LONGEST_HOLD: u64 = 4_900;
 
-/// What persons and boards write isn't bounded.
-pub(crate) const UNBOUNDED: Rate = Rate {
-    burst: 0,
-    per_second: 0,
-};
-
-// What the head of a message says of its sender.
-fn asking_of(text: &[u8]) -> Asking<'_>
-    ensures call { result.is_call ≡ false }
+// What the head of a message says of its sender, and of what it asks for.
+pub(crate) fn asking_of(text: &[u8]) -> Asking<'_>
+    ensures call { result.is_call ≡ is_call_in text.now }
     ensures member { result.member.now ≡ guesses.member_in text.now }
     ensures key { result.key.now ≡ guesses.key_in text.now }
+    ensures board { result.board.now ≡ board_in text.now }
 {
     Asking {
-        is_call: false,
+        is_call: head::is_call_in(text),
         member: text_of(text, b"x-member"),
         key: text_of(text, b"x-key"),
-        board: "",
+        board: head::board_in(text),
     }
 }
 
@@ -46,7 +42,7 @@ fn is_guess<V: Service>(service: &V, rates: &Rates, text: &[u8]) -> bool
     !service.is_file(target_in(text)) && rates.is_guess(&asking_of(text))
 }
 
-// How many milliseconds a message waits: a guess behind those that came before it, and any other not at all.
+// How many milliseconds a message waits as a guess: behind those that came before it, and any other not at all.
 fn hold_of<V: Service>(service: &V, rates: &Rates, text: &[u8], now: u64) -> u64
     ensures hold { result
         ≡ guesses.hold_of (V.gives_file service.now) rates.now text.now now }
@@ -54,7 +50,7 @@ fn hold_of<V: Service>(service: &V, rates: &Rates, text: &[u8], now: u64) -> u64
         → result ≡ 0 }
 {
     if is_guess(service, rates, text) {
-        rates.wait_of(&asking_of(text), now)
+        rates.guess_wait(&asking_of(text), now)
     } else {
         0
     }
@@ -67,6 +63,62 @@ fn count<V: Service>(service: &V, rates: &mut Rates, text: &[u8], now: u64)
     if is_guess(service, rates, text) && hold_of(service, rates, text, now) < LONGEST_HOLD {
         rates.count_guess(&asking_of(text), now);
     }
+}
+
+// How many milliseconds a call waits, since its person or its board is in debt.
+#[tactic(auto, unfolding(crate::specs::Guesses::debt_of))]
+fn debt_of(rates: &Rates, text: &[u8], now: u64) -> u64
+    ensures { result ≡ guesses.debt_of rates.now text.now now }
+{
+    rates.debt_wait(&asking_of(text), now)
+}
+
+// The time of a message has come, if it has: a call is put off again where its person or its board is in debt now.
+fn look_again(connection: &mut Connection, rates: &Rates, text: &[u8], now: u64) -> bool
+    ensures due { result ≡ guesses.is_due_again rates.now text.now now connection.old }
+    ensures put_off { connection.new ≡ guesses.put_off_at rates.now text.now now connection.old }
+{
+    let is_time = connection.due <= now;
+    let debt = debt_of(rates, text, now);
+    if is_time && debt != 0 {
+        connection.put_off(now.saturating_add(debt));
+    }
+    is_time && debt == 0
+}
+
+// How many milliseconds a message waits when it is looked at first.
+#[tactic(auto, unfolding(crate::specs::Guesses::wait_of))]
+fn wait_of<V: Service>(service: &V, rates: &Rates, text: &[u8], now: u64) -> u64
+    ensures wait { result
+        ≡ guesses.wait_of (V.gives_file service.now) rates.now text.now now }
+    ensures known { guesses.is_guess (V.gives_file service.now) rates.now text.now ≡ false
+        → result ≡ guesses.debt_of rates.now text.now now }
+{
+    hold_of(service, rates, text, now).max(debt_of(rates, text, now))
+}
+
+// Looks at a message whose head is whole for the first time.
+fn look_first<V: Service>(
+    connection: &mut Connection,
+    rates: &mut Rates,
+    service: &V,
+    text: &[u8],
+    now: u64,
+) -> bool
+    ensures due { result
+        ≡ nat_le (guesses.due_of (V.gives_file service.now) rates.old text.now now) now }
+    ensures asked { connection.new
+        ≡ asked (guesses.due_of (V.gives_file service.now) rates.old text.now now)
+        (guesses.owner_of rates.old text.now) connection.old }
+    ensures counted { rates.new
+        ≡ guesses.counted (V.gives_file service.now) text.now now rates.old }
+    ensures known { guesses.is_guess (V.gives_file service.now) rates.old text.now ≡ false
+        → guesses.debt_of rates.old text.now now ≡ 0 → result ≡ true }
+{
+    let due = now.saturating_add(wait_of(service, rates, text, now));
+    connection.ask(due, owner_of(rates, text));
+    count(service, rates, text, now);
+    due <= now
 }
 
 // Looks at a message once its head is whole, and says whether it is due.
@@ -85,15 +137,16 @@ fn look<V: Service>(
         connection.old held.now now rates.old }
     ensures known { connection.old.has_asked ≡ false
         → guesses.is_guess (V.gives_file service.now) rates.old (begun held.now) ≡ false
-        → result ≡ true }
+        → guesses.debt_of rates.old (begun held.now) now ≡ 0 → result ≡ true }
 {
     let text = begun(held);
-    if !connection.has_asked && has_whole_head(text) {
-        let hold = hold_of(service, rates, text, now);
-        connection.ask(now.saturating_add(hold));
-        count(service, rates, text, now);
+    if connection.has_asked {
+        return look_again(connection, rates, text, now);
     }
-    connection.may_go(now)
+    if !has_whole_head(text) {
+        return true;
+    }
+    look_first(connection, rates, service, text, now)
 }
 
 // Looks at what is held for a place, where a connection is in it.
@@ -116,11 +169,21 @@ fn look_into<V: Service>(
     }
 }
 
-fn end_message(slot: &mut Option<Connection>)
-    ensures { slot.new ≡ option_map unasked slot.old }
+fn end_message(slot: &mut Option<Connection>, owner: u64)
+    ensures { slot.new ≡ option_map (unasked owner) slot.old }
 {
     if let Some(connection) = slot {
-        connection.end_message();
+        connection.end_message(owner);
+    }
+}
+
+// Whether a message may be answered beside the answers that aren't taken. One that wasn't looked at yet may be read on.
+fn has_room(slot: &Option<Connection>, holds: &[Hold], rooms: &Rooms) -> bool
+    ensures { result ≡ has_room_at rooms.now holds.now slot.now }
+{
+    match slot {
+        Some(connection) => !connection.has_asked || may_turn(holds, connection.owner, rooms),
+        None => false,
     }
 }
 
@@ -140,12 +203,52 @@ fn is_of_right_key(answer: &[u8]) -> bool
         || has_status(answer, "422")
 }
 
+// Whose a message is, as its key is known.
+fn owner_of(rates: &Rates, text: &[u8]) -> u64
+    ensures { result ≡ guesses.owner_of rates.now text.now }
+{
+    rates.owner(&asking_of(text))
+}
+
+#[tactic(auto, unfolding(crate::specs::Guesses::person_charged_with))]
+fn charge_person(
+    rates: &mut Rates,
+    alloc: Global,
+    text: &[u8],
+    own: u64,
+    swept: u64,
+    now: u64,
+) -> Result<(), AllocError>
+    ensures ok { OnOk result
+        (rates.new ≡ guesses.person_charged_with text.now own swept now rates.old) }
+    ensures err { OnErr result (rates.new ≡ rates.old) }
+{
+    rates.charge_person(alloc, &asking_of(text), own, swept, now)
+}
+
+#[tactic(auto, unfolding(crate::specs::Guesses::board_charged_with))]
+fn charge_board(
+    rates: &mut Rates,
+    alloc: Global,
+    text: &[u8],
+    swept: u64,
+    now: u64,
+) -> Result<(), AllocError>
+    ensures ok { OnOk result
+        (rates.new ≡ guesses.board_charged_with text.now swept now rates.old) }
+    ensures err { OnErr result (rates.new ≡ rates.old) }
+{
+    rates.charge_board(alloc, &asking_of(text), swept, now)
+}
+
 impl Places {
-    /// Looks at what is held for a place, once its head is whole, and says whether its message is due. A guess takes its turn behind
-    /// those that came before it.
+    /// Looks at what is held for a place, once its head is whole, and says whether its message is turned now. A guess takes its turn
+    /// behind those that came before it, a call of who is in debt once the debt is paid, and a message of who leaves answers untaken
+    /// once they are taken.
     pub(crate) fn hold_back<V: Service>(&mut self, service: &V, place: usize, now: u64) -> bool
-        ensures due { result ≡ is_due_at (V.gives_file service.now) self.old.rates
-            (V.held_at service.now place) now (connection_in self.old place) }
+        ensures due { result ≡ is_turned_at (V.gives_file service.now) self.old.rates self.old.rooms
+            self.old.holds.items (V.held_at service.now place) now
+            (connection_in self.old place) }
         ensures asked { self.new.connections.items ≡ slice_set self.old.connections.items place
             (option_map (guesses.looked_at (V.gives_file service.now) self.old.rates
             (V.held_at service.now place) now) (connection_in self.old place)) }
@@ -155,17 +258,20 @@ impl Places {
             ≡ record self.old { connections = self.new.connections; rates = self.new.rates } }
     {
         match self.connections.get_mut(place) {
-            Some(slot) => look_into(slot, &mut self.rates, service, service.held(place), now),
+            Some(slot) => {
+                look_into(slot, &mut self.rates, service, service.held(place), now)
+                    && has_room(slot, &self.holds, &self.rooms)
+            }
             None => false,
         }
     }
 
-    /// The message of a place was answered.
-    pub(crate) fn await_next(&mut self, place: usize)
-        ensures { Changes unasked self.old self.new place }
+    /// The message of a place was answered, and is of this owner.
+    pub(crate) fn await_next(&mut self, place: usize, owner: u64)
+        ensures { Changes (unasked owner) self.old self.new place }
     {
         if let Some(slot) = self.connections.get_mut(place) {
-            end_message(slot);
+            end_message(slot, owner);
         }
     }
 
@@ -216,5 +322,33 @@ impl Places {
             return self.rates.learn(self.alloc, &asking_of(text));
         }
         Ok(())
+    }
+
+    /// The owner of what was held, as its key is known now.
+    pub(crate) fn owner_of(&self, held: &[u8]) -> u64
+        ensures { result ≡ guesses.owner_of self.now.rates (begun held.now) }
+    {
+        owner_of(&self.rates, begun(held))
+    }
+
+    /// What a message wrote is charged to its person, and what its sweep made to its board. Without memory some of it isn't.
+    pub(crate) fn charge(
+        &mut self,
+        held: &[u8],
+        before: Written,
+        after: Written,
+        now: u64,
+    ) -> Result<(), AllocError>
+        ensures ok { OnOk result (self.new ≡ record self.old {
+          rates = guesses.charged_with held.now
+              (after.own - before.own) (after.swept - before.swept) now self.old.rates;
+        }) }
+        ensures others { self.new ≡ record self.old { rates = self.new.rates } }
+    {
+        let text = begun(held);
+        let own = after.own.saturating_sub(before.own);
+        let swept = after.swept.saturating_sub(before.swept);
+        charge_person(&mut self.rates, self.alloc, text, own, swept, now)?;
+        charge_board(&mut self.rates, self.alloc, text, swept, now)
     }
 }

@@ -84,6 +84,25 @@ fn behind(text: &[u8], sign: u8) -> &[u8]
     }
 }
 
+/// Whether a head is that of a call: its method is POST.
+pub(crate) fn is_call_in(text: &[u8]) -> bool
+    ensures { result ≡ head.is_call_in text.now }
+{
+    up_to(up_to(text, b'\n'), b' ') == b"POST".as_slice()
+}
+
+/// The board that the target of a head names behind `/boards/`, or nothing.
+pub(crate) fn board_in(text: &[u8]) -> &str
+    ensures { result.now ≡ head.board_in text.now }
+{
+    let path = behind(target_in(text), b'/');
+    if up_to(path, b'/') == b"boards".as_slice() {
+        text_in(up_to(behind(path, b'/'), b'/'))
+    } else {
+        ""
+    }
+}
+
 /// The target of a head, up to the next blank.
 pub(crate) fn target_in(text: &[u8]) -> &[u8]
     ensures { result.now ≡ head.target_in text.now }

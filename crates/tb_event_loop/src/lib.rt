@@ -16,6 +16,7 @@ mod logging;
 mod places;
 mod request_line;
 mod service;
+mod sharing;
 mod turn;
 mod watch;
 

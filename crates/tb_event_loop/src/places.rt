@@ -1,23 +1,21 @@
 //! The places of connections: who is in each, and what each is doing.
-ghost use Rattle.std.specs.Prelude.{◌≡◌, ◌↔◌, ◌+◌, ◌-◌, ◌^◌, ◌<◌, ◌≤◌, ℕ, IsTrue, IfOk, Option, length, min, position, slice_set, take, true};
-ghost use Rattle.tb_event_loop.specs.Places.{Changes, Enters, HasTurn, HaveTurns, IsEmpty, IsEndWithin, IsNeed, IsRead, LendsConnection, LetsGoOne, NeedsBytes, Seats, SetsStage, Vacates, connection_in, is_leaving, may_answer_at, stage_in};
+ghost use Rattle.std.specs.Prelude.{◌≡◌, ◌↔◌, IsTrue, IfOk, position, slice_set, take, true};
+ghost use Rattle.tb_event_loop.specs.Places.{Changes, Enters, HasTurn, HaveTurns, IsEmpty, IsEndWithin, IsNeed, LendsConnection, LetsGoOne, NeedsBytes, Seats, SetsHold, SetsStage, Vacates, connection_in, hold_in, is_leaving, is_read, may_answer_at, may_turn_of, stage_in};
 ghost use Rattle.std.specs.Borrow.{sem};
 ghost use Rattle.std.specs.Option.{option_copied_mut, option_map};
 ghost use Rattle.tb_event_loop.specs.Connection.{leaving, marked, short_of_bytes};
-ghost use Rattle.tb_timeouts.specs.Deciding.{GivesWay, IsLongestWait};
+ghost use Rattle.tb_rooms.specs.Yielding.{gives_way};
+ghost use Rattle.tb_timeouts.specs.Deciding.{IsLongestWait};
 ghost use Rattle.tb_timeouts.specs.Stage.{is_vacant, next_stage};
 
 use crate::connection::Connection;
-use crate::guesses::UNBOUNDED;
 use crate::service::Service;
 use mio::event::Event;
 use mio::net::TcpStream;
 use mio::{Events, Token};
 use std::alloc::{AllocError, Global};
-use tb_rooms::Rates;
-use tb_timeouts::{
-    CONNECTIONS, Limits, Need, Stage, first_vacant, gives_way, longest_wait, may_read,
-};
+use tb_rooms::{Hold, ROOMS, Rate, Rates, Rooms, gives_way, may_turn};
+use tb_timeouts::{CONNECTIONS, Limits, Need, Stage, first_vacant, longest_wait};
 
 #[derive(Drop)]
 pub(crate) struct Places {
@@ -29,28 +27,44 @@ pub(crate) struct Places {
     /// Who has tried how many keys, and whose are known.
     pub(crate) rates: Rates,
     pub(crate) alloc: Global,
-    /// How many bytes of messages and answers are held.
-    held: usize,
+    /// What each place holds, and whose it is.
+    pub(crate) holds: Vec<Hold>,
+    pub(crate) rooms: Rooms,
+    /// How many rounds there have been, and where the next one begins.
+    pub(crate) round: u64,
+    pub(crate) first: usize,
+    /// The first place that was put back in this round.
+    pub(crate) cut: Option<usize>,
+    /// Whether one waits for room, or has left an answer untaken.
+    pub(crate) is_tight: bool,
 }
 
 impl Places {
-    pub(crate) fn new(alloc: Global, limits: Limits) -> Result<Places, AllocError>
-        ensures { IfOk result (λ places. IsEmpty limits places) }
+    /// Vacant places. Persons and boards may write at this rate, in bytes.
+    pub(crate) fn new(alloc: Global, limits: Limits, rate: Rate) -> Result<Places, AllocError>
+        ensures { IfOk result (λ places. IsEmpty limits rate places) }
     {
         let mut connections = Vec::with_capacity(alloc, CONNECTIONS)?;
         let mut stages = Vec::with_capacity(alloc, CONNECTIONS)?;
+        let mut holds = Vec::with_capacity(alloc, CONNECTIONS)?;
         for _ in 0..CONNECTIONS {
             connections.push(None)?;
             stages.push(Stage::Vacant)?;
+            holds.push(Hold::vacant())?;
         }
         Ok(Places {
             connections,
             stages,
             limits,
             end: 0,
-            rates: Rates::new(alloc, UNBOUNDED),
+            rates: Rates::new(alloc, rate),
             alloc,
-            held: 0,
+            holds,
+            rooms: ROOMS,
+            round: 0,
+            first: 0,
+            cut: None,
+            is_tight: false,
         })
     }
 
@@ -103,15 +117,16 @@ impl Places {
             *slot = Some(Connection::new(stream));
         }
         self.set_stage(place, Stage::Idle { since: now });
+        self.set_hold(place, Hold::fresh(Stage::Idle { since: now }));
         self.end = self.end.max(place.saturating_add(1));
     }
 
     /// Lets the connection go that gives way, if one does.
     pub(crate) fn make_room(&mut self, now: u64)
-        ensures { (place : Option ℕ) × GivesWay self.old.limits now self.old.stages.items place
-            × LetsGoOne self.old self.new place }
+        ensures { LetsGoOne self.old self.new
+            (gives_way self.old.rooms self.old.limits now self.old.holds.items) }
     {
-        if let Some(place) = gives_way(&self.stages, &self.limits, now) {
+        if let Some(place) = gives_way(&self.holds, &self.rooms, &self.limits, now) {
             self.let_go(place);
         }
     }
@@ -179,6 +194,7 @@ impl Places {
             *slot = None;
         }
         self.set_stage(place, Stage::Vacant);
+        self.set_hold(place, Hold::vacant());
         for _ in 0..CONNECTIONS {
             let last = self.end.saturating_sub(1);
             if !self.stage(last).is_vacant() {
@@ -215,16 +231,41 @@ impl Places {
             Stage::Answering { since: _, taken: _ } => connection.can_write,
             Stage::Closing { since: _, reads: _ } => connection.can_read,
             _ => {
-                connection.may_answer && connection.may_go(now)
+                connection.may_answer && self.may_turn(connection, now)
                     || connection.needs_bytes() && self.may_read(place)
             }
         }
     }
 
-    pub(crate) fn may_read(&self, place: usize) -> bool
-        ensures { IsTrue result ↔ IsRead self.now place }
+    // Whether what is held for a connection may be turned, as far as it was looked at.
+    fn may_turn(&self, connection: &Connection, now: u64) -> bool
+        ensures { result ≡ may_turn_of self.now connection.now now }
     {
-        place < self.stages.len() && may_read(&self.stages, place, &self.limits, self.held)
+        !connection.has_asked
+            || connection.due <= now && may_turn(&self.holds, connection.owner, &self.rooms)
+    }
+
+    pub(crate) fn may_read(&self, place: usize) -> bool
+        ensures { result ≡ is_read self.now place }
+    {
+        self.stage(place).takes_bytes() && !self.hold(place).lacks_room(&self.rooms)
+    }
+
+    pub(crate) fn hold(&self, place: usize) -> Hold
+        ensures { result ≡ hold_in self.now place }
+    {
+        match self.holds.get(place) {
+            Some(hold) => *hold,
+            None => Hold::vacant(),
+        }
+    }
+
+    pub(crate) fn set_hold(&mut self, place: usize, hold: Hold)
+        ensures { SetsHold self.old self.new place hold }
+    {
+        if let Some(old) = self.holds.get_mut(place) {
+            *old = hold;
+        }
     }
 
     /// Whether a connection has something to do at this moment.
@@ -246,14 +287,6 @@ impl Places {
     {
         let stage = self.stage(place).next(need_of(service, place), now);
         self.set_stage(place, stage);
-    }
-
-    /// A connection holds so many bytes, and held so many before.
-    pub(crate) fn count_held(&mut self, before: usize, after: usize)
-        ensures { let held = min (self.old.held - before + after) (2 ^ 64 - 1) in
-            self.new ≡ record self.old { held = held } }
-    {
-        self.held = self.held.saturating_sub(before).saturating_add(after);
     }
 }
 
@@ -283,17 +316,6 @@ fn mark(connection: &mut Connection, event: &Event)
     connection.can_read = connection.can_read || event.is_readable() || has_failed;
     connection.can_read = connection.can_read || event.is_read_closed();
     connection.can_write = connection.can_write || event.is_writable() || has_failed;
-}
-
-/// How many bytes are held for a connection.
-pub(crate) fn held_bytes<V: Service>(service: &V, place: usize) -> usize
-    ensures { result ≡ min
-        (length (V.held_at service.now place) + length (V.owed_at service.now place)) (2 ^ 64 - 1) }
-{
-    service
-        .held(place)
-        .len()
-        .saturating_add(service.unsent(place).len())
 }
 
 fn need_of<V: Service>(service: &V, place: usize) -> Need

@@ -3,6 +3,8 @@ ghost use Rattle.std.specs.Prelude.{◌≡◌, ℕ, Bool, List, [], ◌∷◌, �
 ghost use Rattle.tb_event_loop.specs.Done.{Done};
 ghost use Rattle.tb_event_loop.specs.History.{done_of};
 
+use tb_rooms::Written;
+
 /// The store failed, so no further message is answered.
 #[derive(Clone, Copy, Debug, PartialEq, Eq)]
 pub struct StoreFailed;
@@ -63,6 +65,12 @@ pub trait Service {
 
     /// Whether the head of the message that is held is whole.
     fn has_head(&self, place: usize) -> bool;
+
+    /// How many bytes the message that is held has in all, once its head was read, and else 0.
+    fn wanted(&self, place: usize) -> usize;
+
+    /// How many bytes calls have written since the start.
+    fn written(&self) -> Written;
 
     /// Whether a file of the page has this target.
     fn is_file(&self, target: &[u8]) -> bool

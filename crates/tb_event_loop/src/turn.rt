@@ -1,8 +1,8 @@
 //! The turn of one connection: at most one read, one message and one write.
 ghost use Rattle.std.specs.Prelude.{◌≡◌, ◌↔◌, ◌⊎◌, [], ◌∷◌, IsErr, IsOk, IsTrue, false, is_err, slice_set, true};
 ghost use Rattle.tb_event_loop.specs.Done.{Did, GivesTurn, turned};
-ghost use Rattle.tb_event_loop.specs.Places.{Ends, GoesOn, HasTurn, IsAnswered, LacksAll, NeedsBytes, SetsStage, Settles, connection_in, is_due_at, is_over_at, may_answer_at, stage_in};
-ghost use Rattle.tb_timeouts.specs.Stage.{next_stage, read_stage};
+ghost use Rattle.tb_event_loop.specs.Places.{Ends, GoesOn, HasTurn, IsAnswered, LacksAll, NeedsBytes, SetsStage, Settles, connection_in, is_over_at, is_turned_in, is_waiting, may_answer_at, stage_in};
+ghost use Rattle.tb_timeouts.specs.Stage.{next_stage, read_stage, waiting_stage};
 ghost use Rattle.tb_timeouts.specs.declared.stage.Need.TheVariants.{End};
 
 use crate::exchange::{read_some, write_some};
@@ -11,6 +11,7 @@ use crate::places::Places;
 use crate::service::{Service, SocketEvent, StoreFailed};
 use std::io::Write;
 use std::time::Clock;
+use tb_rooms::Written;
 use tb_timeouts::{Need, Stage};
 
 impl Places {
@@ -90,8 +91,8 @@ impl Places {
         ensures after { Did V.follows (is_err result) 0 service.old service.new }
         ensures failed { IsErr result → V.has_failed service.new ≡ true }
         ensures turned { IsTrue (may_answer_at (connection_in self.old place))
-            → IsTrue (is_due_at (V.gives_file service.old) self.old.rates (V.held_at service.old place)
-            now (connection_in self.old place))
+            → IsTrue (is_turned_in (V.gives_file service.old) self.old place now
+            (V.held_at service.old place))
             → GivesTurn V.follows (is_err result) place service.old service.new }
     {
         self.read(service, place, now)?;
@@ -109,8 +110,8 @@ impl Places {
         ensures after { Did V.follows (is_err result) 0 service.old service.new }
         ensures failed { IsErr result → V.has_failed service.new ≡ true }
         ensures turned { IsTrue (may_answer_at (connection_in self.old place))
-            → IsTrue (is_due_at (V.gives_file service.old) self.old.rates (V.held_at service.old place)
-            now (connection_in self.old place))
+            → IsTrue (is_turned_in (V.gives_file service.old) self.old place now
+            (V.held_at service.old place))
             → GivesTurn V.follows (is_err result) place service.old service.new }
     {
         self.answer(service, journal, place, now)?;
@@ -177,28 +178,40 @@ impl Places {
         ensures after { Did V.follows (is_err result) 0 service.old service.new }
         ensures failed { IsErr result → V.has_failed service.new ≡ true }
         ensures turned { IsTrue (may_answer_at (connection_in self.old place))
-            → IsTrue (is_due_at (V.gives_file service.old) self.old.rates (V.held_at service.old place)
-            now (connection_in self.old place))
+            → IsTrue (is_turned_in (V.gives_file service.old) self.old place now
+            (V.held_at service.old place))
             → GivesTurn V.follows (is_err result) place service.old service.new }
         ensures passed { may_answer_at (connection_in self.old place) ≡ false
             → service.new ≡ service.old }
-        ensures waits { is_due_at (V.gives_file service.old) self.old.rates
-            (V.held_at service.old place) now (connection_in self.old place) ≡ false
-            → service.new ≡ service.old }
+        ensures waits { is_turned_in (V.gives_file service.old) self.old place now
+            (V.held_at service.old place) ≡ false → service.new ≡ service.old }
         ensures same { may_answer_at (connection_in self.old place) ≡ false
             → self.new ≡ self.old }
     {
-        if !self.may_answer(place) || !self.hold_back(service, place, now) {
+        if !self.may_answer(place) {
+            return Ok(());
+        }
+        if !self.hold_back(service, place, now) {
+            self.await_turn(place, now);
             return Ok(());
         }
         journal.begin(service.held(place));
+        let before = service.written();
         if service.happen(place, &SocketEvent::Turn).is_err() {
             journal.tell_failed();
             return Err(StoreFailed);
         }
-        self.end_message(service, journal, place);
+        self.end_message(service, journal, place, before, now);
         self.enter(service, place, now);
         Ok(())
+    }
+
+    // The message of a connection is turned later.
+    fn await_turn(&mut self, place: usize, now: u64)
+        ensures { SetsStage self.old self.new place (waiting_stage now (stage_in self.old place)) }
+    {
+        let stage = self.stage(place).waiting(now);
+        self.set_stage(place, stage);
     }
 
     // What is left to do behind the turn of a message, if it was whole.
@@ -207,14 +220,19 @@ impl Places {
         service: &V,
         journal: &mut Journal<C, W>,
         place: usize,
+        before: Written,
+        now: u64,
     ) {
         let answer = service.unsent(place);
         if answer.is_empty() {
             self.lack_bytes(place);
             return;
         }
+        let _ = self.charge(journal.head(), before, service.written(), now);
         let _ = self.heed(service, journal.head(), answer);
-        self.await_next(place);
+        let owner = self.owner_of(journal.head());
+        self.await_next(place, owner);
+        self.count_answer(place, answer.len());
         journal.end(answer);
     }
 
@@ -242,12 +260,19 @@ impl Places {
         Ok(())
     }
 
+    // Whether the message of a connection is turned later.
+    fn is_waiting(&self, place: usize) -> bool
+        ensures { result ≡ is_waiting (stage_in self.now place) }
+    {
+        matches!(self.stage(place), Stage::Waiting { since: _ })
+    }
+
     // What the connection does behind its turn.
     fn settle<V: Service>(&mut self, service: &V, place: usize, now: u64)
         ensures { Settles self.old self.new place now (V.owed_at service.now place)
             (V.closes_at service.now place) (V.held_at service.now place) }
     {
-        if !service.unsent(place).is_empty() {
+        if self.is_waiting(place) || !service.unsent(place).is_empty() {
             return;
         }
         if service.is_closing(place) {

@@ -15,7 +15,7 @@ fresh rate = record {
   persons = record { rate = rate; accounts = [] };
   boards = record { rate = rate; accounts = [] };
   strangers = untouched;
-  claims = record { claims = [] };
+  claims = record { claims = []; last = 0 };
 }
 
 -- a key that isn't known to be right with its name
@@ -38,9 +38,6 @@ debt_wait rates asking now =
 abbrev pub guess_wait : Rates → Asking → ℕ → ℕ
 guess_wait rates asking now =
     if is_guess rates asking then wait STRANGERS rates.strangers now else 0
-
-abbrev pub wait_of : Rates → Asking → ℕ → ℕ
-wait_of rates asking now = max (debt_wait rates asking now) (guess_wait rates asking now)
 
 abbrev pub ledger_charged : Ledger → List ℕ → ℕ → ℕ → Ledger
 ledger_charged ledger name cost now =

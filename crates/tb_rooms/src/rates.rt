@@ -1,7 +1,7 @@
 //! Which message waits, and what a message is charged with.
 ghost use Rattle.std.specs.Prelude.{◌≡◌, OnErr, OnOk};
-ghost use Rattle.tb_rooms.specs.Claims.{forgotten, learned};
-ghost use Rattle.tb_rooms.specs.Rates.{board_charged, call_cost, debt_wait, fresh, guess_counted, guess_wait, is_guess, person_charged, wait_of};
+ghost use Rattle.tb_rooms.specs.Claims.{forgotten, number_under, taught};
+ghost use Rattle.tb_rooms.specs.Rates.{board_charged, call_cost, debt_wait, fresh, guess_counted, guess_wait, is_guess, person_charged};
 
 use crate::bucket::{Bucket, Rate};
 use crate::claims::Claims;
@@ -66,6 +66,14 @@ impl Rates {
         !asking.key.is_empty() && !self.claims.has(asking.member, asking.key)
     }
 
+    /// The number of the person of a message among those whose keys are known, or 0 where its key isn't known.
+    pub fn owner(&self, asking: &Asking<'_>) -> u64
+        ensures { result ≡ number_under asking.now.member.now asking.now.key.now
+            self.now.claims.claims }
+    {
+        self.claims.number(asking.member, asking.key)
+    }
+
     /// How many milliseconds a message waits for what its person and its board used. Only calls wait.
     pub fn debt_wait(&self, asking: &Asking<'_>, now: u64) -> u64
         ensures { result ≡ debt_wait self.now asking.now now }
@@ -77,7 +85,8 @@ impl Rates {
         person.max(self.boards.wait(asking.board, now))
     }
 
-    fn guess_wait(&self, asking: &Asking<'_>, now: u64) -> u64
+    /// How many milliseconds a message with an unknown key waits for the others that have one.
+    pub fn guess_wait(&self, asking: &Asking<'_>, now: u64) -> u64
         ensures { result ≡ guess_wait self.now asking.now now }
     {
         if self.is_guess(asking) {
@@ -85,14 +94,6 @@ impl Rates {
         } else {
             0
         }
-    }
-
-    /// How many milliseconds a message waits until it is answered.
-    pub fn wait_of(&self, asking: &Asking<'_>, now: u64) -> u64
-        ensures { result ≡ wait_of self.now asking.now now }
-    {
-        self.debt_wait(asking, now)
-            .max(self.guess_wait(asking, now))
     }
 
     /// Charges the caller of a call with what it wrote itself, and with some of what its sweep made. Where it wrote nothing nobody is
@@ -144,10 +145,7 @@ impl Rates {
     /// The key of a message was right with its name. Without memory nothing changes.
     pub fn learn(&mut self, alloc: Global, asking: &Asking<'_>) -> Result<(), AllocError>
         ensures ok { OnOk result (self.new ≡ record self.old {
-          claims = record {
-            claims = learned asking.now.member.now asking.now.key.now
-                self.old.claims.claims;
-          };
+          claims = taught asking.now.member.now asking.now.key.now self.old.claims;
         }) }
         ensures err { OnErr result (self.new ≡ self.old) }
     {
@@ -157,7 +155,7 @@ impl Rates {
     /// The key of a message was wrong with its name.
     pub fn forget(&mut self, asking: &Asking<'_>)
         ensures { self.new ≡ record self.old {
-          claims = record {
+          claims = record self.old.claims {
             claims = forgotten asking.now.member.now asking.now.key.now
                 self.old.claims.claims;
           };

@@ -137,14 +137,3 @@ first_of_all moment stages found old = record {
         | inr past ↦ differs found.moment past at
       ];
 }
-
--- two places that are the earliest are the same
-pub same_earliest : (moment : Stage → Option ℕ) (stages : List Stage) (one other m n : ℕ) → IsEarliest moment stages one m
-    → IsEarliest moment stages other n → one ≡ other
-same_earliest moment stages one other m n a b =
-    let less = a.no_earlier other n b.here in
-    let more = b.no_earlier one m a.here in
-    let same : m ≡ n = omega (arith, less, more) in
-    let before = a.first other (b.here ∙ ap Some (sym same)) in
-    let behind = b.first one (a.here ∙ ap Some same) in
-    omega (arith, before, behind)

@@ -5,7 +5,7 @@ use Rattle.tb_timeouts.specs.declared.limits.Limits.{Limits}
 use Rattle.tb_timeouts.specs.declared.stage.Need.{Need}
 use Rattle.tb_timeouts.specs.declared.stage.Need.TheVariants.{Message, RestOfHead, RestOfBody, Taker, End}
 use Rattle.tb_timeouts.specs.declared.stage.Stage.{Stage}
-use Rattle.tb_timeouts.specs.declared.stage.Stage.TheVariants.{Vacant, Idle, Heading, Reading, Answering, Closing}
+use Rattle.tb_timeouts.specs.declared.stage.Stage.TheVariants.{Vacant, Idle, Heading, Reading, Waiting, Answering, Closing}
 
 -- A stage goes on while the same is needed, and a message's time is counted from its first byte. Any other begins now.
 abbrev pub next_stage : ℕ → Need → Stage → Stage
@@ -20,6 +20,11 @@ next_stage now Taker (Answering since taken) = Answering since taken
 next_stage now Taker _ = Answering now now
 next_stage now End (Closing since reads) = Closing since reads
 next_stage now End _ = Closing now 0
+
+-- its message may be answered later; the time it waits is counted from when it was whole
+abbrev pub waiting_stage : ℕ → Stage → Stage
+waiting_stage now (Waiting since) = Waiting since
+waiting_stage now _ = Waiting now
 
 -- a part of the answer was taken now
 abbrev pub taken_stage : ℕ → Stage → Stage
@@ -38,6 +43,7 @@ end_of limits Vacant = None
 end_of limits (Idle since) = Some (since + limits.idle)
 end_of limits (Heading begun) = Some (begun + limits.head)
 end_of limits (Reading begun) = Some (begun + limits.message)
+end_of limits (Waiting since) = Some (since + limits.idle)
 end_of limits (Answering since taken) = Some (min (since + limits.answer) (taken + limits.part))
 end_of limits (Closing since reads) = Some (since + limits.closing)
 
@@ -63,6 +69,7 @@ takes_bytes Vacant = false
 takes_bytes (Idle since) = true
 takes_bytes (Heading begun) = true
 takes_bytes (Reading begun) = true
+takes_bytes (Waiting since) = true
 takes_bytes (Answering since taken) = false
 takes_bytes (Closing since reads) = false
 
@@ -76,3 +83,13 @@ abbrev pub begun_at : Stage → Option ℕ
 begun_at (Heading begun) = Some begun
 begun_at (Reading begun) = Some begun
 begun_at stage = None
+
+-- since when its message waits to be answered
+abbrev pub waiting_since : Stage → Option ℕ
+waiting_since (Waiting since) = Some since
+waiting_since stage = None
+
+-- when a part of its answer was taken last, or when it was made
+abbrev pub taken_at : Stage → Option ℕ
+taken_at (Answering since taken) = Some taken
+taken_at stage = None

@@ -1,17 +1,10 @@
-//! The place with the earliest moment of a kind.
+//! The place whose time is over first.
 ghost use Rattle.std.specs.Prelude.{◌≡◌, IfNone, IfSome};
-ghost use Rattle.tb_timeouts.specs.Deciding.{HasNone, IsEarliest, moment_of, earlier_of};
+ghost use Rattle.tb_timeouts.specs.Deciding.{HasNone, IsEarliest, earlier_of};
+ghost use Rattle.tb_timeouts.specs.Stage.{end_of};
 
 use crate::limits::Limits;
 use crate::stage::Stage;
-
-/// Which moment of a stage is meant.
-#[derive(Clone, Copy)]
-pub(crate) enum MomentKind {
-    IdleSince,
-    BegunAt,
-    End(Limits),
-}
 
 /// A place, and its moment.
 #[derive(Clone, Copy)]
@@ -20,28 +13,16 @@ pub(crate) struct Candidate {
     pub(crate) moment: u128,
 }
 
-impl MomentKind {
-    // The moment of a stage, where it has one.
-    fn of(self, stage: Stage) -> Option<u128>
-        ensures { result ≡ moment_of self stage }
-    {
-        match self {
-            MomentKind::IdleSince => stage.idle_since(),
-            MomentKind::BegunAt => stage.begun_at(),
-            MomentKind::End(limits) => stage.end(&limits),
-        }
-    }
-}
-
-/// The first place that has the least of the moments of this kind.
-pub(crate) fn earliest(stages: &[Stage], kind: MomentKind) -> Option<Candidate>
-    ensures none { IfNone result (HasNone (moment_of kind) stages.now) }
+/// The first place that has the least of the moments at which one has stayed too long.
+#[tactic(auto, using(crate::proofs::EarliestBelow::first_of_all, crate::proofs::EarliestBelow::none_at_all))]
+pub(crate) fn earliest(stages: &[Stage], limits: &Limits) -> Option<Candidate>
+    ensures none { IfNone result (HasNone (end_of limits.now) stages.now) }
     ensures some { IfSome result
-        (λ found. IsEarliest (moment_of kind) stages.now found.place found.moment) }
+        (λ found. IsEarliest (end_of limits.now) stages.now found.place found.moment) }
 {
     let mut found = None;
     for (place, stage) in stages.iter().enumerate() {
-        found = earlier(found, place, kind.of(*stage));
+        found = earlier(found, place, stage.end(limits));
     }
     found
 }

@@ -1,10 +1,8 @@
-//! How many connections there are at once, how much they hold, and how long each may take.
+//! How many connections there are at once, and how long each may take.
 
 /// The limits of connections. Times are in milliseconds.
 #[derive(Clone, Copy, Debug, PartialEq, Eq)]
 pub struct Limits {
-    /// How many bytes of messages and answers are held before no further message is begun.
-    pub bytes: usize,
     /// From one message to the next.
     pub idle: u64,
     /// From the first byte of a message to the end of its head.
@@ -28,7 +26,6 @@ pub const CONNECTIONS: usize = 512;
 
 /// The limits of the server.
 pub const LIMITS: Limits = Limits {
-    bytes: 67_108_864,
     idle: 120_000,
     head: 30_000,
     message: 60_000,

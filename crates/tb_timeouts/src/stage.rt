@@ -1,6 +1,6 @@
 //! What a connection is doing, and since when.
 ghost use Rattle.std.specs.Prelude.{◌≡◌, ◌+◌};
-ghost use Rattle.tb_timeouts.specs.Stage.{begun_at, end_of, has_read_enough, idle_since, is_over, is_vacant, next_stage, read_stage, taken_stage, takes_bytes};
+ghost use Rattle.tb_timeouts.specs.Stage.{begun_at, end_of, has_read_enough, idle_since, is_over, is_vacant, next_stage, read_stage, taken_at, taken_stage, takes_bytes, waiting_since, waiting_stage};
 
 use crate::limits::Limits;
 
@@ -15,6 +15,8 @@ pub enum Stage {
     Heading { begun: u64 },
     /// The head of a message is there, and its body isn't.
     Reading { begun: u64 },
+    /// A message may be answered later.
+    Waiting { since: u64 },
     /// An answer is there to be taken.
     Answering { since: u64, taken: u64 },
     /// The last answer is taken, and what the client still sends is thrown away.
@@ -56,6 +58,16 @@ impl Stage {
                 since: now,
                 reads: 0,
             },
+        }
+    }
+
+    /// The stage of a connection whose message may be answered later.
+    pub fn waiting(self, now: u64) -> Stage
+        ensures { result ≡ waiting_stage now self }
+    {
+        match self {
+            Stage::Waiting { since } => Stage::Waiting { since },
+            _ => Stage::Waiting { since: now },
         }
     }
 
@@ -112,12 +124,14 @@ impl Stage {
     }
 
     /// Whether the bytes that come are of a message.
-    pub(crate) fn takes_bytes(self) -> bool
+    pub fn takes_bytes(self) -> bool
         ensures { result ≡ takes_bytes self }
     {
         match self {
-            Stage::Idle { since: _ } | Stage::Heading { begun: _ } | Stage::Reading { begun: _ } =>
-                true,
+            Stage::Idle { since: _ }
+            | Stage::Heading { begun: _ }
+            | Stage::Reading { begun: _ }
+            | Stage::Waiting { since: _ } => true,
             Stage::Vacant
             | Stage::Answering { since: _, taken: _ }
             | Stage::Closing { since: _, reads: _ } => false,
@@ -133,6 +147,7 @@ impl Stage {
             Stage::Idle { since } => Some(sum(since, limits.idle)),
             Stage::Heading { begun } => Some(sum(begun, limits.head)),
             Stage::Reading { begun } => Some(sum(begun, limits.message)),
+            Stage::Waiting { since } => Some(sum(since, limits.idle)),
             Stage::Answering { since, taken } => {
                 Some(sum(since, limits.answer).min(sum(taken, limits.part)))
             }
@@ -141,7 +156,7 @@ impl Stage {
     }
 
     /// Since when it is between two messages.
-    pub(crate) fn idle_since(self) -> Option<u128>
+    pub fn idle_since(self) -> Option<u128>
         ensures { result ≡ idle_since self }
     {
         match self {
@@ -151,11 +166,31 @@ impl Stage {
     }
 
     /// When the message was begun that isn't whole.
-    pub(crate) fn begun_at(self) -> Option<u128>
+    pub fn begun_at(self) -> Option<u128>
         ensures { result ≡ begun_at self }
     {
         match self {
             Stage::Heading { begun } | Stage::Reading { begun } => Some(u128::from(begun)),
+            _ => None,
+        }
+    }
+
+    /// Since when its message waits to be answered.
+    pub fn waiting_since(self) -> Option<u128>
+        ensures { result ≡ waiting_since self }
+    {
+        match self {
+            Stage::Waiting { since } => Some(u128::from(since)),
+            _ => None,
+        }
+    }
+
+    /// When a part of its answer was taken last, or when it was made.
+    pub fn taken_at(self) -> Option<u128>
+        ensures { result ≡ taken_at self }
+    {
+        match self {
+            Stage::Answering { since: _, taken } => Some(u128::from(taken)),
             _ => None,
         }
     }

@@ -2,7 +2,7 @@
 ghost use Rattle.std.specs.Prelude.{◌≡◌, ◌-◌, min};
 ghost use Rattle.tb_timeouts.specs.Deciding.{IsLongestWait};
 
-use crate::earliest::{MomentKind, earliest};
+use crate::earliest::earliest;
 use crate::limits::Limits;
 use crate::stage::Stage;
 
@@ -10,7 +10,7 @@ use crate::stage::Stage;
 pub fn longest_wait(stages: &[Stage], limits: &Limits, now: u64, most: u64) -> u64
     ensures { IsLongestWait limits.now now most stages.now result }
 {
-    match earliest(stages, MomentKind::End(*limits)) {
+    match earliest(stages, limits) {
         None => most,
         Some(first) => until(first.moment, now, most),
     }

@@ -1,0 +1,227 @@
+//! The options `--page FOLDER`, `--growth KIB` and `--burst MIB` of a server, which may stand anywhere behind its order.
+ghost use Rattle.std.specs.Prelude.{◌≡◌, ◌++◌, ◌+◌, ◌≤◌, ◌<◌, IfOk, Bool, List, codes, drop, false, length, map, option_map, slice_get, take, true, ℕ};
+ghost use Rattle.std.specs.List.{list_all};
+ghost use Rattle.tb_command_line.specs.Order.{Request, is_plain, order_of, texts_of, words_of};
+ghost use Rattle.tb_command_line.specs.Outcome.{Reads};
+ghost use Rattle.tb_command_line.specs.Extra.{burst_in, bursting, growth_in, growth_of, grown, has_option, is_option_front, option_in, option_place, paged, serves, with_burst, with_extra, with_growth, without_burst, without_extra, without_growth, without_option};
+
+use crate::order::{Order, ServeOrder, WordsFault};
+use crate::words::read_listed;
+use std::alloc::{AllocError, Global};
+use tb_board::Key;
+use tb_values::{Text, read_number};
+
+const MOST_GROWTH: u32 = 1_048_576;
+
+const MOST_BURST: u32 = 1_048_576;
+
+/// The order that the words without these options are, with what the options say.
+pub(crate) fn read_extra(
+    alloc: Global,
+    words: &[&str],
+    kept: &Option<Key>,
+) -> Result<Order, WordsFault>
+    ensures { (request : Request)
+        → without_extra (map (λ word. word.now) words.entry.now) ≡ words_of request
+        → list_all is_plain (texts_of request) ≡ true
+        → Reads result (with_extra (map (λ word. word.now) words.entry.now)
+        (order_of kept.now request)) }
+{
+    let rest = without_option(alloc, words, "--page")?;
+    let order = match read_grown(alloc, rest.as_slice(), kept) {
+        Ok(order) => order,
+        Err(fault) => return Err(fault),
+    };
+    match option_in(words, "--page") {
+        Some(page) => Ok(paged(Text::from_str(alloc, page)?, order)),
+        None => Ok(order),
+    }
+}
+
+// The order that the words without `--growth` and `--burst` are, with what these say.
+fn read_grown(alloc: Global, words: &[&str], kept: &Option<Key>) -> Result<Order, WordsFault>
+    ensures { (request : Request)
+        → without_burst (without_growth (map (λ word. word.now) words.entry.now)) ≡ words_of request
+        → list_all is_plain (texts_of request) ≡ true
+        → Reads result (with_growth (growth_in (map (λ word. word.now) words.entry.now))
+        (with_burst (burst_in (without_growth (map (λ word. word.now) words.entry.now)))
+        (order_of kept.now request))) }
+{
+    let rest = without_option(alloc, words, "--growth")?;
+    let order = match read_burst(alloc, rest.as_slice(), kept) {
+        Ok(order) => order,
+        Err(fault) => return Err(fault),
+    };
+    let Some(text) = option_in(words, "--growth") else {
+        return Ok(order);
+    };
+    match growth_of(text) {
+        Some(growth) => Ok(grown(growth, order)),
+        None => Err(WordsFault::Bad),
+    }
+}
+
+// The order that the words without `--burst` are, with what it says.
+fn read_burst(alloc: Global, words: &[&str], kept: &Option<Key>) -> Result<Order, WordsFault>
+    ensures { (request : Request)
+        → without_burst (map (λ word. word.now) words.entry.now) ≡ words_of request
+        → list_all is_plain (texts_of request) ≡ true
+        → Reads result (with_burst (burst_in (map (λ word. word.now) words.entry.now))
+        (order_of kept.now request)) }
+{
+    let rest = without_option(alloc, words, "--burst")?;
+    let order = match read_listed(alloc, rest.as_slice(), kept) {
+        Ok(order) => order,
+        Err(fault) => return Err(fault),
+    };
+    let Some(text) = option_in(words, "--burst") else {
+        return Ok(order);
+    };
+    match read_number(text, MOST_BURST) {
+        Some(burst) => Ok(bursting(burst, order)),
+        None => Err(WordsFault::Bad),
+    }
+}
+
+fn growth_of(text: &str) -> Option<u32>
+    ensures { result ≡ growth_of text.now }
+{
+    if text == "0" {
+        return Some(0);
+    }
+    read_number(text, MOST_GROWTH)
+}
+
+fn option_in<'t>(words: &[&'t str], name: &str) -> Option<&'t str>
+    ensures { option_map (λ text. text.now) result
+        ≡ option_in name.now (map (λ word. word.now) words.entry.now) }
+{
+    if !has_option(words, name) {
+        return None;
+    }
+    match words.get(option_place(words, name) + 1) {
+        Some(text) => Some(*text),
+        None => None,
+    }
+}
+
+#[tactic(auto, using(crate::proofs::Leaving::left_out))]
+fn without_option<'t>(
+    alloc: Global,
+    words: &[&'t str],
+    name: &str,
+) -> Result<Vec<&'t str>, AllocError>
+    ensures { IfOk result
+        (λ rest. map (λ word. word.now) rest.items
+        ≡ without_option name.now (map (λ word. word.now) words.entry.now)) }
+{
+    if !has_option(words, name) {
+        return Vec::from_slice(alloc, words);
+    }
+    let place = option_place(words, name);
+    let mut rest = Vec::from_slice(alloc, &words[..place])?;
+    rest.extend_from_slice(&words[place + 2..])?;
+    Ok(rest)
+}
+
+fn has_option(words: &[&str], name: &str) -> bool
+    ensures value { result ≡ has_option name.now (map (λ word. word.now) words.entry.now) }
+    ensures within { result ≡ true
+        → option_place name.now (map (λ word. word.now) words.entry.now) + 2 ≤ length words.entry.now }
+{
+    let place = option_place(words, name);
+    let is_within = place + 1 < words.len();
+    serves(words) && is_within
+}
+
+fn serves(words: &[&str]) -> bool
+    ensures { result ≡ serves (map (λ word. word.now) words.entry.now) }
+{
+    match words.first() {
+        Some(word) => *word == "serve",
+        None => false,
+    }
+}
+
+fn is_option_front(words: &[&str], name: &str) -> bool
+    ensures { result ≡ is_option_front name.now (map (λ word. word.now) words.entry.now) }
+{
+    let [word, _, ..] = words else {
+        return false;
+    };
+    *word == name
+}
+
+// Where the option of this name stands with a word behind it, or how many words there are.
+fn option_place(words: &[&str], name: &str) -> usize
+    ensures value { result ≡ option_place name.now (map (λ word. word.now) words.entry.now) }
+    ensures short { result ≤ length words.entry.now }
+{
+    let mut place = 0;
+    while place < words.len() {
+        if is_option_front(words_from(words, place), name) {
+            return place;
+        }
+        place += 1;
+    }
+    place
+}
+
+fn words_from<'w, 't>(words: &'w [&'t str], place: usize) -> &'w [&'t str]
+    requires { place ≤ length words.now }
+    ensures { map (λ word. word.now) result.now
+        ≡ drop place (map (λ word. word.now) words.entry.now) }
+{
+    &words[place..]
+}
+
+fn paged(page: Text, order: Order) -> Order
+    ensures { result ≡ paged page order }
+{
+    match order {
+        Order::Serve(order) => Order::Serve(ServeOrder {
+            file: order.file,
+            port: order.port,
+            connections: order.connections,
+            page: Some(page),
+            growth: order.growth,
+            burst: order.burst,
+            log: order.log,
+        }),
+        order => order,
+    }
+}
+
+fn grown(growth: u32, order: Order) -> Order
+    ensures { result ≡ grown growth order }
+{
+    match order {
+        Order::Serve(order) => Order::Serve(ServeOrder {
+            file: order.file,
+            port: order.port,
+            connections: order.connections,
+            page: order.page,
+            growth,
+            burst: order.burst,
+            log: order.log,
+        }),
+        order => order,
+    }
+}
+
+fn bursting(burst: u32, order: Order) -> Order
+    ensures { result ≡ bursting burst order }
+{
+    match order {
+        Order::Serve(order) => Order::Serve(ServeOrder {
+            file: order.file,
+            port: order.port,
+            connections: order.connections,
+            page: order.page,
+            growth: order.growth,
+            burst,
+            log: order.log,
+        }),
+        order => order,
+    }
+}
