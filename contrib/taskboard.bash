@@ -61,13 +61,28 @@ _taskboard_of_send() {
 
 # The first word of `my`, or of `tb`.
 _taskboard_of_my() {
-    _taskboard_words "list boards people show add change done delete reopen start stop note unnote needs free" "$1"
+    _taskboard_words "list boards people show add change done delete reopen start stop note unnote needs free undo use import export todo setup" "$1"
+}
+
+# What stands behind the first word of `my`.
+_taskboard_behind_my() {
+    case $1 in
+    list) _taskboard_words "mine overdue blocked waiting due:today due:week done:week --sort --json" "$2" ;;
+    --sort) _taskboard_words "urgency due project" "$2" ;;
+    import) _taskboard_files "$2" ;;
+    esac
 }
 
 _tb() {
     COMPREPLY=()
-    if [ "$COMP_CWORD" -eq 1 ]; then
+    if [ "$COMP_CWORD" -eq 1 ] && [ "${2#-}" != "$2" ]; then
+        _taskboard_words "--board" "$2"
+    elif [ "$COMP_CWORD" -eq 1 ]; then
         _taskboard_of_my "$2"
+    elif [ "${COMP_WORDS[COMP_CWORD - 1]}" = --sort ]; then
+        _taskboard_behind_my --sort "$2"
+    else
+        _taskboard_behind_my "${COMP_WORDS[1]}" "$2"
     fi
 }
 

@@ -3,9 +3,13 @@ the key ann-key-1. What a board holds afterwards is read by `send`."""
 import datetime
 import json
 import os
+import re
+import shutil
+import stat
 import subprocess
 import sys
 import time
+import unicodedata
 import uuid
 
 from drawing import seeded
@@ -13,7 +17,7 @@ from drawing import seeded
 PROGRAM, PORT = os.path.abspath(sys.argv[1]), int(sys.argv[2])
 HOME = os.path.join(os.getcwd(), "home")
 FOLDER = os.path.join(HOME, ".config/taskboard")
-NAMES = [name for name in os.environ if name.startswith("TASKBOARD_")]
+NAMES = [name for name in os.environ if name.startswith("TASKBOARD_")] + ["TZ", "COLUMNS", "NO_COLOR"]
 BARE = {name: value for name, value in os.environ.items() if name not in NAMES} | {"HOME": HOME}
 WEEKDAYS = "monday tuesday wednesday thursday friday saturday sunday".split()
 wrong = []
@@ -89,8 +93,8 @@ def settings():
     expect([], 2, told='"colour = red" is no line of the settings.')
     write("config", config(server=f"http://127.0.0.1:{PORT}/"))
     expect([], 2, told="The server has another form than ADDRESS:PORT")
-    write("config", config(board="Kitchen"))
-    expect([], 2, told="A board is named by its number")
+    write("config", config(board=""))
+    expect([], 2, told="A board is named by its number or its title")
     write("config", config(), 0o644)
     expect([], 2, told="~/.config/taskboard/config can't be read, or others may read or write it: chmod 600")
     write("config", config())
@@ -132,11 +136,8 @@ def a_day():
     expect(["reopen", "1", "2", "4"], 0, "Open again: Call bank\nOpen again: Buy oat milk\nOpen again: Paint the door\n")
     expect(["delete", "3"], 0, "Deleted: Paint the door\n")
     shown = tb("show", "2")
-    if json.loads(shown.stdout)["uuid"] != ids[1]:
+    if "Buy oat milk" not in shown.stdout or ids[1] not in shown.stdout:
         fail(f"show 2: {shown}")
-    for words, sent in (([], ["list", "1"]), (["list"], ["list", "1"])):
-        if tb(*words).stdout != send(*sent):
-            fail(f"{words} isn't {sent}")
     expect(["boards"], 0, "".join(f"{it['board']}  {it['role']}  {it['title']}\n" for it in json.loads(send("me"))["boards"]))
     expect(["people"], 0, "".join(f"{it['name']}  {it['role']}\n" for it in json.loads(send("people", "1"))["people"]))
     expect(["add", "a\x1b[31m\x07b"], 0, "Added: a [31m b\n")
@@ -148,8 +149,13 @@ def refused():
     count = len(json.loads(before))
     for words in (["frobnicate"], ["tomorrow", "x"]):
         expect(words, 2, told=f'"{words[0]}" is none of my words.')
-    for words in (["list", "x"], ["boards", "x"], ["people", "1"]):
+    for words in (["boards", "x"], ["people", "1"], ["export", "x"], ["todo", "x"], ["undo", "x"], ["setup", "x"]):
         expect(words, 2, told="Nothing belongs behind this word.")
+    for words in (["list", "--sort"], ["list", "--sort", "age"], ["list", "--jsn"]):
+        expect(words, 2, told="Behind `list` belong")
+    expect(["list", "due:frday"], 2, told='"frday" is no day.')
+    expect(["use"], 2, told="One board belongs behind `use`")
+    expect(["import"], 2, told="One file belongs behind `import`")
     expect(["add"], 2, told="What is to be done belongs behind `add`")
     expect(["add", "+Home", "due:today"], 2, told="What is to be done belongs behind `add`")
     for words in (["change"], ["change", "1"]):
@@ -164,7 +170,7 @@ def refused():
         expect(words, 2, told="One task belongs behind `show`")
     for place in ("0", "01", str(count + 1), "4294967296", "-1", "x", str(uuid.uuid4())):
         expect(["done", "1", place], 1, told=f"There is no task {place} on board 1 ({count} tasks).")
-    for day in ("frday", "Friday", "0d", "+d", "10000d", "2026-02-30", "2026-1-1", "1m", "++3d", "-3d"):
+    for day in ("frday", "Friday", "0d", "+d", "10000d", "2026-02-30", "2026-1-1", "1m", "++3d", "-3d", "T14:00", "todayT24:00", "todayT1:00", "todayT12:60", "todayT12:00:00", "2026-12-01t14:00"):
         expect(["add", "x", f"due:{day}"], 2, told=f'"{day}" is no day.')
     for priority in ("h", "A", "HM"):
         expect(["change", "1", f"pri:{priority}"], 2, told=f'"{priority}" is no priority.')
@@ -189,6 +195,230 @@ def days(draw):
             fail(f"due:{name} is {tasks()[place - 1]['due']}, and not {both}")
     expect(["change", str(place), "due:9999-12-31"], 0, "Changed: a day\n")
     expect_task(place, due="99991231T000000Z")
+
+
+# ---- finding
+
+def day_number(moment):
+    """The day of a moment in UTC, counted from 1970."""
+    return int(datetime.datetime.strptime(moment, "%Y%m%dT%H%M%SZ").replace(tzinfo=datetime.timezone.utc).timestamp()) // 86400
+
+
+def is_found(task, word, today, now, blocked):
+    """Whether a task passes a word of the list, by its definition."""
+    lowered = lambda text: "".join(c.lower() if "A" <= c <= "Z" else c for c in text)
+    due = task.get("due")
+    if word.startswith("+"):
+        return task.get("project", "") == word[1:] or task.get("project", "").startswith(word[1:] + ".")
+    if word.startswith("@"):
+        return word[1:] in task.get("tags", [])
+    if word == "mine" or word.startswith("for:"):
+        return task.get("assignee", "") == ("ann" if word == "mine" else word[4:])
+    if word.startswith("due:"):
+        first, last = {"today": (0, 0), "tomorrow": (1, 1), "week": (0, 6)}[word[4:]]
+        return due is not None and today + first <= day_number(due) <= today + last
+    if word.startswith("done:"):
+        first, last = {"today": (0, 0), "week": (-6, 0)}[word[5:]]
+        return today + first <= day_number(task["end"]) <= today + last
+    if word == "overdue":
+        return due is not None and (due < now if not due.endswith("T000000Z") else day_number(due) < today)
+    if word == "blocked":
+        return task["uuid"] in blocked
+    if word == "waiting":
+        return task["status"] == "waiting"
+    return any(lowered(word) in lowered(text) for text in [task["description"], *(note["description"] for note in task.get("annotations", []))])
+
+
+def finding(draw):
+    """The list shows exactly the tasks that pass its words, in the order that is asked for."""
+    send("board", "Finding")
+    board = json.loads(send("me"))["boards"][-1]["board"]
+    now = datetime.datetime.now(datetime.timezone.utc)
+    words = "milk Bank call DOOR paint e a".split()
+    uuids = [str(uuid.UUID(int=draw.getrandbits(128), version=4)) for _ in range(60)]
+    made = []
+    for number, one in enumerate(uuids):
+        task = {"uuid": one, "description": " ".join(draw.choices(words, k=2)), "entry": "20260101T000000Z", "status": draw.choice(["pending"] * 4 + ["completed", "deleted"])}
+        if draw.random() < 0.6:
+            task["project"] = draw.choice(["Home", "Home.garden", "Homes", "Work", "work"])
+        if draw.random() < 0.6:
+            task["tags"] = draw.sample(["shop", "phone", "next"], draw.randint(1, 2))
+        if draw.random() < 0.5:
+            task["assignee"] = draw.choice(["ann", "bob"])
+        if draw.random() < 0.7:
+            task["due"] = (now + datetime.timedelta(days=draw.randint(-3, 9))).strftime("%Y%m%dT" + draw.choice(["000000Z", "000000Z", "235900Z", "000100Z"]))
+        if draw.random() < 0.3:
+            task["priority"] = draw.choice("HML")
+        if draw.random() < 0.2:
+            task["annotations"] = [{"entry": "20260101T000000Z", "description": "a Note"}]
+        if draw.random() < 0.3 and number:
+            task["depends"] = [draw.choice(uuids[:number])]
+        if task["status"] == "pending" and draw.random() < 0.2:
+            task["wait"] = (now + datetime.timedelta(days=3)).strftime("%Y%m%dT000000Z")
+        if task["status"] == "completed":
+            task["end"] = (now - datetime.timedelta(days=draw.randint(0, 12))).strftime("%Y%m%dT000000Z")
+        made.append(task)
+    send("import", str(board), json.dumps(made))
+    exported = tasks(board)
+    places = {task["uuid"]: place for place, task in enumerate(exported, 1)}
+    is_open = {task["uuid"] for task in exported if task["status"] in ("pending", "waiting", "recurring")}
+    blocked = {task["uuid"] for task in exported if task["uuid"] in is_open and any(one in is_open for one in task.get("depends", []))}
+    blocking = {one for task in exported if task["uuid"] in is_open for one in task.get("depends", []) if one in is_open and one != task["uuid"]}
+    listed = [int(line.split()[0]) for line in send("list", str(board)).splitlines()[1:-1]]
+    here = {"TASKBOARD_BOARD": str(board)}
+    filters = "+Home +Work @shop @phone @next for:bob for:ann for: mine due:today due:tomorrow due:week overdue blocked waiting milk BANK nothing note".split()
+    count = 0
+    for number in range(60):
+        asked = draw.sample(filters, draw.randint(0, 2)) + draw.choice([[]] * 3 + [["done:week"], ["done:today"]])
+        sort = draw.choice([None, "urgency", "due", "project"])
+        ran = tb("list", *asked, *(["--sort", sort] if sort else []), "--json", **here)
+        told = json.loads(ran.stdout)
+        today = int(now.timestamp()) // 86400
+        status = ("completed",) if any(word.startswith("done:") for word in asked) else ("pending", "waiting")
+        wanted = {task["uuid"] for task in exported if task["status"] in status and all(is_found(task, word, today, now.strftime("%Y%m%dT%H%M%SZ"), blocked) for word in asked)}
+        if {task["uuid"] for task in told} != wanted or len(told) != len(wanted):
+            fail(f"{asked} finds {len(told)} tasks, and not {len(wanted)}")
+        first = {"due": lambda task: task.get("due", "~"), "project": lambda task: (0, task["project"].encode()) if "project" in task else (1, b"")}.get(sort, lambda task: 0)
+        if told != sorted(told, key=lambda task: (first(task), -task["urgency"], task["place"])):
+            fail(f"{asked} by {sort} isn't in order")
+        for task in told:
+            mine = {"place": places[task["uuid"]], "blocked": task["uuid"] in blocked, "blocking": task["uuid"] in blocking}
+            rest = {name: value for name, value in task.items() if name not in (*mine, "urgency")}
+            if {name: task[name] for name in mine} != mine or rest != exported[mine["place"] - 1]:
+                fail(f"{task} isn't {mine} and {exported[mine['place'] - 1]}")
+        if not asked and sort in (None, "urgency") and [task["place"] for task in told] != listed:
+            fail(f"the list isn't the server's: {listed}")
+        plain = tb("list", *asked, *(["--sort", sort] if sort else []), **here).stdout.splitlines()
+        if [int(line.split()[0]) for line in plain[:-1]] != [task["place"] for task in told] or plain[-1] != f"{len(told)} of {len(exported)} tasks":
+            fail(f"{asked}: the lines aren't the tasks: {plain}")
+        count += len(told)
+    if count < 100:
+        fail(f"only {count} tasks were found")
+
+
+def lists():
+    """Lines are as wide as what stands in them, and fit a terminal; colours are for terminals alone; days are words."""
+    send("board", "Lists")
+    here = {"TASKBOARD_BOARD": "Lists"}
+    expect(["list"], 0, "0 of 0 tasks\n", **here)
+    for words in (["Old", "due:2026-01-02"], ["Soon", "due:tomorrow", "+Home", "pri:H", "@x"], ["漢字 " * 40, "for:bob"], ["At noon", "due:todayT12:00"]):
+        expect(["add", *words], 0, f"Added: {words[0]}\n", **here)
+    expect(["start", "2"], 0, "Started: Soon\n", **here)
+    plain = tb("list", "--sort", "due", **here).stdout
+    wanted = f"1      2026-01-02               Old\n4      today 12:00              At noon\n2  H*  tomorrow     Home       Soon @x\n3                         bob  {'漢字 ' * 40}\n4 of 4 tasks\n"
+    if plain != wanted:
+        fail(f"the list is {plain!r}, and not {wanted!r}")
+    if shutil.which("script"):
+        for columns, more in ((60, {}), (200, {"NO_COLOR": "1"})):
+            typed = subprocess.run(["script", "-qec", f"{PROGRAM} my list", "/dev/null"], capture_output=True, text=True, env=BARE | here | {"COLUMNS": str(columns)} | more, timeout=60).stdout
+            bare = re.sub("\x1b\\[[0-9]*m", "", typed)
+            if ("\x1b[" in typed) == bool(more) or (not more and "\x1b[31m2026-01-02" not in typed):
+                fail(f"colours at {columns} columns: {typed!r}")
+            widths = [sum(2 if unicodedata.east_asian_width(c) in "WF" else 1 for c in line) for line in bare.replace("\r", "").splitlines()]
+            if max(widths) > columns or ("…" in bare) != (columns < 150):
+                fail(f"at {columns} columns: {widths}, {bare!r}")
+
+
+def titles():
+    """Boards by titles and numbers, in the settings, the environment and before the words."""
+    for name in ("Lists", "1"):
+        if tb("--board", name, "list").stdout != tb("list", TASKBOARD_BOARD=name).stdout:
+            fail(f"--board {name}")
+    expect(["list"], 1, told='"Nowhere" is no board of yours.', TASKBOARD_BOARD="Nowhere")
+    expect(["use", "Nowhere"], 1, told='"Nowhere" is no board of yours.')
+    expect(["use", "Lists"], 0, "From now on: board Lists\n")
+    expect(["list", "Old"], 0, "1  2026-01-02  Old\n1 of 4 tasks\n")
+    if stat.S_IMODE(os.stat(os.path.join(FOLDER, "config")).st_mode) != 0o600:
+        fail("the settings can be read by others")
+    expect(["use", "1"], 0, "From now on: board 1\n")
+    if tb("list").stdout != tb("list", TASKBOARD_BOARD="1").stdout:
+        fail("use 1")
+
+
+def zones():
+    """Days and times are those of the machine's zone; a day is its first second in UTC."""
+    for zone, moment in (("Europe/Berlin", "20260701T120000Z"), ("America/New_York", "20260701T180000Z"), ("UTC", "20260701T140000Z"), ("CET-1CEST,M3.5.0,M10.5.0/3", "20260701T120000Z"), ("Asia/Kolkata", "20260701T083000Z")):
+        if "/" in zone and not os.path.exists(f"/usr/share/zoneinfo/{zone}"):
+            continue
+        expect(["add", "in", zone, "due:2026-07-01T14:00", "wait:2026-12-01"], 0, f"Added: in {zone}\n", TZ=zone)
+        expect_task(len(tasks()), due=moment, wait="20261201T000000Z")
+        shown = tb("show", str(len(tasks())), TZ=zone).stdout
+        if "2026-07-01 14:00" not in shown or "waits for  2026-12-01\n" not in shown:
+            fail(f"in {zone}: {shown}")
+    for zone, hours in (("XXX-14", 14), ("XXX12", -12)):
+        there = (datetime.datetime.now(datetime.timezone.utc) + datetime.timedelta(hours=hours)).strftime("%Y%m%dT000000Z")
+        expect(["add", "today there", "due:today"], 0, "Added: today there\n", TZ=zone)
+        expect_task(len(tasks()), due=there)
+
+
+def undo():
+    """What was done last is taken back, once."""
+    expect(["add", "One"], 0, "Added: One\n")
+    expect(["add", "Two"], 0, "Added: Two\n")
+    one, two = str(len(tasks()) - 1), str(len(tasks()))
+    for words, told, status in ((["done", one, two], "Taken back: Done: One\nTaken back: Done: Two\n", "pending"), (["delete", one], "Taken back: Deleted: One\n", "pending"), (["start", one], "Taken back: Started: One\n", "pending")):
+        tb(*words)
+        expect(["change", one, "pri:L"], 0 if words[0] == "start" else 1, "Changed: One\n" if words[0] == "start" else "", "" if words[0] == "start" else "The task's status")
+        expect(["undo"], 0, told)
+        expect_task(int(one), status=status, start=None)
+        expect(["undo"], 1, told="There is nothing to take back.")
+    tb("note", one, "a", "note")
+    expect(["undo"], 0, "Taken back: Noted: One\n")
+    expect_task(int(one), annotations=None)
+    tb("needs", one, two)
+    expect(["undo"], 0, "Taken back: One needs Two\n")
+    expect_task(int(one), depends=None)
+    tb("done", one)
+    expect(["undo"], 1, told="There is nothing to take back.", TASKBOARD_SERVER=f"localhost:{PORT}")
+    expect(["undo"], 0, "Taken back: Done: One\n")
+
+
+def imports(draw):
+    """Imports of any length from a file and from standard input, and both exports."""
+    send("board", "Imports")
+    here = {"TASKBOARD_BOARD": "Imports"}
+    many = [{"uuid": str(uuid.UUID(int=draw.getrandbits(128), version=4)), "description": f"task {number}", "entry": "20260101T000000Z", "status": "pending"} for number in range(2500)]
+    with open("many.json", "w") as file:
+        file.write("[\n" + ",\n".join(json.dumps(task) for task in many) + "\n]\n")
+    expect(["import", "many.json"], 0, "Imported: 1000 new, 0 known before\n" * 2 + "Imported: 500 new, 0 known before\n", **here)
+    expect(["import", "many.json"], 0, "Imported: 0 new, 1000 known before\n" * 2 + "Imported: 0 new, 500 known before\n", **here)
+    ran = subprocess.run([PROGRAM, "my", "import", "-"], input="x 2026-03-02 2026-03-01 Call Mom @phone\n\nBuy milk +Home", capture_output=True, text=True, env=BARE | here, timeout=60)
+    if (ran.returncode, ran.stdout) != (0, "Imported: 2 new, 0 known before\n"):
+        fail(f"import -: {ran}")
+    expect(["import", "nowhere.json"], 1, told="That file can't be read", **here)
+    board = str(next(it["board"] for it in json.loads(send("me"))["boards"] if it["title"] == "Imports"))
+    for word in ("export", "todo"):
+        if tb(word, **here).stdout != send(word, board):
+            fail(f"{word} isn't that of send")
+
+
+def setup():
+    """The settings are asked for, and written for their owner alone."""
+    home = os.path.join(os.getcwd(), "fresh")
+    os.makedirs(home)
+    ran = subprocess.run([PROGRAM, "my", "setup"], input=f"127.0.0.1:{PORT}\nann\n1\nann-key-1\n", capture_output=True, text=True, env=BARE | {"HOME": home}, timeout=60)
+    modes = [stat.S_IMODE(os.stat(os.path.join(home, ".config/taskboard", name)).st_mode) for name in ("config", "key")]
+    if ran.returncode or modes != [0o600, 0o600]:
+        fail(f"setup: {ran}, {modes}")
+    if run("my", "list", env=BARE | {"HOME": home}).stdout != tb("list").stdout:
+        fail("the settings aren't those that were asked for")
+    ran = subprocess.run([PROGRAM, "my", "setup"], input="http://x/\nann\n1\n", capture_output=True, text=True, env=BARE | {"HOME": home}, timeout=60)
+    if ran.returncode != 2 or not ran.stderr.startswith("The server has another form"):
+        fail(f"setup with a wrong server: {ran}")
+
+
+def same_task():
+    """A task's uuid is made of the identifier of the call that adds it."""
+    expect(["add", "by", "its", "call"], 0, "Added: by its call\n")
+    if uuid.UUID(tasks()[-1]["uuid"]).version != 5:
+        fail(f"{tasks()[-1]} has no uuid of its call")
+
+
+def homeless():
+    """Without a home there is no key."""
+    ran = run("my", "list", env={name: value for name, value in BARE.items() if name != "HOME"} | {"HOME": "", "TASKBOARD_SERVER": f"127.0.0.1:{PORT}", "TASKBOARD_NAME": "ann", "TASKBOARD_BOARD": "1"})
+    if ran.returncode != 1 or not ran.stderr.startswith("taskboard: NoKey\n"):
+        fail(f"without a home: {ran}")
 
 
 def others(draw):
@@ -222,6 +452,15 @@ def main():
     refused()
     days(draw)
     others(draw)
+    same_task()
+    undo()
+    finding(draw)
+    lists()
+    titles()
+    zones()
+    imports(draw)
+    setup()
+    homeless()
     if os.environ.get("WAITS"):
         unanswered()
     if wrong:

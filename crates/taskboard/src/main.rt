@@ -12,7 +12,9 @@ ghost use Rattle.tb_values.specs.Appends.{AppendsFront};
 
 mod clock;
 mod mine;
+mod my_deeds;
 mod my_settings;
+mod my_terminal;
 mod serve;
 mod served_file;
 
@@ -108,7 +110,7 @@ fn carry_out<R: Read + Drop, W: Write>(
         Order::Check(file) => Ok(check_file(rt, file, writer)?),
         Order::Key(order) => Ok(give_key_in_file(rt, order, reader, writer)?),
         Order::Send(order) => Ok(send_order(rt, order, writer)?),
-        Order::My(order) => Ok(ask_mine(rt, order, writer)?),
+        Order::My(order) => Ok(ask_mine(rt, order, reader, writer)?),
         Order::Help(topic) => Ok(tell(writer, topic.text())?),
         Order::Version => Ok(tell(writer, VERSION)?),
     }

@@ -1,19 +1,26 @@
-//! Words of `my`: the calls and views that they become are sent as those of `send` are, and their answers are told in words.
+//! The order that asks a server in the words of `my`: the settings are read, the board is looked at once where tasks are named by numbers,
+//! and what the words ask for is sent until it is answered. What is told isn't known as a whole: what the words become is `sent_of`
+//! of `tb_my`, and what is found `found_text` of `tb_finding`.
 ghost use Rattle.std.specs.Prelude.{◌≡◌, IfErr, true};
 ghost use Rattle.taskboard.specs.Orders.{is_of_mine};
 
+use crate::my_deeds::{import_file, keep_undo, set_up, undo, use_board};
 use crate::my_settings::{key_of, read_asker};
+use crate::my_terminal::{clock_at, style_of};
 use std::alloc::Global;
-use std::io::Write;
+use std::io::{Read, Write};
+use std::str;
 use tb_board::Key;
 use tb_command_line::{MyOrder, SendOrder};
+use tb_finding::{found_text, show_text};
 use tb_my::{
-    Asker, MyFault, Seen, Sent, fault_text, looks, read_seen, refusal_text, sent_of, shown_answer,
+    Asker, Clock, MyFault, Query, Seen, Sent, board_given, board_named, fault_text, listed_words,
+    looks, query_of, read_seen, refusal_text, sent_of, shown_answer, words_after_board,
 };
 use tb_orders::Ending;
 use tb_program::{Fault, machine_moment, print_line, print_text};
-use tb_sending::{name_call, send_order};
-use tb_task::Moment;
+use tb_sending::{name_call, new_id, send_order};
+use tb_task::TaskId;
 use tb_values::{Duplicate, Items, Text};
 
 /// How long a call is sent again, in seconds.
@@ -21,23 +28,24 @@ const SECONDS: u32 = 60;
 
 /// Whom to ask, and under which key, if not that which `send` reads.
 #[derive(Drop)]
-struct Caller {
-    asker: Asker,
+pub(crate) struct Caller {
+    pub(crate) asker: Asker,
     key: Option<Key>,
 }
 
 /// How a call or view ended, and the body of its answer.
 #[derive(Drop)]
-struct Answer {
-    ending: Ending,
-    body: Items<u8>,
+pub(crate) struct Answer {
+    pub(crate) ending: Ending,
+    pub(crate) body: Items<u8>,
 }
 
 /// Asks for what the words say, in their order, and tells what came of it. Words and settings that are wrong are told here, and are
 /// `Bad`.
-pub(crate) fn ask_mine<W: Write>(
+pub(crate) fn ask_mine<R: Read + Drop, W: Write>(
     rt: &HostRuntime,
     order: &MyOrder,
+    reader: R,
     writer: &mut W,
 ) -> Result<Ending, Fault>
     ensures fault { IfErr result (λ fault. is_of_mine fault ≡ true) }
@@ -45,28 +53,180 @@ pub(crate) fn ask_mine<W: Write>(
     let Some(now) = machine_moment(rt) else {
         return Err(Fault::NoClock);
     };
-    let caller = match read_caller(rt) {
+    let words = words_after_board(order.words.as_slice());
+    if is_alone(words, "setup") {
+        return set_up(rt, reader, writer);
+    }
+    let mut caller = match read_caller(rt, board_given(order.words.as_slice())) {
         Ok(caller) => caller,
         Err(fault) => return wrong(rt, "", 0, &fault),
     };
-    if !looks(order.words.as_slice()) {
-        return ask_seen(rt, &caller, now, &[], order, writer);
+    let clock = clock_at(rt, now)?;
+    if let Some(board) = argument_of(words, "use") {
+        return use_board(rt, &caller, board, writer);
     }
-    let look = ask(rt, &caller, export_words(rt.alloc(), &caller)?)?;
-    if look.ending == Ending::Refused {
-        return refused(rt, &look);
+    if is_alone(words, "undo") {
+        return undo(rt, &caller, writer);
     }
-    match read_look(rt.alloc(), &look) {
-        Ok(Some(tasks)) => ask_seen(rt, &caller, now, tasks.as_slice(), order, writer),
-        Ok(None) => Err(Fault::NoAnswer), // What came is no board.
+    match find_board(rt, &mut caller) {
+        Ok(None) => (),
+        Ok(Some(ending)) => return Ok(ending),
+        Err(fault) => return Err(fault),
+    }
+    if let Some(path) = argument_of(words, "import") {
+        return import_file(rt, &caller, path.as_str(), reader, writer);
+    }
+    match listed_words(words) {
+        Some(listed) => ask_list(rt, &caller, &clock, listed, writer),
+        None => ask_words(rt, &caller, &clock, words, writer),
+    }
+}
+
+/// Whether the words are this one alone.
+fn is_alone(words: &[Text], name: &str) -> bool {
+    match words {
+        [word] => word.as_str() == name,
+        _ => false,
+    }
+}
+
+/// The one word after a word of this name.
+fn argument_of<'w>(words: &'w [Text], name: &str) -> Option<&'w Text> {
+    let [word, argument] = words else {
+        return None;
+    };
+    if word.as_str() == name {
+        Some(argument)
+    } else {
+        None
+    }
+}
+
+fn read_caller(rt: &HostRuntime, board: Option<&Text>) -> Result<Caller, MyFault> {
+    let asker = read_asker(rt, board)?;
+    let key = key_of(rt, &asker)?;
+    Ok(Caller { asker, key })
+}
+
+/// Puts the number of the board in place of its title. How it ended, where it isn't there.
+fn find_board(rt: &HostRuntime, caller: &mut Caller) -> Result<Option<Ending>, Fault>
+    ensures { IfErr result (λ fault. is_of_mine fault ≡ true) }
+{
+    if is_number(caller.asker.board.as_str()) {
+        return Ok(None);
+    }
+    let name = caller.asker.board.duplicate()?;
+    match number_of(rt, caller, name.as_str()) {
+        Ok(Named::Board(number)) => {
+            caller.asker.board = number;
+            Ok(None)
+        }
+        Ok(Named::Ended(ending)) => Ok(Some(ending)),
         Err(fault) => Err(fault),
     }
 }
 
-fn read_caller(rt: &HostRuntime) -> Result<Caller, MyFault> {
-    let asker = read_asker(rt)?;
-    let key = key_of(rt, &asker)?;
-    Ok(Caller { asker, key })
+fn is_number(text: &str) -> bool {
+    text.bytes().all(|byte| byte.is_ascii_digit())
+}
+
+/// The number of a board that was named, or how the asking ended without one.
+#[derive(Drop)]
+pub(crate) enum Named {
+    Board(Text),
+    Ended(Ending),
+}
+
+/// Asks for the person's boards, and finds one by its number or title.
+pub(crate) fn number_of(rt: &HostRuntime, caller: &Caller, name: &str) -> Result<Named, Fault>
+    ensures { IfErr result (λ fault. is_of_mine fault ≡ true) }
+{
+    let mut words = Items::new(rt.alloc());
+    words.push(Text::from_str(rt.alloc(), "me")?)?;
+    let answer = ask(rt, caller, words, None)?;
+    if answer.ending == Ending::Refused {
+        return Ok(Named::Ended(refused(rt, &answer)?));
+    }
+    let Ok(body) = str::from_utf8(answer.body.as_slice()) else {
+        return Err(Fault::NoAnswer);
+    };
+    match board_named(rt.alloc(), name, body)? {
+        Some(number) => {
+            let number = format!(in rt.alloc(); "{number}")?;
+            Ok(Named::Board(Text::from_string(number)))
+        }
+        None => {
+            let fault = MyFault::NoBoard(Text::from_str(rt.alloc(), name)?);
+            Ok(Named::Ended(wrong(rt, "", 0, &fault)?))
+        }
+    }
+}
+
+/// The tasks that words find, in a list.
+fn ask_list<W: Write>(
+    rt: &HostRuntime,
+    caller: &Caller,
+    clock: &Clock,
+    words: &[Text],
+    writer: &mut W,
+) -> Result<Ending, Fault>
+    ensures { IfErr result (λ fault. is_of_mine fault ≡ true) }
+{
+    let me = Text::from_str(rt.alloc(), caller.asker.name.as_str())?;
+    let query = match query_of(rt.alloc(), clock, &me, words) {
+        Ok(query) => query,
+        Err(fault) => return wrong(rt, "", 0, &fault),
+    };
+    let look = ask(rt, caller, export_words(rt.alloc(), caller)?, None)?;
+    if look.ending == Ending::Refused {
+        return refused(rt, &look);
+    }
+    tell_found(rt, clock, &query, &look, writer)
+}
+
+fn tell_found<W: Write>(
+    rt: &HostRuntime,
+    clock: &Clock,
+    query: &Query,
+    look: &Answer,
+    writer: &mut W,
+) -> Result<Ending, Fault>
+    ensures { IfErr result (λ fault. is_of_mine fault ≡ true) }
+{
+    let Ok(export) = str::from_utf8(look.body.as_slice()) else {
+        return Err(Fault::NoAnswer);
+    };
+    match found_text(rt.alloc(), clock, style_of(rt), query, export)? {
+        Some(text) => {
+            print_text(writer, text.as_str())?;
+            Ok(Ending::Accepted)
+        }
+        None => Err(Fault::NoAnswer), // What came is no board.
+    }
+}
+
+/// What other words ask for.
+fn ask_words<W: Write>(
+    rt: &HostRuntime,
+    caller: &Caller,
+    clock: &Clock,
+    words: &[Text],
+    writer: &mut W,
+) -> Result<Ending, Fault>
+    ensures { IfErr result (λ fault. is_of_mine fault ≡ true) }
+{
+    if !looks(words) {
+        return ask_seen(rt, caller, clock, &[], words, writer);
+    }
+    let look = ask(rt, caller, export_words(rt.alloc(), caller)?, None)?;
+    if look.ending == Ending::Refused {
+        return refused(rt, &look);
+    }
+    match read_look(rt.alloc(), &look) {
+        Ok(Some(tasks)) => ask_seen(rt, caller, clock, tasks.as_slice(), words, writer),
+        Ok(None) => Err(Fault::NoAnswer), // What came is no board.
+        Err(fault) => Err(fault),
+    }
 }
 
 /// The words that show a board's tasks.
@@ -92,51 +252,64 @@ fn read_look(alloc: Global, look: &Answer) -> Result<Option<Items<Seen>>, Fault>
 fn ask_seen<W: Write>(
     rt: &HostRuntime,
     caller: &Caller,
-    now: Moment,
+    clock: &Clock,
     tasks: &[Seen],
-    order: &MyOrder,
+    words: &[Text],
     writer: &mut W,
 ) -> Result<Ending, Fault>
     ensures { IfErr result (λ fault. is_of_mine fault ≡ true) }
 {
     let board = &caller.asker.board;
-    match sent_of(rt.alloc(), now, board, tasks, order.words.as_slice()) {
-        Ok(sent) => ask_all(rt, caller, sent.as_slice(), writer),
+    match sent_of(rt.alloc(), clock, new_id(rt), board, tasks, words) {
+        Ok(sent) => {
+            let ending = ask_all(rt, caller, clock, tasks, sent.as_slice(), writer)?;
+            Ok(ending)
+        }
         Err(fault) => wrong(rt, board.as_str(), tasks.len(), &fault),
     }
 }
 
-/// Asks for each in its order, also behind one that is refused. One refusal refuses the whole.
+/// Asks for each in its order, also after one that is refused. One refusal refuses the whole. What takes back those that were
+/// accepted is kept.
 fn ask_all<W: Write>(
     rt: &HostRuntime,
     caller: &Caller,
+    clock: &Clock,
+    tasks: &[Seen],
     all: &[Sent],
     writer: &mut W,
 ) -> Result<Ending, Fault>
     ensures { IfErr result (λ fault. is_of_mine fault ≡ true) }
 {
     let mut ending = Ending::Accepted;
+    let mut kept = Text::new(rt.alloc());
     for sent in all {
         let words = sent.words.duplicate()?;
-        let answer = ask(rt, caller, words)?;
+        let answer = ask(rt, caller, words, sent.call)?;
         if answer.ending == Ending::Refused {
             ending = refused(rt, &answer)?;
         } else {
-            tell(rt, &answer, sent, writer)?;
+            keep_undo(rt, caller, sent, &mut kept)?;
+            tell(rt, clock, tasks, &answer, sent, writer)?;
         }
     }
     Ok(ending)
 }
 
-/// Sends words of `send` until they are answered.
-fn ask(rt: &HostRuntime, caller: &Caller, words: Items<Text>) -> Result<Answer, Fault>
+/// Sends words of `send` until they are answered, under an identifier if one is given.
+pub(crate) fn ask(
+    rt: &HostRuntime,
+    caller: &Caller,
+    words: Items<Text>,
+    id: Option<TaskId>,
+) -> Result<Answer, Fault>
     ensures { IfErr result (λ fault. is_of_mine fault ≡ true) }
 {
     let mut order = SendOrder {
         server: caller.asker.server.duplicate()?,
         member: caller.asker.name.duplicate()?,
         key: twin(&caller.key)?,
-        id: None,
+        id,
         seconds: SECONDS,
         words,
     };
@@ -160,9 +333,11 @@ fn twin(key: &Option<Key>) -> Result<Option<Key>, Fault>
     }
 }
 
-/// Tells an accepted call in words, and a view's answer as it is.
+/// Tells an accepted call in words, one task in lines, and another view's answer as it is shown.
 fn tell<W: Write>(
     rt: &HostRuntime,
+    clock: &Clock,
+    tasks: &[Seen],
     answer: &Answer,
     sent: &Sent,
     writer: &mut W,
@@ -172,14 +347,26 @@ fn tell<W: Write>(
     if !sent.told.is_empty() {
         return print_line(writer, sent.told.as_str());
     }
-    match str::from_utf8(answer.body.as_slice()) {
-        Ok(text) => print_text(writer, shown_answer(rt.alloc(), text)?.as_str()),
-        Err(_) => Err(Fault::NoAnswer),
+    let Ok(body) = str::from_utf8(answer.body.as_slice()) else {
+        return Err(Fault::NoAnswer);
+    };
+    if is_of_word(sent, "task") {
+        if let Some(text) = show_text(rt.alloc(), clock, tasks, body)? {
+            return print_text(writer, text.as_str());
+        }
+    }
+    print_text(writer, shown_answer(rt.alloc(), body)?.as_str())
+}
+
+fn is_of_word(sent: &Sent, name: &str) -> bool {
+    match sent.words.as_slice() {
+        [word, ..] => word.as_str() == name,
+        [] => false,
     }
 }
 
 /// Tells a refusal on standard error.
-fn refused(rt: &HostRuntime, answer: &Answer) -> Result<Ending, Fault>
+pub(crate) fn refused(rt: &HostRuntime, answer: &Answer) -> Result<Ending, Fault>
     ensures { IfErr result (λ fault. is_of_mine fault ≡ true) }
 {
     let Ok(body) = str::from_utf8(answer.body.as_slice()) else {
@@ -190,14 +377,19 @@ fn refused(rt: &HostRuntime, answer: &Answer) -> Result<Ending, Fault>
     Ok(Ending::Refused)
 }
 
-/// Tells what is wrong of words or settings, or that there is no such task, which is a refusal.
-fn wrong(rt: &HostRuntime, board: &str, count: usize, fault: &MyFault) -> Result<Ending, Fault>
+/// Tells what is wrong of words or settings, or that there is no such task or board, which is a refusal.
+pub(crate) fn wrong(
+    rt: &HostRuntime,
+    board: &str,
+    count: usize,
+    fault: &MyFault,
+) -> Result<Ending, Fault>
     ensures { IfErr result (λ fault. is_of_mine fault ≡ true) }
 {
     let text = fault_text(rt.alloc(), board, count, fault)?;
     let _ = print_line(&mut rt.stderr(), text.as_str());
     match fault {
-        MyFault::NoTask(_) => Ok(Ending::Refused),
+        MyFault::NoTask(_) | MyFault::NoBoard(_) => Ok(Ending::Refused),
         MyFault::Memory => Err(Fault::Memory),
         _ => Err(Fault::Bad),
     }

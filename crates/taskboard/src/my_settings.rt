@@ -1,43 +1,53 @@
-//! Where the settings of `my` stand: the environment, and a file that its owner alone may read. What they hold isn't known before.
-use std::alloc::AllocError;
-use std::io::ErrorKind;
-use std::os::unix::fs::PermissionsExt;
-use std::{env, fs};
+//! Where the settings of `my` are: the environment, and a file that its owner alone may read. What they hold isn't known before.
+use std::env;
 use tb_board::Key;
 use tb_my::{Asker, MyFault, SettingName, Settings, asker_of, read_settings, settings_over};
-use tb_values::Text;
+use tb_sending::{KeyFolder, key_in_file, path_at_home, private_text};
+use tb_values::{Duplicate, Text};
 
-/// What others may do to a file.
-const OTHERS: u32 = 0o077;
+/// The file of the settings, in the folder of the key.
+pub(crate) const CONFIG: &str = "config";
 
-/// Whom to ask, by the environment, and by the file where that lacks a setting.
-pub(crate) fn read_asker(rt: &HostRuntime) -> Result<Asker, MyFault> {
+/// Whom to ask, by a board that is named before all else, by the environment, and by the file where that lacks a setting.
+pub(crate) fn read_asker(rt: &HostRuntime, board: Option<&Text>) -> Result<Asker, MyFault> {
     let file = settings_in_file(rt)?;
+    let board = match board {
+        Some(board) => Some(board.duplicate()?),
+        None => variable(rt, "TASKBOARD_BOARD"),
+    };
     let first = Settings {
         server: variable(rt, "TASKBOARD_SERVER"),
         name: variable(rt, "TASKBOARD_NAME"),
-        board: variable(rt, "TASKBOARD_BOARD"),
+        board,
         key_file: variable(rt, "TASKBOARD_KEY_FILE"),
     };
     asker_of(rt.alloc(), settings_over(first, file))
 }
 
-fn variable(rt: &HostRuntime, name: &str) -> Option<Text> {
+pub(crate) fn variable(rt: &HostRuntime, name: &str) -> Option<Text> {
     match env::var(rt, name) {
         Ok(text) => Some(Text::from_string(text)),
         Err(_) => None,
     }
 }
 
-/// The settings of `~/.config/taskboard/config`: none where there is no such file.
+/// The settings of `~/.config/taskboard/config`: none where there is no such file, or no home.
 fn settings_in_file(rt: &HostRuntime) -> Result<Settings, MyFault> {
-    let path = path_at_home(rt, ".config/taskboard/config")?;
-    match fs::metadata(rt, path.as_str()) {
-        Err(error) if error.kind() == ErrorKind::NotFound => read_settings(rt.alloc(), ""),
-        _ => match private_text(rt, path.as_str()) {
-            Some(text) => read_settings(rt.alloc(), text.as_str()),
-            None => Err(MyFault::Unfit(SettingName::Config)),
-        },
+    let text = config_text(rt)?;
+    read_settings(rt.alloc(), text.as_str())
+}
+
+/// The text of the file of the settings, empty where there is none.
+pub(crate) fn config_text(rt: &HostRuntime) -> Result<Text, MyFault> {
+    let Some(folder) = KeyFolder::at_home(rt) else {
+        return Ok(Text::new(rt.alloc()));
+    };
+    if !folder.has(CONFIG) {
+        return Ok(Text::new(rt.alloc()));
+    }
+    match folder.private_text(CONFIG) {
+        Some(text) => Ok(Text::from_string(text)),
+        None => Err(MyFault::Unfit(SettingName::Config)),
     }
 }
 
@@ -47,31 +57,17 @@ pub(crate) fn key_of(rt: &HostRuntime, asker: &Asker) -> Result<Option<Key>, MyF
         return Ok(None);
     };
     let path = match path.as_str().strip_prefix("~/") {
-        Some(rest) => path_at_home(rt, rest)?,
+        Some(rest) => match path_at_home(rt, rest) {
+            Some(path) => path,
+            None => return Ok(None),
+        },
         None => String::from_str(rt.alloc(), path.as_str())?,
     };
     let Some(text) = private_text(rt, path.as_str()) else {
         return Err(MyFault::Unfit(SettingName::KeyFile));
     };
-    match Key::read(rt.alloc(), text.as_str().trim_end())? {
+    match key_in_file(rt.alloc(), text.as_str())? {
         Some(key) => Ok(Some(key)),
         None => Err(MyFault::Unfit(SettingName::KeyFile)),
     }
-}
-
-/// A path below this user's home, or below the root where the machine tells no home.
-fn path_at_home(rt: &HostRuntime, rest: &str) -> Result<String, AllocError> {
-    match env::home_dir(rt) {
-        Ok(Some(home)) => format!(in rt.alloc(); "{}/{rest}", home.as_str()),
-        _ => format!(in rt.alloc(); "/{rest}"),
-    }
-}
-
-/// The text of a file, unless others may read or write it.
-fn private_text(rt: &HostRuntime, path: &str) -> Option<String> {
-    let found = fs::metadata(rt, path).ok()?;
-    if found.permissions().mode() & OTHERS != 0 {
-        return None;
-    }
-    fs::read_to_string(rt, path).ok()
 }

@@ -131,23 +131,33 @@ The status is 0 where it was accepted, and 1 where it was refused or no answer c
 ";
 
 const MY: &str = "\
-taskboard my [WORD ARGUMENTS..]
+taskboard my [--board B] [WORD ARGUMENTS..]
 
 Asks a server in words for every day; contrib/install.sh installs it as tb. Without words, the list
 of the board. One look at the board serves all numbers of a command.
 
-    list, boards, people     the open tasks with their numbers; your boards; who is on the board
+    list FILTER..            the open tasks that pass each filter, with their numbers
+    boards, people           your boards; who is on the board
     add WORDS                a task: Buy milk due:friday pri:H +Home @shop for:bob
     change N WORDS           sets what is named, as add does; due: or for: alone removes it, @tag
                              adds a tag and -@tag takes one, other words are the description
     done N.., delete N.., reopen N.., start N.., stop N..
     note N TEXT, unnote N TEXT, needs N M, free N M, show N
+    undo                     takes back the last done, delete, start, stop, note or link
+    use B                    makes B the board of the settings
+    import FILE              JSON or lines of todo.txt, of any length; - is standard input
+    export, todo             all tasks as JSON; as lines of todo.txt
+    setup                    asks for server, name, board and key, and writes them
 
-    N, M   the number of a task in the list, or its uuid
-    WORDS  due:DAY, wait:DAY, scheduled:DAY, until:DAY, pri:H, M or L, +PROJECT or project:PROJECT,
-           @TAG, for:NAME, rec:STEP
-    DAY    today, tomorrow, a weekday as friday or fri, 3d or +3d, 2w, or 2026-12-01; days are
-           those of UTC
+    N, M    the number of a task in the list, or its uuid
+    B       the number or the title of a board
+    WORDS   due:DAY, wait:DAY, scheduled:DAY, until:DAY, pri:H, M or L, +PROJECT or
+            project:PROJECT, @TAG, for:NAME, rec:STEP
+    DAY     today, tomorrow, a weekday as friday or fri, 3d or +3d, 2w, 2026-12-01, or a time on
+            one, as 2026-12-01T14:00, in the zone of TZ or of this machine
+    FILTER  +PROJECT, @TAG, for:NAME, mine, due:today, due:week, due:DAY, overdue, blocked,
+            waiting, done:today, done:week, a text of the description or a note; --sort urgency,
+            due or project; --json
 
 Who asks which server stands in ~/.config/taskboard/config, in lines such as
 
@@ -157,7 +167,8 @@ Who asks which server stands in ~/.config/taskboard/config, in lines such as
     key-file = /home/ann/.config/taskboard/key
 
 The environment TASKBOARD_SERVER, TASKBOARD_NAME, TASKBOARD_BOARD and TASKBOARD_KEY_FILE goes
-before. Without a file the key is read as `taskboard send --help` says.
+before. Without a file the key is read as `taskboard send --help` says. On a terminal, lines are
+cut to its COLUMNS, and NO_COLOR leaves out bold and colours.
 
 The status is 0 where all was accepted, 1 where something was refused or no answer came, and 2
 where the words or the settings are wrong.

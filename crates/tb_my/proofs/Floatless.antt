@@ -1,12 +1,12 @@
 -- The JSON of a body has no float, so its text is known.
-use Rattle.std.proofs.Common.{◌≡◌, ℕ, List, [], ◌∷◌, Bool, true, false, ◌||◌, Option, Some, None, Ordering, Less, Equal, Greater, codes, if◌then◌else◌, nat_cmp, refl}
+use Rattle.std.proofs.Common.{◌≡◌, ℕ, List, [], ◌∷◌, Bool, true, false, ◌||◌, Option, Some, None, Ordering, Less, Equal, Greater, codes, option_map, if◌then◌else◌, nat_cmp, refl}
 use Rattle.std.specs.Str.{bytes_eq}
 use Rattle.std.specs.Cmp.Lexicographic.{slice_cmp}
 use Rattle.std.specs.Ordering.{match_ordering}
 use Rattle.serde_json.specs.Data.{Data, null, string, Members, no_members, member, put}
 use Rattle.serde_json.specs.Written.{has_float, items_have_float, members_have_float}
-use Rattle.tb_json.specs.Writing.{items_of_texts, with_field, texts_data}
-use Rattle.tb_my.specs.Body.{add_data, change_data, value_data, with_description, with_new_tags, with_setting, with_settings, with_tags_said}
+use Rattle.tb_json.specs.Writing.{id_data, items_of_texts, with_field, texts_data}
+use Rattle.tb_my.specs.Body.{add_data, added_id, change_data, value_data, with_description, with_new_tags, with_setting, with_settings, with_tags_said}
 use Rattle.tb_my.specs.Tags.{tags_after}
 use Rattle.tb_my.specs.declared.part.Setting.{Setting}
 use Rattle.tb_my.specs.declared.said.Said.{Said}
@@ -65,9 +65,13 @@ described_none text ms hm = by (bytes_eq text [])
     by true = hm
     by false = put_none (codes "description") (string text) ms refl hm
 
-pub add_no_float : (said : Said) → has_float (add_data said) ≡ false
-add_no_float said =
-    settings_none said.settings _ (tags_none (codes "tags") said.tags _ (described_none said.description no_members refl))
+id_none : (id : Option ℕ) (ms : Members) → members_have_float ms ≡ false → members_have_float (with_field (codes "uuid") (option_map id_data id) ms) ≡ false
+id_none None ms hm = hm
+id_none (Some id) ms hm = put_none (codes "uuid") (id_data id) ms refl hm
+
+pub add_no_float : (call : Option ℕ) (said : Said) → has_float (add_data call said) ≡ false
+add_no_float call said =
+    id_none (added_id call) _ (settings_none said.settings _ (tags_none (codes "tags") said.tags _ (described_none said.description no_members refl)))
 
 pub change_no_float : (tags : List (List ℕ)) (said : Said) → has_float (change_data tags said) ≡ false
 change_no_float tags said =

@@ -1,12 +1,13 @@
 -- The bodies of the calls that add and change tasks.
-use Rattle.std.specs.Prelude.{List, [], ◌∷◌, codes, Option, Some, None, if◌then◌else◌}
+use Rattle.std.specs.Prelude.{ℕ, List, [], ◌∷◌, codes, Option, Some, None, option_map, if◌then◌else◌}
 use Rattle.std.specs.Str.{bytes_eq}
 use Rattle.serde_json.specs.Data.{Data, null, string, object, Members, no_members, put}
-use Rattle.tb_json.specs.Writing.{with_field, texts_data}
+use Rattle.tb_json.specs.Writing.{id_data, texts_data, with_field}
 use Rattle.tb_my.specs.Days.{Text}
 use Rattle.tb_my.specs.Tags.{tags_after}
 use Rattle.tb_my.specs.declared.part.Setting.{Setting}
 use Rattle.tb_my.specs.declared.said.Said.{Said}
+use Rattle.tb_task.specs.TaskId.{named_id}
 
 -- what is removed is null
 abbrev pub value_data : Option Text → Data
@@ -26,10 +27,17 @@ abbrev pub with_description : Text → Members → Members
 with_description description members = if bytes_eq description [] then members
     else put (codes "description") (string description) members
 
-abbrev pub add_data : Said → Data
-add_data said = object (with_settings said.settings
+-- the identifier of the task that a call adds, made of that of the call
+-- Rule: a call that adds a task and is sent again names the same task. Tried by my.sh.
+abbrev pub added_id : Option ℕ → Option ℕ
+added_id None = None
+added_id (Some call) = Some (named_id call (codes "task"))
+
+abbrev pub add_data : Option ℕ → Said → Data
+add_data call said = object (with_field (codes "uuid") (option_map id_data (added_id call))
+    (with_settings said.settings
     (with_field (codes "tags") (texts_data said.tags)
-    (with_description said.description no_members)))
+    (with_description said.description no_members))))
 
 abbrev pub with_new_tags : List Text → Members → Members
 with_new_tags [] members = put (codes "tags") null members

@@ -6,6 +6,7 @@ use Rattle.tb_my.specs.declared.fault.MyFault.{MyFault}
 use Rattle.tb_my.specs.declared.part.Part.{Part}
 use Rattle.tb_my.specs.declared.part.Part.TheVariants.{Set, Tag, Untag, Plain}
 use Rattle.tb_my.specs.declared.said.Said.{Said}
+use Rattle.tb_my.specs.declared.zone.Clock.{Clock}
 use Rattle.tb_todotxt.specs.Words.{joined}
 use Rattle.tb_values.specs.Outcome.{◌>>=◌}
 
@@ -22,11 +23,11 @@ with_part said (Untag tag) word = record said { untagged = said.untagged ++ tag 
 with_part said Plain word = with_plain said word
 
 -- what was said, and what further words say, up to the first that is wrong
-abbrev pub said_from : ℕ → Said → List Text → Result Said MyFault
-said_from now said [] = Ok said
-said_from now said (word ∷ words) = do
-  part ← part_of now word
-  said_from now (with_part said part word) words
+abbrev pub said_from : Clock → Said → List Text → Result Said MyFault
+said_from clock said [] = Ok said
+said_from clock said (word ∷ words) = do
+  part ← part_of clock word
+  said_from clock (with_part said part word) words
 
-abbrev pub said_of : ℕ → List Text → Result Said MyFault
-said_of now words = said_from now nothing_said words
+abbrev pub said_of : Clock → List Text → Result Said MyFault
+said_of clock words = said_from clock nothing_said words

@@ -16,6 +16,7 @@ use Rattle.tb_my.specs.declared.sent.Sent.{Sent}
 use Rattle.tb_my.specs.declared.sent.TheConstants.{ADDED, CHANGED, DELETED, DONE, FREED, NEEDS, NOTED, REOPENED, STARTED, STOPPED, UNNOTED}
 use Rattle.tb_my.specs.declared.word.MyWord.{MyWord}
 use Rattle.tb_my.specs.declared.word.MyWord.TheVariants as word
+use Rattle.tb_my.specs.declared.zone.Clock.{Clock}
 use Rattle.tb_task.specs.TaskId.{id_text}
 use Rattle.tb_values.specs.Outcome.{◌>>=◌}
 
@@ -35,7 +36,7 @@ looks [] = false
 looks (first ∷ rest) = unwrap_or (option_map is_of_task (my_word_named first)) false
 
 abbrev pub one_sent : List Text → Text → List Sent
-one_sent words told = record { words = words; told = told } ∷ []
+one_sent words told = record { words = words; told = told; call = None } ∷ []
 
 -- ---- views, whose answers are told
 
@@ -61,33 +62,35 @@ show_view board tasks (a ∷ b ∷ more) = Err (NoForm word.Show)
 -- ---- calls
 
 -- a new task needs a description
-abbrev pub added : Text → Said → Text → Result (List Sent) MyFault
-added board said [] = Err (NoForm word.Add)
-added board said (byte ∷ bytes) = Ok (one_sent
-    (codes "add" ∷ board ∷ compact_text (add_data said) ∷ [])
-    (told_task ADDED.now said.description))
+abbrev pub added : Option ℕ → Text → Said → Text → Result (List Sent) MyFault
+added call board said [] = Err (NoForm word.Add)
+added call board said (byte ∷ bytes) = Ok (record {
+  words = codes "add" ∷ board ∷ compact_text (add_data call said) ∷ [];
+  told = told_task ADDED.now said.description;
+  call = call;
+} ∷ [])
 
-abbrev pub add_call : ℕ → Text → List Text → Result (List Sent) MyFault
-add_call now board rest = do
-  said ← said_of now rest
-  added board said said.description
+abbrev pub add_call : Clock → Option ℕ → Text → List Text → Result (List Sent) MyFault
+add_call clock call board rest = do
+  said ← said_of clock rest
+  added call board said said.description
 
 abbrev pub change_sent : Text → Seen → Said → List Sent
 change_sent board task said = one_sent
     (codes "modify" ∷ board ∷ id_text task.id ∷ compact_text (change_data task.tags said) ∷ [])
     (told_task CHANGED.now task.description)
 
-abbrev pub changed : ℕ → Text → Seen → List Text → Result (List Sent) MyFault
-changed now board task words = do
-  said ← said_of now words
+abbrev pub changed : Clock → Text → Seen → List Text → Result (List Sent) MyFault
+changed clock board task words = do
+  said ← said_of clock words
   Ok (change_sent board task said)
 
-abbrev pub change_call : ℕ → Text → List Seen → List Text → Result (List Sent) MyFault
-change_call now board tasks (named ∷ a ∷ more) = do
+abbrev pub change_call : Clock → Text → List Seen → List Text → Result (List Sent) MyFault
+change_call clock board tasks (named ∷ a ∷ more) = do
   task ← task_in tasks named
-  changed now board task (a ∷ more)
-change_call now board tasks [] = Err (NoForm word.Change)
-change_call now board tasks (a ∷ []) = Err (NoForm word.Change)
+  changed clock board task (a ∷ more)
+change_call clock board tasks [] = Err (NoForm word.Change)
+change_call clock board tasks (a ∷ []) = Err (NoForm word.Change)
 
 abbrev pub task_call : Text → Text → Text → List Seen → Text → Result Sent MyFault
 task_call name verb board tasks named = do
@@ -95,6 +98,7 @@ task_call name verb board tasks named = do
   Ok (record {
     words = name ∷ board ∷ id_text task.id ∷ [];
     told = told_task verb task.description;
+    call = None;
   })
 
 -- calls, and one for each further task that is named, up to the first that isn't there
@@ -139,39 +143,51 @@ link_call w name verb board tasks (a ∷ b ∷ c ∷ more) = Err (NoForm w)
 
 -- ---- all words
 
-unfoldable pub sent_for : ℕ → Text → List Seen → MyWord → List Text → Result (List Sent) MyFault
-sent_for now board tasks word.List rest = board_view word.List (codes "list") board rest
-sent_for now board tasks word.Boards rest = boards_view rest
-sent_for now board tasks word.People rest = board_view word.People (codes "people") board rest
-sent_for now board tasks word.Show rest = show_view board tasks rest
-sent_for now board tasks word.Add rest = add_call now board rest
-sent_for now board tasks word.Change rest = change_call now board tasks rest
-sent_for now board tasks word.Done rest =
+unfoldable pub sent_for : Clock → Option ℕ → Text → List Seen → MyWord → List Text
+    → Result (List Sent) MyFault
+-- of the list an export is asked for, whatever is to be found in it
+sent_for clock call board tasks word.List rest =
+    board_view word.List (codes "export") board []
+sent_for clock call board tasks word.Boards rest = boards_view rest
+sent_for clock call board tasks word.People rest =
+    board_view word.People (codes "people") board rest
+sent_for clock call board tasks word.Export rest =
+    board_view word.Export (codes "export") board rest
+sent_for clock call board tasks word.Todo rest = board_view word.Todo (codes "todo") board rest
+-- these ask for nothing by themselves
+sent_for clock call board tasks word.Use rest = Err (NoForm word.Use)
+sent_for clock call board tasks word.Undo rest = Err (NoForm word.Undo)
+sent_for clock call board tasks word.Setup rest = Err (NoForm word.Setup)
+sent_for clock call board tasks word.Import rest = Err (NoForm word.Import)
+sent_for clock call board tasks word.Show rest = show_view board tasks rest
+sent_for clock call board tasks word.Add rest = add_call clock call board rest
+sent_for clock call board tasks word.Change rest = change_call clock board tasks rest
+sent_for clock call board tasks word.Done rest =
     task_calls word.Done (codes "done") DONE.now board tasks rest
-sent_for now board tasks word.Delete rest =
+sent_for clock call board tasks word.Delete rest =
     task_calls word.Delete (codes "delete") DELETED.now board tasks rest
-sent_for now board tasks word.Reopen rest =
+sent_for clock call board tasks word.Reopen rest =
     task_calls word.Reopen (codes "reopen") REOPENED.now board tasks rest
-sent_for now board tasks word.Start rest =
+sent_for clock call board tasks word.Start rest =
     task_calls word.Start (codes "start") STARTED.now board tasks rest
-sent_for now board tasks word.Stop rest =
+sent_for clock call board tasks word.Stop rest =
     task_calls word.Stop (codes "stop") STOPPED.now board tasks rest
-sent_for now board tasks word.Note rest =
+sent_for clock call board tasks word.Note rest =
     note_call word.Note (codes "annotate") NOTED.now board tasks rest
-sent_for now board tasks word.Unnote rest =
+sent_for clock call board tasks word.Unnote rest =
     note_call word.Unnote (codes "denotate") UNNOTED.now board tasks rest
-sent_for now board tasks word.Needs rest =
+sent_for clock call board tasks word.Needs rest =
     link_call word.Needs (codes "depend") NEEDS.now board tasks rest
-sent_for now board tasks word.Free rest =
+sent_for clock call board tasks word.Free rest =
     link_call word.Free (codes "undepend") FREED.now board tasks rest
 
-abbrev pub sent_with : ℕ → Text → List Seen → Text → Option MyWord → List Text
+abbrev pub sent_with : Clock → Option ℕ → Text → List Seen → Text → Option MyWord → List Text
     → Result (List Sent) MyFault
-sent_with now board tasks first None rest = Err (NoWord first)
-sent_with now board tasks first (Some w) rest = sent_for now board tasks w rest
+sent_with clock call board tasks first None rest = Err (NoWord first)
+sent_with clock call board tasks first (Some w) rest = sent_for clock call board tasks w rest
 
 -- what words ask for at a moment, of a board whose tasks were seen: without words the list
-abbrev pub sent_of : ℕ → Text → List Seen → List Text → Result (List Sent) MyFault
-sent_of now board tasks [] = board_view word.List (codes "list") board []
-sent_of now board tasks (first ∷ rest) =
-    sent_with now board tasks first (my_word_named first) rest
+abbrev pub sent_of : Clock → Option ℕ → Text → List Seen → List Text → Result (List Sent) MyFault
+sent_of clock call board tasks [] = board_view word.List (codes "export") board []
+sent_of clock call board tasks (first ∷ rest) =
+    sent_with clock call board tasks first (my_word_named first) rest

@@ -2,7 +2,7 @@
 use Rattle.std.specs.Prelude.{Bool, true, ◌==◌, is_some, List, [], ◌∷◌, codes, Option, Some, None, option_and_then, option_map, Result, Ok, Err, if◌then◌else◌}
 use Rattle.std.specs.List.{slice_split}
 use Rattle.std.specs.Str.{trim, trim_start}
-use Rattle.tb_board.specs.Names.{read_name}
+use Rattle.tb_board.specs.Names.{read_name, read_title}
 use Rattle.tb_command_line.specs.Sending.{is_server}
 use Rattle.tb_my.specs.Days.{Text, after_key}
 use Rattle.tb_my.specs.Outcome.{or_fault}
@@ -12,7 +12,6 @@ use Rattle.tb_my.specs.declared.settings.Asker.{Asker}
 use Rattle.tb_my.specs.declared.settings.SettingName.{SettingName}
 use Rattle.tb_my.specs.declared.settings.SettingName.TheVariants as kind
 use Rattle.tb_my.specs.declared.settings.Settings.{Settings}
-use Rattle.tb_values.specs.Numerals.{number_to}
 use Rattle.tb_values.specs.Outcome.{◌>>=◌}
 
 abbrev pub no_settings : Settings
@@ -100,7 +99,7 @@ name_of setting = do
 abbrev pub board_of : Option Text → Result Text MyFault
 board_of setting = do
   text ← given kind.Board setting
-  fitting kind.Board (if is_some (number_to 4294967295 text) then Some text else None)
+  fitting kind.Board (if is_some (read_title text) then Some text else None)
 
 abbrev pub asker_of : Settings → Result Asker MyFault
 asker_of settings = do

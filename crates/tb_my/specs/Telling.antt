@@ -6,10 +6,10 @@ use Rattle.serde_json.specs.Find.{as_str, get}
 use Rattle.serde_json.specs.Read.{read}
 use Rattle.tb_my.specs.Days.{Text}
 use Rattle.tb_my.specs.declared.fault.MyFault.{MyFault}
-use Rattle.tb_my.specs.declared.fault.MyFault.TheVariants.{BadLine, Lacks, Memory, NoDay, NoForm, NoPriority, NoTask, NoWord, Unfit}
+use Rattle.tb_my.specs.declared.fault.MyFault.TheVariants.{BadLine, Lacks, Memory, NoBoard, NoDay, NoForm, NoPriority, NoTask, NoWord, Unfit}
 use Rattle.tb_my.specs.declared.settings.SettingName.{SettingName}
 use Rattle.tb_my.specs.declared.settings.SettingName.TheVariants as setting
-use Rattle.tb_my.specs.declared.telling.TheConstants.{BAD_BOARD, BAD_LINE, BAD_NAME, BAD_SERVER, BAD_TASK, CHANGES, CYCLE, FIXED, FULL, NEW_TASK, NOT_ALLOWED, NO_ARGUMENTS, NO_BOARD, NO_CONFIG, NO_DAY, NO_KEY_FILE, NO_LINK, NO_MEMORY, NO_NAME, NO_PRIORITY, NO_ROLE, NO_SERVER, NO_SUCH_TASK, NO_WORD, ONE_TASK, TASKS, TASK_AND_TEXT, TWO_TASKS, UNKNOWN_CALLER, WRONG_STATUS}
+use Rattle.tb_my.specs.declared.telling.TheConstants.{BAD_BOARD, BAD_LINE, BAD_NAME, BAD_SERVER, BAD_TASK, CHANGES, CYCLE, FIXED, FULL, LIST_WORDS, NEW_TASK, NOT_ALLOWED, NO_ARGUMENTS, NO_BOARD, NO_BOARD_HERE, NO_CONFIG, NO_DAY, NO_KEY_FILE, NO_LINK, NO_MEMORY, NO_NAME, NO_PRIORITY, NO_ROLE, NO_SERVER, NO_SUCH_TASK, NO_WORD, ONE_BOARD, ONE_FILE, ONE_TASK, TASKS, TASK_AND_TEXT, TWO_TASKS, UNKNOWN_CALLER, WRONG_STATUS}
 use Rattle.tb_my.specs.declared.word.MyWord.{MyWord}
 use Rattle.tb_my.specs.declared.word.MyWord.TheVariants as word
 
@@ -34,7 +34,13 @@ told_link first verb second = shown_text first ++ (verb ++ shown_text second)
 
 -- what belongs behind a word
 abbrev pub form_text : MyWord → Text
-form_text word.List = NO_ARGUMENTS.now
+form_text word.List = LIST_WORDS.now
+form_text word.Export = NO_ARGUMENTS.now
+form_text word.Todo = NO_ARGUMENTS.now
+form_text word.Undo = NO_ARGUMENTS.now
+form_text word.Setup = NO_ARGUMENTS.now
+form_text word.Use = ONE_BOARD.now
+form_text word.Import = ONE_FILE.now
 form_text word.Boards = NO_ARGUMENTS.now
 form_text word.People = NO_ARGUMENTS.now
 form_text word.Show = ONE_TASK.now
@@ -83,6 +89,7 @@ fault_text board count (NoForm word) = form_text word
 fault_text board count (NoDay word) = quoted_text word NO_DAY.now
 fault_text board count (NoPriority word) = quoted_text word NO_PRIORITY.now
 fault_text board count (NoTask word) = no_task_text word board count
+fault_text board count (NoBoard name) = quoted_text name NO_BOARD_HERE.now
 fault_text board count (BadLine line) = quoted_text line BAD_LINE.now
 fault_text board count (Lacks name) = lacking_text name
 fault_text board count (Unfit name) = unfit_text name

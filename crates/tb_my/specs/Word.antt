@@ -9,6 +9,12 @@ my_word_named name =
     if bytes_eq name (codes "list") then Some word.List
     else if bytes_eq name (codes "boards") then Some word.Boards
     else if bytes_eq name (codes "people") then Some word.People
+    else if bytes_eq name (codes "export") then Some word.Export
+    else if bytes_eq name (codes "todo") then Some word.Todo
+    else if bytes_eq name (codes "use") then Some word.Use
+    else if bytes_eq name (codes "undo") then Some word.Undo
+    else if bytes_eq name (codes "setup") then Some word.Setup
+    else if bytes_eq name (codes "import") then Some word.Import
     else if bytes_eq name (codes "show") then Some word.Show
     else if bytes_eq name (codes "add") then Some word.Add
     else if bytes_eq name (codes "change") then Some word.Change
@@ -28,5 +34,11 @@ abbrev pub is_of_task : MyWord → Bool
 is_of_task word.List = false
 is_of_task word.Boards = false
 is_of_task word.People = false
+is_of_task word.Export = false
+is_of_task word.Todo = false
+is_of_task word.Use = false
+is_of_task word.Undo = false
+is_of_task word.Setup = false
+is_of_task word.Import = false
 is_of_task word.Add = false
 is_of_task _ = true

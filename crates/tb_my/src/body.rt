@@ -2,33 +2,45 @@
 ghost use Rattle.std.specs.Prelude.{◌≡◌, IfOk, OnOk};
 ghost use Rattle.serde_json.specs.View.{members_view, view};
 ghost use Rattle.serde_json.specs.Written.{compact_text};
-ghost use Rattle.tb_my.specs.Body.{add_data, change_data, with_changed_tags, with_description, with_new_tags, with_setting, with_settings};
+ghost use Rattle.tb_my.specs.Body.{add_data, added_id, change_data, with_changed_tags, with_description, with_new_tags, with_setting, with_settings};
 
 use crate::part::Setting;
 use crate::said::Said;
 use crate::tags::tags_after;
 use serde_json::{Map, Value, put};
 use std::alloc::{AllocError, Global};
-use tb_json::{put_tags, put_text};
+use tb_json::{put_id, put_tags, put_text};
+use tb_task::TaskId;
 use tb_values::Text;
 
-/// The body that adds the task that words say.
-pub(crate) fn add_body(alloc: Global, said: &Said) -> Result<Text, AllocError>
-    ensures { IfOk result (λ body. body ≡ compact_text (add_data said.now)) }
+/// The body that adds the task that words say, under the identifier that is made of that of the call.
+pub(crate) fn add_body(alloc: Global, call: Option<TaskId>, said: &Said) -> Result<Text, AllocError>
+    ensures { IfOk result (λ body. body ≡ compact_text (add_data call said.now)) }
 {
-    let value = add_value(alloc, said)?;
+    let value = add_value(alloc, call, said)?;
     let text = value.to_string(alloc)?;
     Ok(Text::from_string(text))
 }
 
-fn add_value(alloc: Global, said: &Said) -> Result<Value, AllocError>
-    ensures { IfOk result (λ value. view value ≡ add_data said.now) }
+fn add_value(alloc: Global, call: Option<TaskId>, said: &Said) -> Result<Value, AllocError>
+    ensures { IfOk result (λ value. view value ≡ add_data call said.now) }
 {
     let mut object = Map::new(alloc);
     put_description(&mut object, alloc, said.description.as_str())?;
     put_tags(&mut object, alloc, said.tags.as_slice())?;
     put_settings(&mut object, alloc, said.settings.as_slice())?;
+    put_id(&mut object, alloc, "uuid", added_id(call))?;
     Ok(Value::Object(object))
+}
+
+/// The identifier of the task that a call adds: a call that is sent again adds the same one.
+fn added_id(call: Option<TaskId>) -> Option<TaskId>
+    ensures { result ≡ added_id call }
+{
+    match call {
+        Some(call) => Some(TaskId::named(call, "task".as_bytes())),
+        None => None,
+    }
 }
 
 /// The body that changes a task of these tags to what words say.

@@ -22,6 +22,8 @@ pub enum MyFault {
     NoPriority(Text),
     /// The board has no task on this place or of this uuid.
     NoTask(Text),
+    /// The person has no board of this number or title.
+    NoBoard(Text),
     /// It isn't one of the settings.
     BadLine(Text),
     /// The setting is missing.

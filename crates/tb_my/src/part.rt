@@ -5,8 +5,8 @@ ghost use Rattle.tb_my.specs.Part.{date_part, has_sign, named_part, other_part, 
 
 use crate::days::{after_key, moment_named};
 use crate::fault::{MyFault, no_day, no_priority};
+use crate::zone::Clock;
 use std::alloc::{AllocError, Global};
-use tb_task::Moment;
 use tb_values::Text;
 
 /// An attribute under its name, and what it is set to: nothing removes it.
@@ -28,9 +28,9 @@ pub(crate) enum Part {
     Plain,
 }
 
-/// What a word says at a moment.
-pub(crate) fn part_of(alloc: Global, now: Moment, word: &str) -> Result<Part, MyFault>
-    ensures { Reads result (part_of now word.now) }
+/// What a word says by a clock.
+pub(crate) fn part_of(alloc: Global, clock: &Clock, word: &str) -> Result<Part, MyFault>
+    ensures { Reads result (part_of clock.now word.now) }
 {
     if has_sign(word.as_bytes(), b'+') {
         return Ok(set_to(alloc, "project", after_sign(word))?);
@@ -40,26 +40,26 @@ pub(crate) fn part_of(alloc: Global, now: Moment, word: &str) -> Result<Part, My
     }
     match after_key(word, "-@") {
         Some(tag) => Ok(Part::Untag(Text::from_str(alloc, tag)?)),
-        None => named_part(alloc, now, word),
+        None => named_part(alloc, clock, word),
     }
 }
 
 /// A date, or another attribute, by the key in front.
 #[tactic(auto, unfolding(crate::specs::Part::named_part))]
-fn named_part(alloc: Global, now: Moment, word: &str) -> Result<Part, MyFault>
-    ensures { Reads result (named_part now word.now) }
+fn named_part(alloc: Global, clock: &Clock, word: &str) -> Result<Part, MyFault>
+    ensures { Reads result (named_part clock.now word.now) }
 {
     if let Some(value) = after_key(word, "due:") {
-        return date_part(alloc, now, "due", value);
+        return date_part(alloc, clock, "due", value);
     }
     if let Some(value) = after_key(word, "wait:") {
-        return date_part(alloc, now, "wait", value);
+        return date_part(alloc, clock, "wait", value);
     }
     if let Some(value) = after_key(word, "scheduled:") {
-        return date_part(alloc, now, "scheduled", value);
+        return date_part(alloc, clock, "scheduled", value);
     }
     if let Some(value) = after_key(word, "until:") {
-        return date_part(alloc, now, "until", value);
+        return date_part(alloc, clock, "until", value);
     }
     other_part(alloc, word)
 }
@@ -83,13 +83,13 @@ fn other_part(alloc: Global, word: &str) -> Result<Part, MyFault>
     Ok(Part::Plain)
 }
 
-fn date_part(alloc: Global, now: Moment, name: &str, value: &str) -> Result<Part, MyFault>
-    ensures { Reads result (date_part now name.now value.now) }
+fn date_part(alloc: Global, clock: &Clock, name: &str, value: &str) -> Result<Part, MyFault>
+    ensures { Reads result (date_part clock.now name.now value.now) }
 {
     if value.is_empty() {
         return Ok(removal(alloc, name)?);
     }
-    match moment_named(now, value) {
+    match moment_named(clock, value) {
         Some(moment) => Ok(set_to(alloc, name, moment.text(alloc)?.as_str())?),
         None => Err(no_day(alloc, value)),
     }
@@ -134,14 +134,14 @@ fn removal(alloc: Global, name: &str) -> Result<Part, AllocError>
 }
 
 /// Whether a sign stands first, with at least one character after it.
-fn has_sign(word: &[u8], sign: u8) -> bool
+pub(crate) fn has_sign(word: &[u8], sign: u8) -> bool
     ensures { result ≡ has_sign sign word.now }
 {
     word.len() > 1 && word[0] == sign
 }
 
 /// What follows the sign of a word.
-fn after_sign(word: &str) -> &str
+pub(crate) fn after_sign(word: &str) -> &str
     requires long { 1 < length word.now }
     requires sign { slice_index word.now 0 < 128 }
     ensures { result.now ≡ drop 1 word.now }

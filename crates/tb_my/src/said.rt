@@ -5,8 +5,8 @@ ghost use Rattle.tb_my.specs.Said.{nothing_said, said_of, with_part, with_plain}
 
 use crate::fault::MyFault;
 use crate::part::{Part, Setting, part_of};
+use crate::zone::Clock;
 use std::alloc::{AllocError, Global};
-use tb_task::Moment;
 use tb_values::{Items, Text};
 
 /// The attributes that are set, the tags that are added and taken, and the description, as far as words say.
@@ -18,13 +18,13 @@ pub(crate) struct Said {
     pub(crate) description: Text,
 }
 
-/// What words say at a moment.
-pub(crate) fn said_of(alloc: Global, now: Moment, words: &[Text]) -> Result<Said, MyFault>
-    ensures { Reads result (said_of now words.now) }
+/// What words say by a clock.
+pub(crate) fn said_of(alloc: Global, clock: &Clock, words: &[Text]) -> Result<Said, MyFault>
+    ensures { Reads result (said_of clock.now words.now) }
 {
     let mut said = Said::new(alloc);
     for word in words {
-        let part = part_of(alloc, now, word.as_str())?;
+        let part = part_of(alloc, clock, word.as_str())?;
         said.take(part, word.as_str())?;
     }
     Ok(said)

@@ -1,5 +1,5 @@
 //! What the words of `my` ask a server for.
-ghost use Rattle.std.specs.Prelude.{◌≡◌, ◌∷◌, [], IfOk};
+ghost use Rattle.std.specs.Prelude.{◌≡◌, ◌∷◌, [], IfOk, None};
 ghost use Rattle.tb_my.specs.Outcome.{Reads};
 ghost use Rattle.tb_my.specs.Sent.{add_call, board_view, boards_view, calls_of, change_call, change_sent, changed, link_call, looks, note_call, note_sent, sent_for, sent_of, show_view, spaced, task_call, task_calls};
 
@@ -9,8 +9,9 @@ use crate::look::{Seen, task_named};
 use crate::said::{Said, said_of};
 use crate::telling::{told_link, told_task};
 use crate::word::MyWord;
+use crate::zone::Clock;
 use std::alloc::{AllocError, Global};
-use tb_task::Moment;
+use tb_task::TaskId;
 use tb_values::{Items, Text};
 
 const ADDED: &str = "Added: ";
@@ -40,6 +41,8 @@ const CHANGED: &str = "Changed: ";
 pub struct Sent {
     pub words: Items<Text>,
     pub told: Text,
+    /// The identifier under which it has to be sent, where the words rest on it.
+    pub call: Option<TaskId>,
 }
 
 /// Whether the words are answered by a look at the board first: those behind which tasks stand.
@@ -55,21 +58,22 @@ pub fn looks(words: &[Text]) -> bool
     }
 }
 
-/// What the words of `my` ask for at a moment, of a board whose tasks were seen.
+/// What the words of `my` ask for by a clock, of a board whose tasks were seen.
 pub fn sent_of(
     alloc: Global,
-    now: Moment,
+    clock: &Clock,
+    call: Option<TaskId>,
     board: &Text,
     tasks: &[Seen],
     words: &[Text],
 ) -> Result<Items<Sent>, MyFault>
-    ensures { Reads result (sent_of now board.now tasks.now words.now) }
+    ensures { Reads result (sent_of clock.now call board.now tasks.now words.now) }
 {
     let Some((first, rest)) = words.split_first() else {
-        return board_view(alloc, MyWord::List, "list", board, words);
+        return board_view(alloc, MyWord::List, "export", board, words);
     };
     match MyWord::read(first.as_str()) {
-        Some(word) => sent_for(alloc, now, board, tasks, word, rest),
+        Some(word) => sent_for(alloc, clock, call, board, tasks, word, rest),
         None => Err(no_word(alloc, first.as_str())),
     }
 }
@@ -77,21 +81,26 @@ pub fn sent_of(
 #[tactic(auto, unfolding(crate::specs::Sent::sent_for))]
 fn sent_for(
     alloc: Global,
-    now: Moment,
+    clock: &Clock,
+    call: Option<TaskId>,
     board: &Text,
     tasks: &[Seen],
     word: MyWord,
     rest: &[Text],
 ) -> Result<Items<Sent>, MyFault>
-    ensures { Reads result (sent_for now board.now tasks.now word rest.now) }
+    ensures { Reads result (sent_for clock.now call board.now tasks.now word rest.now) }
 {
     match word {
-        MyWord::List => board_view(alloc, word, "list", board, rest),
+        MyWord::List => board_view(alloc, word, "export", board, &[]),
         MyWord::Boards => boards_view(alloc, rest),
         MyWord::People => board_view(alloc, word, "people", board, rest),
+        MyWord::Export => board_view(alloc, word, "export", board, rest),
+        MyWord::Todo => board_view(alloc, word, "todo", board, rest),
+        // These ask for nothing by themselves.
+        MyWord::Use | MyWord::Undo | MyWord::Setup | MyWord::Import => Err(MyFault::NoForm(word)),
         MyWord::Show => show_view(alloc, board, tasks, rest),
-        MyWord::Add => add_call(alloc, now, board, rest),
-        MyWord::Change => change_call(alloc, now, board, tasks, rest),
+        MyWord::Add => add_call(alloc, clock, call, board, rest),
+        MyWord::Change => change_call(alloc, clock, board, tasks, rest),
         MyWord::Done => task_calls(alloc, word, "done", DONE, board, tasks, rest),
         MyWord::Delete => task_calls(alloc, word, "delete", DELETED, board, tasks, rest),
         MyWord::Reopen => task_calls(alloc, word, "reopen", REOPENED, board, tasks, rest),
@@ -149,27 +158,35 @@ fn show_view(
 }
 
 /// A new task, which needs a description.
-fn add_call(alloc: Global, now: Moment, board: &Text, rest: &[Text]) -> Result<Items<Sent>, MyFault>
-    ensures { Reads result (add_call now board.now rest.now) }
+fn add_call(
+    alloc: Global,
+    clock: &Clock,
+    call: Option<TaskId>,
+    board: &Text,
+    rest: &[Text],
+) -> Result<Items<Sent>, MyFault>
+    ensures { Reads result (add_call clock.now call board.now rest.now) }
 {
-    let said = said_of(alloc, now, rest)?;
+    let said = said_of(alloc, clock, rest)?;
     if said.description.is_empty() {
         return Err(MyFault::NoForm(MyWord::Add));
     }
-    let body = add_body(alloc, &said)?;
+    let body = add_body(alloc, call, &said)?;
     let words = three_words(alloc, "add", board.as_str(), body.as_str())?;
     let told = told_task(alloc, ADDED, said.description.as_str())?;
-    Ok(one_sent(alloc, words, told)?)
+    let mut sent = Items::new(alloc);
+    sent.push(Sent { words, told, call })?;
+    Ok(sent)
 }
 
 fn change_call(
     alloc: Global,
-    now: Moment,
+    clock: &Clock,
     board: &Text,
     tasks: &[Seen],
     rest: &[Text],
 ) -> Result<Items<Sent>, MyFault>
-    ensures { Reads result (change_call now board.now tasks.now rest.now) }
+    ensures { Reads result (change_call clock.now board.now tasks.now rest.now) }
 {
     let [named, said @ ..] = rest else {
         return Err(MyFault::NoForm(MyWord::Change));
@@ -180,19 +197,19 @@ fn change_call(
     let Some(task) = task_named(tasks, named.as_str()) else {
         return Err(no_task(alloc, named.as_str()));
     };
-    changed(alloc, now, board, task, said)
+    changed(alloc, clock, board, task, said)
 }
 
 fn changed(
     alloc: Global,
-    now: Moment,
+    clock: &Clock,
     board: &Text,
     task: &Seen,
     words: &[Text],
 ) -> Result<Items<Sent>, MyFault>
-    ensures { Reads result (changed now board.now task.now words.now) }
+    ensures { Reads result (changed clock.now board.now task.now words.now) }
 {
-    let said = said_of(alloc, now, words)?;
+    let said = said_of(alloc, clock, words)?;
     Ok(change_sent(alloc, board, task, &said)?)
 }
 
@@ -262,7 +279,11 @@ fn task_call(
     };
     let words = three_words(alloc, name, board.as_str(), task.id.text(alloc)?.as_str())?;
     let told = told_task(alloc, verb, task.description.as_str())?;
-    Ok(Sent { words, told })
+    Ok(Sent {
+        words,
+        told,
+        call: None,
+    })
 }
 
 /// A note, of the words behind the task.
@@ -341,10 +362,14 @@ fn link_call(
 }
 
 fn one_sent(alloc: Global, words: Items<Text>, told: Text) -> Result<Items<Sent>, AllocError>
-    ensures { IfOk result (λ sent. sent ≡ (record { words = words; told = told }) ∷ []) }
+    ensures { IfOk result (λ sent. sent ≡ (record { words = words; told = told; call = None }) ∷ []) }
 {
     let mut sent = Items::new(alloc);
-    sent.push(Sent { words, told })?;
+    sent.push(Sent {
+        words,
+        told,
+        call: None,
+    })?;
     Ok(sent)
 }
 
@@ -364,7 +389,12 @@ fn two_words(alloc: Global, one: &str, two: &str) -> Result<Items<Text>, AllocEr
     Ok(words)
 }
 
-fn three_words(alloc: Global, one: &str, two: &str, three: &str) -> Result<Items<Text>, AllocError>
+pub(crate) fn three_words(
+    alloc: Global,
+    one: &str,
+    two: &str,
+    three: &str,
+) -> Result<Items<Text>, AllocError>
     ensures { IfOk result (λ words. words ≡ one.now ∷ two.now ∷ three.now ∷ []) }
 {
     let mut words = two_words(alloc, one, two)?;

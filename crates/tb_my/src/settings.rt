@@ -1,16 +1,16 @@
 //! The settings of `my`: whom to ask, as whom, and of which board.
 ghost use Rattle.std.specs.List.{slice_split};
-ghost use Rattle.std.specs.Prelude.{◌≡◌, IfOk, OnOk, map, option_map};
-ghost use Rattle.std.specs.Str.{trim};
+ghost use Rattle.std.specs.Prelude.{◌≡◌, IfOk, is_some, map, option_map};
+ghost use Rattle.tb_board.specs.Names.{read_title};
 ghost use Rattle.tb_my.specs.Outcome.{Reads};
 ghost use Rattle.tb_my.specs.Settings.{asker_of, board_of, is_note, lines_of, name_of, no_settings, or_setting, server_of, settings_of, settings_over, value_of, with_line};
 
 use crate::days::after_key;
 use crate::fault::{MyFault, bad_line};
 use std::alloc::{AllocError, Global};
-use tb_board::Name;
+use tb_board::{Name, Title};
 use tb_command_line::is_server;
-use tb_values::{Text, read_number};
+use tb_values::Text;
 
 /// What a setting is of.
 #[derive(Clone, Copy, Debug, PartialEq, Eq)]
@@ -38,7 +38,7 @@ pub struct Asker {
     /// An address and a port.
     pub server: Text,
     pub name: Name,
-    /// The number of a board.
+    /// The number of a board, or its title.
     pub board: Text,
     /// Where the key is, if not where `send` reads it.
     pub key_file: Option<Text>,
@@ -62,7 +62,7 @@ pub fn read_settings(alloc: Global, text: &str) -> Result<Settings, MyFault>
     Ok(settings)
 }
 
-fn lines_of(alloc: Global, text: &str) -> Result<Vec<&str>, AllocError>
+pub(crate) fn lines_of(alloc: Global, text: &str) -> Result<Vec<&str>, AllocError>
     ensures { IfOk result (λ lines. map (λ line. line.now) lines.items ≡ lines_of text.now) }
 {
     text.split('\n').collect(alloc)
@@ -100,7 +100,7 @@ fn is_note(line: &str) -> bool
 }
 
 /// What stands behind a name and `=`.
-fn value_of<'t>(line: &'t str, name: &str) -> Option<&'t str>
+pub(crate) fn value_of<'t>(line: &'t str, name: &str) -> Option<&'t str>
     ensures { option_map (λ value. value.now) result ≡ value_of line.now name.now }
 {
     let rest = after_key(line, name)?;
@@ -135,7 +135,7 @@ pub fn asker_of(alloc: Global, settings: Settings) -> Result<Asker, MyFault>
 {
     let server = server_of(settings.server)?;
     let name = name_of(alloc, settings.name)?;
-    let board = board_of(settings.board)?;
+    let board = board_of(alloc, settings.board)?;
     Ok(Asker {
         server,
         name,
@@ -169,15 +169,22 @@ fn name_of(alloc: Global, setting: Option<Text>) -> Result<Name, MyFault>
     }
 }
 
-fn board_of(setting: Option<Text>) -> Result<Text, MyFault>
+fn board_of(alloc: Global, setting: Option<Text>) -> Result<Text, MyFault>
     ensures { Reads result (board_of setting) }
 {
     let Some(text) = setting else {
         return Err(MyFault::Lacks(SettingName::Board));
     };
-    if read_number(text.as_str(), u32::MAX).is_some() {
+    if is_board(alloc, text.as_str())? {
         Ok(text)
     } else {
         Err(MyFault::Unfit(SettingName::Board))
     }
+}
+
+/// Whether a text can be a board's title, as each number can.
+fn is_board(alloc: Global, text: &str) -> Result<bool, AllocError>
+    ensures { IfOk result (λ is. is ≡ is_some (read_title text.now)) }
+{
+    Ok(Title::read(alloc, text)?.is_some())
 }

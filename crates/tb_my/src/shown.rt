@@ -88,13 +88,13 @@ fn person_line(alloc: Global, person: &Value) -> Result<Option<Text>, AllocError
     }
 }
 
-fn number_at(value: &Value, name: &str) -> Option<u64>
+pub(crate) fn number_at(value: &Value, name: &str) -> Option<u64>
     ensures { result ≡ number_at name.now (view value.now) }
 {
     value.get(name)?.as_u64()
 }
 
-fn text_at<'v>(value: &'v Value, name: &str) -> Option<&'v str>
+pub(crate) fn text_at<'v>(value: &'v Value, name: &str) -> Option<&'v str>
     ensures { option_map (λ text. text.now) result ≡ text_at name.now (view value.now) }
 {
     value.get(name).and_then(Value::as_str)

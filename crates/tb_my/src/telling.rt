@@ -25,6 +25,16 @@ const BAD_LINE: &str =
 
 const NO_ARGUMENTS: &str = "Nothing belongs behind this word. `tb --help` says what each takes.";
 
+const LIST_WORDS: &str =
+    "Behind `list` belong +PROJECT, @TAG, for:NAME, mine, due:today, due:week, overdue, blocked, waiting, done:week or a text, --sort urgency, due or project, and --json.";
+
+const ONE_BOARD: &str = "One board belongs behind `use`: its number or its title.";
+
+const ONE_FILE: &str =
+    "One file belongs behind `import`, or - for standard input: JSON, or lines of todo.txt.";
+
+const NO_BOARD_HERE: &str = " is no board of yours. `tb boards` lists them.";
+
 const ONE_TASK: &str = "One task belongs behind `show`: its number in the list, or its uuid.";
 
 const TASKS: &str =
@@ -63,7 +73,7 @@ const BAD_NAME: &str =
     "A name has 1 to 32 bytes of a to z, 0 to 9, _ and -. Mend the line `name = ..` of ~/.config/taskboard/config, or TASKBOARD_NAME.";
 
 const BAD_BOARD: &str =
-    "A board is named by its number, from 1. `tb boards` lists yours. Mend the line `board = ..` of ~/.config/taskboard/config, or TASKBOARD_BOARD.";
+    "A board is named by its number or its title. `tb boards` lists yours. Mend the line `board = ..` of ~/.config/taskboard/config, or TASKBOARD_BOARD.";
 
 const UNKNOWN_CALLER: &str =
     "The server knows nobody of this name and key. Look at the name in ~/.config/taskboard/config, and at the key.";
@@ -117,7 +127,7 @@ pub(crate) fn told_link(
 
 /// Puts a text at the end, with a space for each control character, which a terminal might obey.
 #[tactic(auto, unfolding(crate::specs::Telling::shown_text))]
-pub(crate) fn push_shown(told: &mut String, text: &str) -> Result<(), AllocError>
+pub fn push_shown(told: &mut String, text: &str) -> Result<(), AllocError>
     ensures { OnOk result (string_bytes told.new ≡ string_bytes told.old ++ shown_text text.now) }
 {
     for character in text.chars() {
@@ -152,6 +162,7 @@ pub fn fault_text(
         MyFault::NoDay(word) => quoted_text(alloc, word.as_str(), NO_DAY),
         MyFault::NoPriority(word) => quoted_text(alloc, word.as_str(), NO_PRIORITY),
         MyFault::NoTask(word) => no_task_text(alloc, word.as_str(), board, count),
+        MyFault::NoBoard(name) => quoted_text(alloc, name.as_str(), NO_BOARD_HERE),
         MyFault::BadLine(line) => quoted_text(alloc, line.as_str(), BAD_LINE),
         MyFault::Lacks(name) => Text::from_str(alloc, lacking_text(*name)),
         MyFault::Unfit(name) => Text::from_str(alloc, unfit_text(*name)),
@@ -183,7 +194,15 @@ fn form_text(word: MyWord) -> &'static str
     ensures { result.now ≡ form_text word }
 {
     match word {
-        MyWord::List | MyWord::Boards | MyWord::People => NO_ARGUMENTS,
+        MyWord::List => LIST_WORDS,
+        MyWord::Boards
+        | MyWord::People
+        | MyWord::Export
+        | MyWord::Todo
+        | MyWord::Undo
+        | MyWord::Setup => NO_ARGUMENTS,
+        MyWord::Use => ONE_BOARD,
+        MyWord::Import => ONE_FILE,
         MyWord::Show => ONE_TASK,
         MyWord::Add => NEW_TASK,
         MyWord::Change => CHANGES,

@@ -8,6 +8,12 @@ pub enum MyWord {
     List,
     Boards,
     People,
+    Export,
+    Todo,
+    Use,
+    Undo,
+    Setup,
+    Import,
     Show,
     Add,
     Change,
@@ -32,6 +38,12 @@ impl MyWord {
             "list" => MyWord::List,
             "boards" => MyWord::Boards,
             "people" => MyWord::People,
+            "export" => MyWord::Export,
+            "todo" => MyWord::Todo,
+            "use" => MyWord::Use,
+            "undo" => MyWord::Undo,
+            "setup" => MyWord::Setup,
+            "import" => MyWord::Import,
             "show" => MyWord::Show,
             "add" => MyWord::Add,
             "change" => MyWord::Change,
@@ -49,12 +61,21 @@ impl MyWord {
         Some(word)
     }
 
-    /// Whether tasks stand behind the word.
+    /// Whether tasks follow the word.
     pub(crate) fn is_of_task(self) -> bool
         ensures { result ≡ is_of_task self }
     {
         match self {
-            MyWord::List | MyWord::Boards | MyWord::People | MyWord::Add => false,
+            MyWord::List
+            | MyWord::Boards
+            | MyWord::People
+            | MyWord::Export
+            | MyWord::Todo
+            | MyWord::Use
+            | MyWord::Undo
+            | MyWord::Setup
+            | MyWord::Import
+            | MyWord::Add => false,
             MyWord::Show
             | MyWord::Change
             | MyWord::Done

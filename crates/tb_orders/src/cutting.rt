@@ -32,7 +32,7 @@ impl Model for Cutting {
 }
 
 /// The parts of a text, or none where a line is longer than a part.
-pub(crate) fn parts_of(
+pub fn parts_of(
     alloc: Global,
     kind: ImportKind,
     text: Items<u8>,

@@ -24,6 +24,7 @@ mod whole;
 mod words;
 
 pub use auditing::print_audit;
+pub use cutting::parts_of;
 pub use elsewhere::kept_key;
 pub use ending::{Ending, fault_of_keep};
 pub use exporting::{Export, print_stored_view};

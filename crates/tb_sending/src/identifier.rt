@@ -20,7 +20,7 @@ pub fn name_call(rt: &HostRuntime, order: &mut SendOrder)
 }
 
 /// A random identifier, where the machine gives random bytes.
-pub(crate) fn new_id(rt: &HostRuntime) -> Option<TaskId>
+pub fn new_id(rt: &HostRuntime) -> Option<TaskId>
     ensures { IfSome result IsRandom }
 {
     let mut bytes = [0u8; 16];

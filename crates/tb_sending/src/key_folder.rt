@@ -29,19 +29,39 @@ const NEW: &str = "key.new";
 
 const NEXT: &str = "key.next";
 
-/// The folder `.config/taskboard` of a home.
+/// The folder `.config/taskboard` of a home: that of the key, and of the settings of `my`.
 #[derive(Drop)]
-pub(crate) struct KeyFolder<'a> {
+pub struct KeyFolder<'a> {
     rt: &'a HostRuntime,
     path: String,
 }
 
 impl<'a> KeyFolder<'a> {
     /// The folder of this user's home, where the machine tells it.
-    pub(crate) fn at_home(rt: &'a HostRuntime) -> Option<KeyFolder<'a>> {
-        let home = env::home_dir(rt).ok()??;
-        let path = format!(in rt.alloc(); "{}/.config/taskboard", home.as_str()).ok()?;
+    pub fn at_home(rt: &'a HostRuntime) -> Option<KeyFolder<'a>> {
+        let path = path_at_home(rt, ".config/taskboard")?;
         Some(KeyFolder { rt, path })
+    }
+
+    /// Makes the folder, where it isn't there.
+    pub fn make(&self) -> Result<(), Fault>
+        ensures fault { IfErr result (λ fault. is_of_sending fault ≡ true) }
+    {
+        match fs::create_dir_all(self.rt, self.path.as_str()) {
+            Ok(()) => Ok(()),
+            Err(_) => Err(Fault::Store),
+        }
+    }
+
+    /// Whether the folder has a file of this name, or may have one.
+    pub fn has(&self, name: &str) -> bool {
+        let Ok(path) = self.path_of(name) else {
+            return true;
+        };
+        match fs::metadata(self.rt, path.as_str()) {
+            Ok(_) => true,
+            Err(error) => error.kind() != ErrorKind::NotFound,
+        }
     }
 
     fn path_of(&self, name: &str) -> Result<String, AllocError> {
@@ -59,24 +79,13 @@ impl<'a> KeyFolder<'a> {
     }
 
     /// The text of a file, unless others may read or write it.
-    fn private_text(&self, name: &str) -> Option<String> {
-        let path = self.path_of(name).ok()?;
-        let found = fs::metadata(self.rt, path.as_str()).ok()?;
-        if found.permissions().mode() & OTHERS != 0 {
-            return None;
-        }
-        fs::read_to_string(self.rt, path.as_str()).ok()
+    pub fn private_text(&self, name: &str) -> Option<String> {
+        private_text(self.rt, self.path_of(name).ok()?.as_str())
     }
 
     /// Whether a change was begun, or may have been.
     pub(crate) fn has_change(&self) -> bool {
-        let Ok(path) = self.path_of(NEW) else {
-            return true;
-        };
-        match fs::metadata(self.rt, path.as_str()) {
-            Ok(_) => true,
-            Err(error) => error.kind() != ErrorKind::NotFound,
-        }
+        self.has(NEW)
     }
 
     /// What `key.new` is to an order.
@@ -138,7 +147,8 @@ impl<'a> KeyFolder<'a> {
         self.sync()
     }
 
-    fn put(&self, name: &str, text: &str) -> Result<(), Fault>
+    /// Gives a file this text, which its owner alone may read. At each moment it has its old text or the new one.
+    pub fn put(&self, name: &str, text: &str) -> Result<(), Fault>
         ensures fault { IfErr result (λ fault. is_of_sending fault ≡ true) }
     {
         match self.replace(name, text) {
@@ -169,8 +179,23 @@ impl<'a> KeyFolder<'a> {
     }
 }
 
+/// A path below this user's home, where the machine tells one.
+pub fn path_at_home(rt: &HostRuntime, rest: &str) -> Option<String> {
+    let home = env::home_dir(rt).ok()??;
+    format!(in rt.alloc(); "{}/{rest}", home.as_str()).ok()
+}
+
+/// The text of a file, unless others may read or write it.
+pub fn private_text(rt: &HostRuntime, path: &str) -> Option<String> {
+    let found = fs::metadata(rt, path).ok()?;
+    if found.permissions().mode() & OTHERS != 0 {
+        return None;
+    }
+    fs::read_to_string(rt, path).ok()
+}
+
 /// The key that the text of a file is, without the white space at its end.
-fn key_in_file(alloc: Global, text: &str) -> Result<Option<Key>, AllocError>
+pub fn key_in_file(alloc: Global, text: &str) -> Result<Option<Key>, AllocError>
     ensures { IfOk result (λ found. found ≡ read_key (trim_end text.now)) }
 {
     Key::read(alloc, text.trim_end())

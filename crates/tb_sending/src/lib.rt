@@ -14,6 +14,7 @@ mod sending;
 mod server_line;
 mod settling;
 
-pub use identifier::name_call;
+pub use identifier::{name_call, new_id};
+pub use key_folder::{KeyFolder, key_in_file, path_at_home, private_text};
 pub use sending::send_order;
 pub use server_line::ServerLine;

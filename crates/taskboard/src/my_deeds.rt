@@ -1,0 +1,255 @@
+//! The words of `my` that ask for more than one call, or for none: they read and write files.
+ghost use Rattle.std.specs.Prelude.{◌≡◌, IfErr, true};
+ghost use Rattle.taskboard.specs.Orders.{is_of_mine};
+
+use crate::mine::{Answer, Caller, Named, ask, number_of, refused, wrong};
+use crate::my_settings::{CONFIG, config_text};
+use std::io::{BufRead, BufReader, Read, Write};
+use std::{fs, str};
+use tb_board::Key;
+use tb_command_line::ImportKind;
+use tb_my::{
+    MyFault, Sent, SettingName, asker_of, import_told, import_words, is_json, kept_sent,
+    read_settings, settings_text, undo_head, undone_in, with_board,
+};
+use tb_orders::{Ending, parts_of};
+use tb_program::{Fault, print_line};
+use tb_sending::KeyFolder;
+use tb_values::{Duplicate, Items, Text};
+
+/// What takes back the last calls, in the folder of the key.
+const UNDO: &str = "undo";
+
+const KEY: &str = "key";
+
+const NOTHING: &str = "There is nothing to take back.";
+
+const NO_HOME: &str = "This machine tells no home, so nothing can be kept in ~/.config/taskboard.";
+
+const UNREAD: &str = "That file can't be read, or isn't UTF-8.";
+
+const LONG_LINE: &str = "A task is longer than 1,048,576 bytes. Nothing was imported.";
+
+const WRITTEN: &str = "Written: ~/.config/taskboard/config. Try it: tb boards";
+
+/// Keeps what takes back a call that was accepted, behind what takes back those before it.
+pub(crate) fn keep_undo(
+    rt: &HostRuntime,
+    caller: &Caller,
+    sent: &Sent,
+    kept: &mut Text,
+) -> Result<(), Fault>
+    ensures { IfErr result (λ fault. is_of_mine fault ≡ true) }
+{
+    let line = kept_sent(rt.alloc(), sent)?;
+    if line.is_empty() {
+        return Ok(());
+    }
+    if kept.is_empty() {
+        let asker = &caller.asker;
+        *kept = undo_head(rt.alloc(), asker.server.as_str(), asker.name.as_str())?;
+    }
+    kept.push_str(line.as_str())?;
+    if let Some(folder) = KeyFolder::at_home(rt) {
+        let _ = folder.make();
+        let _ = folder.put(UNDO, kept.as_str());
+    }
+    Ok(())
+}
+
+/// Takes back the last calls of this person to this server.
+pub(crate) fn undo<W: Write>(
+    rt: &HostRuntime,
+    caller: &Caller,
+    writer: &mut W,
+) -> Result<Ending, Fault>
+    ensures { IfErr result (λ fault. is_of_mine fault ≡ true) }
+{
+    let Some(folder) = KeyFolder::at_home(rt) else {
+        return told(rt, NO_HOME);
+    };
+    let Some(kept) = folder.private_text(UNDO) else {
+        return told(rt, NOTHING);
+    };
+    let asker = &caller.asker;
+    let all = undone_in(
+        rt.alloc(),
+        asker.server.as_str(),
+        asker.name.as_str(),
+        kept.as_str(),
+    )?;
+    if all.is_empty() {
+        return told(rt, NOTHING);
+    }
+    let mut ending = Ending::Accepted;
+    for sent in all.as_slice() {
+        let answer = ask(rt, caller, sent.words.duplicate()?, None)?;
+        if answer.ending == Ending::Refused {
+            ending = refused(rt, &answer)?;
+        } else {
+            print_line(writer, sent.told.as_str())?;
+        }
+    }
+    let _ = folder.put(UNDO, "");
+    Ok(ending)
+}
+
+/// Tells why nothing is done, which is a refusal.
+fn told(rt: &HostRuntime, text: &str) -> Result<Ending, Fault>
+    ensures { IfErr result (λ fault. is_of_mine fault ≡ true) }
+{
+    let _ = print_line(&mut rt.stderr(), text);
+    Ok(Ending::Refused)
+}
+
+/// Writes another board into the settings, if it is there.
+pub(crate) fn use_board<W: Write>(
+    rt: &HostRuntime,
+    caller: &Caller,
+    board: &Text,
+    writer: &mut W,
+) -> Result<Ending, Fault>
+    ensures { IfErr result (λ fault. is_of_mine fault ≡ true) }
+{
+    if let Named::Ended(ending) = number_of(rt, caller, board.as_str())? {
+        return Ok(ending);
+    }
+    let Some(folder) = KeyFolder::at_home(rt) else {
+        return told(rt, NO_HOME);
+    };
+    let text = match config_text(rt) {
+        Ok(text) => text,
+        Err(fault) => return wrong(rt, "", 0, &fault),
+    };
+    folder.make()?;
+    let text = with_board(rt.alloc(), text.as_str(), board.as_str())?;
+    folder.put(CONFIG, text.as_str())?;
+    let line = format!(in rt.alloc(); "From now on: board {}", board.as_str())?;
+    print_line(writer, line.as_str())?;
+    Ok(Ending::Accepted)
+}
+
+/// Asks whom to ask, and writes it into the settings.
+pub(crate) fn set_up<R: Read + Drop, W: Write>(
+    rt: &HostRuntime,
+    reader: R,
+    writer: &mut W,
+) -> Result<Ending, Fault>
+    ensures { IfErr result (λ fault. is_of_mine fault ≡ true) }
+{
+    let Some(folder) = KeyFolder::at_home(rt) else {
+        return told(rt, NO_HOME);
+    };
+    let Ok(mut reader) = BufReader::new(rt.alloc(), reader) else {
+        return Err(Fault::Memory);
+    };
+    let server = answer_to(rt, &mut reader, writer, "Server, as 127.0.0.1:8080: ")?;
+    let name = answer_to(rt, &mut reader, writer, "Your name: ")?;
+    let board = answer_to(rt, &mut reader, writer, "Board, its number or title: ")?;
+    let text = settings_text(rt.alloc(), server.as_str(), name.as_str(), board.as_str())?;
+    if let Err(fault) = tried(rt, text.as_str()) {
+        return wrong(rt, "", 0, &fault);
+    }
+    folder.make()?;
+    folder.put(CONFIG, text.as_str())?;
+    if !folder.has(KEY) {
+        let key = answer_to(rt, &mut reader, writer, "Your key, or nothing: ")?;
+        if !key.is_empty() {
+            if Key::read(rt.alloc(), key.as_str())?.is_none() {
+                return wrong(rt, "", 0, &MyFault::Unfit(SettingName::KeyFile));
+            }
+            let line = format!(in rt.alloc(); "{}\n", key.as_str())?;
+            folder.put(KEY, line.as_str())?;
+        }
+    }
+    print_line(writer, WRITTEN)?;
+    Ok(Ending::Accepted)
+}
+
+/// Whether settings can be read and are whole.
+fn tried(rt: &HostRuntime, text: &str) -> Result<(), MyFault> {
+    let settings = read_settings(rt.alloc(), text)?;
+    let _asker = asker_of(rt.alloc(), settings)?;
+    Ok(())
+}
+
+/// The next line of an input, without the white space around it, after a question.
+fn answer_to<R: Read + Drop, W: Write>(
+    rt: &HostRuntime,
+    reader: &mut BufReader<R>,
+    writer: &mut W,
+    question: &str,
+) -> Result<Text, Fault>
+    ensures { IfErr result (λ fault. is_of_mine fault ≡ true) }
+{
+    if writer.write_all(question.as_bytes()).is_err() || writer.flush().is_err() {
+        return Err(Fault::WriteFailed);
+    }
+    let mut line = String::new(rt.alloc());
+    if reader.read_line(&mut line).is_err() {
+        return Err(Fault::ReadFailed);
+    }
+    Ok(Text::from_str(rt.alloc(), line.as_str().trim())?)
+}
+
+/// Imports a file, or standard input, of any length, in parts.
+pub(crate) fn import_file<R: Read + Drop, W: Write>(
+    rt: &HostRuntime,
+    caller: &Caller,
+    path: &str,
+    reader: R,
+    writer: &mut W,
+) -> Result<Ending, Fault>
+    ensures { IfErr result (λ fault. is_of_mine fault ≡ true) }
+{
+    let Some(text) = text_of(rt, path, reader) else {
+        return told(rt, UNREAD);
+    };
+    let kind = if is_json(text.as_str()) {
+        ImportKind::Json
+    } else {
+        ImportKind::Todo
+    };
+    let bytes = Items::from_vec(Vec::from_slice(rt.alloc(), text.as_bytes())?);
+    let Some(parts) = parts_of(rt.alloc(), kind, bytes)? else {
+        return told(rt, LONG_LINE);
+    };
+    for part in parts.as_slice() {
+        let answer = import_part(rt, caller, kind, part)?;
+        let Ok(body) = str::from_utf8(answer.body.as_slice()) else {
+            return Err(Fault::NoAnswer);
+        };
+        if answer.ending == Ending::Refused {
+            let _ = print_line(&mut rt.stderr(), body.trim_end());
+            return refused(rt, &answer);
+        }
+        print_line(writer, import_told(rt.alloc(), body)?.as_str())?;
+    }
+    Ok(Ending::Accepted)
+}
+
+fn import_part(
+    rt: &HostRuntime,
+    caller: &Caller,
+    kind: ImportKind,
+    part: &Items<u8>,
+) -> Result<Answer, Fault>
+    ensures { IfErr result (λ fault. is_of_mine fault ≡ true) }
+{
+    let Ok(text) = str::from_utf8(part.as_slice()) else {
+        return Err(Fault::BadBody);
+    };
+    let is_json = kind == ImportKind::Json;
+    let words = import_words(rt.alloc(), is_json, &caller.asker.board, text)?;
+    ask(rt, caller, words, None)
+}
+
+/// The text of a file, or of standard input where its name is a hyphen.
+fn text_of<R: Read + Drop>(rt: &HostRuntime, path: &str, mut reader: R) -> Option<String> {
+    if path != "-" {
+        return fs::read_to_string(rt, path).ok();
+    }
+    let mut text = String::new(rt.alloc());
+    reader.read_to_string(&mut text).ok()?;
+    Some(text)
+}

@@ -1,0 +1,9 @@
+pub mod Board
+pub mod Cells
+pub mod Json
+pub mod Listing
+pub mod Showing
+pub mod Order
+pub mod Table
+pub mod Tests
+pub mod Words

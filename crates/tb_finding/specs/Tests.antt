@@ -1,0 +1,129 @@
+-- What a task has to be to be found.
+use Rattle.std.specs.Prelude.{ℕ, Bool, true, false, ◌&&◌, ◌||◌, ◌==◌, ◌+◌, nat_le, nat_lt, List, [], ◌∷◌, ◌++◌, codes, Option, Some, None, if◌then◌else◌}
+use Rattle.std.specs.Str.{bytes_eq}
+use Rattle.tb_board.specs.Statuses.{is_pending_or_waiting}
+use Rattle.tb_finding.specs.Board.{Text}
+use Rattle.tb_my.specs.Days.{after_key}
+use Rattle.tb_my.specs.Zone.{day_at, is_timed, today}
+use Rattle.tb_my.specs.declared.query.Days.{Days}
+use Rattle.tb_my.specs.declared.query.Query.{Query}
+use Rattle.tb_my.specs.declared.query.Test.{Test}
+use Rattle.tb_my.specs.declared.query.Test.TheVariants as test
+use Rattle.tb_my.specs.declared.zone.Clock.{Clock}
+use Rattle.tb_report.specs.Urgencies.{is_waiting_now}
+use Rattle.tb_task.specs.declared.extra.Extra.{Extra}
+use Rattle.tb_task.specs.declared.extra.ExtraValue.{ExtraValue}
+use Rattle.tb_task.specs.declared.extra.ExtraValue.TheVariants as extra
+use Rattle.tb_task.specs.declared.status.Status.{Status}
+use Rattle.tb_task.specs.declared.status.Status.TheVariants as status
+use Rattle.tb_task.specs.declared.task.Annotation.{Annotation}
+use Rattle.tb_task.specs.declared.task.Task.{Task}
+
+-- ---- projects, tags and people
+
+abbrev pub begins_with_dot : Option Text → Bool
+begins_with_dot None = false
+begins_with_dot (Some []) = false
+begins_with_dot (Some (byte ∷ rest)) = byte == 46
+
+-- the project itself or a part of it, as Home.garden of Home
+abbrev pub is_within : Text → Text → Bool
+is_within whole project =
+    bytes_eq project whole || begins_with_dot (after_key whole project)
+
+abbrev pub is_of_project : Text → Option Text → Bool
+is_of_project whole None = false
+is_of_project whole (Some project) = is_within whole project
+
+abbrev pub has_text : Text → List Text → Bool
+has_text text [] = false
+has_text text (other ∷ texts) = bytes_eq text other || has_text text texts
+
+abbrev pub text_of : ExtraValue → Text
+text_of (extra.Text text) = text
+text_of (extra.Whole number) = []
+text_of (extra.Truth truth) = []
+text_of extra.Null = []
+
+-- who has a task: nobody where it is empty
+abbrev pub assignee : List Extra → Text
+assignee [] = []
+assignee (e ∷ extras) =
+    if bytes_eq e.name (codes "assignee") then text_of e.value else assignee extras
+
+-- ---- days
+
+abbrev pub is_in : Days → ℕ → Bool
+is_in days day = nat_le days.first day && nat_le day days.last
+
+abbrev pub is_on : Clock → Days → Option ℕ → Bool
+is_on clock days None = false
+is_on clock days (Some moment) = is_in days (day_at clock.shifts moment)
+
+-- a day before today, or a time before now
+abbrev pub is_past : Clock → ℕ → Bool
+is_past clock moment = if is_timed clock.shifts moment then nat_lt moment clock.now
+    else nat_lt (day_at clock.shifts moment) (today clock)
+
+abbrev pub is_overdue : Clock → Option ℕ → Bool
+is_overdue clock None = false
+is_overdue clock (Some due) = is_past clock due
+
+-- ---- texts
+
+-- A to Z as a to z
+abbrev pub lowered : ℕ → ℕ
+lowered byte = if nat_le 65 byte && nat_le byte 90 then byte + 32 else byte
+
+abbrev pub begins : Text → Text → Bool
+begins [] text = true
+begins (byte ∷ part) [] = false
+begins (byte ∷ part) (other ∷ text) = (lowered byte == lowered other) && begins part text
+
+-- a part is somewhere in a text
+abbrev pub contains : Text → Text → Bool
+contains part [] = begins part []
+contains part (byte ∷ text) = begins part (byte ∷ text) || contains part text
+
+abbrev pub some_note_has : Text → List Annotation → Bool
+some_note_has part [] = false
+some_note_has part (note ∷ notes) = contains part note.description || some_note_has part notes
+
+abbrev pub says : Text → Task → Bool
+says part t = contains part t.description || some_note_has part t.annotations
+
+-- ---- all tests
+
+-- of a task that is blocked or not
+abbrev pub passes : Clock → Bool → Task → Test → Bool
+passes clock blocked t (test.Project whole) = is_of_project whole t.project
+passes clock blocked t (test.Tag tag) = has_text tag t.tags
+passes clock blocked t (test.For name) = bytes_eq (assignee t.extras) name
+passes clock blocked t (test.Due days) = is_on clock days t.due
+passes clock blocked t test.Overdue = is_overdue clock t.due
+passes clock blocked t test.Blocked = blocked
+passes clock blocked t test.Waiting = is_waiting_now t.status
+passes clock blocked t (test.Done days) = is_on clock days t.end
+passes clock blocked t (test.Says part) = says part t
+
+abbrev pub passes_all : Clock → Bool → Task → List Test → Bool
+passes_all clock blocked t [] = true
+passes_all clock blocked t (one ∷ tests) =
+    passes clock blocked t one && passes_all clock blocked t tests
+
+abbrev pub is_completed : Status → Bool
+is_completed status.Completed = true
+is_completed status.Pending = false
+is_completed status.Waiting = false
+is_completed status.Recurring = false
+is_completed status.Deleted = false
+
+-- pending and waiting tasks, or the completed ones
+abbrev pub has_status : Bool → Status → Bool
+has_status true s = is_completed s
+has_status false s = is_pending_or_waiting s
+
+-- Rule: `tb list` shows the tasks that pass each of its words. Tried by my.sh.
+abbrev pub is_found : Clock → Query → Bool → Task → Bool
+is_found clock query blocked t =
+    has_status query.is_closed t.status && passes_all clock blocked t query.tests

@@ -1,0 +1,72 @@
+-- Boards by their numbers or titles, and the line of the settings that names one.
+use Rattle.std.specs.Prelude.{ℕ, Bool, true, false, ◌||◌, is_some, List, [], ◌∷◌, ◌++◌, codes, decimal, Option, Some, None, option_and_then, if◌then◌else◌}
+use Rattle.std.specs.Str.{bytes_eq, trim}
+use Rattle.serde_json.specs.Data.{Data, Items, no_items, item}
+use Rattle.serde_json.specs.Find.{as_array, get}
+use Rattle.serde_json.specs.Read.{read}
+use Rattle.tb_my.specs.Days.{Text}
+use Rattle.tb_my.specs.Settings.{lines_of, value_of}
+use Rattle.tb_my.specs.Shown.{number_at, text_at}
+
+-- ---- the board that a text names
+
+abbrev pub is_text : Text → Option Text → Bool
+is_text name None = false
+is_text name (Some title) = bytes_eq title name
+
+-- its number, or its title
+abbrev pub is_named : Text → ℕ → Option Text → Bool
+is_named name number title = bytes_eq (decimal number) name || is_text name title
+
+abbrev pub if_named : Text → Option ℕ → Option Text → Option ℕ
+if_named name None title = None
+if_named name (Some number) title = if is_named name number title then Some number else None
+
+abbrev pub named_in : Text → Data → Option ℕ
+named_in name board =
+    if_named name (number_at (codes "board") board) (text_at (codes "title") board)
+
+abbrev pub or_number : Option ℕ → Option ℕ → Option ℕ
+or_number (Some number) other = Some number
+or_number None other = other
+
+abbrev pub first_named : Text → Items → Option ℕ
+first_named name no_items = None
+first_named name (item board boards) = or_number (named_in name board) (first_named name boards)
+
+abbrev pub first_of : Text → Option Items → Option ℕ
+first_of name None = None
+first_of name (Some boards) = first_named name boards
+
+-- the number of the first board of an answer of `me` that has the number or title
+-- Rule: a board may be named by its number or by its title, the first of that title. Tried by my.sh.
+abbrev pub board_named : Text → Text → Option ℕ
+board_named name body =
+    option_and_then
+    (λ value. first_of name (option_and_then as_array (get (codes "boards") value))) (read body)
+
+-- ---- the settings with another board
+
+abbrev pub is_board_line : Text → Bool
+is_board_line line = is_some (value_of (trim line) (codes "board"))
+
+-- empty lines and those of the board go
+abbrev pub kept_line : Text → Text
+kept_line [] = []
+kept_line (byte ∷ bytes) =
+    if is_board_line (byte ∷ bytes) then [] else (byte ∷ bytes) ++ 10 ∷ []
+
+abbrev pub kept_lines : List Text → Text
+kept_lines [] = []
+kept_lines (line ∷ lines) = kept_line line ++ kept_lines lines
+
+-- the other lines as they were, and the board last
+abbrev pub with_board : Text → Text → Text
+with_board text board =
+    kept_lines (lines_of text) ++ (codes "board = " ++ (board ++ 10 ∷ []))
+
+-- what is written where somebody says whom to ask
+abbrev pub settings_text : Text → Text → Text → Text
+settings_text server name board =
+    codes "server = " ++ (server ++ (codes "\nname = " ++ (name
+    ++ (codes "\nboard = " ++ (board ++ 10 ∷ [])))))

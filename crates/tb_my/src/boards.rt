@@ -1,0 +1,137 @@
+//! Boards by their numbers or titles, and the line of the settings that names one.
+ghost use Rattle.std.specs.Prelude.{◌≡◌, ◌++◌, IfOk, OnOk, map, option_map, string_bytes};
+ghost use Rattle.serde_json.specs.Read.{read};
+ghost use Rattle.serde_json.specs.View.{items_view, view};
+ghost use Rattle.tb_my.specs.Boards.{board_named, first_named, first_of, if_named, is_board_line, is_named, is_text, kept_line, kept_lines, named_in, settings_text, with_board};
+
+use crate::settings::{lines_of, value_of};
+use crate::shown::{number_at, text_at};
+use serde_json::Value;
+use std::alloc::{AllocError, Global};
+use tb_json::parse;
+use tb_values::Text;
+
+/// The number of the board of an answer of `me` that has this number or title, the first of that title.
+pub fn board_named(alloc: Global, name: &str, body: &str) -> Result<Option<u64>, AllocError>
+    ensures { IfOk result (λ number. number ≡ board_named name.now body.now) }
+{
+    let Some(value) = parse(alloc, body)? else {
+        return Ok(None);
+    };
+    first_of(alloc, name, value.get("boards").and_then(Value::as_array))
+}
+
+fn first_of(
+    alloc: Global,
+    name: &str,
+    boards: Option<&Vec<Value>>,
+) -> Result<Option<u64>, AllocError>
+    ensures { IfOk result (λ number. number ≡ first_of name.now
+        (option_map (λ list. items_view list.now.items) boards.entry)) }
+{
+    match boards {
+        Some(boards) => first_named(alloc, name, boards),
+        None => Ok(None),
+    }
+}
+
+fn first_named(alloc: Global, name: &str, boards: &Vec<Value>) -> Result<Option<u64>, AllocError>
+    ensures { IfOk result (λ number. number ≡ first_named name.now (items_view boards.now.items)) }
+{
+    for board in boards {
+        let number = named_in(alloc, name, board)?;
+        if number.is_some() {
+            return Ok(number);
+        }
+    }
+    Ok(None)
+}
+
+fn named_in(alloc: Global, name: &str, board: &Value) -> Result<Option<u64>, AllocError>
+    ensures { IfOk result (λ number. number ≡ named_in name.now (view board.now)) }
+{
+    let Some(number) = number_at(board, "board") else {
+        return Ok(None);
+    };
+    if is_named(alloc, name, number, text_at(board, "title"))? {
+        Ok(Some(number))
+    } else {
+        Ok(None)
+    }
+}
+
+fn is_named(alloc: Global, name: &str, number: u64, title: Option<&str>) -> Result<bool, AllocError>
+    ensures { IfOk result (λ is. is
+        ≡ is_named name.now number (option_map (λ text. text.now) title.entry)) }
+{
+    let digits = format!(in alloc; "{number}")?;
+    Ok(digits.as_str() == name || is_text(name, title))
+}
+
+fn is_text(name: &str, title: Option<&str>) -> bool
+    ensures { result ≡ is_text name.now (option_map (λ text. text.now) title.entry) }
+{
+    match title {
+        Some(title) => title == name,
+        None => false,
+    }
+}
+
+/// The settings with another board: the other lines as they were, and the board last.
+pub fn with_board(alloc: Global, settings: &str, board: &str) -> Result<Text, AllocError>
+    ensures { IfOk result (λ text. text ≡ with_board settings.now board.now) }
+{
+    let lines = lines_of(alloc, settings)?;
+    let mut text = kept_lines(alloc, lines.as_slice())?;
+    text.push_str("board = ")?;
+    text.push_str(board)?;
+    text.push_str("\n")?;
+    Ok(Text::from_string(text))
+}
+
+fn kept_lines(alloc: Global, lines: &[&str]) -> Result<String, AllocError>
+    ensures { IfOk result (λ text. string_bytes text
+        ≡ kept_lines (map (λ line. line.now) lines.entry.now)) }
+{
+    let mut text = String::new(alloc);
+    for line in lines {
+        push_kept(&mut text, line)?;
+    }
+    Ok(text)
+}
+
+/// Puts a line at the end, unless it is empty or one of the board.
+fn push_kept(text: &mut String, line: &str) -> Result<(), AllocError>
+    ensures { OnOk result (string_bytes text.new ≡ string_bytes text.old ++ kept_line line.now) }
+{
+    if line.is_empty() || is_board_line(line) {
+        return Ok(());
+    }
+    text.push_str(line)?;
+    text.push('\n')
+}
+
+fn is_board_line(line: &str) -> bool
+    ensures { result ≡ is_board_line line.now }
+{
+    value_of(line.trim(), "board").is_some()
+}
+
+/// The lines of settings that say whom to ask.
+pub fn settings_text(
+    alloc: Global,
+    server: &str,
+    name: &str,
+    board: &str,
+) -> Result<Text, AllocError>
+    ensures { IfOk result (λ text. text ≡ settings_text server.now name.now board.now) }
+{
+    let mut text = String::from_str(alloc, "server = ")?;
+    text.push_str(server)?;
+    text.push_str("\nname = ")?;
+    text.push_str(name)?;
+    text.push_str("\nboard = ")?;
+    text.push_str(board)?;
+    text.push('\n')?;
+    Ok(Text::from_string(text))
+}
