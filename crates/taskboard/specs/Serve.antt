@@ -1,5 +1,5 @@
 -- The serving of a file: what it comes to, its limit, and which faults come of it.
-use Rattle.std.specs.Prelude.{◌≡◌, ℕ, Bool, true, false, List, Option, Some, None}
+use Rattle.std.specs.Prelude.{◌≡◌, ℕ, ◌*◌, Bool, true, false, List, Option, Some, None}
 use Rattle.sqlite_disk.specs.declared.Disk.{Ghosts as DiskGhosts}
 use Rattle.sqlite_store.specs.declared.store.FileStore.{FileStore}
 use Rattle.taskboard.specs.Page.{IsPageOf}
@@ -16,6 +16,7 @@ use Rattle.tb_orders.specs.Faults.{is_of_opening}
 use Rattle.tb_serve.specs.Server.{talk_at}
 use Rattle.tb_program.specs.declared.fault.Fault.{Fault}
 use Rattle.tb_program.specs.declared.fault.Fault.TheVariants.{Memory, NoListen, NoPage, Store}
+use Rattle.tb_rooms.specs.declared.bucket.Rate.{Rate}
 use Rattle.tb_server.specs.Serves.{Serves}
 use Rattle.tb_site.specs.declared.site.Site.{Site}
 use Rattle.tb_serve.specs.Turns.{Talk, silent}
@@ -36,6 +37,10 @@ fault_of_loop ending.Store = Store
 abbrev pub limit_of : Connections → Option ℕ
 limit_of (UpTo count) = Some count
 limit_of Forever = None
+
+-- in bytes, of what the order says in MiB and in KiB a second
+abbrev pub rate_of : ServeOrder → Rate
+rate_of order = record { burst = order.burst * 1048576; per_second = order.growth * 1024 }
 
 module _ {D : Type 0} {d : DiskGhosts D} (g : Ghosts (SqlKeep (FileStore D d))) where
   -- In a session over the file some things were done to connections that were silent at first, with the page that the order names.

@@ -1,7 +1,7 @@
 //! The server of a file, on the loopback.
 ghost use Rattle.std.specs.Prelude.{◌≡◌, IfErr, IfOk, IsErrOf, IsSome, true};
 ghost use Rattle.taskboard.specs.Page.{IsPageOf};
-ghost use Rattle.taskboard.specs.Serve.{IsServerRun, fault_of_loop, is_of_serving, limit_of};
+ghost use Rattle.taskboard.specs.Serve.{IsServerRun, fault_of_loop, is_of_serving, limit_of, rate_of};
 ghost use Rattle.tb_event_loop.specs.History.{still_to_end};
 ghost use Rattle.tb_program.specs.declared.fault.Fault.TheVariants.{NoPage};
 
@@ -17,12 +17,17 @@ use tb_files::{RealFile, close_desk, open_desk};
 use tb_keeper::SqlKeep;
 use tb_orders::Ending;
 use tb_program::{Fault, loopback};
+use tb_rooms::{ROOMS, Rate, most_held};
 use tb_server::Server;
 use tb_site::{PageFault, Site, read_page};
 use tb_timeouts::LIMITS;
 
 /// What others may do to a file.
 const OTHERS: u32 = 0o077;
+
+/// Bytes in a KiB and in a MiB.
+const KIB: u64 = 1_024;
+const MIB: u64 = 1_048_576;
 
 /// Serves a file on a port of the loopback, up to the number of connections, or without end: then it ends by a fault alone.
 pub(crate) fn serve_file(rt: &HostRuntime, order: &ServeOrder) -> Result<Ending, Fault>
@@ -59,6 +64,7 @@ fn listen(rt: &HostRuntime, order: &ServeOrder) -> Result<EventLoop, Fault>
         loopback(order.port),
         limit_of(order.connections),
         LIMITS,
+        rate_of(order),
     ) {
         Ok(event_loop) => Ok(event_loop),
         Err(fault) => Err(fault_of_loop(fault)),
@@ -71,6 +77,16 @@ fn limit_of(connections: Connections) -> Option<u32>
     match connections {
         Connections::UpTo(count) => Some(count),
         Connections::Forever => None,
+    }
+}
+
+// How much a person's calls and a board's sweeps may write, in bytes.
+fn rate_of(order: &ServeOrder) -> Rate
+    ensures { result ≡ rate_of order.now }
+{
+    Rate {
+        burst: u64::from(order.burst) * MIB,
+        per_second: u64::from(order.growth) * KIB,
     }
 }
 
@@ -102,13 +118,14 @@ fn page_of(rt: &HostRuntime, order: &ServeOrder) -> Result<Site, Fault>
     }
 }
 
-// Tells that it listens, and that others may read the file, if they may.
+// Tells that it listens, how much memory clients may take, and that others may read the file, if they may.
 fn tell_start(rt: &HostRuntime, order: &ServeOrder) {
     let _ = writeln!(
         rt.stderr(),
-        "taskboard: serving {} on 127.0.0.1:{}",
+        "taskboard: serving {} on 127.0.0.1:{}, with up to {} MiB of memory for messages and answers",
         order.file.as_str(),
-        order.port
+        order.port,
+        most_held(&ROOMS) as u64 / MIB
     );
     if is_open_to_others(rt, order.file.as_str()) {
         let _ = writeln!(

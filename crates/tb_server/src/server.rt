@@ -14,6 +14,7 @@ use tb_calls::Keep;
 use tb_desk::Desk;
 use tb_event_loop::{Service, SocketEvent, StoreFailed};
 use tb_program::Clock;
+use tb_rooms::Written;
 use tb_serve::{Peer, PeerEvent, Tools, happen, stops_all};
 use tb_site::{Paths, Site};
 use tb_timeouts::CONNECTIONS;
@@ -175,6 +176,21 @@ impl<K: Keep, C: Clock> Service for Server<K, C> {
         match self.peers.get(place) {
             Some(peer) => peer.has_head(),
             None => false,
+        }
+    }
+
+    fn wanted(&self, place: usize) -> usize {
+        match self.peers.get(place) {
+            Some(peer) => peer.wanted(),
+            None => 0,
+        }
+    }
+
+    fn written(&self) -> Written {
+        let written = self.desk.written();
+        Written {
+            own: written.own,
+            swept: written.swept,
         }
     }
 
