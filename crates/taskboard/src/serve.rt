@@ -122,9 +122,13 @@ fn page_of(rt: &HostRuntime, order: &ServeOrder) -> Result<Site, Fault>
 fn tell_start(rt: &HostRuntime, order: &ServeOrder) {
     let _ = writeln!(
         rt.stderr(),
-        "taskboard: serving {} on 127.0.0.1:{}, with up to {} MiB of memory for messages and answers",
+        "taskboard: serving {} on 127.0.0.1:{}",
         order.file.as_str(),
-        order.port,
+        order.port
+    );
+    let _ = writeln!(
+        rt.stderr(),
+        "taskboard: it takes up to {} MiB of memory for messages and answers",
         most_held(&ROOMS) as u64 / MIB
     );
     if is_open_to_others(rt, order.file.as_str()) {
