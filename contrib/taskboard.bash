@@ -15,10 +15,10 @@ _taskboard_place() {
     local at place=0
     for ((at = 1; at <= COMP_CWORD; at++)); do
         case ${COMP_WORDS[at - 1]} in
-        --port | --connections | --page) continue ;;
+        --port | --connections | --page | --growth | --burst) continue ;;
         esac
         case ${COMP_WORDS[at]} in
-        --port | --connections | --forever | --page | --log) ;;
+        --port | --connections | --forever | --page | --log | --growth | --burst) ;;
         *) place=$((place + 1)) ;;
         esac
     done
@@ -27,7 +27,7 @@ _taskboard_place() {
 
 _taskboard_of_serve() {
     case ${COMP_WORDS[COMP_CWORD - 1]} in
-    --port | --connections)
+    --port | --connections | --growth | --burst)
         COMPREPLY=()
         return
         ;;
@@ -37,12 +37,12 @@ _taskboard_of_serve() {
         ;;
     esac
     case $2 in
-    -*) _taskboard_words "--port --connections --forever --page --log" "$2" ;;
+    -*) _taskboard_words "--port --connections --forever --page --log --growth --burst" "$2" ;;
     *)
         if [ "$(_taskboard_place)" -eq 2 ]; then
             _taskboard_files "$2"
         else
-            _taskboard_words "--port --connections --forever --page --log" "$2"
+            _taskboard_words "--port --connections --forever --page --log --growth --burst" "$2"
         fi
         ;;
     esac

@@ -65,6 +65,7 @@ attempt curl.sh python3 curl
 attempt silent.sh python3
 attempt crowd.sh python3
 attempt rates.sh python3
+attempt rooms.sh python3
 attempt clients.sh python3
 attempt backup.sh python3
 attempt restore.sh python3
