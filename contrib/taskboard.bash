@@ -61,7 +61,7 @@ _taskboard_of_send() {
 
 # The first word of `my`, or of `tb`.
 _taskboard_of_my() {
-    _taskboard_words "list boards people show add change done delete reopen start stop note unnote needs free undo use import export todo setup" "$1"
+    _taskboard_words "list boards people show log add change done delete reopen start stop note unnote needs free undo use import export todo setup" "$1"
 }
 
 # What stands behind the first word of `my`.

@@ -12,7 +12,7 @@ use std::io::{Read, Write};
 use std::str;
 use tb_board::Key;
 use tb_command_line::{MyOrder, SendOrder};
-use tb_finding::{found_text, show_text};
+use tb_finding::{found_text, log_text, show_text};
 use tb_my::{
     Asker, Clock, MyFault, Query, Seen, Sent, board_given, board_named, fault_text, listed_words,
     looks, query_of, read_seen, refusal_text, sent_of, shown_answer, words_after_board,
@@ -350,18 +350,21 @@ fn tell<W: Write>(
     let Ok(body) = str::from_utf8(answer.body.as_slice()) else {
         return Err(Fault::NoAnswer);
     };
-    if is_of_word(sent, "task") {
-        if let Some(text) = show_text(rt.alloc(), clock, tasks, body)? {
-            return print_text(writer, text.as_str());
-        }
+    let found = match first_word(sent) {
+        "task" => show_text(rt.alloc(), clock, tasks, body)?,
+        "history" | "history-of" => log_text(rt.alloc(), clock, tasks, body)?,
+        _ => None,
+    };
+    match found {
+        Some(text) => print_text(writer, text.as_str()),
+        None => print_text(writer, shown_answer(rt.alloc(), body)?.as_str()),
     }
-    print_text(writer, shown_answer(rt.alloc(), body)?.as_str())
 }
 
-fn is_of_word(sent: &Sent, name: &str) -> bool {
+fn first_word(sent: &Sent) -> &str {
     match sent.words.as_slice() {
-        [word, ..] => word.as_str() == name,
-        [] => false,
+        [word, ..] => word.as_str(),
+        [] => "",
     }
 }
 

@@ -144,6 +144,7 @@ of the board. One look at the board serves all numbers of a command.
                              adds a tag and -@tag takes one, other words are the description
     done N.., delete N.., reopen N.., start N.., stop N..
     note N TEXT, unnote N TEXT, needs N M, free N M, show N
+    log, log N               who did what on the board, or on one task
     undo                     takes back the last done, delete, start, stop, note or link
     use B                    makes B the board of the settings
     import FILE              JSON or lines of todo.txt, of any length; - is standard input

@@ -1,5 +1,6 @@
 pub mod Board
 pub mod Cells
+pub mod Deeds
 pub mod Json
 pub mod Listing
 pub mod Showing

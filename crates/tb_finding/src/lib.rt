@@ -4,6 +4,7 @@
 #![tactic(auto)]
 
 mod cells;
+mod deeds;
 mod finding;
 mod json;
 mod listing;
@@ -13,6 +14,7 @@ mod table;
 mod tests;
 mod words;
 
+pub use deeds::log_text;
 pub use finding::{Key, found};
 pub use listing::found_text;
 pub use look::{Look, read_tasks};

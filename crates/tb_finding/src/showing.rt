@@ -178,7 +178,7 @@ fn push_needs(
 }
 
 /// The number and the description of a task, or its identifier where it wasn't seen.
-fn named_from(alloc: Global, id: TaskId, tasks: &[Seen]) -> Result<Text, AllocError>
+pub(crate) fn named_from(alloc: Global, id: TaskId, tasks: &[Seen]) -> Result<Text, AllocError>
     ensures { IfOk result (λ text. text ≡ named_from id 0 tasks.now) }
 {
     for (place, seen) in tasks.iter().enumerate() {

@@ -52,10 +52,20 @@ boards_view (a ∷ more) = Err (NoForm word.Boards)
 abbrev pub task_in : List Seen → Text → Result Seen MyFault
 task_in tasks named = or_fault (NoTask named) (task_named tasks named)
 
-abbrev pub show_view : Text → List Seen → List Text → Result (List Sent) MyFault
-show_view board tasks (named ∷ []) = do
+-- a view of one task
+abbrev pub task_view : Text → Text → List Seen → Text → Result (List Sent) MyFault
+task_view name board tasks named = do
   task ← task_in tasks named
-  Ok (one_sent (codes "task" ∷ board ∷ id_text task.id ∷ []) [])
+  Ok (one_sent (name ∷ board ∷ id_text task.id ∷ []) [])
+
+-- the history of the board, or of one task
+abbrev pub log_view : Text → List Seen → List Text → Result (List Sent) MyFault
+log_view board tasks [] = board_view word.Log (codes "history") board []
+log_view board tasks (named ∷ []) = task_view (codes "history-of") board tasks named
+log_view board tasks (a ∷ b ∷ more) = Err (NoForm word.Log)
+
+abbrev pub show_view : Text → List Seen → List Text → Result (List Sent) MyFault
+show_view board tasks (named ∷ []) = task_view (codes "task") board tasks named
 show_view board tasks [] = Err (NoForm word.Show)
 show_view board tasks (a ∷ b ∷ more) = Err (NoForm word.Show)
 
@@ -160,6 +170,7 @@ sent_for clock call board tasks word.Undo rest = Err (NoForm word.Undo)
 sent_for clock call board tasks word.Setup rest = Err (NoForm word.Setup)
 sent_for clock call board tasks word.Import rest = Err (NoForm word.Import)
 sent_for clock call board tasks word.Show rest = show_view board tasks rest
+sent_for clock call board tasks word.Log rest = log_view board tasks rest
 sent_for clock call board tasks word.Add rest = add_call clock call board rest
 sent_for clock call board tasks word.Change rest = change_call clock board tasks rest
 sent_for clock call board tasks word.Done rest =

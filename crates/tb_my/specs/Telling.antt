@@ -9,7 +9,7 @@ use Rattle.tb_my.specs.declared.fault.MyFault.{MyFault}
 use Rattle.tb_my.specs.declared.fault.MyFault.TheVariants.{BadLine, Lacks, Memory, NoBoard, NoDay, NoForm, NoPriority, NoTask, NoWord, Unfit}
 use Rattle.tb_my.specs.declared.settings.SettingName.{SettingName}
 use Rattle.tb_my.specs.declared.settings.SettingName.TheVariants as setting
-use Rattle.tb_my.specs.declared.telling.TheConstants.{BAD_BOARD, BAD_LINE, BAD_NAME, BAD_SERVER, BAD_TASK, CHANGES, CYCLE, FIXED, FULL, LIST_WORDS, NEW_TASK, NOT_ALLOWED, NO_ARGUMENTS, NO_BOARD, NO_BOARD_HERE, NO_CONFIG, NO_DAY, NO_KEY_FILE, NO_LINK, NO_MEMORY, NO_NAME, NO_PRIORITY, NO_ROLE, NO_SERVER, NO_SUCH_TASK, NO_WORD, ONE_BOARD, ONE_FILE, ONE_TASK, TASKS, TASK_AND_TEXT, TWO_TASKS, UNKNOWN_CALLER, WRONG_STATUS}
+use Rattle.tb_my.specs.declared.telling.TheConstants.{BAD_BOARD, BAD_LINE, BAD_NAME, BAD_SERVER, BAD_TASK, BOARD_OR_TASK, CHANGES, CYCLE, FIXED, FULL, LIST_WORDS, NEW_TASK, NOT_ALLOWED, NO_ARGUMENTS, NO_BOARD, NO_BOARD_HERE, NO_CONFIG, NO_DAY, NO_KEY_FILE, NO_LINK, NO_MEMORY, NO_NAME, NO_PRIORITY, NO_ROLE, NO_SERVER, NO_SUCH_TASK, NO_WORD, ONE_BOARD, ONE_FILE, ONE_TASK, TASKS, TASK_AND_TEXT, TWO_TASKS, UNKNOWN_CALLER, WRONG_STATUS}
 use Rattle.tb_my.specs.declared.word.MyWord.{MyWord}
 use Rattle.tb_my.specs.declared.word.MyWord.TheVariants as word
 
@@ -44,6 +44,7 @@ form_text word.Import = ONE_FILE.now
 form_text word.Boards = NO_ARGUMENTS.now
 form_text word.People = NO_ARGUMENTS.now
 form_text word.Show = ONE_TASK.now
+form_text word.Log = BOARD_OR_TASK.now
 form_text word.Add = NEW_TASK.now
 form_text word.Change = CHANGES.now
 form_text word.Done = TASKS.now

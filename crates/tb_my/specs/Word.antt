@@ -16,6 +16,7 @@ my_word_named name =
     else if bytes_eq name (codes "setup") then Some word.Setup
     else if bytes_eq name (codes "import") then Some word.Import
     else if bytes_eq name (codes "show") then Some word.Show
+    else if bytes_eq name (codes "log") then Some word.Log
     else if bytes_eq name (codes "add") then Some word.Add
     else if bytes_eq name (codes "change") then Some word.Change
     else if bytes_eq name (codes "done") then Some word.Done

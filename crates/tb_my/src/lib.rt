@@ -32,7 +32,7 @@ pub use part::Setting;
 pub use query::{Days, Query, Sort, Test, query_of};
 pub use sent::{Sent, looks, sent_of};
 pub use settings::{Asker, SettingName, Settings, asker_of, read_settings, settings_over};
-pub use shown::shown_answer;
+pub use shown::{shown_answer, text_at};
 pub use telling::{fault_text, push_shown, refusal_text};
 pub use undo::{kept_sent, undo_head, undone_in};
 pub use word::MyWord;

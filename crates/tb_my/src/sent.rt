@@ -1,7 +1,7 @@
 //! What the words of `my` ask a server for.
 ghost use Rattle.std.specs.Prelude.{◌≡◌, ◌∷◌, [], IfOk, None};
 ghost use Rattle.tb_my.specs.Outcome.{Reads};
-ghost use Rattle.tb_my.specs.Sent.{add_call, board_view, boards_view, calls_of, change_call, change_sent, changed, link_call, looks, note_call, note_sent, sent_for, sent_of, show_view, spaced, task_call, task_calls};
+ghost use Rattle.tb_my.specs.Sent.{add_call, board_view, boards_view, calls_of, change_call, change_sent, changed, link_call, log_view, looks, note_call, note_sent, sent_for, sent_of, show_view, spaced, task_call, task_calls, task_view};
 
 use crate::body::{add_body, change_body};
 use crate::fault::{MyFault, no_task, no_word};
@@ -99,6 +99,7 @@ fn sent_for(
         // These ask for nothing by themselves.
         MyWord::Use | MyWord::Undo | MyWord::Setup | MyWord::Import => Err(MyFault::NoForm(word)),
         MyWord::Show => show_view(alloc, board, tasks, rest),
+        MyWord::Log => log_view(alloc, board, tasks, rest),
         MyWord::Add => add_call(alloc, clock, call, board, rest),
         MyWord::Change => change_call(alloc, clock, board, tasks, rest),
         MyWord::Done => task_calls(alloc, word, "done", DONE, board, tasks, rest),
@@ -139,6 +140,22 @@ fn boards_view(alloc: Global, rest: &[Text]) -> Result<Items<Sent>, MyFault>
     Ok(one_sent(alloc, words, Text::new(alloc))?)
 }
 
+/// The history of the board, or of one task.
+fn log_view(
+    alloc: Global,
+    board: &Text,
+    tasks: &[Seen],
+    rest: &[Text],
+) -> Result<Items<Sent>, MyFault>
+    ensures { Reads result (log_view board.now tasks.now rest.now) }
+{
+    match rest {
+        [] => board_view(alloc, MyWord::Log, "history", board, &[]),
+        [named] => task_view(alloc, "history-of", board, tasks, named),
+        _ => Err(MyFault::NoForm(MyWord::Log)),
+    }
+}
+
 fn show_view(
     alloc: Global,
     board: &Text,
@@ -147,13 +164,26 @@ fn show_view(
 ) -> Result<Items<Sent>, MyFault>
     ensures { Reads result (show_view board.now tasks.now rest.now) }
 {
-    let [named] = rest else {
-        return Err(MyFault::NoForm(MyWord::Show));
-    };
+    match rest {
+        [named] => task_view(alloc, "task", board, tasks, named),
+        _ => Err(MyFault::NoForm(MyWord::Show)),
+    }
+}
+
+/// A view of one task.
+fn task_view(
+    alloc: Global,
+    name: &str,
+    board: &Text,
+    tasks: &[Seen],
+    named: &Text,
+) -> Result<Items<Sent>, MyFault>
+    ensures { Reads result (task_view name.now board.now tasks.now named.now) }
+{
     let Some(task) = task_named(tasks, named.as_str()) else {
         return Err(no_task(alloc, named.as_str()));
     };
-    let words = three_words(alloc, "task", board.as_str(), task.id.text(alloc)?.as_str())?;
+    let words = three_words(alloc, name, board.as_str(), task.id.text(alloc)?.as_str())?;
     Ok(one_sent(alloc, words, Text::new(alloc))?)
 }
 

@@ -94,7 +94,8 @@ pub(crate) fn number_at(value: &Value, name: &str) -> Option<u64>
     value.get(name)?.as_u64()
 }
 
-pub(crate) fn text_at<'v>(value: &'v Value, name: &str) -> Option<&'v str>
+/// The text of a member.
+pub fn text_at<'v>(value: &'v Value, name: &str) -> Option<&'v str>
     ensures { option_map (λ text. text.now) result ≡ text_at name.now (view value.now) }
 {
     value.get(name).and_then(Value::as_str)

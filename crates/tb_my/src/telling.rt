@@ -37,6 +37,9 @@ const NO_BOARD_HERE: &str = " is no board of yours. `tb boards` lists them.";
 
 const ONE_TASK: &str = "One task belongs behind `show`: its number in the list, or its uuid.";
 
+const BOARD_OR_TASK: &str =
+    "Nothing belongs behind `log`, or one task: its number in the list, or its uuid.";
+
 const TASKS: &str =
     "Tasks belong behind this word, one or more: their numbers in the list, or uuids.";
 
@@ -204,6 +207,7 @@ fn form_text(word: MyWord) -> &'static str
         MyWord::Use => ONE_BOARD,
         MyWord::Import => ONE_FILE,
         MyWord::Show => ONE_TASK,
+        MyWord::Log => BOARD_OR_TASK,
         MyWord::Add => NEW_TASK,
         MyWord::Change => CHANGES,
         MyWord::Done | MyWord::Delete | MyWord::Reopen | MyWord::Start | MyWord::Stop => TASKS,

@@ -15,6 +15,7 @@ pub enum MyWord {
     Setup,
     Import,
     Show,
+    Log,
     Add,
     Change,
     Done,
@@ -45,6 +46,7 @@ impl MyWord {
             "setup" => MyWord::Setup,
             "import" => MyWord::Import,
             "show" => MyWord::Show,
+            "log" => MyWord::Log,
             "add" => MyWord::Add,
             "change" => MyWord::Change,
             "done" => MyWord::Done,
@@ -77,6 +79,7 @@ impl MyWord {
             | MyWord::Import
             | MyWord::Add => false,
             MyWord::Show
+            | MyWord::Log
             | MyWord::Change
             | MyWord::Done
             | MyWord::Delete
