@@ -56,31 +56,24 @@ not_sent request rest e = true≢false (sym (ap is_send e) ∙ listed request)
 
 -- ---- with the options that may stand anywhere
 
--- one word, and two of which the second is no option, are without it as they are
+-- one word, and two of which the first is no option, are without it as they are
 alone : (option word : Text) (b : Bool) → bytes_eq word (codes "serve") ≡ b → without_option option (word ∷ []) ≡ word ∷ []
 alone option word false s = rw s refl
 alone option word true s = rw s refl
 
-order_alone : (option name word : Text) (b : Bool) → bytes_eq name (codes "serve") ≡ b → bytes_eq word (codes "--help") ≡ true
-    → bytes_eq (codes "--help") option ≡ false → without_option option (name ∷ word ∷ []) ≡ name ∷ word ∷ []
-order_alone option name word false s h other = rw s refl
-order_alone option name word true s h other =
+pair_alone : (option name word : Text) (b : Bool) → bytes_eq name (codes "serve") ≡ b → bytes_eq (codes "serve") option ≡ false
+    → without_option option (name ∷ word ∷ []) ≡ name ∷ word ∷ []
+pair_alone option name word false s other = rw s refl
+pair_alone option name word true s other =
     let is : name ≡ codes "serve" = (bytes_eq-Decides name (codes "serve")).0 s in
-    let help : word ≡ codes "--help" = (bytes_eq-Decides word (codes "--help")).0 h in
-    rw (is, help, other) refl
+    rw (is, other) refl
 
-two_as : (option name word : Text) (order : Order) (b : Bool) → bytes_eq word (codes "--help") ≡ b → told_of (name ∷ word ∷ []) ≡ Some order
-    → bytes_eq (codes "--help") option ≡ false → without_option option (name ∷ word ∷ []) ≡ name ∷ word ∷ []
-unfolding told_of
-two_as option name word order true h told other = order_alone option name word (bytes_eq name (codes "serve")) refl h other
-two_as option name word order false h told other = let none : None ≡ Some order = rw h at told in absurd (cc)
-
-as_it_is : (option : Text) (words : List Text) (order : Order) → told_of words ≡ Some order → bytes_eq (codes "--help") option ≡ false
+as_it_is : (option : Text) (words : List Text) (order : Order) → told_of words ≡ Some order → bytes_eq (codes "serve") option ≡ false
     → without_option option words ≡ words
 unfolding told_of
 as_it_is option [] order told other = refl
 as_it_is option (word ∷ []) order told other = alone option word (bytes_eq word (codes "serve")) refl
-as_it_is option (name ∷ word ∷ []) order told other = two_as option name word order (bytes_eq word (codes "--help")) refl told other
+as_it_is option (name ∷ word ∷ []) order told other = pair_alone option name word (bytes_eq name (codes "serve")) refl other
 as_it_is option (name ∷ word ∷ next ∷ rest) order told other = let none : None ≡ Some order = told in absurd (cc)
 
 all_as_they_are : (words : List Text) (order : Order) → told_of words ≡ Some order → without_extra words ≡ words
