@@ -56,7 +56,10 @@ pub(crate) fn clock_at(rt: &HostRuntime, now: Moment) -> Result<Clock, AllocErro
             push_shifts(&mut shifts, &zone)?;
         }
     }
-    Ok(Clock { now, shifts })
+    Ok(Clock {
+        moment: now,
+        shifts,
+    })
 }
 
 /// The zone that `TZ` names, from where systems keep zones.

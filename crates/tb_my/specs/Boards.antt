@@ -60,7 +60,7 @@ abbrev pub kept_lines : List Text → Text
 kept_lines [] = []
 kept_lines (line ∷ lines) = kept_line line ++ kept_lines lines
 
--- the other lines as they were, and the board last
+-- the other lines as they were, but empty ones, and the board last
 abbrev pub with_board : Text → Text → Text
 with_board text board =
     kept_lines (lines_of text) ++ (codes "board = " ++ (board ++ 10 ∷ []))

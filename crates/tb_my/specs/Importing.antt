@@ -29,15 +29,22 @@ abbrev pub count_text : Text → Option ℕ → Text
 count_text what None = []
 count_text what (Some n) = if n == 0 then [] else codes ", " ++ (decimal n ++ what)
 
+abbrev pub new_and_known : ℕ → ℕ → Text
+new_and_known new known = codes "Imported: "
+    ++ (decimal new ++ (codes " new, " ++ (decimal known ++ codes " known before")))
+
+-- what wasn't taken as it came
+abbrev pub other_counts : Data → Text
+other_counts value =
+    count_text (codes " attributes left out") (number_at (codes "dropped") value)
+    ++ (count_text (codes " instances without their template") (number_at (codes "orphans") value)
+    ++ count_text (codes " links to tasks that aren't there")
+    (number_at (codes "unlinked") value))
+
 abbrev pub counts_of : Data → Option ℕ → Option ℕ → Option Text
 counts_of value None known = None
 counts_of value (Some new) None = None
-counts_of value (Some new) (Some known) = Some (codes "Imported: "
-    ++ (decimal new ++ (codes " new, " ++ (decimal known ++ (codes " known before"
-    ++ (count_text (codes " attributes left out") (number_at (codes "dropped") value)
-    ++ (count_text (codes " instances without their template") (number_at (codes "orphans") value)
-    ++ count_text (codes " links to tasks that aren't there")
-    (number_at (codes "unlinked") value))))))))
+counts_of value (Some new) (Some known) = Some (new_and_known new known ++ other_counts value)
 
 abbrev pub told_of : Data → Option Text
 told_of value =

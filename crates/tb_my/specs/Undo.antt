@@ -61,9 +61,12 @@ undo_head server name = tabbed server (name ∷ [])
 abbrev pub fields_of : Text → List Text
 fields_of line = slice_split (λ b. b == 9) line
 
+abbrev pub taken_back : Text → List Text → Sent
+taken_back told words =
+    record { words = words; told = codes "Taken back: " ++ told; call = None }
+
 abbrev pub undone_of : List Text → List Sent
-undone_of (told ∷ word ∷ words) =
-    record { words = word ∷ words; told = codes "Taken back: " ++ told; call = None } ∷ []
+undone_of (told ∷ word ∷ words) = taken_back told (word ∷ words) ∷ []
 undone_of (told ∷ []) = []
 undone_of [] = []
 

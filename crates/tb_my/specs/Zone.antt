@@ -35,7 +35,7 @@ abbrev pub minute_at : List Shift → ℕ → ℕ
 minute_at shifts moment = shown_at shifts moment % 86400 / 60
 
 abbrev pub today : Clock → ℕ
-today clock = shown_at clock.shifts clock.now / 86400 - 1
+today clock = shown_at clock.shifts clock.moment / 86400 - 1
 
 -- the moment at which clocks show a second, if they are as far ahead then as at the other moment
 abbrev pub moment_near : List Shift → ℕ → ℕ → ℕ

@@ -77,7 +77,7 @@ fn is_text(name: &str, title: Option<&str>) -> bool
     }
 }
 
-/// The settings with another board: the other lines as they were, and the board last.
+/// The settings with another board: the other lines as they were, but empty ones, and the board last.
 pub fn with_board(alloc: Global, settings: &str, board: &str) -> Result<Text, AllocError>
     ensures { IfOk result (λ text. text ≡ with_board settings.now board.now) }
 {

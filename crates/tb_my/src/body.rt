@@ -14,16 +14,20 @@ use tb_task::TaskId;
 use tb_values::Text;
 
 /// The body that adds the task that words say, under the identifier that is made of that of the call.
-pub(crate) fn add_body(alloc: Global, call: Option<TaskId>, said: &Said) -> Result<Text, AllocError>
-    ensures { IfOk result (λ body. body ≡ compact_text (add_data call said.now)) }
+pub(crate) fn add_body(
+    alloc: Global,
+    call: &Option<TaskId>,
+    said: &Said,
+) -> Result<Text, AllocError>
+    ensures { IfOk result (λ body. body ≡ compact_text (add_data call.now said.now)) }
 {
     let value = add_value(alloc, call, said)?;
     let text = value.to_string(alloc)?;
     Ok(Text::from_string(text))
 }
 
-fn add_value(alloc: Global, call: Option<TaskId>, said: &Said) -> Result<Value, AllocError>
-    ensures { IfOk result (λ value. view value ≡ add_data call said.now) }
+fn add_value(alloc: Global, call: &Option<TaskId>, said: &Said) -> Result<Value, AllocError>
+    ensures { IfOk result (λ value. view value ≡ add_data call.now said.now) }
 {
     let mut object = Map::new(alloc);
     put_description(&mut object, alloc, said.description.as_str())?;
@@ -34,11 +38,11 @@ fn add_value(alloc: Global, call: Option<TaskId>, said: &Said) -> Result<Value, 
 }
 
 /// The identifier of the task that a call adds: a call that is sent again adds the same one.
-fn added_id(call: Option<TaskId>) -> Option<TaskId>
-    ensures { result ≡ added_id call }
+fn added_id(call: &Option<TaskId>) -> Option<TaskId>
+    ensures { result ≡ added_id call.now }
 {
     match call {
-        Some(call) => Some(TaskId::named(call, "task".as_bytes())),
+        Some(call) => Some(TaskId::named(*call, "task".as_bytes())),
         None => None,
     }
 }

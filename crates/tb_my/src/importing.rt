@@ -2,7 +2,7 @@
 ghost use Rattle.std.specs.Prelude.{◌≡◌, ◌++◌, IfOk, OnOk, Some, string_bytes};
 ghost use Rattle.serde_json.specs.Read.{read};
 ghost use Rattle.serde_json.specs.View.{view};
-ghost use Rattle.tb_my.specs.Importing.{begins_json, count_text, counts_of, import_told, import_words, is_json, told_of, without_end};
+ghost use Rattle.tb_my.specs.Importing.{begins_json, count_text, counts_of, import_told, import_words, is_json, new_and_known, other_counts, told_of, without_end};
 
 use crate::days::before_key;
 use crate::sent::three_words;
@@ -83,24 +83,35 @@ fn counts_of(alloc: Global, value: &Value, new: u64, known: u64) -> Result<Text,
     ensures { IfOk result (λ text. Some text
         ≡ counts_of (view value.now) (Some new) (Some known)) }
 {
+    let mut text = new_and_known(alloc, new, known)?;
+    push_other_counts(&mut text, value)?;
+    Ok(Text::from_string(text))
+}
+
+fn new_and_known(alloc: Global, new: u64, known: u64) -> Result<String, AllocError>
+    ensures { IfOk result (λ text. string_bytes text ≡ new_and_known new known) }
+{
     let mut text = String::from_str(alloc, "Imported: ")?;
     write!(text, "{new} new, {known} known before")?;
+    Ok(text)
+}
+
+/// Puts the counts of what wasn't taken as it came at the end.
+fn push_other_counts(text: &mut String, value: &Value) -> Result<(), AllocError>
+    ensures { OnOk result (string_bytes text.new
+        ≡ string_bytes text.old ++ other_counts (view value.now)) }
+{
+    push_count(text, " attributes left out", number_at(value, "dropped"))?;
     push_count(
-        &mut text,
-        " attributes left out",
-        number_at(value, "dropped"),
-    )?;
-    push_count(
-        &mut text,
+        text,
         " instances without their template",
         number_at(value, "orphans"),
     )?;
     push_count(
-        &mut text,
+        text,
         " links to tasks that aren't there",
         number_at(value, "unlinked"),
-    )?;
-    Ok(Text::from_string(text))
+    )
 }
 
 /// Puts a count that isn't 0 at the end.

@@ -201,7 +201,7 @@ fn add_call(
     if said.description.is_empty() {
         return Err(MyFault::NoForm(MyWord::Add));
     }
-    let body = add_body(alloc, call, &said)?;
+    let body = add_body(alloc, &call, &said)?;
     let words = three_words(alloc, "add", board.as_str(), body.as_str())?;
     let told = told_task(alloc, ADDED, said.description.as_str())?;
     let mut sent = Items::new(alloc);

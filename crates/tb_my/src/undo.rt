@@ -1,7 +1,7 @@
 //! What takes back the calls of a command, and how it is kept.
 ghost use Rattle.std.specs.List.{list_any, slice_split};
 ghost use Rattle.std.specs.Prelude.{◌≡◌, ◌++◌, ◌∷◌, [], IfOk, OnOk, map, option_map, string_bytes};
-ghost use Rattle.tb_my.specs.Undo.{fields_of, has_control, is_control, kept_of, kept_sent, kept_with, opposite_word, tabbed, tabbed_after, undo_head, undone_after, undone_from, undone_in, undone_of};
+ghost use Rattle.tb_my.specs.Undo.{fields_of, has_control, is_control, kept_of, kept_sent, kept_with, opposite_word, tabbed, tabbed_after, taken_back, undo_head, undone_after, undone_from, undone_in, undone_of};
 
 use crate::sent::Sent;
 use crate::settings::lines_of;
@@ -143,16 +143,31 @@ fn push_undone(alloc: Global, sent: &mut Items<Sent>, line: &str) -> Result<(), 
     ensures { OnOk result (sent.new ≡ sent.old ++ undone_of (fields_of line.now)) }
 {
     let fields = fields_of(alloc, line)?;
-    let [told, words @ ..] = fields.as_slice() else {
+    push_fields(alloc, sent, fields.as_slice())
+}
+
+fn push_fields(alloc: Global, sent: &mut Items<Sent>, fields: &[&str]) -> Result<(), AllocError>
+    ensures { OnOk result (sent.new
+        ≡ sent.old ++ undone_of (map (λ field. field.now) fields.entry.now)) }
+{
+    let [told, words @ ..] = fields else {
         return Ok(());
     };
     if words.is_empty() {
         return Ok(());
     }
+    sent.push(taken_back(alloc, told, words)?)
+}
+
+/// The call of these words, and what is told of it.
+fn taken_back(alloc: Global, told: &str, words: &[&str]) -> Result<Sent, AllocError>
+    ensures { IfOk result (λ sent. sent
+        ≡ taken_back told.now (map (λ word. word.now) words.entry.now)) }
+{
     let words = texts_of(alloc, words)?;
     let mut text = Text::from_str(alloc, "Taken back: ")?;
     text.push_str(told)?;
-    sent.push(Sent {
+    Ok(Sent {
         words,
         told: text,
         call: None,

@@ -20,7 +20,7 @@ pub struct Shift {
 /// A moment, and how far the clocks are ahead of UTC from which moments on, in their order: UTC before the first.
 #[derive(Drop)]
 pub struct Clock {
-    pub now: Moment,
+    pub moment: Moment,
     pub shifts: Items<Shift>,
 }
 
@@ -30,7 +30,7 @@ impl Clock {
         ensures day { result ≡ today self.now }
         ensures most { result ≤ 100000000000 }
     {
-        (shown_at(self.shifts.as_slice(), self.now.seconds()) / DAY).saturating_sub(1)
+        (shown_at(self.shifts.as_slice(), self.moment.seconds()) / DAY).saturating_sub(1)
     }
 
     /// The day on which a moment falls.
