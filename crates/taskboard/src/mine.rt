@@ -57,7 +57,7 @@ pub(crate) fn ask_mine<R: Read + Drop, W: Write>(
     if is_alone(words, "setup") {
         return set_up(rt, reader, writer);
     }
-    let mut caller = match read_caller(rt, board_given(order.words.as_slice())) {
+    let caller = match read_caller(rt, board_in(order.words.as_slice(), words)) {
         Ok(caller) => caller,
         Err(fault) => return wrong(rt, "", 0, &fault),
     };
@@ -68,6 +68,24 @@ pub(crate) fn ask_mine<R: Read + Drop, W: Write>(
     if is_alone(words, "undo") {
         return undo(rt, &caller, writer);
     }
+    if is_alone(words, "boards") {
+        return ask_words(rt, &caller, &clock, words, writer);
+    }
+    ask_board(rt, caller, &clock, words, reader, writer)
+}
+
+/// What words ask for of a board, which is found first where it is named by its title.
+fn ask_board<R: Read + Drop, W: Write>(
+    rt: &HostRuntime,
+    caller: Caller,
+    clock: &Clock,
+    words: &[Text],
+    reader: R,
+    writer: &mut W,
+) -> Result<Ending, Fault>
+    ensures { IfErr result (λ fault. is_of_mine fault ≡ true) }
+{
+    let mut caller = caller;
     match find_board(rt, &mut caller) {
         Ok(None) => (),
         Ok(Some(ending)) => return Ok(ending),
@@ -77,8 +95,16 @@ pub(crate) fn ask_mine<R: Read + Drop, W: Write>(
         return import_file(rt, &caller, path.as_str(), reader, writer);
     }
     match listed_words(words) {
-        Some(listed) => ask_list(rt, &caller, &clock, listed, writer),
-        None => ask_words(rt, &caller, &clock, words, writer),
+        Some(listed) => ask_list(rt, &caller, clock, listed, writer),
+        None => ask_words(rt, &caller, clock, words, writer),
+    }
+}
+
+/// The board that a command names: the one that is to be used from now on, or that in front of its words.
+fn board_in<'w>(all: &'w [Text], words: &'w [Text]) -> Option<&'w Text> {
+    match argument_of(words, "use") {
+        Some(board) => Some(board),
+        None => board_given(all),
     }
 }
 
@@ -333,7 +359,7 @@ fn twin(key: &Option<Key>) -> Result<Option<Key>, Fault>
     }
 }
 
-/// Tells an accepted call in words, one task in lines, and another view's answer as it is shown.
+/// Tells an accepted call in words, one task in lines, boards and people in lines, and the tasks of a board as they came.
 fn tell<W: Write>(
     rt: &HostRuntime,
     clock: &Clock,
@@ -351,6 +377,7 @@ fn tell<W: Write>(
         return Err(Fault::NoAnswer);
     };
     let found = match first_word(sent) {
+        "export" | "todo" => return print_text(writer, body),
         "task" => show_text(rt.alloc(), clock, tasks, body)?,
         "history" | "history-of" => log_text(rt.alloc(), clock, tasks, body)?,
         _ => None,

@@ -10,7 +10,7 @@ use tb_board::Key;
 use tb_command_line::ImportKind;
 use tb_my::{
     MyFault, Sent, SettingName, asker_of, import_told, import_words, is_json, kept_sent,
-    read_settings, settings_text, undo_head, undone_in, with_board,
+    read_settings, refusal_text, settings_text, undo_head, undone_in, with_board,
 };
 use tb_orders::{Ending, parts_of};
 use tb_program::{Fault, print_line};
@@ -220,12 +220,21 @@ pub(crate) fn import_file<R: Read + Drop, W: Write>(
             return Err(Fault::NoAnswer);
         };
         if answer.ending == Ending::Refused {
-            let _ = print_line(&mut rt.stderr(), body.trim_end());
-            return refused(rt, &answer);
+            return refused_part(rt, &answer, body.trim_end());
         }
         print_line(writer, import_told(rt.alloc(), body)?.as_str())?;
     }
     Ok(Ending::Accepted)
+}
+
+/// Tells why a part is refused: as it came, which says of which task, and in words where there are some.
+fn refused_part(rt: &HostRuntime, answer: &Answer, body: &str) -> Result<Ending, Fault>
+    ensures { IfErr result (λ fault. is_of_mine fault ≡ true) }
+{
+    if refusal_text(rt.alloc(), body)?.as_str() != body {
+        let _ = print_line(&mut rt.stderr(), body);
+    }
+    refused(rt, answer)
 }
 
 fn import_part(
