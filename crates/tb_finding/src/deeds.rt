@@ -78,15 +78,7 @@ fn entry_line(
         return Ok(None);
     };
     match text_at(entry, "what") {
-        Some(what) => Ok(Some(line_of(
-            alloc,
-            clock,
-            tasks,
-            moment,
-            member,
-            what,
-            task_in(entry),
-        )?)),
+        Some(what) => Ok(Some(line_of(alloc, clock, tasks, moment, member, what, task_in(entry))?)),
         None => Ok(None),
     }
 }
