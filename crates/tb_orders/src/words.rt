@@ -4,7 +4,7 @@ ghost use Rattle.std.specs.List.{list_all};
 ghost use Rattle.std.specs.String.{string_bytes};
 ghost use Rattle.std.specs.Vec.Iter.{into_iter_items};
 ghost use Rattle.tb_command_line.specs.Order.{Request, is_plain, order_of, texts_of, words_of};
-ghost use Rattle.tb_command_line.specs.Page.{page_in, with_page, without_page};
+ghost use Rattle.tb_command_line.specs.Extra.{with_extra, without_extra};
 ghost use Rattle.tb_command_line.specs.Sending.{send_of, told_of};
 ghost use Rattle.tb_command_line.specs.declared.order.Order.{Order};
 ghost use Rattle.tb_orders.specs.Telling.{ReadsAs, is_of_words};
@@ -54,10 +54,10 @@ fn has_dash(words: &[String]) -> bool {
 /// The order that the words after the first are, which names the program.
 fn order_after_name(alloc: Global, words: Args, kept: &Option<Key>) -> Result<Order, Fault>
     ensures order { (request : Request)
-        → without_page (map string_bytes (drop 1 (into_iter_items words))) ≡ words_of request
+        → without_extra (map string_bytes (drop 1 (into_iter_items words))) ≡ words_of request
         → list_all is_plain (texts_of request) ≡ true
         → ReadsAs result
-        (with_page (page_in (map string_bytes (drop 1 (into_iter_items words))))
+        (with_extra (map string_bytes (drop 1 (into_iter_items words)))
         (order_of kept.now request)) }
     ensures told { (order : Order)
         → told_of (map string_bytes (drop 1 (into_iter_items words))) ≡ Some order
@@ -75,10 +75,10 @@ fn order_after_name(alloc: Global, words: Args, kept: &Option<Key>) -> Result<Or
 /// The order that words are, with the key that is kept elsewhere, or the program's fault.
 pub fn order_of(alloc: Global, words: &[&str], kept: &Option<Key>) -> Result<Order, Fault>
     ensures order { (request : Request)
-        → without_page (map (λ word. word.now) words.entry.now) ≡ words_of request
+        → without_extra (map (λ word. word.now) words.entry.now) ≡ words_of request
         → list_all is_plain (texts_of request) ≡ true
         → ReadsAs result
-        (with_page (page_in (map (λ word. word.now) words.entry.now))
+        (with_extra (map (λ word. word.now) words.entry.now)
         (order_of kept.now request)) }
     ensures told { (order : Order) → told_of (map (λ word. word.now) words.entry.now) ≡ Some order
         → result ≡ Ok order }
