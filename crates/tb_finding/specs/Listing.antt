@@ -39,4 +39,4 @@ told clock style query look = if query.is_json then json_list look (found clock 
 -- of an export, if it is one
 abbrev pub found_text : Clock → Style → Query → Text → Option Text
 found_text clock style query text =
-    option_map (λ tasks. told clock style query (look_of tasks)) (tasks_in clock.now text)
+    option_map (λ tasks. told clock style query (look_of tasks)) (tasks_in clock.moment text)

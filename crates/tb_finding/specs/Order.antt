@@ -62,7 +62,7 @@ first_key projects sort.Project t = project_place projects t.project
 abbrev pub rank_of : Clock → Look → ℕ → Task → Rank
 rank_of clock look place t = (
   record {
-    0 = urgency_of (is_marked look.blocked place) (is_marked look.blocking place) clock.now t;
+    0 = urgency_of (is_marked look.blocked place) (is_marked look.blocking place) clock.moment t;
   },
   place,
 )

@@ -1,5 +1,5 @@
 -- One task in lines.
-use Rattle.std.specs.Prelude.{ℕ, ℤ, ◌+◌, ◌==◌, List, [], ◌∷◌, ◌++◌, codes, decimal, Option, Some, None, option_and_then, option_map, unsigned_abs, if◌then◌else◌}
+use Rattle.std.specs.Prelude.{ℕ, ℤ, ◌+◌, ◌==◌, List, [], ◌∷◌, ◌++◌, codes, decimal, Option, Some, None, option_and_then, option_map, unsigned_abs, unwrap_or, if◌then◌else◌}
 use Rattle.std.specs.Str.{bytes_eq}
 use Rattle.serde_json.specs.Read.{read}
 use Rattle.tb_finding.specs.Board.{Text, task_in}
@@ -7,6 +7,7 @@ use Rattle.tb_finding.specs.Cells.{letter_of, moment_cell, tag_words}
 use Rattle.tb_finding.specs.Json.{truth}
 use Rattle.tb_finding.specs.Tests.{assignee}
 use Rattle.tb_finding.specs.Words.{moment_word}
+use Rattle.tb_my.specs.Days.{after_key}
 use Rattle.tb_my.specs.Telling.{shown_text}
 use Rattle.tb_my.specs.declared.look.Seen.{Seen}
 use Rattle.tb_my.specs.declared.zone.Clock.{Clock}
@@ -23,6 +24,10 @@ use Rattle.tb_task.specs.declared.task.Task.{Task}
 abbrev pub field : Text → Text → Text
 field name [] = []
 field name (byte ∷ value) = codes "  " ++ (name ++ (codes "  " ++ ((byte ∷ value) ++ 10 ∷ [])))
+
+-- without the space in front
+abbrev pub unspaced : Text → Text
+unspaced text = unwrap_or (after_key (codes " ") text) text
 
 abbrev pub text_or_none : Option Text → Text
 text_or_none None = []
@@ -93,7 +98,7 @@ abbrev pub kind_lines : Task → Text
 kind_lines t =
     field (codes "priority ") (letter_of t.priority)
     ++ (field (codes "project  ") (text_or_none t.project)
-    ++ (field (codes "tags     ") (tag_words t.tags)
+    ++ (field (codes "tags     ") (unspaced (tag_words t.tags))
     ++ field (codes "for      ") (shown_text (assignee t.extras))))
 
 abbrev pub show_of : Clock → List Seen → Task → Text
@@ -109,4 +114,4 @@ show_of clock tasks t =
 -- of the answer of `task`, if it is a task
 abbrev pub show_text : Clock → List Seen → Text → Option Text
 show_text clock tasks body = option_map (show_of clock tasks)
-    (option_and_then (task_in clock.now) (read body))
+    (option_and_then (task_in clock.moment) (read body))

@@ -62,7 +62,7 @@ is_on clock days (Some moment) = is_in days (day_at clock.shifts moment)
 
 -- a day before today, or a time before now
 abbrev pub is_past : Clock → ℕ → Bool
-is_past clock moment = if is_timed clock.shifts moment then nat_lt moment clock.now
+is_past clock moment = if is_timed clock.shifts moment then nat_lt moment clock.moment
     else nat_lt (day_at clock.shifts moment) (today clock)
 
 abbrev pub is_overdue : Clock → Option ℕ → Bool

@@ -107,7 +107,7 @@ fn rank_of(clock: &Clock, look: &Look, place: usize, task: &Task) -> Rank
         task,
         look.is_blocked(place),
         look.is_blocking(place),
-        clock.now,
+        clock.moment,
     );
     (Reverse(urgency), place)
 }

@@ -1,5 +1,5 @@
 //! Found tasks as JSON.
-ghost use Rattle.std.specs.Prelude.{◌≡◌, ◌<◌, ◌+◌, ◌^◌, ◌++◌, IfOk, OnOk, option_map, slice_get, string_bytes};
+ghost use Rattle.std.specs.Prelude.{◌≡◌, ◌<◌, ◌+◌, ◌^◌, ◌++◌, IfOk, OnOk, option_map, slice_get, string_bytes, true};
 ghost use Rattle.tb_finding.specs.Json.{json_at, json_list, json_task, json_tasks, truth, unended};
 
 use crate::finding::Key;

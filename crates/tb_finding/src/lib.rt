@@ -19,5 +19,5 @@ pub use finding::{Key, found};
 pub use listing::found_text;
 pub use look::{Look, read_tasks};
 pub use showing::show_text;
-pub use table::{Cells, Style, Widths, table};
+pub use table::{Cells, Style, Widths};
 pub use tests::is_found;

@@ -23,7 +23,7 @@ pub fn found_text(
     ensures { IfOk result (λ text. text
         ≡ found_text clock.now style query.now export.now) }
 {
-    let Some(tasks) = read_tasks(alloc, export, clock.now)? else {
+    let Some(tasks) = read_tasks(alloc, export, clock.moment)? else {
         return Ok(None);
     };
     let look = Look::of(alloc, tasks)?;

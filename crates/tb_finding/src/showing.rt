@@ -1,7 +1,7 @@
 //! One task in lines.
 ghost use Rattle.std.specs.Prelude.{◌≡◌, ◌++◌, ◌+◌, ◌<◌, ◌^◌, IfOk, OnOk, codes, decimal, if◌then◌else◌, ◌∷◌, [], string_bytes};
 ghost use Rattle.tb_finding.specs.Cells.{moment_cell};
-ghost use Rattle.tb_finding.specs.Showing.{field, int_text, kind_lines, named_from, need_lines, note_lines, number_from, own_line, own_lines, show_of, show_text, state_lines, text_or_none, value_text};
+ghost use Rattle.tb_finding.specs.Showing.{field, int_text, kind_lines, named_from, need_lines, note_lines, number_from, own_line, own_lines, show_of, show_text, state_lines, text_or_none, unspaced, value_text};
 ghost use Rattle.tb_finding.specs.Words.{moment_word};
 ghost use Rattle.tb_my.specs.Telling.{shown_text};
 ghost use Rattle.tb_report.specs.Row.{is_negative};
@@ -14,7 +14,7 @@ use crate::words::push_moment;
 use std::alloc::{AllocError, Global};
 use std::fmt::Write;
 use tb_json::parse;
-use tb_my::{Clock, Seen, push_shown};
+use tb_my::{Clock, Seen, after_key, push_shown};
 use tb_task::{Annotation, Extra, ExtraValue, Moment, Task, TaskId};
 use tb_values::{NonEmptyText, Text};
 
@@ -30,7 +30,7 @@ pub fn show_text(
     let Some(value) = parse(alloc, body)? else {
         return Ok(None);
     };
-    match task_in(alloc, &value, clock.now)? {
+    match task_in(alloc, &value, clock.moment)? {
         Some(task) => Ok(Some(show_of(alloc, clock, tasks, &task)?)),
         None => Ok(None),
     }
@@ -80,8 +80,18 @@ fn push_kind(alloc: Global, text: &mut String, task: &Task) -> Result<(), AllocE
         "project  ",
         text_or_none(alloc, &task.project)?.as_str(),
     )?;
-    push_field(text, "tags     ", tags.as_str())?;
+    push_field(text, "tags     ", unspaced(tags.as_str()))?;
     push_field(text, "for      ", person.as_str())
+}
+
+/// A text without the space in front.
+fn unspaced(text: &str) -> &str
+    ensures { result.now ≡ unspaced text.now }
+{
+    match after_key(text, " ") {
+        Some(rest) => rest,
+        None => text,
+    }
 }
 
 fn shown(alloc: Global, text: &str) -> Result<String, AllocError>

@@ -148,7 +148,7 @@ fn is_past(clock: &Clock, moment: Moment) -> bool
     ensures { result ≡ is_past clock.now moment }
 {
     if clock.is_timed(moment) {
-        moment.seconds() < clock.now.seconds()
+        moment.seconds() < clock.moment.seconds()
     } else {
         clock.day_at(moment) < clock.today()
     }
@@ -173,6 +173,7 @@ fn some_note_has(part: &[u8], notes: &[Annotation]) -> bool
 }
 
 /// Whether a text has a part somewhere; capitals of A to Z count as small letters.
+#[tactic(auto, using(crate::proofs::Texts::nothing_begins))]
 fn contains(part: &[u8], text: &[u8]) -> bool
     ensures { result ≡ contains part.now text.now }
 {
@@ -184,6 +185,7 @@ fn contains(part: &[u8], text: &[u8]) -> bool
     part.is_empty()
 }
 
+#[tactic(auto, using(crate::proofs::Texts::shorter_text))]
 fn begins(part: &[u8], text: &[u8]) -> bool
     ensures { result ≡ begins part.now text.now }
 {
