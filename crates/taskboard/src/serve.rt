@@ -27,6 +27,7 @@ const OTHERS: u32 = 0o077;
 
 /// Bytes in a KiB and in a MiB.
 const KIB: u64 = 1_024;
+
 const MIB: u64 = 1_048_576;
 
 /// Serves a file on a port of the loopback, up to the number of connections, or without end: then it ends by a fault alone.
