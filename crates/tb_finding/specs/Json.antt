@@ -18,13 +18,19 @@ truth false = codes "false"
 abbrev pub unended : Text → Text
 unended text = unwrap_or (before_key (codes "}") text) text
 
+abbrev pub json_marks : Look → ℕ → Text
+json_marks look place =
+    codes ",\"blocked\":" ++ (truth (is_marked look.blocked place)
+    ++ (codes ",\"blocking\":" ++ truth (is_marked look.blocking place)))
+
+abbrev pub json_numbers : Key → Text
+json_numbers key =
+    codes ",\"place\":" ++ (decimal (key.1.1 + 1)
+    ++ (codes ",\"urgency\":" ++ (urgency_text key.1.0.0 ++ codes "}")))
+
 abbrev pub json_task : Look → Key → Task → Text
 json_task look key t =
-    unended (stored_text t)
-    ++ (codes ",\"blocked\":" ++ (truth (is_marked look.blocked key.1.1)
-    ++ (codes ",\"blocking\":" ++ (truth (is_marked look.blocking key.1.1)
-    ++ (codes ",\"place\":" ++ (decimal (key.1.1 + 1)
-    ++ (codes ",\"urgency\":" ++ (urgency_text key.1.0.0 ++ codes "}"))))))))
+    unended (stored_text t) ++ (json_marks look key.1.1 ++ json_numbers key)
 
 abbrev pub json_at : Look → Key → Option Task → Bool → Text
 json_at look key None is_first = []

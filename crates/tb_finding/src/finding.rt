@@ -145,7 +145,7 @@ fn place_among(project: &str, projects: &[Text]) -> u64
     ensures { result ≡ place_among project.now projects.now }
 {
     for (place, other) in projects.iter().enumerate() {
-        if other.as_str() == project {
+        if project == other.as_str() {
             return place as u64;
         }
     }

@@ -1,6 +1,6 @@
 //! Found tasks as JSON.
 ghost use Rattle.std.specs.Prelude.{◌≡◌, ◌<◌, ◌+◌, ◌^◌, ◌++◌, IfOk, OnOk, option_map, slice_get, string_bytes, true};
-ghost use Rattle.tb_finding.specs.Json.{json_at, json_list, json_task, json_tasks, truth, unended};
+ghost use Rattle.tb_finding.specs.Json.{json_at, json_list, json_marks, json_numbers, json_task, json_tasks, truth, unended};
 
 use crate::finding::Key;
 use crate::look::Look;
@@ -44,13 +44,13 @@ fn push_at(
     ensures { OnOk result (string_bytes text.new ≡ string_bytes text.old
         ++ json_at look.now key (slice_get look.now.tasks key.1.1) is_first) }
 {
-    let Some(task) = look.tasks.get(key.1.1) else {
+    let Some(task) = look.task(key.1.1) else {
         return Ok(());
     };
     if !is_first {
         text.push_str(",\n")?;
     }
-    push_task(alloc, text, look, key, task.get())
+    push_task(alloc, text, look, key, task)
 }
 
 fn push_task(
@@ -65,17 +65,28 @@ fn push_task(
         ≡ string_bytes text.old ++ json_task look.now key task.now) }
 {
     let stored = write_stored(alloc, task)?;
+    text.push_str(unended(stored.as_str()))?;
+    push_marks(text, look, key.1.1)?;
+    push_numbers(alloc, text, key)
+}
+
+fn push_marks(text: &mut String, look: &Look, place: usize) -> Result<(), AllocError>
+    ensures { OnOk result (string_bytes text.new
+        ≡ string_bytes text.old ++ json_marks look.now place) }
+{
+    let blocked = truth(look.is_blocked(place));
+    let blocking = truth(look.is_blocking(place));
+    write!(text, ",\"blocked\":{blocked},\"blocking\":{blocking}")
+}
+
+fn push_numbers(alloc: Global, text: &mut String, key: Key) -> Result<(), AllocError>
+    requires { key.1.1 + 1 < 2 ^ 64 }
+    ensures { OnOk result (string_bytes text.new ≡ string_bytes text.old ++ json_numbers key) }
+{
     let urgency = decimals(alloc, key.1.0.0)?;
     let place = key.1.1 + 1;
-    text.push_str(unended(stored.as_str()))?;
-    text.push_str(",\"blocked\":")?;
-    text.push_str(truth(look.is_blocked(key.1.1)))?;
-    text.push_str(",\"blocking\":")?;
-    text.push_str(truth(look.is_blocking(key.1.1)))?;
-    write!(text, ",\"place\":{place}")?;
-    text.push_str(",\"urgency\":")?;
-    text.push_str(urgency.as_str())?;
-    text.push_str("}")
+    let urgency = urgency.as_str();
+    write!(text, ",\"place\":{place},\"urgency\":{urgency}}}")
 }
 
 /// An object without the brace that ends it.

@@ -95,8 +95,8 @@ fn add_cells(
     ensures { OnOk result (cells.new ≡ cells.old
         ++ cells_at clock.now style look.now key (slice_get look.now.tasks key.1.1)) }
 {
-    match look.tasks.get(key.1.1) {
-        Some(task) => cells.push(cells_of(alloc, clock, style, look, key.1.1, task.get())?),
+    match look.task(key.1.1) {
+        Some(task) => cells.push(cells_of(alloc, clock, style, look, key.1.1, task)?),
         None => Ok(()),
     }
 }

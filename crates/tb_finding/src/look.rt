@@ -1,5 +1,5 @@
 //! The tasks of a board, as an export of it shows them.
-ghost use Rattle.std.specs.Prelude.{◌≡◌, [], IfOk, codes, option_map};
+ghost use Rattle.std.specs.Prelude.{◌≡◌, ◌<◌, ◌+◌, ◌^◌, [], IfOk, IsSome, codes, option_map, slice_get};
 ghost use Rattle.serde_json.specs.Read.{read};
 ghost use Rattle.serde_json.specs.View.{items_view, view};
 ghost use Rattle.tb_finding.specs.Board.{board_of, linked_task, look_of, task_in, tasks_in, tasks_of, with_tasks};
@@ -97,6 +97,20 @@ impl Look {
             blocked: Items::from_vec(waits.blocked),
             blocking: Items::from_vec(waits.blocking),
         })
+    }
+
+    /// The task at a place, from 0.
+    pub(crate) fn task(&self, place: usize) -> Option<&Task>
+        ensures task { option_map (λ task. task.now) result ≡ slice_get self.now.tasks place }
+        ensures within { IsSome result → place + 1 < 2 ^ 64 }
+    {
+        if place >= self.tasks.len() {
+            return None;
+        }
+        match self.tasks.get(place) {
+            Some(task) => Some(task.get()),
+            None => None,
+        }
     }
 
     pub(crate) fn is_blocked(&self, place: usize) -> bool

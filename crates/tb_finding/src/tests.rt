@@ -173,7 +173,6 @@ fn some_note_has(part: &[u8], notes: &[Annotation]) -> bool
 }
 
 /// Whether a text has a part somewhere; capitals of A to Z count as small letters.
-#[tactic(auto, using(crate::proofs::Texts::nothing_begins))]
 fn contains(part: &[u8], text: &[u8]) -> bool
     ensures { result ≡ contains part.now text.now }
 {
