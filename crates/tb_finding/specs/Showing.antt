@@ -81,18 +81,27 @@ own_lines (e ∷ extras) = own_line e.name e.value ++ own_lines extras
 
 -- ---- all lines
 
-abbrev pub state_lines : Clock → Task → Text
-state_lines clock t =
+abbrev pub plan_lines : Clock → Task → Text
+plan_lines clock t =
     field (codes "status   ") (status_word t.status)
     ++ (field (codes "due      ") (moment_cell clock t.due)
     ++ (field (codes "waits for") (moment_cell clock t.wait)
-    ++ (field (codes "scheduled") (moment_cell clock t.scheduled)
-    ++ (field (codes "until    ") (moment_cell clock t.until)
-    ++ (field (codes "repeats  ") (text_or_none t.recur)
-    ++ (field (codes "begun    ") (moment_cell clock t.start)
+    ++ field (codes "scheduled") (moment_cell clock t.scheduled)))
+
+abbrev pub repeat_lines : Clock → Task → Text
+repeat_lines clock t =
+    field (codes "until    ") (moment_cell clock t.until)
+    ++ field (codes "repeats  ") (text_or_none t.recur)
+
+abbrev pub course_lines : Clock → Task → Text
+course_lines clock t =
+    field (codes "begun    ") (moment_cell clock t.start)
     ++ (field (codes "closed   ") (moment_cell clock t.end)
     ++ (field (codes "added    ") (moment_cell clock (Some t.entry))
-    ++ field (codes "changed  ") (moment_cell clock t.modified)))))))))
+    ++ field (codes "changed  ") (moment_cell clock t.modified)))
+
+abbrev pub state_lines : Clock → Task → Text
+state_lines clock t = plan_lines clock t ++ (repeat_lines clock t ++ course_lines clock t)
 
 abbrev pub kind_lines : Task → Text
 kind_lines t =

@@ -87,13 +87,19 @@ abbrev pub due_column : Bool → ℕ → Cells → Text
 due_column is_coloured size c = if c.is_late then painted is_coloured RED.now (left size c.due)
     else left size c.due
 
+-- the columns up to the due day
+abbrev pub front : Bool → Widths → Cells → Text
+front is_coloured w c =
+    painted is_coloured BOLD.now (right w.number c.number)
+    ++ (left w.marks c.marks ++ due_column is_coloured w.due c)
+
+-- the columns after it, and the end of the line
+abbrev pub rest : Option ℕ → Widths → Cells → Text
+rest room w c =
+    left w.project c.project ++ (left w.person c.person ++ (fitted room c.what ++ 10 ∷ []))
+
 abbrev pub line : Style → Widths → Cells → Text
-line style w c =
-    painted style.is_coloured BOLD.now (right w.number c.number)
-    ++ (left w.marks c.marks
-    ++ (due_column style.is_coloured w.due c
-    ++ (left w.project c.project
-    ++ (left w.person c.person ++ (fitted (room_in style.columns w) c.what ++ 10 ∷ [])))))
+line style w c = front style.is_coloured w c ++ rest (room_in style.columns w) w c
 
 abbrev pub lines : Style → Widths → List Cells → Text
 lines style w [] = []

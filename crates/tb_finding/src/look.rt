@@ -145,6 +145,7 @@ fn board_of(alloc: Global, tasks: Items<Shared<Task>>) -> Result<Board, AllocErr
     Ok(board)
 }
 
+#[tactic(auto, unfolding(tb_board::specs::Names::is_title))]
 fn some_title(alloc: Global) -> Result<Title, AllocError>
     ensures { IfOk result (λ title. title ≡ codes "-") }
 {

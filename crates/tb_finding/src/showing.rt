@@ -1,7 +1,7 @@
 //! One task in lines.
 ghost use Rattle.std.specs.Prelude.{◌≡◌, ◌++◌, ◌+◌, ◌<◌, ◌^◌, IfOk, OnOk, codes, decimal, if◌then◌else◌, ◌∷◌, [], string_bytes};
 ghost use Rattle.tb_finding.specs.Cells.{moment_cell};
-ghost use Rattle.tb_finding.specs.Showing.{field, int_text, kind_lines, named_from, need_lines, note_lines, number_from, own_line, own_lines, show_of, show_text, state_lines, text_or_none, unspaced, value_text};
+ghost use Rattle.tb_finding.specs.Showing.{course_lines, field, int_text, kind_lines, named_from, need_lines, note_lines, number_from, own_line, own_lines, plan_lines, repeat_lines, show_of, show_text, state_lines, text_or_none, unspaced, value_text};
 ghost use Rattle.tb_finding.specs.Words.{moment_word};
 ghost use Rattle.tb_my.specs.Telling.{shown_text};
 ghost use Rattle.tb_report.specs.Row.{is_negative};
@@ -120,16 +120,47 @@ fn push_state(
     ensures { OnOk result (string_bytes text.new
         ≡ string_bytes text.old ++ state_lines clock.now task.now) }
 {
+    push_plan(alloc, text, clock, task)?;
+    push_repeats(alloc, text, clock, task)?;
+    push_course(alloc, text, clock, task)
+}
+
+/// The status, and when a task is due, for what it waits and when it is scheduled.
+fn push_plan(alloc: Global, text: &mut String, clock: &Clock, task: &Task) -> Result<(), AllocError>
+    ensures { OnOk result (string_bytes text.new
+        ≡ string_bytes text.old ++ plan_lines clock.now task.now) }
+{
     push_field(text, "status   ", task.status.word())?;
     push_day(alloc, text, clock, "due      ", task.due)?;
     push_day(alloc, text, clock, "waits for", task.wait)?;
-    push_day(alloc, text, clock, "scheduled", task.scheduled)?;
+    push_day(alloc, text, clock, "scheduled", task.scheduled)
+}
+
+/// Until when a task goes, and how it repeats.
+fn push_repeats(
+    alloc: Global,
+    text: &mut String,
+    clock: &Clock,
+    task: &Task,
+) -> Result<(), AllocError>
+    ensures { OnOk result (string_bytes text.new
+        ≡ string_bytes text.old ++ repeat_lines clock.now task.now) }
+{
     push_day(alloc, text, clock, "until    ", task.until)?;
-    push_field(
-        text,
-        "repeats  ",
-        text_or_none(alloc, &task.recur)?.as_str(),
-    )?;
+    let repeats = text_or_none(alloc, &task.recur)?;
+    push_field(text, "repeats  ", repeats.as_str())
+}
+
+/// When work on a task began, and when it was closed, added and changed.
+fn push_course(
+    alloc: Global,
+    text: &mut String,
+    clock: &Clock,
+    task: &Task,
+) -> Result<(), AllocError>
+    ensures { OnOk result (string_bytes text.new
+        ≡ string_bytes text.old ++ course_lines clock.now task.now) }
+{
     push_day(alloc, text, clock, "begun    ", task.start)?;
     push_day(alloc, text, clock, "closed   ", task.end)?;
     push_day(alloc, text, clock, "added    ", Some(task.entry))?;

@@ -1,7 +1,7 @@
 //! Lines of columns that are as wide as what stands in them.
 ghost use Rattle.std.specs.Prelude.{◌≡◌, ◌++◌, IfOk, OnOk, chars, replicate, string_bytes};
 ghost use Rattle.std.specs.Str.{encode_utf8_all};
-ghost use Rattle.tb_finding.specs.Table.{columns_of, cut, due_column, fitted, left, line, no_widths, painted, right, room_after, room_in, table, taken, wider, widest};
+ghost use Rattle.tb_finding.specs.Table.{columns_of, cut, due_column, fitted, front, left, line, no_widths, painted, rest, right, room_after, room_in, table, taken, wider, widest};
 
 use std::alloc::{AllocError, Global};
 use tb_values::Text;
@@ -97,18 +97,41 @@ fn push_line(
     ensures { OnOk result (string_bytes text.new
         ≡ string_bytes text.old ++ line style widths cells.now) }
 {
+    push_front(alloc, text, style.is_coloured, widths, cells)?;
+    push_rest(alloc, text, room_in(style.columns, widths), widths, cells)
+}
+
+/// The columns up to the due day.
+fn push_front(
+    alloc: Global,
+    text: &mut String,
+    is_coloured: bool,
+    widths: Widths,
+    cells: &Cells,
+) -> Result<(), AllocError>
+    ensures { OnOk result (string_bytes text.new
+        ≡ string_bytes text.old ++ front is_coloured widths cells.now) }
+{
     let number = right(alloc, widths.number, cells.number.as_str())?;
-    push_painted(text, style.is_coloured, BOLD, number.as_str())?;
+    push_painted(text, is_coloured, BOLD, number.as_str())?;
     push_left(text, widths.marks, cells.marks.as_str())?;
-    push_due(alloc, text, style.is_coloured, widths.due, cells)?;
+    push_due(alloc, text, is_coloured, widths.due, cells)
+}
+
+/// The columns after the due day, and the end of the line.
+fn push_rest(
+    alloc: Global,
+    text: &mut String,
+    room: Option<usize>,
+    widths: Widths,
+    cells: &Cells,
+) -> Result<(), AllocError>
+    ensures { OnOk result (string_bytes text.new
+        ≡ string_bytes text.old ++ rest room widths cells.now) }
+{
     push_left(text, widths.project, cells.project.as_str())?;
     push_left(text, widths.person, cells.person.as_str())?;
-    push_fitted(
-        alloc,
-        text,
-        room_in(style.columns, widths),
-        cells.what.as_str(),
-    )?;
+    push_fitted(alloc, text, room, cells.what.as_str())?;
     text.push('\n')
 }
 
