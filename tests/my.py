@@ -296,6 +296,41 @@ def finding(draw):
         fail(f"only {count} tasks were found")
 
 
+VERBS = {
+    "add": "added", "done": "completed", "delete": "deleted", "reopen": "reopened", "start": "started", "stop": "stopped", "modify": "changed",
+    "annotate": "added a note to", "denotate": "removed a note from", "depend": "added a dependency to", "undepend": "removed a dependency from",
+    "import": "imported tasks", "import-todo": "imported tasks", "role": "changed a role", "ahead": "changed how far the board looks ahead",
+    "sweep": "had due tasks made", "take": "took over the board", "title": "renamed the board",
+}
+
+
+def without_controls(text):
+    return "".join(" " if unicodedata.category(it) == "Cc" else it for it in text)
+
+
+def log_line(entry, places):
+    """What `tb log` says of an entry, in UTC."""
+    moment = datetime.datetime.strptime(entry["moment"], "%Y%m%dT%H%M%SZ")
+    days = (datetime.datetime.now(datetime.timezone.utc).date() - moment.date()).days
+    day = {0: "today", 1: "yesterday"}.get(days, f"{moment:%Y-%m-%d}")
+    task = f" {places[entry['task']]}" if "task" in entry else ""
+    return f"{day} {moment:%H:%M}: {entry['member']} {VERBS[entry['what']]}{task}\n"
+
+
+def log():
+    """Who did what, on the board and on one task."""
+    places = {task["uuid"]: f"{place} {without_controls(task['description'])}" for place, task in enumerate(tasks(), 1)}
+    told = json.loads(send("history", "1"))["entries"]
+    expect(["log"], 0, "".join(log_line(entry, places) for entry in told), TZ="UTC")
+    uuid_of_first = next(iter(places))
+    about = json.loads(send("history-of", "1", uuid_of_first))["entries"]
+    if not 0 < len(about) < len(told):
+        fail(f"{len(about)} of {len(told)} entries are about the first task")
+    expect(["log", "1"], 0, "".join(log_line(entry, places) for entry in about), TZ="UTC")
+    expect(["log", "1", "2"], 2, told="Nothing belongs behind `log`, or one task")
+    expect(["log", "999999"], 1, told="There is no task 999999 on board 1")
+
+
 def lists():
     """Lines are as wide as what stands in them, and fit a terminal; colours are for terminals alone; days are words."""
     send("board", "Lists")
@@ -452,6 +487,7 @@ def main():
     refused()
     days(draw)
     others(draw)
+    log()
     same_task()
     undo()
     finding(draw)
