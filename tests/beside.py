@@ -9,7 +9,7 @@ import sys
 import time
 
 from crowding import Slow, burst
-from talking import Server, answer_to, end_by_signal, identified, make_file, message, status_of
+from talking import UNBOUNDED, Server, answer_to, end_by_signal, identified, make_file, message, status_of
 
 PROGRAM, PORT, MINUTES, LEAST = sys.argv[1], int(sys.argv[2]), int(sys.argv[3]), float(sys.argv[4])
 BESIDE = 500
@@ -61,7 +61,7 @@ def main():
     for name in FILES:
         make_file(PROGRAM, name)
     with contextlib.ExitStack() as ending:
-        servers = [ending.enter_context(Server(PROGRAM, PORT + at, name, errors=subprocess.DEVNULL)) for at, name in enumerate(FILES)]
+        servers = [ending.enter_context(Server(PROGRAM, PORT + at, name, words=UNBOUNDED, errors=subprocess.DEVNULL)) for at, name in enumerate(FILES)]
         slow = Slow(servers[1], BESIDE)
         ending.callback(slow.end)
         ratios = [minute(servers, number, slow) for number in range(MINUTES)]

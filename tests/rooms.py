@@ -10,13 +10,12 @@ import sys
 import threading
 import time
 
-from talking import KNOWN, Server, answer_to, identified, is_whole, make_file, message, status_of
+from talking import KNOWN, UNBOUNDED, Server, answer_to, identified, is_whole, make_file, message, status_of
 
 PROGRAM, PORT, SLACK, PART = os.path.abspath(sys.argv[1]), int(sys.argv[2]), float(sys.argv[3]), sys.argv[4]
 LARGE, READERS, SENDERS = (int(os.environ.get(name, usual)) for name, usual in (("LARGE", 134), ("READERS", 400), ("SENDERS", 500)))
 # How long somebody may wait for an answer whose key is known, and somebody whose key was never right before, in seconds.
 KNOWN_WITHIN, NEW_WITHIN = 0.1 * SLACK, 1 * SLACK
-WORDS = ("--connections", "1000000", "--growth", "0")
 ME = message(b"GET", b"/me")
 EXPORT = message(b"GET", b"/boards/1/export")
 # The longest body that a message may have.
@@ -87,9 +86,9 @@ class Told:
         return f"{taken:.0f} MiB at most, {self.most} told"
 
 
-def serve(ending, words=WORDS):
+def serve(ending):
     errors = ending.enter_context(open("told", "w"))
-    server = ending.enter_context(Server(PROGRAM, PORT, words=words, errors=errors))
+    server = ending.enter_context(Server(PROGRAM, PORT, words=UNBOUNDED, errors=errors))
     time.sleep(0.1)
     return server, Told(server, "told")
 

@@ -84,7 +84,7 @@ class Client(threading.Thread):
 
 
 def serve():
-    return Server(PROGRAM, PORT, words=("--forever",), errors=subprocess.DEVNULL)
+    return Server(PROGRAM, PORT, words=("--forever", "--growth", "0"), errors=subprocess.DEVNULL)
 
 
 def kill_on(server, until):
