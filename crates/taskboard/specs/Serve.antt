@@ -38,9 +38,9 @@ abbrev pub limit_of : Connections → Option ℕ
 limit_of (UpTo count) = Some count
 limit_of Forever = None
 
--- in bytes, of what the order says in MiB and in KiB a second
-abbrev pub rate_of : ServeOrder → Rate
-rate_of order = record { burst = order.burst * 1048576; per_second = order.growth * 1024 }
+-- in bytes, of MiB and of KiB a second
+abbrev pub rate_of : ℕ → ℕ → Rate
+rate_of burst growth = record { burst = burst * 1048576; per_second = growth * 1024 }
 
 module _ {D : Type 0} {d : DiskGhosts D} (g : Ghosts (SqlKeep (FileStore D d))) where
   -- In a session over the file some things were done to connections that were silent at first, with the page that the order names.

@@ -65,7 +65,7 @@ fn listen(rt: &HostRuntime, order: &ServeOrder) -> Result<EventLoop, Fault>
         loopback(order.port),
         limit_of(order.connections),
         LIMITS,
-        rate_of(order),
+        rate_of(order.burst, order.growth),
     ) {
         Ok(event_loop) => Ok(event_loop),
         Err(fault) => Err(fault_of_loop(fault)),
@@ -82,12 +82,12 @@ fn limit_of(connections: Connections) -> Option<u32>
 }
 
 // How much a person's calls and a board's sweeps may write, in bytes.
-fn rate_of(order: &ServeOrder) -> Rate
-    ensures { result ≡ rate_of order.now }
+fn rate_of(burst: u32, growth: u32) -> Rate
+    ensures { result ≡ rate_of burst growth }
 {
     Rate {
-        burst: u64::from(order.burst) * MIB,
-        per_second: u64::from(order.growth) * KIB,
+        burst: u64::from(burst) * MIB,
+        per_second: u64::from(growth) * KIB,
     }
 }
 
