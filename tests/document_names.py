@@ -260,7 +260,7 @@ def check_routes():
     for first, more in re.findall(r"(?m)^\| `(?:POST|GET) ([^`]+)`((?:, `[\w-]+`)*) \|", path.read_text()):
         begin = first.rpartition("/")[0]
         routes = [first, *(f"{begin}/{last}" for last in re.findall(r"[\w-]+", more))]
-        written |= {route.replace("/B", "/{b}").replace("/UUID", "/{uuid}").replace("/NAME", "/{name}") for route in routes}
+        written |= {route.replace("/B", "/{b}").replace("/UUID", "/{uuid}").replace("/NAME", "/{name}").replace("/N", "/{n}") for route in routes}
     for route in sorted(served ^ written):
         tell(path, 0, f"{route} is no route, or a route without a row")
 
