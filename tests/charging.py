@@ -57,7 +57,7 @@ def expect_at_once(server, name, number, target=b"/boards"):
     """A short call of this person is answered at once."""
     with server.connect(60) as client:
         call(client, message(b"GET", ME, fields=by(name)))
-        took = call(client, message(b"POST", target, b'{"name":"B%d"}' % number, by(name, number)))
+        took = call(client, message(b"POST", target, b'{"title":"B%d"}' % number, by(name, number)))
         if took > KNOWN_WITHIN:
             sys.exit(f"{name}: a call took {took:.2f} s")
         return took
