@@ -203,6 +203,15 @@ def asked_little(office):
     browser.wait("return document.querySelector('#list .row') && !document.querySelector('#list .chip.waiting')")
 
 
+def once_quiet(office):
+    """How much was asked, once the looks that were under way have ended."""
+    asked = None
+    while asked != len(office.relay.asked):
+        asked = len(office.relay.asked)
+        time.sleep(1.5)
+    return asked
+
+
 def while_hidden(office):
     """A hidden page asks every 60 s, says in its title how much others did, and loads the board once it is looked at."""
     browser, board = office.browser, new_board("Hidden", bob="member")
@@ -212,9 +221,8 @@ def while_hidden(office):
     browser.wait(IS_LISTED, "Paint the fence")
     browser.run(CLOCK)
     browser.run("window.isAway = true; Object.defineProperty(document, 'hidden', { configurable: true, get: () => window.isAway })")
-    # (a look that is under way ends)
-    time.sleep(1.5)
-    exports, asked = times_asked(office, f"/boards/{board}/export"), len(office.relay.asked)
+    asked = once_quiet(office)
+    exports = times_asked(office, f"/boards/{board}/export")
     tell(f"/boards/{board}/tasks/{task}/modify", "bob", description="Paint the long fence")
     browser.run(PASS, 30, False)
     time.sleep(2.5)
