@@ -56,9 +56,14 @@ def run(script):
     return done.stdout.replace("\r", "").strip("\n")
 
 
+def without_moments(text):
+    """A history has the moments at which it is tried."""
+    return re.sub(r'"moment":"\d{8}T\d{6}Z"', '"moment":".."', text)
+
+
 def compare(name, script, wanted):
     printed = run(script)
-    if printed != wanted.strip("\n"):
+    if without_moments(printed) != without_moments(wanted.strip("\n")):
         sys.exit(f"{name}: {script.splitlines()[-1]}\nis said to print\n{wanted}\nand prints\n{printed}")
     ran.append(name)
 
