@@ -340,11 +340,11 @@ def lists():
         expect(["add", *words], 0, f"Added: {words[0]}\n", **here)
     expect(["start", "2"], 0, "Started: Soon\n", **here)
     plain = tb("list", "--sort", "due", **here).stdout
-    wanted = f"1      2026-01-02               Old\n4      today 12:00              At noon\n2  H*  tomorrow     Home       Soon @x\n3                         bob  {'漢字 ' * 40}\n4 of 4 tasks\n"
+    wanted = f"1      2026-01-02              Old\n4      today 12:00             At noon\n2  H*  tomorrow     Home       Soon @x\n3                         bob  {'漢字 ' * 40}\n4 of 4 tasks\n"
     if plain != wanted:
         fail(f"the list is {plain!r}, and not {wanted!r}")
     if shutil.which("script"):
-        for columns, more in ((60, {}), (200, {"NO_COLOR": "1"})):
+        for columns, more in ((60, {}), (300, {"NO_COLOR": "1"})):
             typed = subprocess.run(["script", "-qec", f"{PROGRAM} my list", "/dev/null"], capture_output=True, text=True, env=BARE | here | {"COLUMNS": str(columns)} | more, timeout=60).stdout
             bare = re.sub("\x1b\\[[0-9]*m", "", typed)
             if ("\x1b[" in typed) == bool(more) or (not more and "\x1b[31m2026-01-02" not in typed):
@@ -373,12 +373,12 @@ def titles():
 def zones():
     """Days and times are those of the machine's zone; a day is its first second in UTC."""
     for zone, moment in (("Europe/Berlin", "20260701T120000Z"), ("America/New_York", "20260701T180000Z"), ("UTC", "20260701T140000Z"), ("CET-1CEST,M3.5.0,M10.5.0/3", "20260701T120000Z"), ("Asia/Kolkata", "20260701T083000Z")):
-        if "/" in zone and not os.path.exists(f"/usr/share/zoneinfo/{zone}"):
+        if "," not in zone and "/" in zone and not os.path.exists(f"/usr/share/zoneinfo/{zone}"):
             continue
-        expect(["add", "in", zone, "due:2026-07-01T14:00", "wait:2026-12-01"], 0, f"Added: in {zone}\n", TZ=zone)
-        expect_task(len(tasks()), due=moment, wait="20261201T000000Z")
+        expect(["add", "in", zone, "due:2026-07-01T14:00", "wait:2099-12-01"], 0, f"Added: in {zone}\n", TZ=zone)
+        expect_task(len(tasks()), due=moment, wait="20991201T000000Z")
         shown = tb("show", str(len(tasks())), TZ=zone).stdout
-        if "2026-07-01 14:00" not in shown or "waits for  2026-12-01\n" not in shown:
+        if "2026-07-01 14:00" not in shown or "waits for  2099-12-01\n" not in shown:
             fail(f"in {zone}: {shown}")
     for zone, hours in (("XXX-14", 14), ("XXX12", -12)):
         there = (datetime.datetime.now(datetime.timezone.utc) + datetime.timedelta(hours=hours)).strftime("%Y%m%dT000000Z")
