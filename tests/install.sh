@@ -170,7 +170,7 @@ bash_offers() {
     expect_offered "kept.db kept.db-wal" taskboard list kept
     expect_offered "done delete" taskboard my d
     expect_offered "kept.db kept.db-wal" taskboard serve --port 8080 kept
-    expect_offered "--port --connections --forever --page --log" taskboard serve kept.db ""
+    expect_offered "--port --connections --forever --page --log --growth --burst" taskboard serve kept.db ""
     expect_offered "--forever" taskboard serve kept.db --port 8080 --f
     expect_offered "kept.db kept.db-wal" taskboard serve kept.db --port 8080 --page kept
     expect_offered "json todo" taskboard import kept.db ann ann-key-1 00000000-0000-4000-8000-000000000001 1 ""
