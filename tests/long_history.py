@@ -24,8 +24,9 @@ def view(client, target):
     return took, json.loads(body_of(answer))
 
 
-def times_of(client, *targets):
-    """The median of each view, asked in turn, so that what else the machine does meets all."""
+def times_of(server, *targets):
+    """The median of each view, asked in turn on one connection, so that what else the machine does meets all."""
+    client = server.connect(60)
     took = [[view(client, target)[0] for target in targets] for _ in range(CALLS)]
     return map(statistics.median, zip(*took))
 
@@ -57,11 +58,10 @@ def main():
         lengthen(calls)
         added = calls.median(adding())
         tell(f"add behind {ENTRIES:,} entries", f"{milliseconds(added)}, {added / first:.2f} times one behind few; {server.resident() - small:.1f} MiB more")
-        client = server.connect(60)
-        last = view(client, "/boards/1/history")[1]["last"]
-        news, me = times_of(client, f"/boards/1/history/{last + 1}", "/me")
+        last = view(server.connect(60), "/boards/1/history")[1]["last"]
+        news, me = times_of(server, f"/boards/1/history/{last + 1}", "/me")
         tell("what is new, where nothing is", f"{milliseconds(news)}, {news / me:.2f} times GET /me")
-        rare, often, page = times_of(client, f"/boards/1/tasks/{RARE}/history", f"/boards/1/tasks/{ONE}/history", f"/boards/1/history/{last // 2}")
+        rare, often, page = times_of(server, f"/boards/1/tasks/{RARE}/history", f"/boards/1/tasks/{ONE}/history", f"/boards/1/history/{last // 2}")
         tell("the history of a task with one entry, of one with a tenth of all, and a page of the board's", ", ".join(map(milliseconds, (rare, often, page))))
         tell(f"{VIEWERS} viewers who ask every {BETWEEN} s", f"{100 * watched(server, last):.1f} % of a processor")
     begun = time.perf_counter()
