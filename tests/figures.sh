@@ -1,6 +1,6 @@
 #!/bin/sh
 # Runs the tests that print figures, one after the other, and writes what they print into a file, below the machine, its load and the
-# program: sh tests/figures.sh FILE [TEST..], for instance sh tests/figures.sh figures.txt speed.sh. It takes some four minutes once the program
+# program: sh tests/figures.sh FILE [TEST..], for instance sh tests/figures.sh figures.txt speed.sh. It takes some six minutes once the program
 # is there; figures are best taken where nothing else runs.
 set -eu
 cd "$(dirname "$0")/.."
