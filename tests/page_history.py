@@ -254,9 +254,9 @@ def comes_due(office):
 def day_asked_little(office):
     """My day asks a board for its history alone where nothing has happened on it."""
     browser, first, second = office.browser, new_board("Of a day"), new_board("Of a day, too")
-    tasks = [add(board, description=f"Due on {board}", due=at(60)) for board in (first, second)]
+    tasks = [add(board, description=f"Due on {board}", due=at(60), assignee="ann") for board in (first, second)]
     browser.open("about:blank")
-    browser.open(f"{office.address}#/day")
+    browser.open(f"{office.address}#/day/mine")
     listed = "return [...document.querySelectorAll('#day-list .open')].filter((row) => row.textContent.startsWith(arguments[0])).length"
     for board in (first, second):
         browser.wait(listed + " === 1", f"Due on {board}")
