@@ -236,10 +236,10 @@ def check_words():
 
 
 def check_my_words():
-    """The same of the words of `my`: the table of `tb`, the help, the man page and the completion."""
+    """The same of the words of `my`: the section of `tb`, the help, the man page and the completion."""
     words = set(re.findall(r'(?m)^ +"([a-z]+)" => MyWord::', (TOP / "crates/tb_my/src/word.rt").read_text()))
     section = (TOP / "docs/USING.md").read_text().partition("\n## tb\n")[2].partition("\n## ")[0]
-    read = {word for row in re.findall(r"(?m)^\| (`.*?`) \| ", section) for word in re.findall(r"`([a-z]+)", row)}
+    read = set(re.findall(r"`([a-z]+)`", section))
     help_text = (TOP / "crates/tb_command_line/src/help.rt").read_text().partition("\ntaskboard my ")[2].partition("\n    N, M ")[0]
     told = set(re.findall(r"[a-z]+", re.sub(r"(?m)  .*$", "", re.sub(r"(?m)^    ", "", help_text))))
     page = (TOP / "contrib/taskboard.1").read_text().partition("\n.B my")[2].partition("\n.TP\n")[0]
