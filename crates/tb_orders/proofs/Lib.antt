@@ -1,3 +1,4 @@
+pub mod Doing
 pub mod Exported
 pub mod Given
 pub mod Inputs
