@@ -9,7 +9,6 @@ taskboard keeps boards of tasks that a team shares, in one file.
 
     taskboard init FILE NAME KEY
     taskboard serve FILE --port P [--connections N or --forever] [--page FOLDER] [--log]
-                    [--growth KIB] [--burst MIB]
     taskboard send [--id UUID] [--for SECONDS] ADDRESS:PORT MEMBER KEY WORD ARGUMENTS..
     taskboard my [WORD ARGUMENTS..]
     taskboard import FILE MEMBER KEY ID BOARD json|todo [--all]

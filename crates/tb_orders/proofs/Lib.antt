@@ -1,4 +1,3 @@
-pub mod Doing
 pub mod Exported
 pub mod Given
 pub mod Inputs

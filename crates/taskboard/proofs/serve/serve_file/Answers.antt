@@ -14,7 +14,6 @@ returns-in-Ok-clause-served c =
         old = server.desk;
         new = end.desk;
         session = record {
-          found = c.in_ok-conn.conn;
           begun = rw c.in_ok-server.ensures.desk c.in_ok-desk.ensures.begun;
           files = files;
           saved = subst (λ desk. IsSaved desk.conn files) c.into_desk.ensures c.in_ok-close_desk-in-Ok.ensures.saved.1;

@@ -1,7 +1,6 @@
-use Rattle.std.proofs.Common.{◌∙◌, Some, ap, inl, sym, true≢false}
+use Rattle.std.proofs.Common.{◌∙◌, Some, ap, inl, sym}
 use Rattle.std.proofs.lemmas.Result.{IfErr-weaker}
 use Rattle.tb_orders.specs.Items.{end_of}
-use Rattle.tb_orders.proofs.Doing.{read_by_then}
 use Rattle.tb_orders.proofs.Inputs.{of_import}
 use Rattle.tb_orders.proofs.Items.{bad_among}
 use Rattle.tb_orders.proofs.Runs.{unread_run}
@@ -28,9 +27,5 @@ returns-in-Ok-clause-item g c =
 pub returns-in-Ok-clause-fault : goal.returns-in-Ok-clause-fault
 returns-in-Ok-clause-fault g c = IfErr-weaker (end_of c.import_parts.result) _ _ of_import c.import_parts.ensures.fault
 
-pub returns-in-Ok-clause-unread : goal.returns-in-Ok-clause-unread
-returns-in-Ok-clause-unread g c =
-    IfErr-weaker (end_of c.import_parts.result) _ _ (λ fault of is. absurd (true≢false (sym is ∙ read_by_then fault of))) c.import_parts.ensures.fault
-
 pub returns-in-Err-clause-run : goal.returns-in-Err-clause-run
-returns-in-Err-clause-run g c s held only = unread_run _ _ s _ _ _ _ _ held only
+returns-in-Err-clause-run g c s held only = unread_run _ _ s _ _ _ _ _ _ held only
