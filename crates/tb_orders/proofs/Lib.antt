@@ -1,6 +1,5 @@
 pub mod Exported
 pub mod Given
-pub mod Halves
 pub mod Inputs
 pub mod Items
 pub mod NewKeys

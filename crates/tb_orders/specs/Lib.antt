@@ -4,7 +4,6 @@ pub mod Faults
 pub mod Identifier
 pub mod Input
 pub mod Items
-pub mod Lists
 pub mod Message
 pub mod NewKey
 pub mod Orders

@@ -6,7 +6,7 @@ use Rattle.tb_calls.specs.Leaving.{StandsAfter}
 use Rattle.tb_calls.specs.declared.call.Call.{Call}
 use Rattle.tb_command_line.specs.declared.order.ImportOrder.{ImportOrder}
 use Rattle.tb_http.specs.declared.message.Message.{Message}
-use Rattle.tb_orders.specs.Lists.{IsCut}
+use Rattle.tb_orders.specs.Cutting.{parts_of}
 use Rattle.tb_orders.specs.Message.{message_under}
 use Rattle.tb_orders.specs.Orders.{AsksFor, line_text}
 use Rattle.tb_orders.specs.declared.ending.Ending.{Ending}
@@ -75,5 +75,5 @@ pub record IsRunOf (order : ImportOrder) (input : Option (List ℕ)) (s : State)
   pub parts : List (List ℕ)
   pub at : ℕ
   pub whole : IfSome input (λ all. text ≡ all)
-  pub cut : IsCut order.kind text (Some parts) ⊎ ((parts ≡ []) × IsErr result)
+  pub cut : (parts_of order.kind text ≡ Some parts) ⊎ ((parts ≡ []) × IsErr result)
   pub run : IsRun (messages_behind order 0 parts) at s result honest now may_leave before after

@@ -2,14 +2,14 @@
 ghost use Rattle.std.specs.Prelude.{◌≡◌, ℕ, List, Some, IfErr, IfOk, IfSome, IsErrOf, true};
 ghost use Rattle.tb_calls.specs.Call.{State};
 ghost use Rattle.tb_calls.specs.Leaving.{Only};
+ghost use Rattle.tb_orders.specs.Cutting.{parts_of};
 ghost use Rattle.tb_orders.specs.Items.{IsBadAmong, end_of};
-ghost use Rattle.tb_orders.specs.Lists.{IsCut};
 ghost use Rattle.tb_orders.specs.Running.{IsRunOf};
 ghost use Rattle.tb_orders.specs.Telling.{is_of_inputs, is_of_messages};
 ghost use Rattle.tb_program.specs.declared.fault.Fault.TheVariants.{Store};
 
+use crate::cutting::parts_of;
 use crate::ending::Ending;
-use crate::lists::parts_of;
 use crate::order_fault::OrderFault;
 use crate::running::{Progress, Run, import_parts};
 use std::alloc::Global;
@@ -70,7 +70,7 @@ fn read_parts<R: Read + Drop>(
 ) -> Result<Arrived, Fault>
     ensures read { IfOk result
         (λ arrived. (text : List ℕ) × IfSome (R.remaining reader) (λ all. text ≡ all)
-        × IsCut order.now.kind text (Some arrived.parts.items)) }
+        × (parts_of order.now.kind text ≡ Some arrived.parts.items)) }
     ensures fault { IfErr result (λ fault. is_of_messages fault ≡ true) }
 {
     let text = read_all(alloc, reader)?;
