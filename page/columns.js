@@ -134,15 +134,17 @@ function steer(event) {
     const sideways = { ArrowLeft: -1, ArrowRight: 1 }[event.key];
     const upright = { ArrowUp: -1, ArrowDown: 1 }[event.key];
     const isReader = shownBoard().role === "reader";
+    // (a key that is held acts once)
+    const act = (wanted) => event.repeat || moveTo(card.task, wanted);
     // Waiting asks for a date, so a card goes there by a key of its own, and those that move cards pass it over.
-    if (sideways && event.shiftKey && !isReader) moveTo(card.task, beside(name, sideways, NAMES.filter((other) => other !== "waiting" || name === other)));
+    if (sideways && event.shiftKey && !isReader) act(beside(name, sideways, NAMES.filter((other) => other !== "waiting" || name === other)));
     else if (sideways) {
         const names = NAMES.filter((other) => other === name || cardsIn(other).length > 0);
         const others = cardsIn(beside(name, sideways, names) ?? name);
         focusOn(others[Math.min(cardsIn(name).indexOf(card), others.length - 1)]);
     } else if (upright) focusOn(cardsIn(name)[cardsIn(name).indexOf(card) + upright]);
-    else if (event.key === "d" && !isReader) moveTo(card.task, name === "done" ? "todo" : "done");
-    else if (event.key === "w" && !isReader) moveTo(card.task, "waiting");
+    else if (event.key === "d" && !isReader) act(name === "done" ? "todo" : "done");
+    else if (event.key === "w" && !isReader) act("waiting");
     else return;
     event.preventDefault();
 }

@@ -55,7 +55,8 @@ function act(event) {
     if (event.ctrlKey || event.metaKey || event.altKey || event.defaultPrevented || find("app").hidden || document.querySelector("dialog[open]")) return;
     if (target.matches?.(FIELDS)) return;
     if (key === "Escape" && !find("panel").hidden && !find("panel").contains(target)) return find("close-panel").click();
-    if (key.length > 1 || !isOn()) return;
+    // (a key that is held acts once)
+    if (key.length > 1 || event.repeat || !isOn()) return;
     const element = elementOf(key, target);
     if (!element) return;
     event.preventDefault();

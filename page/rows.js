@@ -81,7 +81,7 @@ export function makeRow(task, place = shownBoard()) {
     const show = (event) => (canBePicked && pickByClick(event, task.uuid)) || go(place.number, "tasks", task.uuid);
     const open = button(said(task.description), show, { class: "open", "aria-label": nameOf(task, place) });
     open.addEventListener("keydown", (event) => {
-        if (event.key === "d" && !isReader && !event.ctrlKey && !event.metaKey && !event.altKey) change(act);
+        if (event.key === "d" && !isReader && !event.repeat && !event.ctrlKey && !event.metaKey && !event.altKey) change(act);
     });
     const rank = task.isOpen ? span("urgency", span("hidden", "urgency "), urgencyText(task)) : "";
     const isChosen = task.uuid === state.chosen;

@@ -64,7 +64,7 @@ export function pickByKey(event) {
     const { key, shiftKey, altKey } = event;
     const isCommand = event.ctrlKey || event.metaKey;
     if (altKey) return;
-    if (key === "x" && !isCommand) pick(uuidOf(event.target));
+    if (key === "x" && !isCommand) event.repeat || pick(uuidOf(event.target));
     else if (shiftKey && (key === "ArrowDown" || key === "ArrowUp")) [event.target, document.activeElement].forEach((element) => pick(uuidOf(element), true));
     else if (key === "a" && isCommand) pickAll();
     else if (key === "Escape" && chosen.size > 0) showBoxes(false);

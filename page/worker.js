@@ -4,7 +4,7 @@
 // A browser asks for the worker at each start, and a page that stays open every few minutes; it is installed anew where a byte of it differs. The
 // next line, made by tests/page_content.py, differs with every other file, so a new version is found then, also where its files are as long as
 // before.
-// Content of the other files: 91fcaf9fdbedbf97d2d5572ba50323646d5001e1321f7d0a2365be7e3ee0221f
+// Content of the other files: c6d7f827d0dfb5ff5bff59668033b600f6a9206fdcf5bb718df698c5e5e4cccd
 
 const VERSION = "taskboard ";
 const FILE = /^\/(?:[a-z0-9_.-]+\.(?:html|css|js|svg|png|ico))?$/;

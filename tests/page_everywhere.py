@@ -1,5 +1,6 @@
 """Scenes of the page everywhere: without a line, by keys, in print, for readers."""
 import base64
+import json
 import pathlib
 import re
 import shutil
@@ -153,6 +154,24 @@ def by_keys(office):
     browser.wait(ALL_ANSWERED)
     expect("completed by keys", {"completed"}, {task["status"] for task in tasks(board)})
     gone_by_keys(office, board, first)
+    held_key(office)
+
+
+def held_key(office):
+    """A key that is held completes one task: it neither opens it again nor completes the next one."""
+    browser, board = office.browser, new_board("Held")
+    add(board, description="First", priority="H")
+    add(board, description="Second")
+    office.begin(board)
+    browser.wait(IS_LISTED, "Second")
+    browser.run("document.querySelector('#list .open').focus()")
+    for repeats in (False, True, True, True):
+        browser.tell("Input.dispatchKeyEvent", type="keyDown", key="d", text="d", autoRepeat=repeats)
+    browser.tell("Input.dispatchKeyEvent", type="keyUp", key="d")
+    browser.wait("return document.querySelectorAll('#list .row').length === 1")
+    browser.wait(ALL_ANSWERED)
+    told = json.loads(ask(f"/boards/{board}/history"))["entries"]
+    expect("done by a key that is held", ["add", "add", "done"], [entry["what"] for entry in told])
 
 
 def keeps_its_button(office):
