@@ -7,6 +7,9 @@ const FIELDS = "input:not([type=checkbox], [type=radio]), select, textarea";
 const LIST = [
     ["↑ ↓", "Go from task to task; by Page Up, Page Down, Home and End further"],
     ["Enter", "Open the task"],
+];
+// Those of the list that a reader doesn't have.
+const CHANGING = [
     ["d", "Complete or reopen the task"],
     ["x", "Choose the task, to change several at once"],
     ["Shift + ↑ ↓", "Choose the next one too; Ctrl + A chooses all"],
@@ -39,7 +42,7 @@ function show() {
     const ofTask = named(find("panel"));
     const others = named(document).filter(([key]) => key !== "?" && !ofTask.some(([other]) => other === key));
     const part = (title, rows) => (rows.length > 0 ? [make("h3", {}, title), make("dl", { class: "keys" }, rows.map(row))] : []);
-    fill(find("keys-shown"), part("Everywhere", [...others, ...ANYWHERE]), part("In the list", LIST), part("In the open task", ofTask));
+    fill(find("keys-shown"), part("Everywhere", [...others, ...ANYWHERE]), part("In the list", document.body.classList.contains("reader") ? LIST : [...LIST, ...CHANGING]), part("In the open task", ofTask));
     find("keys-on").checked = isOn();
     find("keys-dialog").showModal();
     find("keys-close").focus();

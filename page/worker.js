@@ -4,7 +4,7 @@
 // A browser asks for the worker at each start, and a page that stays open every few minutes; it is installed anew where a byte of it differs. The
 // next line, made by tests/page_content.py, differs with every other file, so a new version is found then, also where its files are as long as
 // before.
-// Content of the other files: c6d7f827d0dfb5ff5bff59668033b600f6a9206fdcf5bb718df698c5e5e4cccd
+// Content of the other files: d16def93f5fc00e845fe35676e5588551c96ec8085ae25d3f2180b4a0a7bafa1
 
 const VERSION = "taskboard ";
 const FILE = /^\/(?:[a-z0-9_.-]+\.(?:html|css|js|svg|png|ico))?$/;

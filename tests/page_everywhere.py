@@ -257,8 +257,12 @@ def for_readers(office):
     office.go(board, "tasks", task)
     browser.wait(IS_OPEN)
     office.shot("reader")
-    shown = "return [...document.querySelectorAll('form, button.tick, #task-actions button, #task-notes button')].filter((part) => part.checkVisibility()).map((part) => part.id)"
+    shown = "return [...document.querySelectorAll('form, button.tick, #choose, #task-actions button, #task-notes button')].filter((part) => part.checkVisibility()).map((part) => part.id)"
     expect("forms and circles for a reader", [], browser.run(shown))
+    browser.press("?")
+    browser.wait(IS_TOLD, "Open the task")
+    expect("keys that change something, for a reader", False, browser.run(IS_TOLD, "Complete or reopen the task"))
+    browser.press(ESCAPE)
     for view in ("repeating", "people", "files"):
         office.go(board, view)
         browser.wait(HAS_COME[view])
