@@ -3,12 +3,12 @@
 const FOCUSABLE = "a[href], button, input, select, textarea, summary, [tabindex]";
 // The parts of the page within which something near is looked for.
 const PARTS = "main, aside, header, dialog, .told";
-const FALLBACKS = ["#name", "dialog[open] button", "#list .open[tabindex='0']", "#columns .open[tabindex='0']", "#day-list .open[tabindex='0']", "#heading", "#board", "#new-board"];
+const FALLBACKS = ["#name", "dialog[open] button", "#list .open[tabindex='0']", "#columns .open[tabindex='0']", "#day-list .open[tabindex='0']", "#heading", "#board", "#new-board", "#close-panel"];
 
 // What had the focus last: the element, what it stands in, from the inside out, and its place among what takes the focus there.
 let last = null;
 
-const isUsable = (element) => element.isConnected && !element.disabled && !element.closest("[hidden], dialog:not([open])");
+const isUsable = (element) => element.isConnected && !element.disabled && !element.closest("[hidden], [inert], dialog:not([open])");
 const isInSight = (element) => isUsable(element) && element.checkVisibility();
 const stopsIn = (place) => [...place.querySelectorAll(FOCUSABLE)].filter((element) => element.tabIndex >= 0 && isInSight(element));
 
@@ -42,5 +42,5 @@ export function beginFocus() {
     document.addEventListener("pointerdown", ({ target }) => {
         if (!target.closest(`${FOCUSABLE}, label`)) last = null;
     });
-    new MutationObserver(restore).observe(document.body, { subtree: true, childList: true, attributes: true, attributeFilter: ["hidden", "disabled", "open"] });
+    new MutationObserver(restore).observe(document.body, { subtree: true, childList: true, attributes: true, attributeFilter: ["hidden", "disabled", "open", "inert"] });
 }

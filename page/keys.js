@@ -22,7 +22,8 @@ const ANYWHERE = [
 ];
 
 const isOn = () => localStorage.getItem(OFF) === null;
-const isInSight = (element) => element.checkVisibility() && !element.disabled;
+// (a field behind the open task takes no focus)
+const isInSight = (element) => element.checkVisibility() && !element.disabled && !(element.matches(FIELDS) && element.closest("[inert]"));
 const shortcuts = (place) => [...place.querySelectorAll("[aria-keyshortcuts]")].filter(isInSight);
 const labelOf = (element) => element.ariaLabel || element.title || element.textContent;
 

@@ -22,6 +22,8 @@ const MOMENTS = { due: "Due", wait: "Waits until", scheduled: "Scheduled", until
 const DEEDS = { start: ["start"], entry: ["add"], modified: ["modify"], end: ["done", "delete"] };
 // What is shown elsewhere. Any other member is one of the user's own, and is shown under its name.
 const KNOWN = "uuid description status project priority tags recur annotations depends parent imask mask assignee".split(" ");
+// In such a window the open task stands over all else, and nothing behind it takes the focus.
+const narrow = matchMedia("(max-width: 59.99rem)");
 // The uuid of the task that is shown; the task as it was drawn, and what was drawn of others.
 let [shown, drawn, look] = ["", null, ""];
 
@@ -126,8 +128,13 @@ function drawTask(one) {
     find("depend-form").hidden = !one.isOpen;
 }
 
+function setBehind(isBehind) {
+    for (const part of document.querySelectorAll("header, #views > main")) if (part.inert !== isBehind) part.inert = isBehind;
+}
+
 function close() {
     const row = document.querySelector(`[data-uuid="${CSS.escape(state.chosen)}"] .open`);
+    setBehind(false);
     go(state.number, state.view);
     row?.focus();
 }
@@ -136,6 +143,7 @@ function draw() {
     const one = task();
     find("panel").hidden = !one;
     document.body.classList.toggle("with-panel", Boolean(one));
+    setBehind(Boolean(one) && narrow.matches);
     if (one) drawTask(one);
     if (shown === (one?.uuid ?? "")) return;
     shown = one?.uuid ?? "";
@@ -164,6 +172,7 @@ export function beginPanel() {
         form.reset();
     });
     for (const news of ["board", "route", "kept"]) listen(news, draw);
+    narrow.addEventListener("change", () => state.who && draw());
     listen("told", (uuid) => {
         if (uuid === drawn?.uuid) drawn = null;
         draw();

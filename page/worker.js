@@ -4,7 +4,7 @@
 // A browser asks for the worker at each start, and a page that stays open every few minutes; it is installed anew where a byte of it differs. The
 // next line, made by tests/page_content.py, differs with every other file, so a new version is found then, also where its files are as long as
 // before.
-// Content of the other files: d16def93f5fc00e845fe35676e5588551c96ec8085ae25d3f2180b4a0a7bafa1
+// Content of the other files: 7742423f39758f27c3bc94ef7fb114fb0c242e26b96014aab1af026509de0474
 
 const VERSION = "taskboard ";
 const FILE = /^\/(?:[a-z0-9_.-]+\.(?:html|css|js|svg|png|ico))?$/;

@@ -305,9 +305,9 @@ return [...buttons(".filters").filter(isCut), ...buttons("#notices .notice").fil
 
 
 def on_a_phone(office):
-    """In a narrow window no button of the filters is cut off, and none of a message stands upon its text."""
+    """In a narrow window no button of the filters is cut off, and none of a message stands upon its text; and no focus goes behind an open task."""
     browser, board = office.browser, new_board("Narrow", bob="member")
-    add(board, description="Read on a phone")
+    task = add(board, description="Read on a phone")
     office.begin(board, "bob")
     tell(f"/boards/{board}/roles", member="bob", role="reader")
     browser.run("document.querySelector('#list .tick').click()")
@@ -319,6 +319,29 @@ def on_a_phone(office):
     office.shot("narrow")
     browser.run("[...document.querySelectorAll('#notices button')].at(-1).click()")
     browser.wait("return document.querySelectorAll('#notices .refused').length === 0")
+    behind_a_task(office, board, task)
+
+
+def behind_a_task(office, board, task):
+    """Where the open task stands over all else neither keys nor Tab lead behind it; its row has the focus afterwards."""
+    browser = office.browser
+    browser.size(640, 450)
+    office.go(board, "tasks", task)
+    browser.wait(IS_OPEN)
+    browser.press("n", "/", TAB)
+    around = []
+    for _ in range(12):
+        browser.press(TAB)
+        around.append(browser.run("return document.activeElement.closest('header, main')?.tagName"))
+    expect("behind an open task", {None}, set(around))
+    browser.press("?")
+    browser.wait(IS_TOLD, "Show these keys")
+    expect("keys that lead behind it", False, "n" in browser.run("return [...document.querySelectorAll('#keys-shown kbd')].map((key) => key.textContent)"))
+    browser.press(ESCAPE)
+    browser.run("document.getElementById('task-text').focus()")
+    browser.press(ESCAPE)
+    browser.wait("return document.getElementById('panel').hidden && document.activeElement.textContent === 'Read on a phone'")
+    browser.size(1280, 900)
 
 
 def asked_seldom(office):
