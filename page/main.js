@@ -26,7 +26,7 @@ import { beginRenewing } from "./renewing.js";
 import { beginRepeating } from "./repeating.js";
 import { faultInTitle } from "./rules.js";
 import { beginSelection } from "./selection.js";
-import { beginSending, keep } from "./sending.js";
+import { beginSending, keepFrom } from "./sending.js";
 import { beginSigning, keepUnused } from "./signing.js";
 import { announce, go, goInstead, here, listen, readRoute, state, VIEWS } from "./state.js";
 import { beginTasks } from "./tasks.js";
@@ -132,9 +132,8 @@ function begin() {
     whenSent("board-form", (form) => {
         if (!isWhole(form)) return;
         madeHere = find("board-title").value.trim();
-        if (madeHere) keep(changes.board(madeHere)).catch(tellFault);
         find("board-dialog").close();
-        form.reset();
+        if (madeHere) keepFrom(form, changes.board(madeHere)).catch(tellFault);
     });
     addEventListener("hashchange", showRoute);
     listen("boards", () => [drawBoards, lookAgain].forEach((part) => part()));

@@ -128,6 +128,19 @@ function drawTask(one) {
     find("depend-form").hidden = !one.isOpen;
 }
 
+// What is added leaves the form at once; where the device can't keep it, it is there again.
+async function addNote(form) {
+    const [uuid, text] = [shown, find("note-text").value];
+    form.reset();
+    keepDraft("note", uuid, null);
+    if (!text.trim()) return;
+    await keep(changes.annotate(state.number, task(), text.trim())).catch((fault) => {
+        keepDraft("note", uuid, text);
+        if (shown === uuid) find("note-text").value = text;
+        throw fault;
+    });
+}
+
 function setBehind(isBehind) {
     for (const part of document.querySelectorAll("header, #views > main")) if (part.inert !== isBehind) part.inert = isBehind;
 }
@@ -165,11 +178,7 @@ export function beginPanel() {
     check(find("note-text"), (text) => faultInText(text.trim()));
     find("note-text").addEventListener("input", () => keepDraft("note", shown, find("note-text").value));
     whenSent("note-form", (form) => {
-        const text = find("note-text").value.trim();
-        if (!isWhole(form)) return;
-        if (text) hold(changes.annotate(state.number, task(), text));
-        keepDraft("note", shown, null);
-        form.reset();
+        if (isWhole(form)) addNote(form).catch(tellFault);
     });
     for (const news of ["board", "route", "kept"]) listen(news, draw);
     narrow.addEventListener("change", () => state.who && draw());

@@ -7,7 +7,7 @@ import { tellFault } from "./notices.js";
 import { drawOwning, showBoardsOf } from "./owning.js";
 import { faultInKey, faultInName } from "./rules.js";
 import { lookOrSeen } from "./seen.js";
-import { keep, waiting } from "./sending.js";
+import { keep, keepFrom, waiting } from "./sending.js";
 import { newKey } from "./session.js";
 import { here, listen, state } from "./state.js";
 
@@ -104,8 +104,7 @@ async function addPerson(form) {
     const [name, key, role] = ["person-name", "person-key", "person-role"].map((id) => find(id).value.trim());
     const joins = isOwner() && find("person-here").checked;
     if (!isWhole(form)) return;
-    form.reset();
-    await keep(changes.person(name, key, { role, joins }), ...(joins ? [changes.role(state.number, name, role)] : []));
+    await keepFrom(form, changes.person(name, key, { role, joins }), ...(joins ? [changes.role(state.number, name, role)] : []));
     tellKey(name, key);
 }
 
@@ -125,9 +124,7 @@ export function beginPeople() {
     check(find("person-key"), (text) => faultInKey(text.trim()));
     beginKeysOfOthers();
     whenSent("invite-form", (form) => {
-        if (!isWhole(form)) return;
-        keep(changes.role(state.number, find("invite-name").value.trim(), find("invite-role").value)).catch(tellFault);
-        form.reset();
+        if (isWhole(form)) keepFrom(form, changes.role(state.number, find("invite-name").value.trim(), find("invite-role").value)).catch(tellFault);
     });
     listen("route", () => {
         find("person-told").hidden = true;

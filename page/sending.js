@@ -81,6 +81,16 @@ export async function doubtKey(who, key) {
 // Holds changes on the device, and then sends them. Several are a group: where one is refused those behind it are taken back.
 export const keep = (...made) => keepGroups([made]);
 
+// So too of what a form says, which is empty then; where the device can't keep it, it is there again.
+export function keepFrom(form, ...made) {
+    const held = [...form.elements].map((input) => [input, input.value, input.checked]);
+    form.reset();
+    return keep(...made).catch((fault) => {
+        held.forEach(([input, value, checked]) => Object.assign(input, { value, checked }));
+        throw fault;
+    });
+}
+
 // Several that don't hang together: each is answered by itself.
 export const keepEach = (made) => keepGroups(made.map((change) => [change]));
 

@@ -4,7 +4,7 @@
 // A browser asks for the worker at each start, and a page that stays open every few minutes; it is installed anew where a byte of it differs. The
 // next line, made by tests/page_content.py, differs with every other file, so a new version is found then, also where its files are as long as
 // before.
-// Content of the other files: 7742423f39758f27c3bc94ef7fb114fb0c242e26b96014aab1af026509de0474
+// Content of the other files: 4cc6badcc1c60e267179a64d391c05bfdeaafcb724a41ff34788d4c30b1ad4a9
 
 const VERSION = "taskboard ";
 const FILE = /^\/(?:[a-z0-9_.-]+\.(?:html|css|js|svg|png|ico))?$/;

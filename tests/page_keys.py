@@ -5,7 +5,7 @@ import pathlib
 import urllib.error
 
 from office import ALL_ANSWERED, BROWSER, ENTER, IS_LISTED, IS_TOLD, KEYS, ask, expect, know, new_board, tell
-from page_words import DEVICE, IS_SHOWN, add_person_unheard, heal, press, type_into
+from page_words import DEVICE, IS_SHOWN, NOTHING_IS_PUT, add_person_unheard, heal, press, type_into
 from relay import LOSES_ANSWERS, LOSES_POSTS
 from webdriver import STRANGER, Browser
 
@@ -49,7 +49,6 @@ STEPS = {
 LOST = ("before it is sent", "before its answer")
 # What keeps a change from the device: its key isn't hidden yet, or the device takes nothing more.
 HIDING_STAYS = "SubtleCrypto.prototype.deriveKey = () => { window.stopped = true; return new Promise(() => {}); };"
-NOTHING_IS_PUT = "IDBObjectStore.prototype.add = () => { throw new DOMException('no room', 'QuotaExceededError'); };"
 
 
 def is_refused(name, key):

@@ -15,6 +15,8 @@ HAS_FOCUS = "return document.activeElement.id === arguments[0]"
 HAS_VALUE = "return document.querySelector(arguments[0])?.value === arguments[1]"
 EDITED = "return document.getElementById('edit-form').offsetParent && document.querySelector('#edit-fields textarea').value === arguments[0]"
 IS_SHOWN = "return Boolean(document.querySelector(arguments[0])?.offsetParent)"
+# From here on the device takes nothing more.
+NOTHING_IS_PUT = "IDBObjectStore.prototype.add = () => { throw new DOMException('no room', 'QuotaExceededError'); };"
 # What stands on the device, its changes and what it keeps beside them, as text.
 DEVICE = """return new Promise((done) => {
     const texts = (value) => (value instanceof ArrayBuffer || ArrayBuffer.isView(value) ? String.fromCharCode(...new Uint8Array(value.buffer ?? value)) : value);
@@ -294,6 +296,31 @@ def drafts_stay(office):
     expect("sent", ["First", "Half a line", "Second"], sorted(one["description"] for one in tasks(board)))
 
 
+def device_is_full(office):
+    """What the device has no room for isn't sent, and stands in its form again: a line, a note, a new board, someone who is let in."""
+    browser, board = office.browser, new_board("No room")
+    task = add_task(board, description="Here")
+    office.begin(board)
+    open_task(office, board, task)
+    browser.run(NOTHING_IS_PUT)
+    for field, text in (("#add-line", "A whole line"), ("#note-text", "A whole note"), ("#invite-name", "bob"), ("#board-title", "A new board")):
+        if field == "#invite-name":
+            office.go(board, "people")
+            browser.wait(IS_SHOWN, field)
+        if field == "#board-title":
+            browser.click("#new-board")
+        browser.type(field, text + ENTER)
+        browser.wait(IS_TOLD, "so it wasn't made (QuotaExceededError)")
+        browser.wait(HAS_VALUE, field, text)
+        press(browser, "Close", "#toast")
+    open_task(office, board, task)
+    browser.wait(HAS_VALUE, "#note-text", "A whole note")
+    for field in ("#add-line", "#note-text"):
+        put_into(browser, field, "")
+    expect("sent", [["Here", None]], [[one["description"], one.get("annotations")] for one in tasks(board)])
+    expect("faults", [], [told for told in browser.messages() if "no room" not in told and "Failed to load resource" not in told])
+
+
 def two_edit_one_task(office):
     """Two people change one task at once: what they didn't both change stays of both, and where they did the second chooses."""
     browser = office.browser
@@ -513,4 +540,4 @@ def unsent_looks_done(office):
     expect("the first", task, stored["Slow one"]["uuid"])
 
 
-SCENES = (refused_keep_text, refused_person, refused_board, told_before, drafts_stay, two_edit_one_task, two_complete_one_task, changed_while_waiting, edited_before_sending, new_key_without_tls, signing_out, unsent_stands_once, unsent_looks_done)
+SCENES = (refused_keep_text, refused_person, refused_board, told_before, drafts_stay, device_is_full, two_edit_one_task, two_complete_one_task, changed_while_waiting, edited_before_sending, new_key_without_tls, signing_out, unsent_stands_once, unsent_looks_done)
