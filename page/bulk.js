@@ -65,7 +65,8 @@ const FORMS = {
     },
     due: () => {
         const field = new MomentField("Due");
-        read = () => edit(() => ({ due: field.read() }), field.read() ? "Due date set:" : "Without a due date now:");
+        field.day.required = true;
+        read = () => edit(() => ({ due: field.read() }), "Due date set:");
         return [field.element, make("button", { class: "primary" }, "Set due date"), button("No date", () => close(() => edit(() => ({ due: null }), "Without a due date now:")))];
     },
 };

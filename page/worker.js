@@ -4,7 +4,7 @@
 // A browser asks for the worker at each start, and a page that stays open every few minutes; it is installed anew where a byte of it differs. The
 // next line, made by tests/page_content.py, differs with every other file, so a new version is found then, also where its files are as long as
 // before.
-// Content of the other files: 4cc6badcc1c60e267179a64d391c05bfdeaafcb724a41ff34788d4c30b1ad4a9
+// Content of the other files: 34ae39a3729295611d60e0950df69f5d5ab39c0006eade36180228501602bc1c
 
 const VERSION = "taskboard ";
 const FILE = /^\/(?:[a-z0-9_.-]+\.(?:html|css|js|svg|png|ico))?$/;

@@ -65,6 +65,8 @@ def several(office):
     browser.type("#bulk-form input", "House.roof" + ENTER)
     browser.wait(IS_TOLD, "Project set: 2 tasks")
     browser.click("#bulk-due")
+    browser.click("#bulk-form .primary")
+    expect("a due date that nobody gave", True, browser.run("return document.querySelector('#bulk-form input[type=date]').matches(':invalid')"))
     browser.run("document.querySelector('#bulk-form input[type=date]').value = '2027-03-01'")
     browser.click("#bulk-form .primary")
     browser.wait(IS_TOLD, "Due date set: 2 tasks")
