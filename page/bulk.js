@@ -37,7 +37,8 @@ function edit(editsOf, told) {
     const isSame = (task, edits) => Object.entries(edits).every(([name, value]) => JSON.stringify(value) === JSON.stringify(task.told[name] ?? null));
     const edited = picked().filter((task) => task.isOpen).map((task) => [task, editsOf(task)]).filter(([task, edits]) => !isSame(task, edits));
     const made = edited.map(([task, edits]) => changes.modify(number, task, edits));
-    const back = edited.map(([task], at) => changes.modify(number, task, made[at].base));
+    // (the way back begins where the tasks are by then)
+    const back = edited.map(([task, edits], at) => ({ ...changes.modify(number, task, made[at].base), base: edits }));
     hold(made.map((change) => [change]), `${told} ${tasksIn(made.length)}.`, back).catch(tellFault);
 }
 

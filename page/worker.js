@@ -4,7 +4,7 @@
 // A browser asks for the worker at each start, and a page that stays open every few minutes; it is installed anew where a byte of it differs. The
 // next line, made by tests/page_content.py, differs with every other file, so a new version is found then, also where its files are as long as
 // before.
-// Content of the other files: 34ae39a3729295611d60e0950df69f5d5ab39c0006eade36180228501602bc1c
+// Content of the other files: 78be7c538ff9cb5e64511d39a958ef0eb7c3843742ca0629c91d217bed0059ef
 
 const VERSION = "taskboard ";
 const FILE = /^\/(?:[a-z0-9_.-]+\.(?:html|css|js|svg|png|ico))?$/;

@@ -1,6 +1,9 @@
 """Scenes of the page: several tasks changed at once, and moved to another board over a line that breaks."""
-from office import ALL_ANSWERED, DOWN, ENTER, IS_TOLD, add, expect, new_board, tasks
+import json
+
+from office import ALL_ANSWERED, DOWN, ENTER, IS_TOLD, add, ask, expect, new_board, tasks
 from page_views import ARE_LISTED, moment
+from page_words import WAITED
 from relay import LOSES_ANSWERS, LOSES_POSTS
 
 SHIFT, CONTROL = "\ue008", "\ue009"
@@ -84,6 +87,30 @@ def several(office):
     expect("deleted", ["deleted"] * 4, of_all(board, "status"))
 
 
+def back_unheard(office):
+    """Several tasks changed and changed back over a line that breaks: all of it is sent, and nothing is asked."""
+    browser, board = office.browser, new_board("Back unheard")
+    for name in ("Alpha", "Beta"):
+        add(board, description=name)
+    office.begin(board)
+    browser.wait(ARE_LISTED, ["Alpha", "Beta"])
+    pick(browser, "Alpha", "Beta")
+    office.relay.break_off(LOSES_POSTS)
+    browser.click("#bulk-project")
+    browser.type("#bulk-form input", "House" + ENTER)
+    browser.wait(IS_TOLD, "Project set: 2 tasks")
+    browser.click("#toast button")
+    browser.wait(IS_TOLD, "4 changes aren't answered yet")
+    browser.wait(WAITED, 4)
+    office.relay.heal()
+    browser.run("dispatchEvent(new Event('online'))")
+    browser.wait(ALL_ANSWERED)
+    expect("asked", [], browser.run("return [...document.querySelectorAll('#notices .asks')].map((notice) => notice.innerText)"))
+    expect("projects", [None, None], of_all(board, "project"))
+    changed = [entry["what"] for entry in json.loads(ask(f"/boards/{board}/history"))["entries"]]
+    expect("sent", ["add", "add", "modify", "modify", "modify", "modify"], changed)
+
+
 def move(browser, board, accepts=True):
     """Moves the chosen tasks, or asks for it alone: what the page says before."""
     browser.run(f"const words = arguments; setTimeout(() => ((...arguments) => {{ {CHANGE} }})(...words))", "bulk-move", str(board))
@@ -153,4 +180,4 @@ def left_behind(office):
     expect("of what is closed", True, told.startswith("Move 1 task to Beyond?") and told.endswith("What is closed stays: 1 task."))
 
 
-SCENES = (several, moves, left_behind)
+SCENES = (several, back_unheard, moves, left_behind)

@@ -30,7 +30,7 @@ WAITED = """return new Promise((done) => {
     indexedDB.open('taskboard').onsuccess = ({ target }) => {
         target.result.transaction('changes').objectStore('changes').getAll().onsuccess = ({ target }) => {
             const waiting = target.result.filter(({ state }) => state === 'waiting');
-            done(waiting.length === 2 && waiting.every(({ isOld }) => isOld));
+            done(waiting.length === arguments[0] && waiting.every(({ isOld }) => isOld));
         };
     };
 })"""
@@ -390,7 +390,7 @@ def changed_while_waiting(office):
     for _ in range(2):
         browser.run("document.querySelector('#list .tick:not(.ticked)').click()")
     browser.wait(IS_TOLD, "2 changes aren't answered yet")
-    browser.wait(WAITED)
+    browser.wait(WAITED, 2)
     tell(f"/boards/{board}/tasks/{call}/modify", description="Call the office")
     # (a message whose look came before the change is lost too, as long as the line is broken)
     browser.wait(IS_TOLD, "Not sent yet: Complete Call Mom")
