@@ -176,6 +176,7 @@ async function askForLast() {
     if (view !== "history" || !here() || (board.number === number && board.isRead)) return;
     const told = await lookAtLast(who, number).catch(() => null);
     if (!hasHistory()) fill(find("history-nothing"), "This server keeps no history.");
+    else if (!told && board.number !== number) fill(find("history-nothing"), "The server doesn't answer. The history comes when it does.");
     if (!told || state.who !== who || state.number !== number) return;
     if (board.number === number) board.entries = new Map();
     add(number, told.entries, told.last);
