@@ -1,9 +1,9 @@
 // My day: what is overdue, due today or this week, or started, on all boards of a person; what is theirs comes first.
 import { Board, DUES } from "./board.js";
 import { BEYOND, lookFrom } from "./deeds.js";
-import { counted, fill, find } from "./dom.js";
+import { counted, fill, find, make } from "./dom.js";
 import { List } from "./list.js";
-import { now } from "./moments.js";
+import { agoInWords, now } from "./moments.js";
 import { lookOf, makeRow, setUnanswered } from "./rows.js";
 import { lastSeen, lookOrSeen } from "./seen.js";
 import { waiting } from "./sending.js";
@@ -14,6 +14,8 @@ const GROUPS = { overdue: DUES.overdue, today: DUES.today, week: DUES.week, star
 const EVERY = 60000;
 // The boards that came and up to which number their histories are known, by their numbers; whether they are being asked for, when that began last, and how many don't answer.
 let [boards, heard, isAsking, askedAt, missing] = [new Map(), new Map(), false, -Infinity, 0];
+// When those boards were seen that didn't answer last, by their numbers.
+let seenAt = new Map();
 let list;
 
 const isShown = () => state.view === "day" && Boolean(state.who);
@@ -50,7 +52,9 @@ function draw() {
     const known = state.boards.filter(({ board }) => boards.has(board)).length;
     const lacks = missing > 0 ? `; ${counted(missing)} of the boards can't be asked now` : "";
     const ofAll = known < state.boards.length ? `${counted(known)} of ` : "";
-    find("day-told").textContent = `${counted(count)} ${count === 1 ? "task" : "tasks"} of ${ofAll}${counted(state.boards.length)} ${state.boards.length === 1 ? "board" : "boards"}${lacks}`;
+    const told = `${counted(count)} ${count === 1 ? "task" : "tasks"} of ${ofAll}${counted(state.boards.length)} ${state.boards.length === 1 ? "board" : "boards"}${lacks}`;
+    const ages = state.boards.map(({ board }) => seenAt.get(board)).filter(Boolean);
+    fill(find("day-told"), told, ages.length > 0 ? [", as seen here ", make("span", { "aria-live": "off" }, agoInWords(Math.min(...ages)))] : []);
     const nothing = state.isMineOnly ? "Nothing of yours is due in the next seven days, and nothing is started." : "Nothing is due in the next seven days, and nothing is started.";
     fill(find("day-nothing"), count > 0 ? [] : isAsking ? "Asking the server for your boards." : nothing);
     find("day-all").ariaCurrent = state.isMineOnly ? null : "page";
@@ -76,14 +80,19 @@ async function isAsItWas(who, number) {
 async function ask(number) {
     const { who } = state;
     const path = `/boards/${number}/export`;
+    const begun = Date.now();
     if (await isAsItWas(who, number).catch(() => false)) {
+        seenAt.delete(number);
         boards.get(number).rank();
         return draw();
     }
     const seen = boards.has(number) ? null : await lastSeen(who, path);
     if (seen) await take(number, seen);
     const shown = await lookOrSeen(who, path);
-    if (state.who === who) await take(number, shown);
+    if (state.who !== who) return;
+    if (shown.at < begun) seenAt.set(number, shown.at);
+    else seenAt.delete(number);
+    await take(number, shown);
 }
 
 async function askForAll() {
@@ -113,5 +122,5 @@ export function beginDay() {
         draw();
     });
     listen("answered", ({ change }) => isShown() && change.board > 0 && ask(change.board).catch(console.warn));
-    listen("left", () => ([boards, heard, askedAt] = [new Map(), new Map(), -Infinity]));
+    listen("left", () => ([boards, heard, seenAt, askedAt] = [new Map(), new Map(), new Map(), -Infinity]));
 }

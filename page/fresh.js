@@ -8,7 +8,7 @@ import { Board } from "./board.js";
 import { BEYOND, hasHistory, lookFrom } from "./deeds.js";
 import { find } from "./dom.js";
 import { readDraft } from "./drafts.js";
-import { ago, now } from "./moments.js";
+import { agoInWords, now } from "./moments.js";
 import { forgetSeen, keepSeen, lastSeen } from "./seen.js";
 import { doubtKey } from "./sending.js";
 import { announce, here, listen, state } from "./state.js";
@@ -176,7 +176,7 @@ function drawAge() {
     const isShown = board?.number === number;
     const isOld = isShown && (!isThere || (board.isSeen && Date.now() - board.shownAt > PATIENCE));
     if (find("age").hidden === isOld) find("age").hidden = !isOld;
-    if (isOld) write("age-ago", Date.now() - board.at < 60000 ? "less than a minute ago" : ago(board.at));
+    if (isOld) write("age-ago", agoInWords(board.at));
     write("loading", isThere ? "Asking the server for the tasks." : "The server doesn't answer, and this device hasn't seen these tasks. They come when it answers.");
 }
 

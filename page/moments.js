@@ -94,6 +94,8 @@ export function inFull(second) {
     return `${dayText(dayOf(second), true)}${time ? `, ${time}` : ""}`;
 }
 
+export const agoInWords = (milliseconds) => (Date.now() - milliseconds < 60000 ? "less than a minute ago" : ago(milliseconds));
+
 export function ago(milliseconds) {
     const past = Math.max(0, Math.round((Date.now() - milliseconds) / 1000));
     return past < 60 ? `${past} s ago` : past < 3600 ? `${Math.floor(past / 60)} min ago` : `${Math.floor(past / 3600)} h ago`;
