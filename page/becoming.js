@@ -3,7 +3,7 @@
 import { changes } from "./changes.js";
 import { check, isWhole } from "./checking.js";
 import { button, counted, fill, find, make, said, whenSent } from "./dom.js";
-import { tellFault } from "./notices.js";
+import { tellFault, toast } from "./notices.js";
 import { STEPS } from "./recurrence.js";
 import { faultInPair, faultInStep } from "./rules.js";
 import { keep, keepEach } from "./sending.js";
@@ -41,14 +41,23 @@ async function repeat(form) {
     go(made.board, "repeating", made.task);
 }
 
+// Ends what repeats and its open tasks, with one way back from all of it.
+async function endAll(number, template, open, action) {
+    const alike = (task, word) => ({ ...changes.act(number, task, word), isOneOfMany: true });
+    await keepEach([alike(template, "delete"), ...open.map((task) => alike(task, action))]);
+    const back = () => keepEach([template, ...open].map((task) => alike(task, "reopen"))).catch(tellFault);
+    const others = open.length === 1 ? "its open task" : `its ${counted(open.length)} open tasks`;
+    toast(make("span", {}, "Ended ", make("q", {}, said(template.description, 120)), ` and ${others}.`), button("Undo", back));
+}
+
 // Deletes what repeats.
 export function endRepeat(template) {
     const { number } = state;
     const open = state.board.tasks.filter((task) => task.parent === template.uuid && task.isListed);
     const end = (action) => () => {
         find("end-dialog").close();
-        const others = action ? open.map((task) => changes.act(number, task, action)) : [];
-        keepEach([changes.act(number, template, "delete"), ...others]).catch(tellFault);
+        const ended = action ? endAll(number, template, open, action) : keep(changes.act(number, template, "delete"));
+        ended.catch(tellFault);
     };
     if (open.length === 0) return end("")();
     const many = open.length === 1 ? "1 open task. It stays" : `${counted(open.length)} open tasks. They stay`;

@@ -137,7 +137,12 @@ def ending(office, board):
     expect("offers", True, "It has 4 open tasks" in browser.run("return document.getElementById('end-dialog').innerText"))
     press(browser, "Complete them", "#end-dialog")
     browser.wait(ALL_ANSWERED)
-    expect("afterwards", ["deleted", ["completed"] * 4], [one_of(board, template["uuid"])["status"], [task["status"] for task in tasks(board) if task["uuid"] != template["uuid"]]])
+    ended = lambda: [one_of(board, template["uuid"])["status"], [task["status"] for task in tasks(board) if task["uuid"] != template["uuid"]]]
+    expect("afterwards", ["deleted", ["completed"] * 4], ended())
+    press(browser, "Undo", "#toast")
+    browser.wait("return document.getElementById('task-status').textContent.startsWith('repeating')")
+    browser.wait(ALL_ANSWERED)
+    expect("taken back", ["recurring", ["pending"] * 4], ended())
 
 
 def as_ever(office):
