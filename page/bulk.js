@@ -147,7 +147,7 @@ export function beginBulk() {
     find("bulk-delete").addEventListener("click", () => act("delete", "Deleted", (task) => task.isOpen, "reopen"));
     for (const kind of Object.keys(FORMS)) find(`bulk-${kind}`).addEventListener("click", () => open(opened === kind ? "" : kind));
     find("bulk").addEventListener("keydown", (event) => {
-        if (event.key !== "Escape") return;
+        if (event.key !== "Escape" || event.isComposing) return;
         event.preventDefault();
         if (opened) open("");
         else showBoxes(false);

@@ -171,7 +171,8 @@ function draw() {
 export function beginPanel() {
     find("close-panel").addEventListener("click", close);
     find("panel").addEventListener("keydown", (event) => {
-        if (event.key === "Escape") isEditing() ? closeEdit() : close();
+        // (while letters are composed, as those of Japanese, Escape is theirs)
+        if (event.key === "Escape" && !event.isComposing) isEditing() ? closeEdit() : close();
     });
     find("depend-text").addEventListener("input", drawChoices);
     whenSent("depend-form", () => find("depend-choices").querySelector("button")?.click());

@@ -4,7 +4,7 @@
 // A browser asks for the worker at each start, and a page that stays open every few minutes; it is installed anew where a byte of it differs. The
 // next line, made by tests/page_content.py, differs with every other file, so a new version is found then, also where its files are as long as
 // before.
-// Content of the other files: 6efe21b7dcc1b3709a3f9bc97a110795d4b176833d896e2ba9b052116f89079e
+// Content of the other files: 18908f53d16dada5d08d0a769ac5de1930cc3b66d8aa8d318d4af70cfb4ec9df
 
 const VERSION = "taskboard ";
 const FILE = /^\/(?:[a-z0-9_.-]+\.(?:html|css|js|svg|png|ico))?$/;

@@ -214,6 +214,8 @@ def gone_by_keys(office, board, task):
     browser.wait("return document.querySelectorAll('#task-notes li').length === 1 && document.querySelector('#task-notes a')")
     links = browser.run("return [...document.querySelectorAll('#task-notes a')].map((link) => [link.href, link.rel])")
     expect("links", [["https://example.org/a_(b)", "noopener noreferrer"]], links)
+    browser.run("document.getElementById('note-text').dispatchEvent(new KeyboardEvent('keydown', { key: 'Escape', isComposing: true, bubbles: true }))")
+    expect("a task that is closed while letters are composed", "", browser.run("return location.hash.includes(arguments[0]) ? '' : location.hash", task))
     browser.run("document.querySelector('#task-notes button').focus()")
     browser.press(ENTER)
     browser.wait("return document.querySelectorAll('#task-notes li').length === 0")
