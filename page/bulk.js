@@ -51,7 +51,7 @@ function withTags(task, change) {
 
 const FORMS = {
     tag: () => {
-        const input = make("input", { "aria-label": "Tags", placeholder: "phone mail", autocapitalize: "none", autocomplete: "off", required: true, list: "bulk-tags" });
+        const input = make("input", { "aria-label": "Tags", dir: "auto", placeholder: "phone mail", autocapitalize: "none", autocomplete: "off", required: true, list: "bulk-tags" });
         input.addEventListener("input", () => input.setCustomValidity(faultInTags(input.value)));
         const take = () => edit((task) => withTags(task, (tags) => tags.filter((tag) => !tagsIn(input.value).includes(tag))), "Tags taken off:");
         read = () => edit((task) => withTags(task, (tags) => [...new Set([...tags, ...tagsIn(input.value)])]), "Tagged:");
@@ -59,7 +59,7 @@ const FORMS = {
         return [input, list, make("button", { class: "primary" }, "Add tags"), button("Take off", () => input.reportValidity() && close(take))];
     },
     project: () => {
-        const input = make("input", { "aria-label": "Project", placeholder: "Project, or none", autocapitalize: "none", autocomplete: "off", list: "bulk-projects" });
+        const input = make("input", { "aria-label": "Project", dir: "auto", placeholder: "Project, or none", autocapitalize: "none", autocomplete: "off", list: "bulk-projects" });
         input.addEventListener("input", () => input.setCustomValidity(faultInText(input.value.trim())));
         read = () => edit(() => ({ project: input.value.trim() || null }), input.value.trim() ? "Project set:" : "Without a project now:");
         return [input, make("datalist", { id: "bulk-projects" }, state.board.projects.map((value) => make("option", { value }))), make("button", { class: "primary" }, "Set project")];

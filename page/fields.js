@@ -49,8 +49,8 @@ export class Fields {
     constructor(board, task) {
         const isTemplate = task?.status === "recurring";
         const { projects = [], tags = [] } = board ?? {};
-        this.description = task ? make("textarea", { rows: 3, required: true }, task.description) : null;
-        const input = (value = "", settings = {}) => make("input", { value, autocomplete: "off", autocapitalize: "none", ...settings });
+        this.description = task ? make("textarea", { rows: 3, required: true, dir: "auto" }, task.description) : null;
+        const input = (value = "", settings = {}) => make("input", { value, autocomplete: "off", autocapitalize: "none", dir: "auto", ...settings });
         this.project = input(task?.project);
         this.tags = input(task?.tags.join(" "), { placeholder: "phone mail" });
         this.priority = make("select", {}, options([["", "none"], ...Object.entries(PRIORITIES)], task?.priority ?? ""));

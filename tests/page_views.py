@@ -31,6 +31,16 @@ def members(task, *names):
     return {name: task[name] for name in names if name in task}
 
 
+# The directions of the fields for words, where they hold Hebrew ones.
+DIRECTIONS = """return [...document.querySelectorAll('#add-line, #add-fields input[placeholder], #filter-text, #note-text, #depend-text, #board-title')].map((field) => {
+    const before = field.value;
+    field.value = 'שלום';
+    const { direction } = getComputedStyle(field);
+    field.value = before;
+    return direction;
+})"""
+
+
 def add_words(office):
     """The words of the line that adds a task; what looks like one and isn't is told before it becomes description."""
     browser = office.browser
@@ -59,6 +69,7 @@ def add_words(office):
     browser.wait(IS_LISTED, "Rest due:tomorow for:zoe pri:X +Two at 10:30")
     browser.wait(ALL_ANSWERED)
     expect("in the description", "One", tasks(board)[2]["project"])
+    expect("words from right to left", {"rtl"}, set(browser.run(DIRECTIONS)))
 
 
 def added_aside(office):
