@@ -170,6 +170,10 @@ function askToReopen(task) {
 export function beginEditing() {
     find("edit-form").addEventListener("input", keepEdit);
     find("cancel-edit").addEventListener("click", drop);
+    // (Enter alone begins a line of the description)
+    find("edit-form").addEventListener("keydown", (event) => {
+        if (event.key === "Enter" && (event.ctrlKey || event.metaKey) && event.target.matches("textarea")) find("edit-form").requestSubmit();
+    });
     whenSent("edit-form", () => saveOnce().catch(tellFault));
     listen("left", closeEdit);
 }

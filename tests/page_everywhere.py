@@ -9,6 +9,7 @@ import time
 import page_content
 from office import ALL_ANSWERED, ENTER, ESCAPE, IS_LISTED, IS_TOLD, KEYS, PAGE, SHOTS, TAB, add, ask, descriptions, expect, know, new_board, tasks, tell
 from page_history import CLOCK, PASS, without_history
+from page_several import CONTROL, press
 
 # The names of what the worker keeps, and the paths of the files in it.
 KEPT = """return caches.keys().then(async (names) => {
@@ -205,6 +206,9 @@ def keeps_its_button(office):
     browser.wait(ALL_ANSWERED)
     expect("focus after Save", "Edit", browser.run(focused))
     expect("saved", ["Slowly but well", "pending"], [tasks(board)[0][name] for name in ("description", "status")])
+    browser.press("e", *", too")
+    press(browser, ENTER, held=CONTROL)
+    browser.wait("return document.getElementById('task-text').textContent === 'Slowly but well, too' && document.getElementById('edit-form').hidden")
 
 
 def gone_by_keys(office, board, task):
