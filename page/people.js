@@ -67,12 +67,19 @@ async function letGo(name) {
 const KEY_ACTS = [["New key", giveKey], ["Let go", letGo]];
 const keyButtons = (name) => KEY_ACTS.map(([word, act]) => button(word, () => act(name).catch(tellFault), { class: "quiet", "aria-label": `${word}: ${name}` }));
 
-function row({ name, role }, isFirst) {
+// (an arrow key chooses the next role at once)
+const GIVE_UP = "Give up your role of owner? Only another owner can make you one again.";
+
+function row({ name, role }, isFirst, owners) {
     const set = (given) => keep(changes.role(state.number, name, given)).catch(tellFault);
     const isMine = name === state.who.name;
     const [word, question] = isMine ? ["Leave", "Leave this board? Only an owner can let you in again."] : ["Remove", `End the role of ${name}?`];
     const end = button(word, () => confirm(question) && set(null), { class: "quiet", "aria-label": `${word} ${name}` });
-    const select = make("select", { "aria-label": `Role of ${name}`, change: (event) => set(event.target.value) }, choices(role));
+    const choose = ({ target }) => {
+        if (!isMine || owners === 1 || confirm(GIVE_UP)) set(target.value);
+        else target.value = role;
+    };
+    const select = make("select", { "aria-label": `Role of ${name}`, change: choose }, choices(role));
     const keys = isFirst && !isMine ? keyButtons(name) : [];
     return make("li", {}, span("person", said(name), isMine ? span("about", " (you)") : ""), ...(isOwner() ? [select, ...keys, end] : [span("chip", said(role)), ...keys]));
 }
@@ -88,7 +95,8 @@ async function draw(isAnew) {
     const { people } = JSON.parse(text);
     people.forEach(({ role }) => roles.add(role));
     const isFirst = mayBeFirst(people[0].name);
-    fill(find("people"), people.map((person) => row(person, isFirst)));
+    const owners = people.filter(({ role }) => role === "owner").length;
+    fill(find("people"), people.map((person) => row(person, isFirst, owners)));
     for (const id of ["invite-role", "person-role"]) fill(find(id), choices(find(id).value || "member"));
     find("invite-form").hidden = !isOwner();
     for (const id of ["person-form", "keys-form"]) find(id).hidden = !isFirst;

@@ -4,7 +4,7 @@
 // A browser asks for the worker at each start, and a page that stays open every few minutes; it is installed anew where a byte of it differs. The
 // next line, made by tests/page_content.py, differs with every other file, so a new version is found then, also where its files are as long as
 // before.
-// Content of the other files: 93c6901e805f415dede79fa02931bb02cd220db7681df1dfb048531e131ec520
+// Content of the other files: 47aafb8da989bd669caddd87faba000a299b8750a76093ca9472d608ff8a21b7
 
 const VERSION = "taskboard ";
 const FILE = /^\/(?:[a-z0-9_.-]+\.(?:html|css|js|svg|png|ico))?$/;

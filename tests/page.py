@@ -23,7 +23,7 @@ import page_keys
 import page_several
 import page_views
 import page_words
-from office import ALL_ANSWERED, BACKSPACE, BROWSER, DOWN, ENTER, IS_LISTED, IS_TOLD, KEYS, LISTED, LOOK, PROGRAM, SHOTS, SLACK, Office, add, ask, descriptions, expect, new_board, tasks
+from office import ALL_ANSWERED, BACKSPACE, BROWSER, DOWN, ENTER, IS_LISTED, IS_TOLD, KEYS, LISTED, LOOK, PROGRAM, SHOTS, SLACK, Office, add, ask, descriptions, expect, new_board, tasks, tell
 from relay import LOSES_ANSWERS, LOSES_POSTS
 from talking import end_by_signal, make_file
 from webdriver import STRANGER, Browser
@@ -157,6 +157,21 @@ def people(office):
     office.shot("people")
     browser.run("document.querySelector('#notices .quiet').click()")
     browser.wait("return document.querySelectorAll('#notices li').length === 0")
+    give_up(office)
+
+
+def give_up(office):
+    """An owner beside another one is asked before the own role ends."""
+    browser = office.browser
+    roles = "return [...document.querySelectorAll('#people select')].map((select) => select.value).join()"
+    tell("/boards/1/roles", member="bob", role="owner")
+    office.go(1)
+    office.go(1, "people")
+    browser.wait(f"{roles} === 'owner,owner'")
+    browser.run("const role = document.querySelector('#people select'); role.value = 'member'; setTimeout(() => role.dispatchEvent(new Event('change')))")
+    expect("asked", "Give up your role of owner? Only another owner can make you one again.", browser.answer_question(False))
+    expect("roles", "owner,owner", browser.run(roles))
+    tell("/boards/1/roles", member="bob", role="member")
 
 
 def killed_server(office):
