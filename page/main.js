@@ -8,7 +8,7 @@ import { check, isWhole } from "./checking.js";
 import { beginColumns } from "./columns.js";
 import { beginCrew } from "./crew.js";
 import { beginDay } from "./day.js";
-import { fill, find, make, oneLine, whenSent } from "./dom.js";
+import { button, fill, find, make, oneLine, said, whenSent } from "./dom.js";
 import { beginEditing } from "./editing.js";
 import { options } from "./fields.js";
 import { beginFiles } from "./files.js";
@@ -17,7 +17,7 @@ import { beginFocus } from "./focus.js";
 import { beginLooking, lookAgain, lookAtBoards } from "./fresh.js";
 import { beginHistory } from "./history.js";
 import { beginKeys } from "./keys.js";
-import { beginNotices, tellFault } from "./notices.js";
+import { beginNotices, tellFault, toast } from "./notices.js";
 import { beginOffline } from "./start.js";
 import { beginOwning } from "./owning.js";
 import { beginPanel } from "./panel.js";
@@ -88,12 +88,15 @@ async function showRoute() {
     if (state.number && state.board?.number !== state.number) lookAgain();
 }
 
-// The board that this tab made is shown once its number is there.
+// The board that this tab made is shown once its number is there. Where that took a broken line its person does something else by then, and is
+// offered the board.
 async function showMade({ change, status, body }) {
     if (status !== 200 || change.path !== "/boards" || change.subject !== madeHere) return;
     madeHere = "";
     await lookAtBoards();
-    go(body.board);
+    const show = () => go(body.board);
+    if (change.isOld) toast(make("span", {}, "Made the board ", make("q", {}, said(change.subject, 120))), button("Show it", show));
+    else show();
 }
 
 const PARTS = [

@@ -204,6 +204,26 @@ def refused_board(office):
     expect_nothing_open(browser)
 
 
+def board_made_late(office):
+    """A new board that comes once the line is whole again is offered: nobody is led away from what they type by then."""
+    browser, board = office.browser, new_board("Meanwhile")
+    office.begin(board)
+    office.relay.break_off(LOSES_POSTS)
+    browser.click("#new-board")
+    browser.type("#board-title", "Made late" + ENTER)
+    browser.wait(WAITED, 1)
+    browser.type("#add-line", "Half a")
+    heal(office)
+    browser.wait(IS_TOLD, "Made the board Made late")
+    browser.type("#add-line", " line")
+    expect("what is typed meanwhile", ["Half a line", f"#/{board}/tasks"], browser.run("return [document.getElementById('add-line').value, location.hash.split('?')[0]]"))
+    press(browser, "Show it", "#toast")
+    browser.wait("return document.title.startsWith('Made late')")
+    office.go(board)
+    browser.wait(HAS_VALUE, "#add-line", "Half a line")
+    put_into(browser, "#add-line", "")
+
+
 def told_before(office):
     """What the server would refuse is told beside its field, and nothing is sent."""
     browser = office.browser
@@ -540,4 +560,4 @@ def unsent_looks_done(office):
     expect("the first", task, stored["Slow one"]["uuid"])
 
 
-SCENES = (refused_keep_text, refused_person, refused_board, told_before, drafts_stay, device_is_full, two_edit_one_task, two_complete_one_task, changed_while_waiting, edited_before_sending, new_key_without_tls, signing_out, unsent_stands_once, unsent_looks_done)
+SCENES = (refused_keep_text, refused_person, refused_board, board_made_late, told_before, drafts_stay, device_is_full, two_edit_one_task, two_complete_one_task, changed_while_waiting, edited_before_sending, new_key_without_tls, signing_out, unsent_stands_once, unsent_looks_done)
