@@ -1,7 +1,7 @@
 // The view of import and export.
 import { look } from "./asking.js";
 import { changes } from "./changes.js";
-import { counted, download, fill, find, said, tasksTold, whenSent } from "./dom.js";
+import { counted, download, fill, find, make, said, tasksTold, whenSent } from "./dom.js";
 import { plan } from "./importing.js";
 import { tellFault, tellRefusal } from "./notices.js";
 import { keep } from "./sending.js";
@@ -34,6 +34,9 @@ function lostIn(tasks) {
 
 const KINDS = { import: "a Taskwarrior export", "import-todo": "todo.txt" };
 const MOST_SHOWN = 200;
+// What stands in place of the letters of a file in another encoding.
+const UNREAD = "\uFFFD";
+const LOST = " Some of its letters can't be read, since it isn't in UTF-8: they would be lost. Save the file in UTF-8, and choose it again.";
 let chosen = null;
 
 const plural = (count, word) => `${counted(count)} ${word}${count === 1 ? "" : "s"}`;
@@ -46,7 +49,7 @@ function aboutPlan({ count, parts, path, faults }) {
 
 function drawPlan() {
     const { name, count, faults, changes: spelled, losses } = chosen ?? { count: 0, faults: [], changes: [], losses: [] };
-    fill(find("import-told"), chosen ? [said(name, 80), aboutPlan(chosen)] : []);
+    fill(find("import-told"), chosen ? [said(name, 80), aboutPlan(chosen), chosen.isUnread ? make("span", { class: "fault" }, LOST) : ""] : []);
     fill(
         find("import-details"),
         tasksTold(`${plural(faults.length, "task")} can't be taken`, faults, true),
@@ -60,7 +63,8 @@ function drawPlan() {
 async function choose() {
     const file = find("import-file").files[0];
     find("import-send").disabled = true;
-    const read = file ? { name: file.name, ...(await plan(await file.text(), state.board)) } : null;
+    const text = file ? await file.text() : "";
+    const read = file ? { name: file.name, isUnread: text.includes(UNREAD), ...(await plan(text, state.board)) } : null;
     if (file !== find("import-file").files[0]) return;
     chosen = read;
     drawPlan();

@@ -4,7 +4,7 @@
 // A browser asks for the worker at each start, and a page that stays open every few minutes; it is installed anew where a byte of it differs. The
 // next line, made by tests/page_content.py, differs with every other file, so a new version is found then, also where its files are as long as
 // before.
-// Content of the other files: b4c60492012c2bcd1f0f86ca7e64446a10b08c11a5533c9e7d185d57878ed930
+// Content of the other files: b5dd41a650b7cc23eff5da973955760dc53611805a16faf7df99b6438f5b50db
 
 const VERSION = "taskboard ";
 const FILE = /^\/(?:[a-z0-9_.-]+\.(?:html|css|js|svg|png|ico))?$/;

@@ -25,8 +25,8 @@ def strange_export():
     return text.replace('"imask": 0', '"imask":0.000000').replace("Tab here", "Tab\there")
 
 
-def choose_file(browser, name, text):
-    pathlib.Path(name).write_text(text)
+def choose_file(browser, name, text, encoding="utf-8"):
+    pathlib.Path(name).write_text(text, encoding)
     browser.type("#import-file", os.path.abspath(name))
     browser.wait("return document.getElementById('import-told').textContent.includes(arguments[0])", name)
 
@@ -62,6 +62,9 @@ def the_rest(office):
     browser.run("[...document.querySelectorAll('#notices button')].at(-1).click()")
     choose_file(browser, "torn.json", json.dumps([{"uuid": ID.format(9), "description": "Whole"}, {"uuid": ID.format(8), "description": "Torn"}])[:-8])
     expect("a file that breaks off", True, told(browser)[0][1][0].endswith("the file breaks off in it"))
+    for encoding, is_told in (("latin-1", True), ("utf-8", False)):
+        choose_file(browser, f"{encoding}.txt", "Ask Müller\n", encoding)
+        expect(f"letters lost of a file in {encoding}", is_told, browser.run(IS_TOLD, "it isn't in UTF-8: they would be lost"))
     office.go(board)
 
 
