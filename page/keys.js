@@ -16,6 +16,7 @@ const CHANGING = [
     ["Shift + ← →", "In columns, move the card: start, stop, complete or reopen the task"],
     ["w", "In columns, let the task wait until a day"],
 ];
+const SAVE = ["Ctrl + Enter", "Save what was edited"];
 const ANYWHERE = [
     ["Escape", "Close the task or the form"],
     ["?", "Show these keys"],
@@ -39,11 +40,12 @@ function row([key, text]) {
 }
 
 function show() {
-    const named = (place) => shortcuts(place).map((element) => [element.getAttribute("aria-keyshortcuts"), labelOf(element)]);
+    const named = (place) => shortcuts(place).map((element) => [element.getAttribute("aria-keyshortcuts"), labelOf(element)]).filter(([key]) => key.length === 1);
+    const isReader = document.body.classList.contains("reader");
     const ofTask = named(find("panel"));
     const others = named(document).filter(([key]) => key !== "?" && !ofTask.some(([other]) => other === key));
     const part = (title, rows) => (rows.length > 0 ? [make("h3", {}, title), make("dl", { class: "keys" }, rows.map(row))] : []);
-    fill(find("keys-shown"), part("Everywhere", [...others, ...ANYWHERE]), part("In the list", document.body.classList.contains("reader") ? LIST : [...LIST, ...CHANGING]), part("In the open task", ofTask));
+    fill(find("keys-shown"), part("Everywhere", [...others, ...ANYWHERE]), part("In the list", isReader ? LIST : [...LIST, ...CHANGING]), part("In the open task", isReader || ofTask.length === 0 ? ofTask : [...ofTask, SAVE]));
     find("keys-on").checked = isOn();
     find("keys-dialog").showModal();
     find("keys-close").focus();

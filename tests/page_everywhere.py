@@ -209,6 +209,9 @@ def keeps_its_button(office):
     browser.press("e", *", too")
     press(browser, ENTER, held=CONTROL)
     browser.wait("return document.getElementById('task-text').textContent === 'Slowly but well, too' && document.getElementById('edit-form').hidden")
+    browser.press("?")
+    browser.wait(IS_TOLD, "Save what was edited")
+    browser.press(ESCAPE)
 
 
 def gone_by_keys(office, board, task):
