@@ -85,7 +85,11 @@ const REFUSALS = {
     TemplateFixed: () => "The due date and the step of a repeating task stay. Delete it, and add a new one.",
     NoLink: () => "That note or dependency isn't there any more, so nothing is left to do.",
     Cycle: () => "The tasks would wait for each other in a circle. Take another dependency off first.",
-    Full: () => "It is full: 10,000 tasks on a board, as many boards and people on a server. Make a new board for what is to come.",
+    Full: ({ path }) => {
+        if (path === "/boards") return "The server is full: it takes 10,000 boards. Use one that is there.";
+        if (path === "/people") return "The server is full: it takes 10,000 people. Ask whoever runs it for another one.";
+        return "The board is full: it takes 10,000 tasks, completed and deleted ones too. Make a new board for what is to come.";
+    },
     NoPerson: () => "The server knows nobody of that name. Look at the spelling, or have the first person of the server add them.",
     LastOwner: () => "The board would be left without an owner. Make someone else owner first.",
     NameTaken: () => "Someone has this name already. Choose another.",

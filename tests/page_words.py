@@ -192,7 +192,7 @@ def refused_board(office):
         window.unfill = () => (window.fetch = real);""")
     browser.click("#new-board")
     browser.type("#board-title", "One too many" + ENTER)
-    browser.wait(IS_TOLD, "as many boards and people on a server")
+    browser.wait(IS_TOLD, "The server is full: it takes 10,000 boards.")
     browser.run("window.unfill()")
     press(browser, "Edit and send again")
     browser.wait(HAS_VALUE, "#board-title", "One too many")
