@@ -65,6 +65,8 @@ def of_task(office):
     browser.wait(ARE_DEEDS, "#task-history", ["bob set the due date to 4 Dec 2026", "bob changed it", "You made it wait for Wash the brush", "You reopened it", "bob completed it"])
     press(browser, "Show all 8", "#task-history")
     browser.wait("return document.querySelectorAll('#task-history .deed').length === 8")
+    tell(f"{path}/undepend", on=other)
+    browser.wait("return document.querySelector('#task-history .deed').firstChild.textContent === 'You had it wait no more for Wash the brush'")
 
 
 def of_board(office):
