@@ -130,12 +130,12 @@ function drawTask(one) {
 
 // What is added leaves the form at once; where the device can't keep it, it is there again.
 async function addNote(form) {
-    const [uuid, text] = [shown, find("note-text").value];
+    const [{ number }, uuid, text] = [state, shown, find("note-text").value];
     form.reset();
     keepDraft("note", uuid, null);
     if (!text.trim()) return;
-    await keep(changes.annotate(state.number, task(), text.trim())).catch((fault) => {
-        keepDraft("note", uuid, text);
+    await keep(changes.annotate(number, task(), text.trim())).catch((fault) => {
+        keepDraft("note", uuid, text, number);
         if (shown === uuid) find("note-text").value = text;
         throw fault;
     });

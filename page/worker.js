@@ -4,7 +4,7 @@
 // A browser asks for the worker at each start, and a page that stays open every few minutes; it is installed anew where a byte of it differs. The
 // next line, made by tests/page_content.py, differs with every other file, so a new version is found then, also where its files are as long as
 // before.
-// Content of the other files: 075f041af11e0f93a75e30372f46166c743a15f69d1940987de8da1ea7005836
+// Content of the other files: 7825ca17bd57f4121bddf8863e1d74cb7dd63b03f09263af5c56d96d434d20dd
 
 const VERSION = "taskboard ";
 const FILE = /^\/(?:[a-z0-9_.-]+\.(?:html|css|js|svg|png|ico))?$/;
