@@ -56,9 +56,7 @@ def words():
 
 
 def orders():
-    """The orders with their words; a line that is set in further goes on with the one above."""
-    told = re.sub(r"\n {8,}", " ", help_of())
-    lines = [line.strip() for line in told.split("\n") if line.startswith("    taskboard ")]
+    lines = [line.strip() for line in help_of().split("\n") if line.startswith("    taskboard ")]
     return [[cell(line)] for line in lines]
 
 

@@ -1,4 +1,3 @@
 pub mod Faults
-pub mod Stopped
 pub mod Unmade
 pub mod Unopened

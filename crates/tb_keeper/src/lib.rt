@@ -20,7 +20,6 @@ mod looking;
 mod members;
 mod noting;
 mod opening;
-mod people_at_hand;
 mod row_changes;
 mod sound_histories;
 mod sound_rows;

@@ -1,4 +1,3 @@
-mod Fields
 mod Floatless
 mod Keys
 mod Weekdays

@@ -7,5 +7,4 @@ pub mod Outcome
 pub mod Reading
 pub mod Replies
 pub mod Runs
-pub mod Watching
 pub mod Words

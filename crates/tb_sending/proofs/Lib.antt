@@ -2,4 +2,3 @@ pub mod Endings
 pub mod Settled
 pub mod Texts
 pub mod Told
-pub mod Wires
