@@ -56,7 +56,9 @@ def words():
 
 
 def orders():
-    lines = [line.strip() for line in help_of().split("\n") if line.startswith("    taskboard ")]
+    """The orders with their words; a line that is set in further goes on with the one above."""
+    told = re.sub(r"\n {8,}", " ", help_of())
+    lines = [line.strip() for line in told.split("\n") if line.startswith("    taskboard ")]
     return [[cell(line)] for line in lines]
 
 

@@ -8,6 +8,8 @@ import uuid
 
 program = sys.argv[1]
 failed = False
+# The file that is imported into, whose one board takes 10,000 tasks.
+file = "b.db"
 
 
 def fail(text):
@@ -25,11 +27,11 @@ def run(*words, text="", **more):
 
 
 def bring(number, board, kind, text, options=("--all",), **more):
-    return run("import", "b.db", "ann", "ann-key-1", identifier(number), str(board), kind, *options, text=text, **more)
+    return run("import", file, "ann", "ann-key-1", identifier(number), str(board), kind, *options, text=text, **more)
 
 
 def printed(*words):
-    ran = run(*words, "b.db", "ann", "ann-key-1", "1")
+    ran = run(*words, file, "ann", "ann-key-1", "1")
     return ran.stdout.decode()
 
 
@@ -113,9 +115,44 @@ def look_at_lines():
         expect_fault(f"{name} in one call", bring(number, 1, "todo", text, options=()), 0, "--all")
         expect_counts(name, bring(number, 1, "todo", text), [(new, 0) for new in counts])
         expect_counts(f"{name} again", bring(number, 1, "todo", text), [(new, 0) for new in counts])
-    expect_fault("a line above 1 MiB", bring(8, 1, "todo", "a\n" + "b" * (1 << 20) + "\n"), 0, "A line is longer")
+    expect_fault("a line above 1 MiB", bring(8, 1, "todo", "a\n" + "b" * (1 << 20) + "\n"), 0, "A line or a task is longer")
     expect_counts("a few lines", bring(9, 1, "todo", "Buy milk\nBuy bread\n"), [(2, 0)])
     expect_counts("no text", bring(10, 1, "todo", ""), [(0, 0)])
+
+
+def layouts(tasks):
+    """A list in the layouts that programs write it in; how long a line is, and where the brackets stand, means nothing."""
+    yield "a bracket after the last task", "[\n" + ",\n".join(tasks) + "]\n"
+    yield "carriage returns", "[\r\n" + ",\r\n".join(tasks) + "\r\n]\r\n"
+    yield "seven tasks on a line", "[" + ",\n".join(", ".join(tasks[at : at + 7]) for at in range(0, len(tasks), 7)) + "]"
+    yield "one line", "[" + ",".join(tasks) + "]"
+    yield "as jq prints it", json.dumps([json.loads(told) for told in tasks], indent=2) + "\n"
+    yield "blank lines", " \t[\n\n" + "\n,\n".join(tasks) + "\n\n] \n"
+
+
+def look_at_layouts():
+    """The same tasks come in whatever layout the list has, each once and in their order."""
+    tasks = [task(number, urgency=number / 7, size=[1.25, "]", "{\\"], note="a\t], [\"{") for number in range(30000, 32300)]
+    count = len(json.loads(printed("export")))
+    known = None
+    for number, (name, text) in enumerate(layouts(tasks), 20):
+        ran = bring(number, 1, "json", text)
+        expect_counts(name, ran, known or [(1000, 0), (1000, 0), (300, 0)])
+        known = [(0, 1000), (0, 1000), (0, 300)]
+        expect_counts(f"{name} again", bring(number, 1, "json", text), [(reply["new"], reply["known"]) for reply in replies(ran)])
+    brought = json.loads(printed("export"))[count:]
+    expect("the tasks of each layout", [json.loads(told)["uuid"] for told in tasks], [told["uuid"] for told in brought])
+    expect("their attributes", {"a\t], [\"{"}, {told["note"] for told in brought})
+    few = [task(number) for number in range(33000, 33300)]
+    expect_counts("a few tasks on many lines", bring(30, 1, "json", json.dumps([json.loads(told) for told in few], indent=1)), [(300, 0)])
+    more = [task(number) for number in range(34000, 35200)]
+    expect_counts("many tasks on one line", bring(31, 1, "json", "[" + ",".join(more) + "]"), [(1000, 0), (200, 0)])
+    long = [task(number, note="x" * 1500) for number in range(36000, 36900)]
+    expect_counts("a long line", bring(32, 1, "json", "[" + ",".join(long) + "]"), [(450, 0), (450, 0)])
+    expect_fault("a task above 1 MiB", bring(33, 1, "json", "[" + ",".join([*few, task(37000, note="x" * (1 << 20))]) + "]"), 0, "longer")
+    expect_fault("no list", bring(34, 1, "json", "[" + ",".join(more)), 0, "json")
+    bad = more[:1006] + [task(34006, due="soon")] + more[1007:]
+    expect_fault("a bad task of a line", bring(35, 1, "json", "[" + ",".join(bad) + "]"), 1, "Task 7 of part 2", '"due"')
 
 
 def look_at_terminal():
@@ -132,17 +169,21 @@ def look_at_terminal():
 def look_at_words():
     for words in (["--all", "--all"], ["--all=1"], ["--every"]):
         expect(f"{words}", 2, bring(12, 1, "json", "", options=words).returncode)
-    first = run("import", "--all", "b.db", "ann", "ann-key-1", identifier(13), "1", "todo", text="Buy tea\n")
+    first = run("import", "--all", file, "ann", "ann-key-1", identifier(13), "1", "todo", text="Buy tea\n")
     expect_counts("--all in front", first, [(1, 0)])
 
 
-expect("init", 0, run("init", "b.db", "ann", "ann-key-1").returncode)
-look_at_export()
-look_at_bad_tasks()
-look_at_lines()
-look_at_terminal()
-look_at_words()
-expect("check", "boards 1 tasks 7803 faults 0\n", run("check", "b.db").stdout.decode())
+def look_in_file(tasks, *looks):
+    """Looks in a new file, in which so many tasks are at the end."""
+    expect("init", 0, run("init", file, "ann", "ann-key-1").returncode)
+    for look in looks:
+        look()
+    expect("check", f"boards 1 tasks {tasks} faults 0\n", run("check", file).stdout.decode())
+
+
+look_in_file(7803, look_at_export, look_at_bad_tasks, look_at_lines, look_at_terminal, look_at_words)
+file = "layouts.db"
+look_in_file(4700, look_at_layouts)
 if failed:
     sys.exit(1)
 print("long texts came in by parts, each once")

@@ -75,6 +75,11 @@ def at(days):
     return (datetime.datetime.now(datetime.timezone.utc) + datetime.timedelta(days=days)).strftime("%Y%m%dT000000Z")
 
 
+def boards():
+    """What `tb boards` tells."""
+    return "".join(f"{it['board']}  {it['role']}  {it['title']}\n" for it in json.loads(send("me"))["boards"])
+
+
 def ahead(weekday):
     """How many days it is to the next of a weekday, which is never today."""
     return (weekday - datetime.datetime.now(datetime.timezone.utc).weekday() - 1) % 7 + 1
@@ -84,7 +89,9 @@ def settings():
     """What is told while settings are missing or wrong, and which go before."""
     expect([], 2, told="Which server? Write a line as `server = 127.0.0.1:8080`")
     expect([], 2, told="Who are you?", TASKBOARD_SERVER=f"127.0.0.1:{PORT}")
-    expect([], 2, told="Which board?", TASKBOARD_SERVER=f"127.0.0.1:{PORT}", TASKBOARD_NAME="ann")
+    unboarded = {"TASKBOARD_SERVER": f"127.0.0.1:{PORT}", "TASKBOARD_NAME": "ann"}
+    for words in ([], ["list"], ["add", "x"], ["done", "1"], ["people"], ["import", "-"]):
+        expect(words, 2, told="Which board? `tb boards` lists yours", **unboarded)
     os.makedirs(FOLDER)
     def config(server=f"127.0.0.1:{PORT}", board="1"):
         return f"# whom to ask\n\nserver = {server}\n  name=ann\r\nboard =\t{board}\n"
@@ -102,6 +109,11 @@ def settings():
     if ran.returncode != 1 or not ran.stderr.startswith("taskboard: NoKey\n"):
         fail(f"without a key: {ran}")
     write("key", "ann-key-1\n")
+    write("config", "")
+    for words in (["boards"], ["--board", "1", "boards"]):
+        expect(words, 0, boards(), **unboarded)
+    expect(["undo"], 1, told="There is nothing to take back.", **unboarded)
+    write("config", config())
     expect(["add", "Call", "bank"], 0, "Added: Call bank\n")
     path = write("another", "ann-key-1\n")
     expect(["start", "1"], 0, "Started: Call bank\n", TASKBOARD_KEY_FILE=path)
@@ -138,7 +150,7 @@ def a_day():
     shown = tb("show", "2")
     if "Buy oat milk" not in shown.stdout or ids[1] not in shown.stdout:
         fail(f"show 2: {shown}")
-    expect(["boards"], 0, "".join(f"{it['board']}  {it['role']}  {it['title']}\n" for it in json.loads(send("me"))["boards"]))
+    expect(["boards"], 0, boards())
     expect(["people"], 0, "".join(f"{it['name']}  {it['role']}\n" for it in json.loads(send("people", "1"))["people"]))
     expect(["add", "a\x1b[31m\x07b"], 0, "Added: a [31m b\n")
 
@@ -400,6 +412,18 @@ def undo():
     tb("note", one, "a", "note")
     expect(["undo"], 0, "Taken back: Noted: One\n")
     expect_task(int(one), annotations=None)
+    for text in ("one\ttab", "two\nlines\r\n", "\x01A\x1b[31m\x1f", "c:\\tab\\n é漢 \x7f\x85"):
+        tb("note", one, text)
+        if [note["description"] for note in tasks()[int(one) - 1]["annotations"]] != [text]:
+            fail(f"{text!r} isn't noted")
+        expect(["undo"], 0, "Taken back: Noted: One\n")
+        expect_task(int(one), annotations=None)
+        tb("note", one, text)
+        tb("unnote", one, text)
+        expect(["undo"], 0, "Taken back: Note removed: One\n")
+        if [note["description"] for note in tasks()[int(one) - 1]["annotations"]] != [text]:
+            fail(f"{text!r} isn't noted again")
+        tb("unnote", one, text)
     tb("needs", one, two)
     expect(["undo"], 0, "Taken back: One needs Two\n")
     expect_task(int(one), depends=None)
@@ -420,8 +444,15 @@ def imports(draw):
     ran = subprocess.run([PROGRAM, "my", "import", "-"], input="x 2026-03-02 2026-03-01 Call Mom @phone\n\nBuy milk +Home", capture_output=True, text=True, env=BARE | here, timeout=60)
     if (ran.returncode, ran.stdout) != (0, "Imported: 2 new, 0 known before\n"):
         fail(f"import -: {ran}")
-    expect(["import", "nowhere.json"], 1, told="That file can't be read", **here)
+    for name, text in (("marked.json", json.dumps(many[:1])), ("marked.txt", "Sow peas +Garden\n")):
+        with open(name, "w", encoding="utf-8-sig") as file:
+            file.write(text)
+    expect(["import", "marked.json"], 0, "Imported: 0 new, 1 known before\n", **here)
+    expect(["import", "marked.txt"], 0, "Imported: 1 new, 0 known before\n", **here)
     board = str(next(it["board"] for it in json.loads(send("me"))["boards"] if it["title"] == "Imports"))
+    if tasks(board)[-1]["description"] != "Sow peas":
+        fail(f"a mark is imported: {tasks(board)[-1]}")
+    expect(["import", "nowhere.json"], 1, told="That file can't be read", **here)
     for word in ("export", "todo"):
         if tb(word, **here).stdout != send(word, board):
             fail(f"{word} isn't that of send")
@@ -440,6 +471,23 @@ def setup():
     ran = subprocess.run([PROGRAM, "my", "setup"], input="http://x/\nann\n1\n", capture_output=True, text=True, env=BARE | {"HOME": home}, timeout=60)
     if ran.returncode != 2 or not ran.stderr.startswith("The server has another form"):
         fail(f"setup with a wrong server: {ran}")
+    config = os.path.join(home, ".config/taskboard/config")
+    with open(config, "a") as file:
+        file.write("# mine\nkey-file = ~/.config/taskboard/moved\ncolour = red\n")
+    os.rename(os.path.join(home, ".config/taskboard/key"), os.path.join(home, ".config/taskboard/moved"))
+    ran = subprocess.run([PROGRAM, "my", "setup"], input=f"127.0.0.1:{PORT}\nann\n1\n", capture_output=True, text=True, env=BARE | {"HOME": home}, timeout=60)
+    with open(config) as file:
+        text = file.read()
+    if ran.returncode or "key" in ran.stdout or text != f"# mine\nkey-file = ~/.config/taskboard/moved\nserver = 127.0.0.1:{PORT}\nname = ann\nboard = 1\n":
+        fail(f"setup forgets where the key is: {ran}, {text!r}")
+    if run("my", "list", env=BARE | {"HOME": home}).stdout != tb("list").stdout:
+        fail("the key isn't read where the settings of before say")
+    subprocess.run([PROGRAM, "my", "setup"], input=f"127.0.0.1:{PORT}\nann\n\n", capture_output=True, text=True, env=BARE | {"HOME": home}, timeout=60)
+    ran = run("my", "boards", env=BARE | {"HOME": home})
+    if ran.returncode or ran.stdout != tb("boards").stdout:
+        fail(f"without a board, boards tells {ran}")
+    if not run("my", "list", env=BARE | {"HOME": home}).stderr.startswith("Which board?"):
+        fail("a list of no board")
 
 
 def same_task():

@@ -1,6 +1,7 @@
 -- What each order comes to, and which faults come of it.
 use Rattle.std.specs.Prelude.{◌≡◌, ℕ, Bool, true, false, List, Option, Some, IfSome}
 use Rattle.std.specs.Io.KnownBytes.{Appends}
+use Rattle.sqlite.specs.Held.{Held}
 use Rattle.sqlite_disk.specs.declared.Disk.{Ghosts as DiskGhosts}
 use Rattle.sqlite_store.specs.declared.store.FileStore.{FileStore}
 use Rattle.taskboard.specs.Serve.{IsServerRun, is_of_serving}
@@ -13,6 +14,7 @@ use Rattle.tb_command_line.specs.declared.order.Order.{Order}
 use Rattle.tb_command_line.specs.declared.order.Order.TheVariants.{Init, Serve, Run, Import, ImportAll, View, Check, Key, Send, My, Help, Version}
 use Rattle.tb_command_line.specs.declared.order.SendOrder.{SendOrder}
 use Rattle.tb_files.specs.Check.{IsChecked}
+use Rattle.tb_files.specs.File.{InSession}
 use Rattle.tb_files.specs.Faults.{is_of_checking, is_of_imports, is_of_keys, is_of_views}
 use Rattle.tb_files.specs.Import.{IsImported, IsImportedInParts}
 use Rattle.tb_files.specs.Init.{IsMade}
@@ -77,10 +79,11 @@ module _ {D L W : Type 0} {d : DiskGhosts D} (g : Ghosts (SqlKeep (FileStore D d
     pub new : L
     pub comes : Sends follows contents order ready old new before after ending
 
-  -- with an input, and a writer before and after it
+  -- With an input, and a writer before and after it. Which file a path leads to, and which moments the machine's clock gives, isn't known.
   abbrev pub IsDone : Order → Option (List ℕ) → W → W → Ending → Type 0
   IsDone (Init order) input before after ending =
-      (ending ≡ Accepted) × IsMade g (opening order.name order.key)
+      (found : Held (FileStore D d)) × ((ending ≡ Accepted)
+      × IsMade g found (opening order.name order.key))
   IsDone (Serve order) input before after ending = (ending ≡ Accepted) × IsServerRun g order
   IsDone Run input before after ending = (ending ≡ Accepted)
       × IfSome input (λ script. Appends (contents before) (contents after) (script_text script))
@@ -89,11 +92,13 @@ module _ {D L W : Type 0} {d : DiskGhosts D} (g : Ghosts (SqlKeep (FileStore D d
   IsDone (ImportAll order) input before after ending =
       IsImportedInParts g order input (contents before) (contents after) ending
   IsDone (View order) input before after ending =
-      IsShown g order (contents before) (contents after) ending
+      (found : Held (FileStore D d)) × InSession g found
+      (λ old. IsShown g (λ at. Unit {0}) order old (contents before) (contents after) ending)
   IsDone (Check file) input before after ending =
-      IsChecked g (contents before) (contents after) ending
+      (found : Held (FileStore D d)) × InSession g found
+      (λ old. IsChecked old (contents before) (contents after) ending)
   IsDone (Key order) input before after ending =
-      IsKeyGiven g order input (contents before) (contents after) ending
+      IsKeyGiven g (λ at. Unit {0}) order input (contents before) (contents after) ending
   IsDone (Send order) input before after ending = IsSentOver order before after ending
   -- what the words become is `sent_of` of `tb_my`; of the asking as a whole nothing is said
   IsDone (My order) input before after ending = Unit {0}

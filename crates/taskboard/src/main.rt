@@ -7,7 +7,8 @@ ghost use Rattle.std.specs.Io.KnownBytes.{Appends};
 ghost use Rattle.std.specs.Prelude.{◌≡◌, ◌≢◌, Err, IfErr, IfOk, IfSome, OnErr, true};
 ghost use Rattle.taskboard.specs.Orders.{IsDone, IsNamed, is_of_order, is_of_telling, script_text};
 ghost use Rattle.tb_orders.specs.Faults.{is_of_scripts};
-ghost use Rattle.tb_program.specs.declared.fault.Fault.TheVariants.{Store};
+ghost use Rattle.tb_program.specs.declared.fault.Fault.TheVariants.{ReadFailed, Store};
+ghost use Rattle.tb_script.specs.Watching.{IsSpent};
 ghost use Rattle.tb_values.specs.Appends.{AppendsFront};
 
 mod clock;
@@ -18,6 +19,7 @@ mod my_terminal;
 mod serve;
 mod served_file;
 
+use crate::clock::MachineClock;
 use crate::mine::ask_mine;
 use crate::serve::serve_file;
 use std::alloc::Global;
@@ -29,13 +31,13 @@ use tb_client::Line;
 use tb_command_line::{Order, Topic};
 use tb_files::{
     RealFile, check_file, give_key_in_file, import_into_file, import_parts_into_file, make_file,
-    print_board,
+    open_file, open_new_file, print_board,
 };
 use tb_keeper::SqlKeep;
 use tb_orders::{Ending, OrderFault, fault_of_script, print_fault, read_order, status_of};
 use tb_program::{Fault, print_text};
-use tb_script::run_lines;
-use tb_sending::{ServerLine, name_call, send_order};
+use tb_script::{Watched, run_lines};
+use tb_sending::{MachineChance, MachineDial, ServerLine, name_call, send_order};
 
 /// Which program this is.
 const VERSION: &str = "\
@@ -64,12 +66,13 @@ fn end_of<R: Read + Drop, W: Write>(
     writer: &mut W,
 ) -> Result<Ending, Fault>
     ensures done { IfOk result (λ ending. (named : _) × IsNamed order named
-        × IsDone ⟦<SqlKeep<RealFile> as Keep>⟧ ⟦<ServerLine<'static> as Line>⟧.follows W.contents
+        × IsDone ⟦<SqlKeep<RealFile> as Keep>⟧
+        ⟦<ServerLine<MachineDial<'static>> as Line>⟧.follows W.contents
         named (R.remaining reader) writer.old writer.new ending) }
     ensures fault { IfErr result (λ fault. is_of_order order fault ≡ true) }
 {
     if let Order::Send(order) = &mut order {
-        name_call(rt, order);
+        name_call(&mut MachineChance::new(rt), order);
     }
     match carry_out(rt, &mut order, reader, writer) {
         Ok(ending) => Ok(ending),
@@ -96,20 +99,37 @@ fn carry_out<R: Read + Drop, W: Write>(
     writer: &mut W,
 ) -> Result<Ending, OrderFault>
     ensures done { IfOk result
-        (IsDone ⟦<SqlKeep<RealFile> as Keep>⟧ ⟦<ServerLine<'static> as Line>⟧.follows W.contents
+        (IsDone ⟦<SqlKeep<RealFile> as Keep>⟧
+        ⟦<ServerLine<MachineDial<'static>> as Line>⟧.follows W.contents
         order.old (R.remaining reader) writer.old writer.new) }
     ensures fault { IfErr result (λ failed. is_of_order order.old failed.fault ≡ true) }
 {
+    let mut clock = MachineClock { rt };
     match order {
-        Order::Init(order) => Ok(make_file(rt, order)?),
+        Order::Init(order) => {
+            let conn = open_new_file(rt, order.file.as_str())?;
+            Ok(make_file(rt.alloc(), conn, order)?)
+        }
         Order::Serve(order) => Ok(serve_file(rt, order)?),
-        Order::Run => Ok(run_script(rt.alloc(), reader, writer)?),
+        Order::Run => {
+            let mut script = Watched::new(reader);
+            Ok(run_script(rt.alloc(), &mut script, writer)?)
+        }
         Order::Import(order) => import_into_file(rt, order, reader, writer),
         Order::ImportAll(order) => import_parts_into_file(rt, order, reader, writer),
-        Order::View(order) => Ok(print_board(rt, order, writer)?),
-        Order::Check(file) => Ok(check_file(rt, file, writer)?),
-        Order::Key(order) => Ok(give_key_in_file(rt, order, reader, writer)?),
-        Order::Send(order) => Ok(send_order(rt, order, writer)?),
+        Order::View(order) => {
+            let conn = open_file(rt, order.file.as_str())?;
+            Ok(print_board(rt, conn, order, &mut clock, writer)?)
+        }
+        Order::Check(file) => {
+            let conn = open_file(rt, file.as_str())?;
+            Ok(check_file(rt, file, conn, writer)?)
+        }
+        Order::Key(order) => Ok(give_key_in_file(rt, order, reader, &mut clock, writer)?),
+        Order::Send(order) => {
+            let dial = MachineDial::new(rt);
+            Ok(send_order(rt, order, dial, &mut MachineChance::new(rt), writer)?)
+        }
         Order::My(order) => Ok(ask_mine(rt, order, reader, writer)?),
         Order::Help(topic) => Ok(tell(writer, topic.text())?),
         Order::Version => Ok(tell(writer, VERSION)?),
@@ -131,16 +151,17 @@ fn tell<W: Write>(writer: &mut W, text: &str) -> Result<Ending, Fault>
 /// Answers the lines of an input over boards in memory.
 fn run_script<R: Read + Drop, W: Write>(
     alloc: Global,
-    reader: R,
+    reader: &mut Watched<R>,
     writer: &mut W,
 ) -> Result<Ending, Fault>
     ensures answers { IfOk result (λ ending. (ending ≡ Ending.Accepted)
-        × IfSome (R.remaining reader)
+        × IfSome reader.old.left
         (λ script. Appends (W.contents writer.old) (W.contents writer.new) (script_text script))) }
-    ensures front { OnErr result (IfSome (R.remaining reader)
+    ensures front { OnErr result (IfSome reader.old.left
         (λ script. AppendsFront (W.contents writer.old) (W.contents writer.new) (script_text script))) }
     ensures fault { IfErr result (λ fault. is_of_scripts fault ≡ true) }
     ensures no_store { result ≢ Err Store }
+    ensures unread { IfErr result (λ fault. fault ≡ ReadFailed → IsSpent reader.new) }
 {
     match run_lines(alloc, reader, writer) {
         Ok(()) => Ok(Ending::Accepted),

@@ -15,11 +15,12 @@ use tb_command_line::{MyOrder, SendOrder};
 use tb_finding::{found_text, log_text, show_text};
 use tb_my::{
     Asker, Clock, MyFault, Query, Seen, Sent, board_given, board_named, fault_text, listed_words,
-    looks, query_of, read_seen, refusal_text, sent_of, shown_answer, words_after_board,
+    looks, needed_board, query_of, read_seen, refusal_text, sent_of, shown_answer,
+    words_after_board,
 };
 use tb_orders::Ending;
 use tb_program::{Fault, machine_moment, print_line, print_text};
-use tb_sending::{name_call, new_id, send_order};
+use tb_sending::{MachineChance, MachineDial, name_call, new_id, send_order};
 use tb_task::TaskId;
 use tb_values::{Duplicate, Items, Text};
 
@@ -69,15 +70,16 @@ pub(crate) fn ask_mine<R: Read + Drop, W: Write>(
         return undo(rt, &caller, writer);
     }
     if is_alone(words, "boards") {
-        return ask_words(rt, &caller, &clock, words, writer);
+        let none = Text::new(rt.alloc());
+        return ask_seen(rt, &caller, &clock, &none, &[], words, writer);
     }
-    ask_board(rt, caller, &clock, words, reader, writer)
+    ask_board(rt, &caller, &clock, words, reader, writer)
 }
 
 /// What words ask for of a board, which is found first where it is named by its title.
 fn ask_board<R: Read + Drop, W: Write>(
     rt: &HostRuntime,
-    caller: Caller,
+    caller: &Caller,
     clock: &Clock,
     words: &[Text],
     reader: R,
@@ -85,18 +87,17 @@ fn ask_board<R: Read + Drop, W: Write>(
 ) -> Result<Ending, Fault>
     ensures { IfErr result (λ fault. is_of_mine fault ≡ true) }
 {
-    let mut caller = caller;
-    match find_board(rt, &mut caller) {
-        Ok(None) => (),
-        Ok(Some(ending)) => return Ok(ending),
+    let board = match find_board(rt, caller) {
+        Ok(Named::Board(board)) => board,
+        Ok(Named::Ended(ending)) => return Ok(ending),
         Err(fault) => return Err(fault),
-    }
+    };
     if let Some(path) = argument_of(words, "import") {
-        return import_file(rt, &caller, path.as_str(), reader, writer);
+        return import_file(rt, caller, &board, path.as_str(), reader, writer);
     }
     match listed_words(words) {
-        Some(listed) => ask_list(rt, &caller, clock, listed, writer),
-        None => ask_words(rt, &caller, clock, words, writer),
+        Some(listed) => ask_list(rt, caller, clock, &board, listed, writer),
+        None => ask_words(rt, caller, clock, &board, words, writer),
     }
 }
 
@@ -134,22 +135,18 @@ fn read_caller(rt: &HostRuntime, board: Option<&Text>) -> Result<Caller, MyFault
     Ok(Caller { asker, key })
 }
 
-/// Puts the number of the board in place of its title. How it ended, where it isn't there.
-fn find_board(rt: &HostRuntime, caller: &mut Caller) -> Result<Option<Ending>, Fault>
+/// The number of the board that is asked of, also where it is named by its title.
+fn find_board(rt: &HostRuntime, caller: &Caller) -> Result<Named, Fault>
     ensures { IfErr result (λ fault. is_of_mine fault ≡ true) }
 {
-    if is_number(caller.asker.board.as_str()) {
-        return Ok(None);
+    let board = match needed_board(&caller.asker) {
+        Ok(board) => board,
+        Err(fault) => return Ok(Named::Ended(wrong(rt, "", 0, &fault)?)),
+    };
+    if is_number(board.as_str()) {
+        return Ok(Named::Board(board));
     }
-    let name = caller.asker.board.duplicate()?;
-    match number_of(rt, caller, name.as_str()) {
-        Ok(Named::Board(number)) => {
-            caller.asker.board = number;
-            Ok(None)
-        }
-        Ok(Named::Ended(ending)) => Ok(Some(ending)),
-        Err(fault) => Err(fault),
-    }
+    number_of(rt, caller, board.as_str())
 }
 
 fn is_number(text: &str) -> bool {
@@ -193,6 +190,7 @@ fn ask_list<W: Write>(
     rt: &HostRuntime,
     caller: &Caller,
     clock: &Clock,
+    board: &Text,
     words: &[Text],
     writer: &mut W,
 ) -> Result<Ending, Fault>
@@ -203,7 +201,7 @@ fn ask_list<W: Write>(
         Ok(query) => query,
         Err(fault) => return wrong(rt, "", 0, &fault),
     };
-    let look = ask(rt, caller, export_words(rt.alloc(), caller)?, None)?;
+    let look = ask(rt, caller, export_words(rt.alloc(), board)?, None)?;
     if look.ending == Ending::Refused {
         return refused(rt, &look);
     }
@@ -236,32 +234,33 @@ fn ask_words<W: Write>(
     rt: &HostRuntime,
     caller: &Caller,
     clock: &Clock,
+    board: &Text,
     words: &[Text],
     writer: &mut W,
 ) -> Result<Ending, Fault>
     ensures { IfErr result (λ fault. is_of_mine fault ≡ true) }
 {
     if !looks(words) {
-        return ask_seen(rt, caller, clock, &[], words, writer);
+        return ask_seen(rt, caller, clock, board, &[], words, writer);
     }
-    let look = ask(rt, caller, export_words(rt.alloc(), caller)?, None)?;
+    let look = ask(rt, caller, export_words(rt.alloc(), board)?, None)?;
     if look.ending == Ending::Refused {
         return refused(rt, &look);
     }
     match read_look(rt.alloc(), &look) {
-        Ok(Some(tasks)) => ask_seen(rt, caller, clock, tasks.as_slice(), words, writer),
+        Ok(Some(tasks)) => ask_seen(rt, caller, clock, board, tasks.as_slice(), words, writer),
         Ok(None) => Err(Fault::NoAnswer), // What came is no board.
         Err(fault) => Err(fault),
     }
 }
 
 /// The words that show a board's tasks.
-fn export_words(alloc: Global, caller: &Caller) -> Result<Items<Text>, Fault>
+fn export_words(alloc: Global, board: &Text) -> Result<Items<Text>, Fault>
     ensures { IfErr result (λ fault. is_of_mine fault ≡ true) }
 {
     let mut words = Items::new(alloc);
     words.push(Text::from_str(alloc, "export")?)?;
-    words.push(caller.asker.board.duplicate()?)?;
+    words.push(board.duplicate()?)?;
     Ok(words)
 }
 
@@ -279,14 +278,15 @@ fn ask_seen<W: Write>(
     rt: &HostRuntime,
     caller: &Caller,
     clock: &Clock,
+    board: &Text,
     tasks: &[Seen],
     words: &[Text],
     writer: &mut W,
 ) -> Result<Ending, Fault>
     ensures { IfErr result (λ fault. is_of_mine fault ≡ true) }
 {
-    let board = &caller.asker.board;
-    match sent_of(rt.alloc(), clock, new_id(rt), board, tasks, words) {
+    let id = new_id(&mut MachineChance::new(rt));
+    match sent_of(rt.alloc(), clock, id, board, tasks, words) {
         Ok(sent) => {
             let ending = ask_all(rt, caller, clock, tasks, sent.as_slice(), writer)?;
             Ok(ending)
@@ -339,9 +339,11 @@ pub(crate) fn ask(
         seconds: SECONDS,
         words,
     };
-    name_call(rt, &mut order);
+    let mut chance = MachineChance::new(rt);
+    name_call(&mut chance, &mut order);
     let mut body = Vec::new(rt.alloc());
-    match send_order(rt, &mut order, &mut body) {
+    let dial = MachineDial::new(rt);
+    match send_order(rt, &mut order, dial, &mut chance, &mut body) {
         Ok(ending) => Ok(Answer {
             ending,
             body: Items::from_vec(body),

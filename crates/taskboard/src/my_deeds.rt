@@ -9,8 +9,8 @@ use std::{fs, str};
 use tb_board::Key;
 use tb_command_line::ImportKind;
 use tb_my::{
-    MyFault, Sent, SettingName, asker_of, import_told, import_words, is_json, kept_sent,
-    read_settings, refusal_text, settings_text, undo_head, undone_in, with_board,
+    Asker, MyFault, Sent, SettingName, asker_of, import_told, import_words, is_json, kept_sent,
+    read_settings, refusal_text, settings_text, undo_head, undone_in, with_board, without_mark,
 };
 use tb_orders::{Ending, parts_of};
 use tb_program::{Fault, print_line};
@@ -129,7 +129,7 @@ pub(crate) fn use_board<W: Write>(
     Ok(Ending::Accepted)
 }
 
-/// Asks whom to ask, and writes it into the settings.
+/// Asks whom to ask, and writes it into the settings. Notes in them stay, and where the key is.
 pub(crate) fn set_up<R: Read + Drop, W: Write>(
     rt: &HostRuntime,
     reader: R,
@@ -140,37 +140,78 @@ pub(crate) fn set_up<R: Read + Drop, W: Write>(
     let Some(folder) = KeyFolder::at_home(rt) else {
         return told(rt, NO_HOME);
     };
+    let before = match config_text(rt) {
+        Ok(text) => text,
+        Err(fault) => return wrong(rt, "", 0, &fault),
+    };
     let Ok(mut reader) = BufReader::new(rt.alloc(), reader) else {
         return Err(Fault::Memory);
     };
-    let server = answer_to(rt, &mut reader, writer, "Server, as 127.0.0.1:8080: ")?;
-    let name = answer_to(rt, &mut reader, writer, "Your name: ")?;
-    let board = answer_to(rt, &mut reader, writer, "Board, its number or title: ")?;
-    let text = settings_text(rt.alloc(), server.as_str(), name.as_str(), board.as_str())?;
-    if let Err(fault) = tried(rt, text.as_str()) {
-        return wrong(rt, "", 0, &fault);
-    }
+    let text = ask_settings(rt, before.as_str(), &mut reader, writer)?;
+    let asker = match tried(rt, text.as_str()) {
+        Ok(asker) => asker,
+        Err(fault) => return wrong(rt, "", 0, &fault),
+    };
     folder.make()?;
     folder.put(CONFIG, text.as_str())?;
-    if !folder.has(KEY) {
-        let key = answer_to(rt, &mut reader, writer, "Your key, or nothing: ")?;
-        if !key.is_empty() {
-            if Key::read(rt.alloc(), key.as_str())?.is_none() {
-                return wrong(rt, "", 0, &MyFault::Unfit(SettingName::KeyFile));
-            }
-            let line = format!(in rt.alloc(); "{}\n", key.as_str())?;
-            folder.put(KEY, line.as_str())?;
+    if asker.key_file.is_some() || folder.has(KEY) {
+        print_line(writer, WRITTEN)?;
+        return Ok(Ending::Accepted);
+    }
+    let key = answer_to(rt, &mut reader, writer, "Your key, or nothing: ")?;
+    keep_key(rt, &folder, key.as_str(), writer)
+}
+
+/// The settings by the answers to questions, after what nobody is asked for.
+fn ask_settings<R: Read + Drop, W: Write>(
+    rt: &HostRuntime,
+    before: &str,
+    reader: &mut BufReader<R>,
+    writer: &mut W,
+) -> Result<Text, Fault>
+    ensures { IfErr result (λ fault. is_of_mine fault ≡ true) }
+{
+    let server = answer_to(rt, reader, writer, "Server, as 127.0.0.1:8080: ")?;
+    let name = answer_to(rt, reader, writer, "Your name: ")?;
+    let board = answer_to(
+        rt,
+        reader,
+        writer,
+        "Board, its number or title, or nothing: ",
+    )?;
+    Ok(settings_text(
+        rt.alloc(),
+        before,
+        server.as_str(),
+        name.as_str(),
+        board.as_str(),
+    )?)
+}
+
+/// Whom settings say to ask, where they can be read and are whole.
+fn tried(rt: &HostRuntime, text: &str) -> Result<Asker, MyFault> {
+    let settings = read_settings(rt.alloc(), text)?;
+    asker_of(rt.alloc(), settings)
+}
+
+/// Writes a key that was told, if one was.
+fn keep_key<W: Write>(
+    rt: &HostRuntime,
+    folder: &KeyFolder<'_>,
+    key: &str,
+    writer: &mut W,
+) -> Result<Ending, Fault>
+    ensures { IfErr result (λ fault. is_of_mine fault ≡ true) }
+{
+    if !key.is_empty() {
+        if Key::read(rt.alloc(), key)?.is_none() {
+            return wrong(rt, "", 0, &MyFault::Unfit(SettingName::KeyFile));
         }
+        let line = format!(in rt.alloc(); "{key}\n")?;
+        folder.put(KEY, line.as_str())?;
     }
     print_line(writer, WRITTEN)?;
     Ok(Ending::Accepted)
-}
-
-/// Whether settings can be read and are whole.
-fn tried(rt: &HostRuntime, text: &str) -> Result<(), MyFault> {
-    let settings = read_settings(rt.alloc(), text)?;
-    let _asker = asker_of(rt.alloc(), settings)?;
-    Ok(())
 }
 
 /// The next line of an input, without the white space around it, after a question.
@@ -196,6 +237,7 @@ fn answer_to<R: Read + Drop, W: Write>(
 pub(crate) fn import_file<R: Read + Drop, W: Write>(
     rt: &HostRuntime,
     caller: &Caller,
+    board: &Text,
     path: &str,
     reader: R,
     writer: &mut W,
@@ -210,12 +252,13 @@ pub(crate) fn import_file<R: Read + Drop, W: Write>(
     } else {
         ImportKind::Todo
     };
-    let bytes = Items::from_vec(Vec::from_slice(rt.alloc(), text.as_bytes())?);
+    let bytes = without_mark(text.as_str()).as_bytes();
+    let bytes = Items::from_vec(Vec::from_slice(rt.alloc(), bytes)?);
     let Some(parts) = parts_of(rt.alloc(), kind, bytes)? else {
         return told(rt, LONG_LINE);
     };
     for part in parts.as_slice() {
-        let answer = import_part(rt, caller, kind, part)?;
+        let answer = import_part(rt, caller, board, kind, part)?;
         let Ok(body) = str::from_utf8(answer.body.as_slice()) else {
             return Err(Fault::NoAnswer);
         };
@@ -240,6 +283,7 @@ fn refused_part(rt: &HostRuntime, answer: &Answer, body: &str) -> Result<Ending,
 fn import_part(
     rt: &HostRuntime,
     caller: &Caller,
+    board: &Text,
     kind: ImportKind,
     part: &Items<u8>,
 ) -> Result<Answer, Fault>
@@ -249,7 +293,7 @@ fn import_part(
         return Err(Fault::BadBody);
     };
     let is_json = kind == ImportKind::Json;
-    let words = import_words(rt.alloc(), is_json, &caller.asker.board, text)?;
+    let words = import_words(rt.alloc(), is_json, board, text)?;
     ask(rt, caller, words, None)
 }
 

@@ -1,4 +1,8 @@
 //! Where the settings of `my` are: the environment, and a file that its owner alone may read. What they hold isn't known before.
+ghost use Rattle.std.specs.Prelude.{◌≡◌, IfErr, None, Ok};
+ghost use Rattle.tb_my.specs.declared.fault.MyFault.TheVariants.{Unfit};
+ghost use Rattle.tb_my.specs.declared.settings.SettingName.TheVariants.{Config};
+
 use std::env;
 use tb_board::Key;
 use tb_my::{Asker, MyFault, SettingName, Settings, asker_of, read_settings, settings_over};
@@ -38,7 +42,9 @@ fn settings_in_file(rt: &HostRuntime) -> Result<Settings, MyFault> {
 }
 
 /// The text of the file of the settings, empty where there is none.
-pub(crate) fn config_text(rt: &HostRuntime) -> Result<Text, MyFault> {
+pub(crate) fn config_text(rt: &HostRuntime) -> Result<Text, MyFault>
+    ensures { IfErr result (λ fault. fault ≡ Unfit Config) }
+{
     let Some(folder) = KeyFolder::at_home(rt) else {
         return Ok(Text::new(rt.alloc()));
     };
@@ -52,7 +58,9 @@ pub(crate) fn config_text(rt: &HostRuntime) -> Result<Text, MyFault> {
 }
 
 /// The key in the file that the settings name, or none where they name no file: then it is read where `send` reads it.
-pub(crate) fn key_of(rt: &HostRuntime, asker: &Asker) -> Result<Option<Key>, MyFault> {
+pub(crate) fn key_of(rt: &HostRuntime, asker: &Asker) -> Result<Option<Key>, MyFault>
+    ensures none { asker.now.key_file ≡ None → result ≡ Ok None }
+{
     let Some(path) = &asker.key_file else {
         return Ok(None);
     };

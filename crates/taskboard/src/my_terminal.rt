@@ -1,4 +1,6 @@
 //! What the machine tells of its terminal and of its time zone. Neither is known before.
+ghost use Rattle.std.specs.Prelude.{◌≡◌, ◌≤◌, IfOk};
+
 use crate::my_settings::variable;
 use jiff::Timestamp;
 use jiff::tz::{SystemTimeZone, TimeZone, TimeZoneDatabase};
@@ -32,7 +34,9 @@ pub(crate) fn style_of(rt: &HostRuntime) -> Style {
     }
 }
 
-fn columns_of(rt: &HostRuntime) -> u32 {
+fn columns_of(rt: &HostRuntime) -> u32
+    ensures { result ≤ 1000 }
+{
     match variable(rt, "COLUMNS") {
         Some(text) => read_number(text.as_str(), MOST_COLUMNS).unwrap_or(USUAL_COLUMNS),
         None => USUAL_COLUMNS,
@@ -47,7 +51,9 @@ fn is_set(rt: &HostRuntime, name: &str) -> bool {
 }
 
 /// A moment, and the zone of the machine: that of `TZ`, or of `/etc/localtime`, or else UTC.
-pub(crate) fn clock_at(rt: &HostRuntime, now: Moment) -> Result<Clock, AllocError> {
+pub(crate) fn clock_at(rt: &HostRuntime, now: Moment) -> Result<Clock, AllocError>
+    ensures { IfOk result (λ clock. clock.moment ≡ now) }
+{
     let mut shifts = Items::new(rt.alloc());
     let mut zones = TimeZoneDatabase::new(rt.alloc());
     add_named_zone(rt, &mut zones);

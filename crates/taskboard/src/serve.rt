@@ -7,13 +7,14 @@ ghost use Rattle.tb_program.specs.declared.fault.Fault.TheVariants.{NoPage};
 
 use crate::clock::MachineClock;
 use crate::served_file::ServedFile;
+use std::alloc::AllocError;
 use std::fs;
 use std::io::Write;
 use std::os::unix::fs::PermissionsExt;
 use tb_calls::Keep;
 use tb_command_line::{Connections, ServeOrder};
-use tb_event_loop::{EventLoop, Journal, LoopFault};
-use tb_files::{RealFile, close_desk, open_desk};
+use tb_event_loop::{EventLoop, Journal, LoopFault, MioSockets};
+use tb_files::{RealFile, close_desk, open_desk, open_file};
 use tb_keeper::SqlKeep;
 use tb_orders::Ending;
 use tb_program::{Fault, loopback};
@@ -37,13 +38,15 @@ pub(crate) fn serve_file(rt: &HostRuntime, order: &ServeOrder) -> Result<Ending,
     ensures fault { IfErr result (λ fault. is_of_serving fault ≡ true) }
 {
     let page = page_of(rt, order)?;
-    let desk = open_desk(rt, order.file.as_str())?;
+    let conn = open_file(rt, order.file.as_str())?;
+    let desk = open_desk(rt, order.file.as_str(), conn)?;
     let watch = ServedFile::of(rt, order.file.as_str());
-    let mut event_loop = listen(rt, order)?;
+    let mut sockets = listen(rt, order)?;
+    let mut event_loop = loop_for(rt, order)?;
     let mut server = Server::new(rt.alloc(), desk, MachineClock { rt }, page)?;
     tell_start(rt, order);
     let mut journal = Journal::new(rt.alloc(), rt, rt.stderr(), order.log);
-    match event_loop.serve(&mut server, &mut journal, &watch) {
+    match event_loop.serve(&mut sockets, &mut server, &mut journal, &watch) {
         Ok(()) => {
             close_desk(server.into_desk())?;
             Ok(Ending::Accepted)
@@ -55,21 +58,25 @@ pub(crate) fn serve_file(rt: &HostRuntime, order: &ServeOrder) -> Result<Ending,
     }
 }
 
-fn listen(rt: &HostRuntime, order: &ServeOrder) -> Result<EventLoop, Fault>
-    ensures fault { IfErr result (λ fault. is_of_serving fault ≡ true) }
+fn listen(rt: &HostRuntime, order: &ServeOrder) -> Result<MioSockets, Fault>
+    ensures { IfErr result (λ fault. is_of_serving fault ≡ true) }
+{
+    match MioSockets::listen(rt, loopback(order.port)) {
+        Ok(sockets) => Ok(sockets),
+        Err(fault) => Err(fault_of_loop(fault)),
+    }
+}
+
+fn loop_for(rt: &HostRuntime, order: &ServeOrder) -> Result<EventLoop, AllocError>
     ensures limit { IfOk result (λ event_loop. still_to_end event_loop
         ≡ limit_of order.now.connections) }
 {
-    match EventLoop::listen(
-        rt,
-        loopback(order.port),
+    EventLoop::new(
+        rt.alloc(),
         limit_of(order.connections),
         LIMITS,
         rate_of(order.burst, order.growth),
-    ) {
-        Ok(event_loop) => Ok(event_loop),
-        Err(fault) => Err(fault_of_loop(fault)),
-    }
+    )
 }
 
 fn limit_of(connections: Connections) -> Option<u32>

@@ -5,7 +5,7 @@ ghost use Rattle.tb_command_line.specs.Order.{Request, is_plain, order_of, texts
 ghost use Rattle.tb_command_line.specs.Outcome.{Reads};
 ghost use Rattle.tb_command_line.specs.Extra.{burst_in, bursting, growth_in, growth_of, grown, has_option, is_option_front, option_in, option_place, paged, serves, with_burst, with_extra, with_growth, without_burst, without_extra, without_growth, without_option};
 
-use crate::order::{Order, ServeOrder, WordsFault};
+use crate::order::{Order, WordsFault};
 use crate::words::read_listed;
 use std::alloc::{AllocError, Global};
 use tb_board::Key;
@@ -179,15 +179,10 @@ fn paged(page: Text, order: Order) -> Order
     ensures { result ≡ paged page order }
 {
     match order {
-        Order::Serve(order) => Order::Serve(ServeOrder {
-            file: order.file,
-            port: order.port,
-            connections: order.connections,
-            page: Some(page),
-            growth: order.growth,
-            burst: order.burst,
-            log: order.log,
-        }),
+        Order::Serve(mut serve) => {
+            serve.page = Some(page);
+            Order::Serve(serve)
+        }
         order => order,
     }
 }
@@ -196,15 +191,10 @@ fn grown(growth: u32, order: Order) -> Order
     ensures { result ≡ grown growth order }
 {
     match order {
-        Order::Serve(order) => Order::Serve(ServeOrder {
-            file: order.file,
-            port: order.port,
-            connections: order.connections,
-            page: order.page,
-            growth,
-            burst: order.burst,
-            log: order.log,
-        }),
+        Order::Serve(mut serve) => {
+            serve.growth = growth;
+            Order::Serve(serve)
+        }
         order => order,
     }
 }
@@ -213,15 +203,10 @@ fn bursting(burst: u32, order: Order) -> Order
     ensures { result ≡ bursting burst order }
 {
     match order {
-        Order::Serve(order) => Order::Serve(ServeOrder {
-            file: order.file,
-            port: order.port,
-            connections: order.connections,
-            page: order.page,
-            growth: order.growth,
-            burst,
-            log: order.log,
-        }),
+        Order::Serve(mut serve) => {
+            serve.burst = burst;
+            Order::Serve(serve)
+        }
         order => order,
     }
 }

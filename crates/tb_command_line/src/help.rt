@@ -9,6 +9,7 @@ taskboard keeps boards of tasks that a team shares, in one file.
 
     taskboard init FILE NAME KEY
     taskboard serve FILE --port P [--connections N or --forever] [--page FOLDER] [--log]
+                    [--growth KIB] [--burst MIB]
     taskboard send [--id UUID] [--for SECONDS] ADDRESS:PORT MEMBER KEY WORD ARGUMENTS..
     taskboard my [WORD ARGUMENTS..]
     taskboard import FILE MEMBER KEY ID BOARD json|todo [--all]
@@ -69,10 +70,10 @@ Sent again under the same ID it acts once.
     BOARD         the number of a board, from 1
     KIND          json, as `task export` prints it, or todo, for lines of todo.txt; up to 1,048,576
                   bytes and 1,000 tasks
-    --all         takes a text of any length in parts of up to 1,000 lines and 1,048,576 bytes, each
-                  under an identifier that is made of ID and its number. json then has a task on each
-                  line. A reply is printed for each part, up to the first that isn't accepted; the
-                  whole may be sent again under the same ID
+    --all         takes a text of any length in parts of up to 1,000 tasks and 1,048,576 bytes, each
+                  under an identifier that is made of ID and its number. A reply is printed for each
+                  part, up to the first that isn't accepted; the whole may be sent again under the
+                  same ID
 ";
 
 const VIEW: &str = "\

@@ -1,30 +1,41 @@
 -- What was done, one part after the other.
-use Rattle.std.proofs.Common.{◌≡◌, ℕ, ◌+◌, ◌≤◌, Bool, false, List, [], ◌∷◌, ◌++◌, Option, Some, None, Err, refl, sym, ◌∙◌, subst, arith}
+use Rattle.std.proofs.Common.{◌≡◌, ℕ, ◌+◌, ◌≤◌, Bool, false, List, [], ◌∷◌, ◌++◌, Option, Some, None, Err, refl, sym, ap, ◌∙◌, subst, append_assoc, arith}
 use Rattle.std.specs.Prelude.{IfSome}
-use Rattle.tb_event_loop.specs.Done.{Did, Done, GivesTurn, ends_in, turned}
+use Rattle.tb_event_loop.specs.Deeds.{Begins, Deed, Did, done_by, done_in}
+use Rattle.tb_event_loop.specs.Done.{Done, ends_in}
 use Rattle.tb_event_loop.specs.History.{EndsAll, Goes, Leaves}
 
 ends_append : (xs ys : List (ℕ × Done)) → ends_in (xs ++ ys) ≡ ends_in xs + ends_in ys
 ends_append [] ys = omega arith
 ends_append (x ∷ xs) ys = omega (arith, ends_append xs ys)
 
-pub did_then : {V : Type 0} (follows : Bool → List (ℕ × Done) → V → V → Type 0)
-    → ((stopped : Bool) (first more : List (ℕ × Done)) (a b c : V) → follows false first a b → follows stopped more b c → follows stopped (first ++ more) a c)
-    → (stopped : Bool) (m n : ℕ) (a b c : V) → Did follows false m a b → Did follows stopped n b c → Did follows stopped (m + n) a c
-did_then follows joined stopped m n a b c first more = (
-  first.0 ++ more.0,
-  joined stopped first.0 more.0 a b c first.1 more.1,
-  omega (arith, ends_append first.0 more.0, first.2, more.2),
-)
+pub done_append : (xs ys : List Deed) → done_in (xs ++ ys) ≡ done_in xs ++ done_in ys
+done_append [] ys = refl
+done_append (deed ∷ xs) ys =
+    ap (λ more. done_by deed ++ more) (done_append xs ys) ∙ sym (append_assoc (done_by deed) (done_in xs) (done_in ys))
 
--- a turn, and what was done behind it
-pub turn_then : {V : Type 0} (follows : Bool → List (ℕ × Done) → V → V → Type 0)
-    → ((stopped : Bool) (first more : List (ℕ × Done)) (a b c : V) → follows false first a b → follows stopped more b c → follows stopped (first ++ more) a c)
-    → (stopped : Bool) (place n : ℕ) (a b c : V) → GivesTurn follows false place a b → Did follows stopped n b c → GivesTurn follows stopped place a c
-turn_then follows joined stopped place n a b c first more = (
-  first.0 ++ more.0,
-  joined stopped ((place, turned) ∷ first.0) more.0 a b c first.1 more.1,
-)
+ends_among : (xs ys : List Deed) → ends_in (done_in (xs ++ ys)) ≡ ends_in (done_in xs) + ends_in (done_in ys)
+ends_among xs ys = ap ends_in (done_append xs ys) ∙ ends_append (done_in xs) (done_in ys)
+
+pub did_then : {V : Type 0} (follows : Bool → List Deed → V → V → Type 0)
+    → ((stopped : Bool) (first more : List Deed) (a b c : V) → follows false first a b → follows stopped more b c → follows stopped (first ++ more) a c)
+    → (stopped : Bool) (m n : ℕ) (a b c : V) → Did follows false m a b → Did follows stopped n b c → Did follows stopped (m + n) a c
+did_then follows joined stopped m n a b c first more = record {
+  deeds = first.deeds ++ more.deeds;
+  done = joined stopped first.deeds more.deeds a b c first.done more.done;
+  ends = omega (arith, ends_among first.deeds more.deeds, first.ends, more.ends);
+}
+
+-- what begins with a deed, and what was done behind it
+pub begins_then : {V : Type 0} (follows : Bool → List Deed → V → V → Type 0)
+    → ((stopped : Bool) (first more : List Deed) (a b c : V) → follows false first a b → follows stopped more b c → follows stopped (first ++ more) a c)
+    → (stopped : Bool) (kind : Deed → Type 0) (n : ℕ) (a b c : V) → Begins follows false kind a b → Did follows stopped n b c → Begins follows stopped kind a c
+begins_then follows joined stopped kind n a b c first more = record {
+  first = first.first;
+  is = first.is;
+  more = first.more ++ more.deeds;
+  done = joined stopped (first.first ∷ first.more) more.deeds a b c first.done more.done;
+}
 
 -- ---- connections that have still to end
 
@@ -39,12 +50,15 @@ leaves_then (Some before) m n middle now first more =
     (second.0, second.1, omega (arith, first.2, second.2))
 
 -- what ended nothing
-pub goes_on : {V : Type 0} (follows : Bool → List (ℕ × Done) → V → V → Type 0) (stopped : Bool) (limit : Option ℕ) (a b : V) → Did follows stopped 0 a b
+pub leaves_none : (limit now : Option ℕ) → now ≡ limit → Leaves limit 0 now
+leaves_none limit now same = subst (λ (o : Option ℕ). Leaves limit 0 o) (sym same) (leaves_all limit)
+
+pub goes_on : {V : Type 0} (follows : Bool → List Deed → V → V → Type 0) (stopped : Bool) (limit : Option ℕ) (a b : V) → Did follows stopped 0 a b
     → Goes follows stopped limit limit a b
 goes_on follows stopped limit a b did = (0, did, leaves_all limit)
 
-pub goes_then : {V : Type 0} (follows : Bool → List (ℕ × Done) → V → V → Type 0)
-    → ((stopped : Bool) (first more : List (ℕ × Done)) (a b c : V) → follows false first a b → follows stopped more b c → follows stopped (first ++ more) a c)
+pub goes_then : {V : Type 0} (follows : Bool → List Deed → V → V → Type 0)
+    → ((stopped : Bool) (first more : List Deed) (a b c : V) → follows false first a b → follows stopped more b c → follows stopped (first ++ more) a c)
     → (stopped : Bool) (before middle now : Option ℕ) (a b c : V) → Goes follows false before middle a b → Goes follows stopped middle now b c
     → Goes follows stopped before now a c
 goes_then follows joined stopped before middle now a b c first more = (
@@ -53,15 +67,6 @@ goes_then follows joined stopped before middle now a b c first more = (
   leaves_then before first.0 more.0 middle now first.2 more.2,
 )
 
--- a round behind what was done so far
-pub round_more : {V : Type 0} (follows : Bool → List (ℕ × Done) → V → V → Type 0)
-    → ((stopped : Bool) (first more : List (ℕ × Done)) (a b c : V) → follows false first a b → follows stopped more b c → follows stopped (first ++ more) a c)
-    → (stopped is : Bool) (limit before waited prepared now : Option ℕ) (a b c : V) → is ≡ stopped → Goes follows false limit before a b
-    → waited ≡ before → prepared ≡ waited → Goes follows is prepared now b c → Goes follows stopped limit now a c
-round_more follows joined stopped is limit before waited prepared now a b c same so_far wait prepare round =
-    goes_then follows joined stopped limit before now a b c so_far
-    (subst (λ (o : Option ℕ). Goes follows stopped o now b c) (prepare ∙ wait) (subst (λ (s : Bool). Goes follows s prepared now b c) same round))
-
 -- ---- the end
 
 ends_most : (limit : Option ℕ) (ended : ℕ) (now : Option ℕ) → Leaves limit ended now → IfSome limit (λ most. ended ≤ most)
@@ -69,8 +74,8 @@ ends_most None ended now leaves = tt
 ends_most (Some limit) ended now leaves = omega (arith, leaves.2)
 
 -- it ended by a fault
-pub ends_early : {V E : Type 0} (follows : Bool → List (ℕ × Done) → V → V → Type 0) (stopped : Bool) (fault : E) (limit now : Option ℕ) (a b : V)
+pub ends_early : {V E : Type 0} (follows : Bool → List Deed → V → V → Type 0) (stopped : Bool) (fault : E) (limit now : Option ℕ) (a b : V)
     → Goes follows stopped limit now a b
-    → (history : List (ℕ × Done)) × follows stopped history a b × EndsAll {T = Unit {0}} (Err fault) limit (ends_in history)
+    → (deeds : List Deed) × follows stopped deeds a b × EndsAll {T = Unit {0}} (Err fault) limit (ends_in (done_in deeds))
 ends_early follows stopped fault limit now a b went =
-    (went.1.0, went.1.1, ends_most limit (ends_in went.1.0) now (subst (λ (n : ℕ). Leaves limit n now) (sym went.1.2) went.2))
+    (went.1.deeds, went.1.done, ends_most limit (ends_in (done_in went.1.deeds)) now (subst (λ (n : ℕ). Leaves limit n now) (sym went.1.ends) went.2))

@@ -3,16 +3,13 @@ use Rattle.std.specs.Prelude.{ℕ, Bool, true, false, not, ◌&&◌, ◌||◌, n
 use Rattle.std.specs.declared.io.ErrorKind.{ErrorKind}
 use Rattle.std.specs.declared.io.ErrorKind.TheVariants.{WouldBlock, Interrupted}
 use Rattle.tb_event_loop.specs.declared.connection.TheConstants.{PIECE}
-use Rattle.mio.specs.Event.{is_error, is_read_closed, is_readable, is_writable}
-use Rattle.mio.specs.declared.event.Event.{Event}
-use Rattle.mio.specs.declared.net.TcpStream.{TcpStream}
 use Rattle.tb_event_loop.specs.declared.connection.Connection.{Connection}
+use Rattle.tb_event_loop.specs.declared.sockets.Told.{Told}
 use Rattle.tb_rooms.specs.declared.holding.TheConstants.{STRANGER}
 
 -- one that may be ready, since the first read and the first write tell
-abbrev pub fresh : TcpStream → Connection
-fresh stream = record {
-  stream = stream;
+abbrev pub fresh : Connection
+fresh = record {
   can_read = true;
   can_write = true;
   has_hung_up = false;
@@ -80,9 +77,9 @@ write_failed Interrupted connection = connection
 write_failed _ connection = leaving connection
 
 -- what the system tells of a socket; of one that failed the next read or write tells
-abbrev pub marked : Event → Connection → Connection
-marked event connection = record connection {
-  has_hung_up = connection.has_hung_up || is_read_closed event;
-  can_read = connection.can_read || is_readable event || is_error event || is_read_closed event;
-  can_write = connection.can_write || is_writable event || is_error event;
+abbrev pub marked : Told → Connection → Connection
+marked told connection = record connection {
+  has_hung_up = connection.has_hung_up || told.is_read_closed;
+  can_read = connection.can_read || told.is_readable || told.is_error || told.is_read_closed;
+  can_write = connection.can_write || told.is_writable || told.is_error;
 }

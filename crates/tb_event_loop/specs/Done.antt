@@ -20,15 +20,3 @@ ends_one _ = 0
 abbrev pub ends_in : List (ℕ × Done) → ℕ
 ends_in [] = 0
 ends_in (done ∷ history) = ends_one done.1 + ends_in history
-
--- Some things were done, one after the other, and among them so many connections ended.
-abbrev pub Did : {V : Type 0} → (Bool → List (ℕ × Done) → V → V → Type 0) → Bool → ℕ → V
-    → V → Type 0
-Did follows stopped ended old new =
-    (history : List (ℕ × Done)) × follows stopped history old new × (ends_in history ≡ ended)
-
--- The connection of a place had its turn, and what came of it was done.
-abbrev pub GivesTurn : {V : Type 0} → (Bool → List (ℕ × Done) → V → V → Type 0) → Bool → ℕ → V
-    → V → Type 0
-GivesTurn follows stopped place old new =
-    (more : List (ℕ × Done)) × follows stopped ((place, turned) ∷ more) old new

@@ -1,6 +1,7 @@
 -- What a loop did, from its beginning to its end.
 use Rattle.std.specs.Prelude.{◌≡◌, ℕ, ◌+◌, ◌≤◌, Bool, List, Option, Some, None, Result, Ok, Err, IfSome}
-use Rattle.tb_event_loop.specs.Done.{Done, Did, opened, came, turned, went}
+use Rattle.tb_event_loop.specs.Deeds.{Deed, Did}
+use Rattle.tb_event_loop.specs.Done.{Done, opened, came, turned, went}
 use Rattle.tb_event_loop.specs.declared.event_loop.EventLoop.{EventLoop}
 use Rattle.tb_event_loop.specs.declared.service.SocketEvent.{SocketEvent}
 use Rattle.tb_event_loop.specs.declared.service.SocketEvent.TheVariants.{Opened, Came, Turn, Went}
@@ -22,10 +23,10 @@ Leaves None ended now = now ≡ None
 Leaves (Some before) ended now = (left : ℕ) × (now ≡ Some left) × (ended + left ≡ before)
 
 -- Some things were done, one after the other, and the connections that ended among them have no longer to.
-abbrev pub Goes : {V : Type 0} → (Bool → List (ℕ × Done) → V → V → Type 0) → Bool → Option ℕ
-    → Option ℕ → V → V → Type 0
-Goes follows stopped before now old new =
-    (ended : ℕ) × Did follows stopped ended old new × Leaves before ended now
+abbrev pub Goes : {S : Type 0} → (Bool → List Deed → S → S → Type 0) → Bool → Option ℕ
+    → Option ℕ → S → S → Type 0
+Goes acts stopped before now old new =
+    (ended : ℕ) × Did acts stopped ended old new × Leaves before ended now
 
 -- A loop that ends well had a limit, and exactly so many connections ended; none that has a limit ends more.
 abbrev pub EndsAll : {T E : Type 0} → Result T E → Option ℕ → ℕ → Type 0

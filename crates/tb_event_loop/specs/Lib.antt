@@ -1,12 +1,17 @@
 pub mod Arrivals
 pub mod Connection
+pub mod Deeds
 pub mod Done
 pub mod Ending
 pub mod EventLoop
+pub mod Farewell
 pub mod Guesses
 pub mod Head
 pub mod History
 pub mod Journal
 pub mod Logging
 pub mod Places
+pub mod RequestLine
+pub mod Serving
 pub mod Sharing
+pub mod Sockets

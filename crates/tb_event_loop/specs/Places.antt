@@ -2,7 +2,6 @@
 use Rattle.std.specs.Prelude.{◌≡◌, ◌⊎◌, ℕ, ◌<◌, ◌≤◌, Bool, true, false, not, ◌&&◌, ◌||◌, nat_le, if◌then◌else◌, IsTrue, OnSome, List, [], ◌∷◌, Option, Some, None, slice_get, slice_set, unwrap_or, ◌+◌, ◌-◌, ◌^◌, max, min, replicate}
 use Rattle.std.specs.Borrow.{LendsSo, MutBor, Fml}
 use Rattle.std.specs.Option.{option_map}
-use Rattle.mio.specs.declared.net.TcpStream.{TcpStream}
 use Rattle.tb_event_loop.specs.Connection.{fresh, leaving, may_go, needs_bytes, short_of_bytes}
 use Rattle.tb_event_loop.specs.Guesses.{is_due, looked_at}
 use Rattle.tb_event_loop.specs.contracts.connection.Connection.{the_row as connection_row}
@@ -117,6 +116,11 @@ abbrev pub may_answer_at : Option Connection → Bool
 may_answer_at None = false
 may_answer_at (Some connection) = connection.may_answer
 
+-- there is a connection, and its socket takes bytes
+abbrev pub can_write_at : Option Connection → Bool
+can_write_at None = false
+can_write_at (Some connection) = connection.can_write
+
 -- a connection needs bytes, and they are read
 abbrev pub awaits : Option Connection → Bool → Bool
 awaits None is_read = false
@@ -157,9 +161,9 @@ Enters old new place now owed closes held =
     × SetsStage old new place (next_stage now need (stage_in old place))
 
 -- A place is taken by one that may be ready and whose first message is awaited from now on. No end is before it.
-abbrev pub Seats : Places → Places → ℕ → TcpStream → ℕ → Type 0
-Seats old new place stream now =
-    (new.connections.items ≡ slice_set old.connections.items place (Some (fresh stream)))
+abbrev pub Seats : Places → Places → ℕ → ℕ → Type 0
+Seats old new place now =
+    (new.connections.items ≡ slice_set old.connections.items place (Some fresh))
     × (new.stages.items ≡ slice_set old.stages.items place (Idle now))
     × (new.holds.items ≡ slice_set old.holds.items place (fresh_hold (Idle now)))
     × (new ≡ record old {

@@ -1,12 +1,10 @@
-//! A socket, and what it is ready for.
+//! What a connection is ready for.
 ghost use Rattle.std.specs.Prelude.{◌≡◌, false, true};
 ghost use Rattle.std.specs.IoError.{error_kind};
 ghost use Rattle.tb_event_loop.specs.Connection.{asked, ended, fresh, may_go, needs_bytes, read_failed, short_of_bytes, unasked, with_bytes, write_failed};
 
-use mio::net::TcpStream;
 use std::io;
-use std::io::{ErrorKind, Read};
-use std::net::Shutdown;
+use std::io::ErrorKind;
 use tb_rooms::STRANGER;
 
 /// How many bytes are read at a time.
@@ -14,7 +12,6 @@ pub(crate) const PIECE: usize = 16_384;
 
 #[derive(Drop)]
 pub(crate) struct Connection {
-    pub(crate) stream: TcpStream,
     pub(crate) can_read: bool,
     pub(crate) can_write: bool,
     /// The system told that the client sends no more, which a read will tell.
@@ -35,11 +32,10 @@ pub(crate) struct Connection {
 
 impl Connection {
     /// A connection that may be ready: the first read and the first write tell.
-    pub(crate) fn new(stream: TcpStream) -> Connection
-        ensures { result ≡ fresh stream }
+    pub(crate) fn new() -> Connection
+        ensures { result ≡ fresh }
     {
         Connection {
-            stream,
             can_read: true,
             can_write: true,
             has_hung_up: false,
@@ -137,21 +133,6 @@ impl Connection {
             ErrorKind::WouldBlock => self.can_write = false,
             ErrorKind::Interrupted => (),
             _ => self.is_gone = true,
-        }
-    }
-
-    /// Nothing more is sent.
-    pub(crate) fn stop_sending(&self) {
-        let _ = self.stream.shutdown(Shutdown::Write);
-    }
-
-    /// Reads once, and throws it away.
-    pub(crate) fn drop_some(&mut self) {
-        let mut piece = [0u8; PIECE];
-        match self.stream.read(&mut piece) {
-            Ok(0) => self.is_gone = true,
-            Ok(_) => (),
-            Err(error) => self.read_failed(&error),
         }
     }
 }

@@ -1,40 +1,36 @@
 //! The loop over the listener and the connections.
-ghost use Rattle.std.specs.Prelude.{◌≡◌, ◌⊎◌, ℕ, if◌then◌else◌, IfErr, IfOk, IsErr, List, None, OnOk, false, is_err, take, true};
-ghost use Rattle.tb_event_loop.specs.Arrivals.{are_held_up};
-ghost use Rattle.tb_event_loop.specs.Done.{Done, GivesTurn, ends_in};
+ghost use Rattle.std.specs.Prelude.{◌≡◌, ◌⊎◌, ◌||◌, ℕ, if◌then◌else◌, IfErr, IfOk, IsErr, List, [], ◌∷◌, None, OnOk, Some, false, is_err, take, true};
+ghost use Rattle.tb_event_loop.specs.Arrivals.{StaysReady, TriesToAccept, are_held_up, may_accept, tells_listener, told_of};
+ghost use Rattle.tb_event_loop.specs.Deeds.{Acts, Begins, Deed, DoesTo, GivesTurn, IsWrite, calls_in, done_in};
+ghost use Rattle.tb_event_loop.specs.Done.{Done, ends_in};
 ghost use Rattle.tb_event_loop.specs.Ending.{has_stopped};
-ghost use Rattle.tb_event_loop.specs.EventLoop.{IsBusy};
+ghost use Rattle.tb_event_loop.specs.EventLoop.{IsBusy, IsWaitOf};
 ghost use Rattle.tb_event_loop.specs.History.{EndsAll, Goes, Leaves, still_to_end};
 ghost use Rattle.tb_event_loop.specs.Places.{IsAnswered, IsUntilDue, connection_in, is_leaving, is_over_at};
+ghost use Rattle.tb_event_loop.specs.Serving.{IsCutOff, Runs};
+ghost use Rattle.tb_event_loop.specs.Sockets.{Called, Quietly, deaf, waited};
 ghost use Rattle.tb_event_loop.specs.declared.fault.LoopFault.TheVariants.{Memory, Moved, Sockets, Store};
 ghost use Rattle.tb_timeouts.specs.Deciding.{IsLongestWait};
 
-use crate::arrivals::{Arrivals, LISTENER, RETRY};
+use crate::arrivals::{Arrivals, RETRY};
 use crate::fault::LoopFault;
 use crate::journal::Journal;
 use crate::places::Places;
 use crate::service::{Service, SocketEvent, StoreFailed};
+use crate::sockets::Sockets;
 use crate::watch::Watch;
-use mio::net::TcpListener;
-use mio::{Events, Interest, Poll};
-use std::alloc::Global;
+use std::alloc::{AllocError, Global};
 use std::io::Write;
-use std::net::{Net, SocketAddr};
-use std::time::{Clock, Duration};
+use std::time::Clock;
 use tb_rooms::Rate;
 use tb_timeouts::Limits;
-
-/// How many sockets are told of at once.
-const EVENTS: usize = 256;
 
 /// How long the loop waits at most, in milliseconds.
 const LONGEST_WAIT: u64 = 1_000;
 
-/// A listener, the connections that came, and what the system tells of them.
+/// The connections that come, and those that came: what the system told of each, and what each is doing. The sockets are handed in.
 #[derive(Drop)]
 pub struct EventLoop {
-    pub(crate) poll: Poll,
-    pub(crate) events: Events,
     arrivals: Arrivals,
     pub(crate) places: Places,
     /// How many connections have still to end, if the loop ends with them.
@@ -45,35 +41,18 @@ pub struct EventLoop {
 }
 
 impl EventLoop {
-    /// Listens on an address. Serves so many connections, or without end. Persons and boards may write at this rate, in bytes.
-    pub fn listen(
-        rt: &(impl Net + AllocGlobal),
-        address: SocketAddr,
+    /// Serves so many connections, or without end. Persons and boards may write at this rate, in bytes.
+    pub fn new(
+        alloc: Global,
         connections: Option<u32>,
         limits: Limits,
         rate: Rate,
-    ) -> Result<EventLoop, LoopFault>
-        ensures limit { IfOk result (λ event_loop. still_to_end event_loop ≡ connections) }
-        ensures fault { IfErr result (λ fault. (fault ≡ Memory) ⊎ (fault ≡ Sockets)) }
+    ) -> Result<EventLoop, AllocError>
+        ensures { IfOk result (λ event_loop. still_to_end event_loop ≡ connections) }
     {
-        let Ok(poll) = Poll::new(rt) else {
-            return Err(LoopFault::Sockets);
-        };
-        let Ok(mut listener) = TcpListener::bind(rt, address) else {
-            return Err(LoopFault::Sockets);
-        };
-        if poll
-            .registry()
-            .register(&mut listener, LISTENER, Interest::READABLE)
-            .is_err()
-        {
-            return Err(LoopFault::Sockets);
-        }
         Ok(EventLoop {
-            poll,
-            events: Events::with_capacity(rt.alloc(), EVENTS)?,
-            arrivals: Arrivals::new(listener, connections),
-            places: Places::new(rt.alloc(), limits, rate)?,
+            arrivals: Arrivals::new(connections),
+            places: Places::new(alloc, limits, rate)?,
             still_to_end: connections,
             now: 0,
             seen: 0,
@@ -83,8 +62,9 @@ impl EventLoop {
     /// Serves until all connections that are to come have ended. Each has a turn in each round: one read, one message, one write.
     /// Ok is returned only where there was a limit, and exactly so many connections ended. Before the turns of each new millisecond
     /// it looks whether what is served is still there, and ends where it isn't.
-    pub fn serve<V: Service, C: Clock, W: Write, P: Watch>(
+    pub fn serve<N: Sockets, V: Service, C: Clock, W: Write, P: Watch>(
         &mut self,
+        sockets: &mut N,
         service: &mut V,
         journal: &mut Journal<C, W>,
         watch: &P,
@@ -92,36 +72,52 @@ impl EventLoop {
         ensures after { (history : List (ℕ × Done))
             × V.follows (has_stopped result) history service.old service.new
             × EndsAll result (still_to_end self.old) (ends_in history) }
+        ensures deeds { Runs N.follows V.follows V.owed_at (has_stopped result)
+            (sockets.old, service.old) (sockets.new, service.new) }
+        ensures cause { result ≡ Err Sockets → IsCutOff N.follows sockets.old sockets.new }
         ensures fault { IfErr result
             (λ fault. (fault ≡ Store) ⊎ (fault ≡ Sockets) ⊎ (fault ≡ Moved)) }
         ensures failed { result ≡ Err Store → V.has_failed service.new ≡ true }
     {
         'rounds: for _ in 0..u64::MAX {
-            if self.still_to_end == Some(0) {
+            if self.has_ended_all() {
                 return Ok(());
             }
-            if !self.wait() {
+            if !self.wait(sockets) {
                 return Err(LoopFault::Sockets);
             }
             let before = self.now;
-            self.prepare(journal);
-            if self.now != before && !watch.is_there() {
+            self.prepare(sockets, journal);
+            if self.has_moved(before, watch) {
                 return Err(LoopFault::Moved);
             }
-            if self.round(service, journal).is_err() {
-                self.say_farewell(service);
+            if self.round(sockets, service, journal).is_err() {
+                self.say_farewell(sockets, service);
                 return Err(LoopFault::Store);
             }
         }
         Err(LoopFault::Sockets) // Never: so many rounds take longer than any machine lasts.
     }
 
-    // Waits until a socket is ready or a time is over. False where the system doesn't tell.
-    fn wait(&mut self) -> bool
-        ensures { self.new.still_to_end ≡ self.old.still_to_end }
+    // Whether all connections that are to come have ended.
+    fn has_ended_all(&self) -> bool
+        ensures { result ≡ true → self.entry.now.still_to_end ≡ Some 0 }
     {
-        let limit = Some(Duration::from_millis(self.idle_millis()));
-        self.poll.poll(&mut self.events, limit).is_ok()
+        self.still_to_end == Some(0)
+    }
+
+    // Whether a new millisecond has begun, in which what is served isn't there any more.
+    fn has_moved<P: Watch>(&self, before: u64, watch: &P) -> bool {
+        self.now != before && !watch.is_there()
+    }
+
+    // Waits until a socket is ready or a time is over. False where the system doesn't tell.
+    fn wait<N: Sockets>(&self, sockets: &mut N) -> bool
+        ensures heard { result ≡ true → (millis : ℕ) × IsWaitOf self.entry.now millis
+            × N.follows (waited millis (N.last_told sockets.new) ∷ []) sockets.old sockets.new }
+        ensures deaf { result ≡ false → N.follows (deaf ∷ []) sockets.old sockets.new }
+    {
+        sockets.wait(self.idle_millis())
     }
 
     // How long nothing has to be done, if no socket is ready.
@@ -146,27 +142,35 @@ impl EventLoop {
     }
 
     // Sees what is ready, and puts those that came into places.
-    fn prepare<C: Clock, W: Write>(&mut self, journal: &mut Journal<C, W>)
-        ensures { self.new.still_to_end ≡ self.old.still_to_end }
+    fn prepare<N: Sockets, C: Clock, W: Write>(
+        &mut self,
+        sockets: &mut N,
+        journal: &mut Journal<C, W>,
+    )
+        ensures limit { self.new.still_to_end ≡ self.old.still_to_end }
+        ensures heard { StaysReady N.follows
+            (self.old.arrivals.is_ready || tells_listener (N.last_told sockets.old))
+            self.new.arrivals.is_ready sockets.old sockets.new }
+        ensures tried { self.old.arrivals.is_waiting ≡ false
+            → may_accept (told_of (N.last_told sockets.old) self.old.arrivals) self.new.now ≡ true
+            → TriesToAccept N.follows sockets.old sockets.new }
     {
         self.now = journal.now();
-        for event in &self.events {
-            if event.token() == LISTENER {
-                self.arrivals.is_ready = true;
-            }
-        }
-        self.places.mark_ready(&self.events);
+        self.arrivals.hear(sockets.told());
+        self.places.mark_ready(sockets.told());
         self.arrivals
-            .seat_all(self.poll.registry(), &mut self.places, journal, self.now);
+            .seat_all(sockets, &mut self.places, journal, self.now);
     }
 
-    fn round<V: Service, C: Clock, W: Write>(
+    fn round<N: Sockets, V: Service, C: Clock, W: Write>(
         &mut self,
+        sockets: &mut N,
         service: &mut V,
         journal: &mut Journal<C, W>,
     ) -> Result<(), StoreFailed>
-        ensures after { Goes V.follows
-            (is_err result) self.old.still_to_end self.new.still_to_end service.old service.new }
+        ensures after { Goes (Acts N.follows V.follows V.owed_at) (is_err result)
+            self.old.still_to_end self.new.still_to_end
+            (sockets.old, service.old) (sockets.new, service.new) }
         ensures failed { IsErr result → V.has_failed service.new ≡ true }
     {
         self.seen = self.now;
@@ -174,7 +178,7 @@ impl EventLoop {
         let end = self.places.end;
         'places: for step in 0..end {
             let place = self.places.place_at(step, end);
-            self.visit_next(service, journal, place)?;
+            self.visit_next(sockets, service, journal, place)?;
         }
         self.places.end_round();
         self.places.share(self.now);
@@ -182,42 +186,47 @@ impl EventLoop {
     }
 
     // The turn of one place, unless its owner had enough of them in this round.
-    fn visit_next<V: Service, C: Clock, W: Write>(
+    fn visit_next<N: Sockets, V: Service, C: Clock, W: Write>(
         &mut self,
+        sockets: &mut N,
         service: &mut V,
         journal: &mut Journal<C, W>,
         place: usize,
     ) -> Result<(), StoreFailed>
-        ensures after { Goes V.follows
-            (is_err result) self.old.still_to_end self.new.still_to_end service.old service.new }
+        ensures after { Goes (Acts N.follows V.follows V.owed_at) (is_err result)
+            self.old.still_to_end self.new.still_to_end
+            (sockets.old, service.old) (sockets.new, service.new) }
         ensures failed { IsErr result → V.has_failed service.new ≡ true }
     {
         if self.places.is_put_back(place, self.now) {
             return Ok(());
         }
-        self.visit(service, journal, place)
+        self.visit(sockets, service, journal, place)
     }
 
     // The turn of one place, if it has one.
-    fn visit<V: Service, C: Clock, W: Write>(
+    fn visit<N: Sockets, V: Service, C: Clock, W: Write>(
         &mut self,
+        sockets: &mut N,
         service: &mut V,
         journal: &mut Journal<C, W>,
         place: usize,
     ) -> Result<(), StoreFailed>
-        ensures after { Goes V.follows
-            (is_err result) self.old.still_to_end self.new.still_to_end service.old service.new }
+        ensures after { Goes (Acts N.follows V.follows V.owed_at) (is_err result)
+            self.old.still_to_end self.new.still_to_end
+            (sockets.old, service.old) (sockets.new, service.new) }
         ensures failed { IsErr result → V.has_failed service.new ≡ true }
         ensures turned { is_over_at self.old.places place self.old.now ≡ false
             → IsAnswered (V.gives_file service.old) self.old.places place self.old.now
             (V.held_at service.old place)
-            → GivesTurn V.follows (is_err result) place service.old service.new }
+            → GivesTurn (Acts N.follows V.follows V.owed_at) (is_err result) place
+            (sockets.old, service.old) (sockets.new, service.new) }
         ensures left { OnOk result (is_leaving (connection_in self.new.places place) ≡ false) }
     {
-        if !self.places.begin_turn(place, self.now) {
+        if !self.places.begin_turn(sockets, place, self.now) {
             return Ok(());
         }
-        self.take_turn(service, journal, place)?;
+        self.take_turn(sockets, service, journal, place)?;
         self.places.note(service, place);
         self.count_time(journal, place);
         Ok(())
@@ -234,31 +243,40 @@ impl EventLoop {
             .count_turn(place, self.seen.saturating_sub(before));
     }
 
-    fn take_turn<V: Service, C: Clock, W: Write>(
+    fn take_turn<N: Sockets, V: Service, C: Clock, W: Write>(
         &mut self,
+        sockets: &mut N,
         service: &mut V,
         journal: &mut Journal<C, W>,
         place: usize,
     ) -> Result<(), StoreFailed>
-        ensures after { Goes V.follows
-            (is_err result) self.old.still_to_end self.new.still_to_end service.old service.new }
+        ensures after { Goes (Acts N.follows V.follows V.owed_at) (is_err result)
+            self.old.still_to_end self.new.still_to_end
+            (sockets.old, service.old) (sockets.new, service.new) }
         ensures failed { IsErr result → V.has_failed service.new ≡ true }
         ensures turned { IsAnswered (V.gives_file service.old) self.old.places place self.old.now
             (V.held_at service.old place)
-            → GivesTurn V.follows (is_err result) place service.old service.new }
+            → GivesTurn (Acts N.follows V.follows V.owed_at) (is_err result) place
+            (sockets.old, service.old) (sockets.new, service.new) }
         ensures left { OnOk result (is_leaving (connection_in self.new.places place) ≡ false) }
     {
-        self.places.act(service, journal, place, self.now)?;
+        self.places.act(sockets, service, journal, place, self.now)?;
         if !self.places.is_gone(place) {
             return Ok(());
         }
-        self.leave(service, place)
+        self.leave(sockets, service, place)
     }
 
     // The connection of a place has ended, so that another may come.
-    fn leave<V: Service>(&mut self, service: &mut V, place: usize) -> Result<(), StoreFailed>
-        ensures after { Goes V.follows
-            (is_err result) self.old.still_to_end self.new.still_to_end service.old service.new }
+    fn leave<N: Sockets, V: Service>(
+        &mut self,
+        sockets: &mut N,
+        service: &mut V,
+        place: usize,
+    ) -> Result<(), StoreFailed>
+        ensures after { Goes (Acts N.follows V.follows V.owed_at) (is_err result)
+            self.old.still_to_end self.new.still_to_end
+            (sockets.old, service.old) (sockets.new, service.new) }
         ensures failed { IsErr result → V.has_failed service.new ≡ true }
         ensures left { connection_in self.new.places place ≡ None }
     {
@@ -267,6 +285,7 @@ impl EventLoop {
         if !count_one(&mut self.still_to_end) {
             return Ok(()); // Never: no more connections come than are to end.
         }
+        sockets.close(place);
         service.happen(place, &SocketEvent::Opened)
     }
 }

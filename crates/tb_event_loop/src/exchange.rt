@@ -1,22 +1,27 @@
 //! The bytes between a socket and the service.
 ghost use Rattle.std.specs.Prelude.{◌≡◌, IsErr, is_err, true};
-ghost use Rattle.tb_event_loop.specs.Done.{Did};
+ghost use Rattle.tb_event_loop.specs.Deeds.{Acts, Begins, Did, IsRead, IsWrite};
+ghost use Rattle.tb_event_loop.specs.Sockets.{Quietly};
 
 use crate::connection::{Connection, PIECE};
 use crate::service::{Service, SocketEvent, StoreFailed};
-use std::io::{Read, Write};
+use crate::sockets::Sockets;
 
 /// Reads once, and hands what came to the service.
-pub(crate) fn read_some<V: Service>(
+pub(crate) fn read_some<N: Sockets, V: Service>(
     connection: &mut Connection,
+    sockets: &mut N,
     service: &mut V,
     place: usize,
 ) -> Result<(), StoreFailed>
-    ensures after { Did V.follows (is_err result) 0 service.old service.new }
+    ensures after { Did (Acts N.follows V.follows V.owed_at) (is_err result) 0
+        (sockets.old, service.old) (sockets.new, service.new) }
     ensures failed { IsErr result → V.has_failed service.new ≡ true }
+    ensures reads { Begins (Acts N.follows V.follows V.owed_at) (is_err result) (IsRead place)
+        (sockets.old, service.old) (sockets.new, service.new) }
 {
     let mut piece = [0u8; PIECE];
-    match connection.stream.read(&mut piece) {
+    match sockets.read(place, &mut piece) {
         Ok(0) => {
             connection.end_input();
             Ok(())
@@ -32,16 +37,31 @@ pub(crate) fn read_some<V: Service>(
     }
 }
 
+/// Reads once from a connection that is closing, and throws it away.
+pub(crate) fn drop_some<N: Sockets>(connection: &mut Connection, sockets: &mut N, place: usize)
+    ensures quiet { Quietly N.follows sockets.old sockets.new }
+{
+    match sockets.drop_some(place) {
+        Ok(0) => connection.is_gone = true,
+        Ok(_) => (),
+        Err(error) => connection.read_failed(&error),
+    }
+}
+
 /// Writes once of what the service has to send.
-pub(crate) fn write_some<V: Service>(
+pub(crate) fn write_some<N: Sockets, V: Service>(
     connection: &mut Connection,
+    sockets: &mut N,
     service: &mut V,
     place: usize,
 ) -> Result<(), StoreFailed>
-    ensures after { Did V.follows (is_err result) 0 service.old service.new }
+    ensures after { Did (Acts N.follows V.follows V.owed_at) (is_err result) 0
+        (sockets.old, service.old) (sockets.new, service.new) }
     ensures failed { IsErr result → V.has_failed service.new ≡ true }
+    ensures writes { Begins (Acts N.follows V.follows V.owed_at) (is_err result) (IsWrite place)
+        (sockets.old, service.old) (sockets.new, service.new) }
 {
-    match connection.stream.write(service.unsent(place)) {
+    match sockets.write(place, service.unsent(place)) {
         Ok(0) => {
             connection.is_gone = true;
             Ok(())

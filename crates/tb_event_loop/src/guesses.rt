@@ -20,57 +20,69 @@ use tb_rooms::{Asking, Hold, Rates, Rooms, Written, may_turn};
 /// How long a guess waits at most, in milliseconds: less than a message that was begun keeps its place.
 const LONGEST_HOLD: u64 = 4_900;
 
-// What the head of a message says of its sender, and of what it asks for.
-pub(crate) fn asking_of(text: &[u8]) -> Asking<'_>
-    ensures call { result.is_call ≡ is_call_in text.now }
-    ensures member { result.member.now ≡ guesses.member_in text.now }
-    ensures key { result.key.now ≡ guesses.key_in text.now }
-    ensures board { result.board.now ≡ board_in text.now }
+/// A message as far as it came, with what its head says of its sender and of what it asks for.
+#[derive(Drop)]
+struct Sight<'a> {
+    text: &'a [u8],
+    asking: Asking<'a>,
+    ghost call: { asking.is_call ≡ is_call_in text.now },
+    ghost member: { asking.member.now ≡ guesses.member_in text.now },
+    ghost key: { asking.key.now ≡ guesses.key_in text.now },
+    ghost board: { asking.board.now ≡ board_in text.now },
+}
+
+// Reads a head once, for all that is asked of it.
+fn sight_of(text: &[u8]) -> Sight<'_>
+    ensures { result.text.now ≡ text.now }
 {
-    Asking {
-        is_call: head::is_call_in(text),
-        member: text_of(text, b"x-member"),
-        key: text_of(text, b"x-key"),
-        board: head::board_in(text),
+    Sight {
+        text,
+        asking: Asking {
+            is_call: head::is_call_in(text),
+            member: text_of(text, b"x-member"),
+            key: text_of(text, b"x-key"),
+            board: head::board_in(text),
+        },
     }
 }
 
 // Whether a message is a guess: it gives a key that isn't known to be right with its name, and asks for no file of the page.
-fn is_guess<V: Service>(service: &V, rates: &Rates, text: &[u8]) -> bool
-    ensures { result ≡ guesses.is_guess (V.gives_file service.now) rates.now text.now }
+fn is_guess<V: Service>(service: &V, rates: &Rates, sight: &Sight<'_>) -> bool
+    ensures { result ≡ guesses.is_guess (V.gives_file service.now) rates.now sight.now.text.now }
 {
-    !service.is_file(target_in(text)) && rates.is_guess(&asking_of(text))
+    !service.is_file(target_in(sight.text)) && rates.is_guess(&sight.asking)
 }
 
-// How many milliseconds a message waits as a guess: behind those that came before it, and any other not at all.
-fn hold_of<V: Service>(service: &V, rates: &Rates, text: &[u8], now: u64) -> u64
+// How many milliseconds a message waits as a guess: after those that came before it, and any other not at all.
+fn hold_of<V: Service>(service: &V, rates: &Rates, sight: &Sight<'_>, now: u64) -> u64
     ensures hold { result
-        ≡ guesses.hold_of (V.gives_file service.now) rates.now text.now now }
-    ensures known { guesses.is_guess (V.gives_file service.now) rates.now text.now ≡ false
+        ≡ guesses.hold_of (V.gives_file service.now) rates.now sight.now.text.now now }
+    ensures known { guesses.is_guess (V.gives_file service.now) rates.now sight.now.text.now ≡ false
         → result ≡ 0 }
 {
-    if is_guess(service, rates, text) {
-        rates.guess_wait(&asking_of(text), now)
+    if is_guess(service, rates, sight) {
+        rates.guess_wait(&sight.asking, now)
     } else {
         0
     }
 }
 
 // Counts a guess. Where so many wait that some of them must have left their places, it isn't counted.
-fn count<V: Service>(service: &V, rates: &mut Rates, text: &[u8], now: u64)
-    ensures { rates.new ≡ guesses.counted (V.gives_file service.now) text.now now rates.old }
+fn count<V: Service>(service: &V, rates: &mut Rates, sight: &Sight<'_>, now: u64)
+    ensures { rates.new
+        ≡ guesses.counted (V.gives_file service.now) sight.now.text.now now rates.old }
 {
-    if is_guess(service, rates, text) && hold_of(service, rates, text, now) < LONGEST_HOLD {
-        rates.count_guess(&asking_of(text), now);
+    if is_guess(service, rates, sight) && hold_of(service, rates, sight, now) < LONGEST_HOLD {
+        rates.count_guess(&sight.asking, now);
     }
 }
 
 // How many milliseconds a call waits, since its person or its board is in debt.
 #[tactic(auto, unfolding(crate::specs::Guesses::debt_of))]
-fn debt_of(rates: &Rates, text: &[u8], now: u64) -> u64
-    ensures { result ≡ guesses.debt_of rates.now text.now now }
+fn debt_of(rates: &Rates, sight: &Sight<'_>, now: u64) -> u64
+    ensures { result ≡ guesses.debt_of rates.now sight.now.text.now now }
 {
-    rates.debt_wait(&asking_of(text), now)
+    rates.debt_wait(&sight.asking, now)
 }
 
 // The time of a message has come, if it has: a call is put off again where its person or its board is in debt now.
@@ -78,23 +90,25 @@ fn look_again(connection: &mut Connection, rates: &Rates, text: &[u8], now: u64)
     ensures due { result ≡ guesses.is_due_again rates.now text.now now connection.old }
     ensures put_off { connection.new ≡ guesses.put_off_at rates.now text.now now connection.old }
 {
-    let is_time = connection.due <= now;
-    let debt = debt_of(rates, text, now);
-    if is_time && debt != 0 {
+    if connection.due > now {
+        return false;
+    }
+    let debt = debt_of(rates, &sight_of(text), now);
+    if debt != 0 {
         connection.put_off(now.saturating_add(debt));
     }
-    is_time && debt == 0
+    debt == 0
 }
 
 // How many milliseconds a message waits when it is looked at first.
 #[tactic(auto, unfolding(crate::specs::Guesses::wait_of))]
-fn wait_of<V: Service>(service: &V, rates: &Rates, text: &[u8], now: u64) -> u64
+fn wait_of<V: Service>(service: &V, rates: &Rates, sight: &Sight<'_>, now: u64) -> u64
     ensures wait { result
-        ≡ guesses.wait_of (V.gives_file service.now) rates.now text.now now }
-    ensures known { guesses.is_guess (V.gives_file service.now) rates.now text.now ≡ false
-        → result ≡ guesses.debt_of rates.now text.now now }
+        ≡ guesses.wait_of (V.gives_file service.now) rates.now sight.now.text.now now }
+    ensures known { guesses.is_guess (V.gives_file service.now) rates.now sight.now.text.now ≡ false
+        → result ≡ guesses.debt_of rates.now sight.now.text.now now }
 {
-    hold_of(service, rates, text, now).max(debt_of(rates, text, now))
+    hold_of(service, rates, sight, now).max(debt_of(rates, sight, now))
 }
 
 // Looks at a message whose head is whole for the first time.
@@ -115,9 +129,10 @@ fn look_first<V: Service>(
     ensures known { guesses.is_guess (V.gives_file service.now) rates.old text.now ≡ false
         → guesses.debt_of rates.old text.now now ≡ 0 → result ≡ true }
 {
-    let due = now.saturating_add(wait_of(service, rates, text, now));
-    connection.ask(due, owner_of(rates, text));
-    count(service, rates, text, now);
+    let sight = sight_of(text);
+    let due = now.saturating_add(wait_of(service, rates, &sight, now));
+    connection.ask(due, rates.owner(&sight.asking));
+    count(service, rates, &sight, now);
     due <= now
 }
 
@@ -207,38 +222,39 @@ fn is_of_right_key(answer: &[u8]) -> bool
 fn owner_of(rates: &Rates, text: &[u8]) -> u64
     ensures { result ≡ guesses.owner_of rates.now text.now }
 {
-    rates.owner(&asking_of(text))
+    let sight = sight_of(text);
+    rates.owner(&sight.asking)
 }
 
 #[tactic(auto, unfolding(crate::specs::Guesses::person_charged_with))]
 fn charge_person(
     rates: &mut Rates,
     alloc: Global,
-    text: &[u8],
+    sight: &Sight<'_>,
     own: u64,
     swept: u64,
     now: u64,
 ) -> Result<(), AllocError>
     ensures ok { OnOk result
-        (rates.new ≡ guesses.person_charged_with text.now own swept now rates.old) }
+        (rates.new ≡ guesses.person_charged_with sight.now.text.now own swept now rates.old) }
     ensures err { OnErr result (rates.new ≡ rates.old) }
 {
-    rates.charge_person(alloc, &asking_of(text), own, swept, now)
+    rates.charge_person(alloc, &sight.asking, own, swept, now)
 }
 
 #[tactic(auto, unfolding(crate::specs::Guesses::board_charged_with))]
 fn charge_board(
     rates: &mut Rates,
     alloc: Global,
-    text: &[u8],
+    sight: &Sight<'_>,
     swept: u64,
     now: u64,
 ) -> Result<(), AllocError>
     ensures ok { OnOk result
-        (rates.new ≡ guesses.board_charged_with text.now swept now rates.old) }
+        (rates.new ≡ guesses.board_charged_with sight.now.text.now swept now rates.old) }
     ensures err { OnErr result (rates.new ≡ rates.old) }
 {
-    rates.charge_board(alloc, &asking_of(text), swept, now)
+    rates.charge_board(alloc, &sight.asking, swept, now)
 }
 
 impl Places {
@@ -313,13 +329,13 @@ impl Places {
         }) }
         ensures err { OnErr result (self.new ≡ self.old) }
     {
-        let text = begun(held);
+        let sight = sight_of(begun(held));
         if has_status(answer, "401") {
-            self.rates.forget(&asking_of(text));
+            self.rates.forget(&sight.asking);
             return Ok(());
         }
-        if is_of_right_key(answer) && is_guess(service, &self.rates, text) {
-            return self.rates.learn(self.alloc, &asking_of(text));
+        if is_of_right_key(answer) && is_guess(service, &self.rates, &sight) {
+            return self.rates.learn(self.alloc, &sight.asking);
         }
         Ok(())
     }
@@ -345,10 +361,10 @@ impl Places {
         }) }
         ensures others { self.new ≡ record self.old { rates = self.new.rates } }
     {
-        let text = begun(held);
         let own = after.own.saturating_sub(before.own);
         let swept = after.swept.saturating_sub(before.swept);
-        charge_person(&mut self.rates, self.alloc, text, own, swept, now)?;
-        charge_board(&mut self.rates, self.alloc, text, swept, now)
+        let sight = sight_of(begun(held));
+        charge_person(&mut self.rates, self.alloc, &sight, own, swept, now)?;
+        charge_board(&mut self.rates, self.alloc, &sight, swept, now)
     }
 }

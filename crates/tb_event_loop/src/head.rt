@@ -42,16 +42,24 @@ pub(crate) fn has_whole_head(text: &[u8]) -> bool
 pub(crate) fn begun(held: &[u8]) -> &[u8]
     ensures { result.now ≡ head.begun held.now }
 {
-    front(held).trim_ascii_start()
+    trimmed_start(front(held))
 }
 
-fn trimmed(text: &[u8]) -> &[u8]
+/// A text without the blanks before it.
+pub(crate) fn trimmed_start(text: &[u8]) -> &[u8]
+    ensures { result.now ≡ head.trimmed_start text.now }
+{
+    text.trim_ascii_start()
+}
+
+/// A text without the blanks around it.
+pub(crate) fn trimmed(text: &[u8]) -> &[u8]
     ensures { result.now ≡ head.trimmed text.now }
 {
     text.trim_ascii()
 }
 
-fn is_blank(line: &[u8]) -> bool
+pub(crate) fn is_blank(line: &[u8]) -> bool
     ensures { result ≡ head.is_blank line.now }
 {
     line.iter().all(|byte| byte.is_ascii_whitespace())
@@ -64,8 +72,8 @@ fn place_of(text: &[u8], sign: u8) -> Option<usize>
     text.iter().position(|byte| *byte == sign)
 }
 
-// What stands before the first such sign, or all.
-fn up_to(text: &[u8], sign: u8) -> &[u8]
+/// What stands before the first such sign, or all.
+pub(crate) fn up_to(text: &[u8], sign: u8) -> &[u8]
     ensures { result.now ≡ head.up_to sign text.now }
 {
     match place_of(text, sign) {
@@ -74,8 +82,8 @@ fn up_to(text: &[u8], sign: u8) -> &[u8]
     }
 }
 
-// What stands behind the first such sign, or nothing.
-fn behind(text: &[u8], sign: u8) -> &[u8]
+/// What stands after the first such sign, or nothing.
+pub(crate) fn behind(text: &[u8], sign: u8) -> &[u8]
     ensures { result.now ≡ head.behind sign text.now }
 {
     match place_of(text, sign) {
@@ -116,7 +124,8 @@ fn ends_search(line: &[u8], name: &[u8]) -> bool
     is_blank(line) || up_to(line, b':').eq_ignore_ascii_case(name)
 }
 
-fn line_of<'a>(text: &'a [u8], name: &[u8]) -> Option<&'a [u8]>
+/// The first line that is a field of this name, or blank.
+pub(crate) fn line_of<'a>(text: &'a [u8], name: &[u8]) -> Option<&'a [u8]>
     ensures { option_copied result ≡ head.line_of name.now text.now }
 {
     text.split(|byte| *byte == b'\n')

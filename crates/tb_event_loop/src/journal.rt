@@ -1,6 +1,10 @@
 //! The time, and what is told on standard error.
-ghost use Rattle.std.specs.Prelude.{◌≡◌, take};
-ghost use Rattle.tb_event_loop.specs.Journal.{status_in};
+ghost use Rattle.std.specs.Prelude.{◌≡◌, ◌⊎◌, ◌-◌, [], false, IfErr, length, OnOk, take, unwrap_or};
+ghost use Rattle.std.specs.Io.KnownBytes.{Appends};
+ghost use Rattle.std.specs.Option.{option_copied};
+ghost use Rattle.tb_event_loop.specs.Journal.{IsTold, IsToldFailed, status_in};
+ghost use Rattle.tb_program.specs.declared.fault.Fault.TheVariants.{WriteFailed};
+ghost use Rattle.tb_values.specs.Appends.{AppendsFront};
 
 use crate::logging::{FailedMessage, LogEntry, failure_line, log_line};
 use crate::request_line::{RequestLine, read_request_line};
@@ -8,7 +12,7 @@ use std::alloc::Global;
 use std::io;
 use std::io::Write;
 use std::time::{Clock, Instant};
-use tb_program::machine_moment;
+use tb_program::{Fault, machine_moment};
 use tb_task::Moment;
 use tb_values::write_whole;
 
@@ -44,7 +48,10 @@ impl<C: Clock, W: Write> Journal<C, W> {
     }
 
     /// How many milliseconds have passed. Where the clock can't be read, it is the same as before.
-    pub(crate) fn now(&mut self) -> u64 {
+    pub(crate) fn now(&mut self) -> u64
+        ensures told { result ≡ self.new.millis }
+        ensures others { self.new ≡ record self.old { millis = self.new.millis } }
+    {
         if let Some(started) = self.started
             && let Ok(now) = Instant::now(&self.clock)
         {
@@ -62,7 +69,11 @@ impl<C: Clock, W: Write> Journal<C, W> {
     }
 
     /// Keeps what is told of a message, before it is answered.
-    pub(crate) fn begin(&mut self, held: &[u8]) {
+    pub(crate) fn begin(&mut self, held: &[u8])
+        ensures head { (self.new.head.items ≡ take LONGEST_HEAD held.now)
+            ⊎ (self.new.head.items ≡ []) }
+        ensures silent { self.new.errors ≡ self.old.errors }
+    {
         self.head.clear();
         let _ = self.head.extend_from_slice(front(held));
         if self.is_logged {
@@ -71,37 +82,67 @@ impl<C: Clock, W: Write> Journal<C, W> {
     }
 
     /// The front of the message that is being answered, or nothing where there was no memory for it.
-    pub(crate) fn head(&self) -> &[u8] {
+    pub(crate) fn head(&self) -> &[u8]
+        ensures { result.now ≡ self.now.head.items }
+    {
         &self.head
     }
 
     /// Tells of the message, with the log, that it was answered by this text.
-    pub(crate) fn end(&mut self, answer: &[u8]) {
-        if !self.is_logged || self.head.is_empty() {
-            return;
-        }
-        let Some(moment) = machine_moment(&self.clock) else {
-            return;
-        };
-        let millis = self.now().saturating_sub(self.began);
-        let entry = entry_of(read_request_line(&self.head), answer, moment, millis);
-        if let Ok(line) = log_line(self.alloc, &entry) {
-            let _ = write_whole(&mut self.errors, &line);
+    pub(crate) fn end(&mut self, answer: &[u8])
+        ensures off { self.old.is_logged ≡ false → self.new.errors ≡ self.old.errors }
+        ensures told { (self.new.errors ≡ self.old.errors)
+            ⊎ IsTold self.old.head.items answer.now (self.new.millis - self.old.began)
+            (AppendsFront (W.contents self.old.errors) (W.contents self.new.errors)) }
+    {
+        if self.is_logged && !self.head.is_empty() {
+            let _ = self.tell_answered(answer);
         }
     }
 
-    /// Tells that the store failed on the message, with the log or without.
-    pub(crate) fn tell_failed(&mut self) {
-        let request = read_request_line(&self.head);
-        let failed = FailedMessage {
-            moment: machine_moment(&self.clock),
-            member: request.member.unwrap_or(&[]),
-            method: request.method,
-            target: request.target,
+    // Tells of the message, or why not.
+    fn tell_answered(&mut self, answer: &[u8]) -> Result<(), Fault>
+        ensures whole { OnOk result
+            (IsTold self.old.head.items answer.now (self.new.millis - self.old.began)
+            (Appends (W.contents self.old.errors) (W.contents self.new.errors))) }
+        ensures told { (self.new.errors ≡ self.old.errors)
+            ⊎ IsTold self.old.head.items answer.now (self.new.millis - self.old.began)
+            (AppendsFront (W.contents self.old.errors) (W.contents self.new.errors)) }
+        ensures silent { IfErr result (λ fault. (fault ≡ WriteFailed)
+            ⊎ (self.new.errors ≡ self.old.errors)) }
+    {
+        let Some(moment) = machine_moment(&self.clock) else {
+            return Err(Fault::NoClock);
         };
+        let millis = self.now().saturating_sub(self.began);
+        let entry = entry_of(read_request_line(&self.head), answer, moment, millis);
+        let line = log_line(self.alloc, &entry)?;
+        write_line(&mut self.errors, &line)
+    }
+
+    /// Tells that the store failed on the message, with the log or without.
+    pub(crate) fn tell_failed(&mut self)
+        ensures told { (self.new.errors ≡ self.old.errors) ⊎ IsToldFailed self.old.head.items
+            (AppendsFront (W.contents self.old.errors) (W.contents self.new.errors)) }
+    {
+        let moment = machine_moment(&self.clock);
+        let failed = failed_of(read_request_line(&self.head), moment);
         if let Ok(line) = failure_line(self.alloc, &failed) {
-            let _ = write_whole(&mut self.errors, &line);
+            let _ = write_line(&mut self.errors, &line);
         }
+    }
+}
+
+// On a fault a front of the line is written.
+fn write_line<W: Write>(errors: &mut W, line: &[u8]) -> Result<(), Fault>
+    ensures whole { OnOk result
+        (Appends (W.contents errors.old) (W.contents errors.new) line.now) }
+    ensures front { AppendsFront (W.contents errors.old) (W.contents errors.new) line.now }
+    ensures fault { IfErr result (λ fault. fault ≡ WriteFailed) }
+{
+    match write_whole(errors, line) {
+        Ok(()) => Ok(()),
+        Err(_) => Err(Fault::WriteFailed),
     }
 }
 
@@ -111,7 +152,14 @@ fn entry_of<'a>(
     answer: &'a [u8],
     moment: Moment,
     millis: u64,
-) -> LogEntry<'a> {
+) -> LogEntry<'a>
+    ensures words { (result.method.now ≡ request.entry.method.now)
+        × (result.target.now ≡ request.entry.target.now) }
+    ensures member { option_copied result.member ≡ option_copied request.entry.member }
+    ensures status { result.status.now ≡ status_in answer.now }
+    ensures numbers { (result.moment ≡ moment) × (result.bytes ≡ length answer.now)
+        × (result.millis ≡ millis) }
+{
     let RequestLine {
         method,
         target,
@@ -125,6 +173,21 @@ fn entry_of<'a>(
         status: status_in(answer),
         bytes: answer.len(),
         millis,
+    }
+}
+
+// What is told of a message on which the store failed.
+fn failed_of(request: RequestLine<'_>, moment: Option<Moment>) -> FailedMessage<'_>
+    ensures words { (result.method.now ≡ request.entry.method.now)
+        × (result.target.now ≡ request.entry.target.now) }
+    ensures member { result.member.now ≡ unwrap_or (option_copied request.entry.member) [] }
+    ensures moment { result.moment ≡ moment }
+{
+    FailedMessage {
+        moment,
+        member: request.member.unwrap_or(&[]),
+        method: request.method,
+        target: request.target,
     }
 }
 

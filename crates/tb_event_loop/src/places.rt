@@ -4,15 +4,15 @@ ghost use Rattle.tb_event_loop.specs.Places.{Changes, Enters, HasTurn, HaveTurns
 ghost use Rattle.std.specs.Borrow.{sem};
 ghost use Rattle.std.specs.Option.{option_copied_mut, option_map};
 ghost use Rattle.tb_event_loop.specs.Connection.{leaving, marked, short_of_bytes};
+ghost use Rattle.tb_event_loop.specs.Sockets.{Quietly};
 ghost use Rattle.tb_rooms.specs.Yielding.{gives_way};
 ghost use Rattle.tb_timeouts.specs.Deciding.{IsLongestWait};
 ghost use Rattle.tb_timeouts.specs.Stage.{is_vacant, next_stage};
 
 use crate::connection::Connection;
+use crate::exchange::drop_some;
 use crate::service::Service;
-use mio::event::Event;
-use mio::net::TcpStream;
-use mio::{Events, Token};
+use crate::sockets::{Sockets, Told};
 use std::alloc::{AllocError, Global};
 use tb_rooms::{Hold, ROOMS, Rate, Rates, Rooms, gives_way, may_turn};
 use tb_timeouts::{CONNECTIONS, Limits, Need, Stage, first_vacant, longest_wait};
@@ -110,11 +110,11 @@ impl Places {
     }
 
     /// Puts a connection into a vacant place.
-    pub(crate) fn seat(&mut self, place: usize, stream: TcpStream, now: u64)
-        ensures { Seats self.old self.new place stream now }
+    pub(crate) fn seat(&mut self, place: usize, now: u64)
+        ensures { Seats self.old self.new place now }
     {
         if let Some(slot) = self.connections.get_mut(place) {
-            *slot = Some(Connection::new(stream));
+            *slot = Some(Connection::new());
         }
         self.set_stage(place, Stage::Idle { since: now });
         self.set_hold(place, Hold::fresh(Stage::Idle { since: now }));
@@ -149,11 +149,12 @@ impl Places {
     }
 
     /// Reads once from a connection that is closing, and throws it away.
-    pub(crate) fn drop_bytes(&mut self, place: usize)
-        ensures { self.new ≡ record self.old { connections = self.new.connections } }
+    pub(crate) fn drop_bytes<N: Sockets>(&mut self, sockets: &mut N, place: usize)
+        ensures same { self.new ≡ record self.old { connections = self.new.connections } }
+        ensures quiet { Quietly N.follows sockets.old sockets.new }
     {
         if let Some(connection) = self.connection(place) {
-            connection.drop_some();
+            drop_some(connection, sockets, place);
         }
     }
 
@@ -205,14 +206,28 @@ impl Places {
     }
 
     /// What the sockets are ready for.
-    pub(crate) fn mark_ready(&mut self, events: &Events)
+    pub(crate) fn mark_ready(&mut self, told: &[Told])
         ensures { self.new ≡ record self.old { connections = self.new.connections } }
     {
-        for event in events {
-            let Token(place) = event.token();
-            if let Some(connection) = self.connection(place) {
-                mark(connection, event);
-            }
+        'news: for event in told {
+            self.mark_one(event);
+        }
+    }
+
+    fn mark_one(&mut self, told: &Told)
+        ensures { self.new ≡ record self.old { connections = self.new.connections } }
+    {
+        match told.place {
+            Some(place) => self.mark_at(place, told),
+            None => (),
+        }
+    }
+
+    fn mark_at(&mut self, place: usize, told: &Told)
+        ensures { self.new ≡ record self.old { connections = self.new.connections } }
+    {
+        if let Some(connection) = self.connection(place) {
+            mark(connection, told);
         }
     }
 
@@ -306,16 +321,15 @@ fn lack_bytes(slot: &mut Option<Connection>)
     }
 }
 
-fn mark(connection: &mut Connection, event: &Event)
-    ensures { connection.new ≡ marked event.now connection.old }
+fn mark(connection: &mut Connection, told: &Told)
+    ensures { connection.new ≡ marked told.now connection.old }
 {
-    let has_failed = event.is_error();
-    if event.is_read_closed() {
+    if told.is_read_closed {
         connection.has_hung_up = true;
     }
-    connection.can_read = connection.can_read || event.is_readable() || has_failed;
-    connection.can_read = connection.can_read || event.is_read_closed();
-    connection.can_write = connection.can_write || event.is_writable() || has_failed;
+    connection.can_read = connection.can_read || told.is_readable || told.is_error;
+    connection.can_read = connection.can_read || told.is_read_closed;
+    connection.can_write = connection.can_write || told.is_writable || told.is_error;
 }
 
 fn need_of<V: Service>(service: &V, place: usize) -> Need

@@ -37,6 +37,9 @@ pub trait Service {
     /// What it is still to be sent.
     ghost owed_at: { Self → ℕ → List ℕ };
 
+    /// The message that is held has so many bytes in all, or its head was not read and this is 0.
+    ghost wants: { Self → ℕ → ℕ → Type 0 };
+
     /// Whether no further message of it is answered.
     ghost closes_at: { Self → ℕ → Bool };
 
@@ -67,7 +70,8 @@ pub trait Service {
     fn has_head(&self, place: usize) -> bool;
 
     /// How many bytes the message that is held has in all, once its head was read, and else 0.
-    fn wanted(&self, place: usize) -> usize;
+    fn wanted(&self, place: usize) -> usize
+        ensures { wants self.now place result };
 
     /// How many bytes calls have written since the start.
     fn written(&self) -> Written;

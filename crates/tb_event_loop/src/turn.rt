@@ -1,7 +1,9 @@
 //! The turn of one connection: at most one read, one message and one write.
 ghost use Rattle.std.specs.Prelude.{◌≡◌, ◌↔◌, ◌⊎◌, [], ◌∷◌, IsErr, IsOk, IsTrue, false, is_err, slice_set, true};
-ghost use Rattle.tb_event_loop.specs.Done.{Did, GivesTurn, turned};
-ghost use Rattle.tb_event_loop.specs.Places.{Ends, GoesOn, HasTurn, IsAnswered, LacksAll, NeedsBytes, SetsStage, Settles, connection_in, is_over_at, is_turned_in, is_waiting, may_answer_at, stage_in};
+ghost use Rattle.tb_event_loop.specs.Deeds.{Acts, Begins, Did, GivesTurn, IsRead, IsWrite, OwesBytes, TurnsOrNot};
+ghost use Rattle.tb_event_loop.specs.Done.{turned};
+ghost use Rattle.tb_event_loop.specs.Places.{Ends, GoesOn, HasTurn, IsAnswered, LacksAll, NeedsBytes, SetsStage, Settles, can_write_at, connection_in, is_over_at, is_turned_in, is_waiting, may_answer_at, stage_in};
+ghost use Rattle.tb_event_loop.specs.Sockets.{Quietly};
 ghost use Rattle.tb_timeouts.specs.Stage.{next_stage, read_stage, waiting_stage};
 ghost use Rattle.tb_timeouts.specs.declared.stage.Need.TheVariants.{End};
 
@@ -9,6 +11,7 @@ use crate::exchange::{read_some, write_some};
 use crate::journal::Journal;
 use crate::places::Places;
 use crate::service::{Service, SocketEvent, StoreFailed};
+use crate::sockets::Sockets;
 use std::io::Write;
 use std::time::Clock;
 use tb_rooms::Written;
@@ -16,55 +19,70 @@ use tb_timeouts::{Need, Stage};
 
 impl Places {
     /// Ends a connection that has stayed too long. Says whether it has something to do now.
-    pub(crate) fn begin_turn(&mut self, place: usize, now: u64) -> bool
+    pub(crate) fn begin_turn<N: Sockets>(&mut self, sockets: &mut N, place: usize, now: u64) -> bool
         ensures turn { IsTrue result
             ↔ (IsTrue (is_over_at self.old place now) ⊎ HasTurn self.old place now) }
         ensures over { is_over_at self.old place now ≡ true → Ends self.old self.new place now }
         ensures same { is_over_at self.old place now ≡ false → self.new ≡ self.old }
+        ensures quiet { Quietly N.follows sockets.old sockets.new }
+        ensures silent { is_over_at self.old place now ≡ false → sockets.new ≡ sockets.old }
     {
         if self.stage(place).is_over(&self.limits, now) {
-            self.end_one(place, now);
+            self.end_one(sockets, place, now);
             return true;
         }
         self.has_turn(place, now)
     }
 
     // Ends a connection in stages, or at once where it is at the last.
-    fn end_one(&mut self, place: usize, now: u64)
-        ensures { Ends self.old self.new place now }
+    fn end_one<N: Sockets>(&mut self, sockets: &mut N, place: usize, now: u64)
+        ensures ends { Ends self.old self.new place now }
+        ensures quiet { Quietly N.follows sockets.old sockets.new }
     {
         let stage = self.stage(place);
         if let Stage::Closing { since: _, reads: _ } = stage {
             self.let_go(place);
         } else {
-            self.close(place, now);
+            self.close(sockets, place, now);
         }
     }
 
-    fn close(&mut self, place: usize, now: u64)
-        ensures { SetsStage self.old self.new place
+    fn close<N: Sockets>(&mut self, sockets: &mut N, place: usize, now: u64)
+        ensures stage { SetsStage self.old self.new place
             (next_stage now End (stage_in self.old place)) }
+        ensures quiet { Quietly N.follows sockets.old sockets.new }
     {
-        if let Some(Some(connection)) = self.connections.get(place) {
-            connection.stop_sending();
-        }
+        self.stop_sending(sockets, place);
         let stage = self.stage(place).next(Need::End, now);
         self.set_stage(place, stage);
     }
 
+    // Nothing more is sent, where a connection is there.
+    fn stop_sending<N: Sockets>(&self, sockets: &mut N, place: usize)
+        ensures { Quietly N.follows sockets.old sockets.new }
+    {
+        match self.connections.get(place) {
+            Some(Some(_)) => sockets.stop_sending(place),
+            _ => (),
+        }
+    }
+
     /// Does what a connection has to do, by its stage, unless it is to leave.
-    pub(crate) fn act<V: Service, C: Clock, W: Write>(
+    pub(crate) fn act<N: Sockets, V: Service, C: Clock, W: Write>(
         &mut self,
+        sockets: &mut N,
         service: &mut V,
         journal: &mut Journal<C, W>,
         place: usize,
         now: u64,
     ) -> Result<(), StoreFailed>
-        ensures after { Did V.follows (is_err result) 0 service.old service.new }
+        ensures after { Did (Acts N.follows V.follows V.owed_at) (is_err result) 0
+            (sockets.old, service.old) (sockets.new, service.new) }
         ensures failed { IsErr result → V.has_failed service.new ≡ true }
         ensures turned { IsAnswered (V.gives_file service.old) self.old place now
             (V.held_at service.old place)
-            → GivesTurn V.follows (is_err result) place service.old service.new }
+            → GivesTurn (Acts N.follows V.follows V.owed_at) (is_err result) place
+            (sockets.old, service.old) (sockets.new, service.new) }
     {
         if self.is_gone(place) {
             return Ok(());
@@ -72,99 +90,136 @@ impl Places {
         match self.stage(place) {
             Stage::Vacant => Ok(()),
             Stage::Closing { since: _, reads: _ } => {
-                self.drop_some(place);
+                self.drop_some(sockets, place);
                 Ok(())
             }
-            Stage::Answering { since: _, taken: _ } => self.reply(service, place, now),
-            _ => self.converse(service, journal, place, now),
+            Stage::Answering { since: _, taken: _ } => self.reply(sockets, service, place, now),
+            _ => self.converse(sockets, service, journal, place, now),
         }
     }
 
     // Reads, answers and writes.
-    fn converse<V: Service, C: Clock, W: Write>(
+    fn converse<N: Sockets, V: Service, C: Clock, W: Write>(
         &mut self,
+        sockets: &mut N,
         service: &mut V,
         journal: &mut Journal<C, W>,
         place: usize,
         now: u64,
     ) -> Result<(), StoreFailed>
-        ensures after { Did V.follows (is_err result) 0 service.old service.new }
+        ensures after { Did (Acts N.follows V.follows V.owed_at) (is_err result) 0
+            (sockets.old, service.old) (sockets.new, service.new) }
         ensures failed { IsErr result → V.has_failed service.new ≡ true }
         ensures turned { IsTrue (may_answer_at (connection_in self.old place))
             → IsTrue (is_turned_in (V.gives_file service.old) self.old place now
             (V.held_at service.old place))
-            → GivesTurn V.follows (is_err result) place service.old service.new }
+            → GivesTurn (Acts N.follows V.follows V.owed_at) (is_err result) place
+            (sockets.old, service.old) (sockets.new, service.new) }
     {
-        self.read(service, place, now)?;
-        self.respond(service, journal, place, now)
+        self.read(sockets, service, place, now)?;
+        self.respond(sockets, service, journal, place, now)
     }
 
     // Answers and writes.
-    fn respond<V: Service, C: Clock, W: Write>(
+    fn respond<N: Sockets, V: Service, C: Clock, W: Write>(
         &mut self,
+        sockets: &mut N,
         service: &mut V,
         journal: &mut Journal<C, W>,
         place: usize,
         now: u64,
     ) -> Result<(), StoreFailed>
-        ensures after { Did V.follows (is_err result) 0 service.old service.new }
+        ensures after { Did (Acts N.follows V.follows V.owed_at) (is_err result) 0
+            (sockets.old, service.old) (sockets.new, service.new) }
         ensures failed { IsErr result → V.has_failed service.new ≡ true }
         ensures turned { IsTrue (may_answer_at (connection_in self.old place))
             → IsTrue (is_turned_in (V.gives_file service.old) self.old place now
             (V.held_at service.old place))
-            → GivesTurn V.follows (is_err result) place service.old service.new }
+            → GivesTurn (Acts N.follows V.follows V.owed_at) (is_err result) place
+            (sockets.old, service.old) (sockets.new, service.new) }
     {
         self.answer(service, journal, place, now)?;
-        self.reply(service, place, now)
+        self.reply(sockets, service, place, now)
     }
 
-    fn reply<V: Service>(
+    fn reply<N: Sockets, V: Service>(
         &mut self,
+        sockets: &mut N,
         service: &mut V,
         place: usize,
         now: u64,
     ) -> Result<(), StoreFailed>
-        ensures after { Did V.follows (is_err result) 0 service.old service.new }
+        ensures after { Did (Acts N.follows V.follows V.owed_at) (is_err result) 0
+            (sockets.old, service.old) (sockets.new, service.new) }
         ensures failed { IsErr result → V.has_failed service.new ≡ true }
+        ensures writes { OwesBytes (V.owed_at service.old place)
+            → can_write_at (connection_in self.old place) ≡ true
+            → Begins (Acts N.follows V.follows V.owed_at) (is_err result) (IsWrite place)
+            (sockets.old, service.old) (sockets.new, service.new) }
     {
-        self.write(service, place, now)?;
-        self.settle(service, place, now);
+        self.write(sockets, service, place, now)?;
+        self.settle(sockets, service, place, now);
         Ok(())
     }
 
     // Throws away what comes behind the last answer.
-    fn drop_some(&mut self, place: usize)
+    fn drop_some<N: Sockets>(&mut self, sockets: &mut N, place: usize)
         ensures read { self.new.stages.items
             ≡ slice_set self.old.stages.items place (read_stage (stage_in self.old place)) }
         ensures others { self.new
             ≡ record self.old { connections = self.new.connections; stages = self.new.stages } }
+        ensures quiet { Quietly N.follows sockets.old sockets.new }
     {
-        self.drop_bytes(place);
+        self.drop_bytes(sockets, place);
         let stage = self.stage(place).bytes_dropped();
         self.set_stage(place, stage);
     }
 
     // Reads where more bytes are needed and may be held.
-    fn read<V: Service>(
+    fn read<N: Sockets, V: Service>(
         &mut self,
+        sockets: &mut N,
         service: &mut V,
         place: usize,
         now: u64,
     ) -> Result<(), StoreFailed>
-        ensures after { Did V.follows (is_err result) 0 service.old service.new }
+        ensures after { Did (Acts N.follows V.follows V.owed_at) (is_err result) 0
+            (sockets.old, service.old) (sockets.new, service.new) }
         ensures failed { IsErr result → V.has_failed service.new ≡ true }
         ensures well { ¬ NeedsBytes self.old place → IsOk result }
         ensures passed { ¬ NeedsBytes self.old place → service.new ≡ service.old }
         ensures same { ¬ NeedsBytes self.old place → self.new ≡ self.old }
+        ensures silent { ¬ NeedsBytes self.old place → sockets.new ≡ sockets.old }
+        ensures reads { NeedsBytes self.old place
+            → Begins (Acts N.follows V.follows V.owed_at) (is_err result) (IsRead place)
+            (sockets.old, service.old) (sockets.new, service.new) }
     {
         if !self.needs_bytes(place) {
             return Ok(());
         }
-        if let Some(connection) = self.connection(place) {
-            read_some(connection, service, place)?;
-        }
+        self.read_bytes(sockets, service, place)?;
         self.enter(service, place, now);
         Ok(())
+    }
+
+    // Reads, where a connection is there.
+    fn read_bytes<N: Sockets, V: Service>(
+        &mut self,
+        sockets: &mut N,
+        service: &mut V,
+        place: usize,
+    ) -> Result<(), StoreFailed>
+        ensures after { Did (Acts N.follows V.follows V.owed_at) (is_err result) 0
+            (sockets.old, service.old) (sockets.new, service.new) }
+        ensures failed { IsErr result → V.has_failed service.new ≡ true }
+        ensures reads { NeedsBytes self.old place
+            → Begins (Acts N.follows V.follows V.owed_at) (is_err result) (IsRead place)
+            (sockets.old, service.old) (sockets.new, service.new) }
+    {
+        match self.connection(place) {
+            Some(connection) => read_some(connection, sockets, service, place),
+            None => Ok(()),
+        }
     }
 
     // Answers the next message, if it is whole.
@@ -175,12 +230,12 @@ impl Places {
         place: usize,
         now: u64,
     ) -> Result<(), StoreFailed>
-        ensures after { Did V.follows (is_err result) 0 service.old service.new }
+        ensures after { TurnsOrNot V.follows (is_err result) place service.old service.new }
         ensures failed { IsErr result → V.has_failed service.new ≡ true }
         ensures turned { IsTrue (may_answer_at (connection_in self.old place))
             → IsTrue (is_turned_in (V.gives_file service.old) self.old place now
             (V.held_at service.old place))
-            → GivesTurn V.follows (is_err result) place service.old service.new }
+            → V.follows (is_err result) ((place, turned) ∷ []) service.old service.new }
         ensures passed { may_answer_at (connection_in self.old place) ≡ false
             → service.new ≡ service.old }
         ensures waits { is_turned_in (V.gives_file service.old) self.old place now
@@ -237,27 +292,64 @@ impl Places {
     }
 
     // Writes where an answer is there.
-    fn write<V: Service>(
+    fn write<N: Sockets, V: Service>(
         &mut self,
+        sockets: &mut N,
         service: &mut V,
         place: usize,
         now: u64,
     ) -> Result<(), StoreFailed>
-        ensures after { Did V.follows (is_err result) 0 service.old service.new }
+        ensures after { Did (Acts N.follows V.follows V.owed_at) (is_err result) 0
+            (sockets.old, service.old) (sockets.new, service.new) }
         ensures failed { IsErr result → V.has_failed service.new ≡ true }
+        ensures writes { OwesBytes (V.owed_at service.old place)
+            → can_write_at (connection_in self.old place) ≡ true
+            → Begins (Acts N.follows V.follows V.owed_at) (is_err result) (IsWrite place)
+            (sockets.old, service.old) (sockets.new, service.new) }
     {
         let before = service.unsent(place).len();
-        match self.connection(place) {
-            Some(connection) if before > 0 && connection.can_write => {
-                write_some(connection, service, place)?;
-            }
-            _ => return Ok(()),
-        }
+        self.write_bytes(sockets, service, place)?;
         if service.unsent(place).len() < before {
             let stage = self.stage(place).part_taken(now);
             self.set_stage(place, stage);
         }
         Ok(())
+    }
+
+    // Writes, where an answer is there and the socket takes bytes.
+    fn write_bytes<N: Sockets, V: Service>(
+        &mut self,
+        sockets: &mut N,
+        service: &mut V,
+        place: usize,
+    ) -> Result<(), StoreFailed>
+        ensures after { Did (Acts N.follows V.follows V.owed_at) (is_err result) 0
+            (sockets.old, service.old) (sockets.new, service.new) }
+        ensures failed { IsErr result → V.has_failed service.new ≡ true }
+        ensures writes { OwesBytes (V.owed_at service.old place)
+            → can_write_at (connection_in self.old place) ≡ true
+            → Begins (Acts N.follows V.follows V.owed_at) (is_err result) (IsWrite place)
+            (sockets.old, service.old) (sockets.new, service.new) }
+    {
+        if service.unsent(place).is_empty() {
+            return Ok(());
+        }
+        if !self.can_write(place) {
+            return Ok(());
+        }
+        match self.connection(place) {
+            Some(connection) => write_some(connection, sockets, service, place),
+            None => Ok(()),
+        }
+    }
+
+    fn can_write(&self, place: usize) -> bool
+        ensures { result ≡ can_write_at (connection_in self.now place) }
+    {
+        match self.connections.get(place) {
+            Some(Some(connection)) => connection.can_write,
+            _ => false,
+        }
     }
 
     // Whether the message of a connection is turned later.
@@ -268,15 +360,22 @@ impl Places {
     }
 
     // What the connection does behind its turn.
-    fn settle<V: Service>(&mut self, service: &V, place: usize, now: u64)
-        ensures { Settles self.old self.new place now (V.owed_at service.now place)
+    fn settle<N: Sockets, V: Service>(
+        &mut self,
+        sockets: &mut N,
+        service: &V,
+        place: usize,
+        now: u64,
+    )
+        ensures settled { Settles self.old self.new place now (V.owed_at service.now place)
             (V.closes_at service.now place) (V.held_at service.now place) }
+        ensures quiet { Quietly N.follows sockets.old sockets.new }
     {
         if self.is_waiting(place) || !service.unsent(place).is_empty() {
             return;
         }
         if service.is_closing(place) {
-            self.close(place, now);
+            self.close(sockets, place, now);
             return;
         }
         self.go_on(service, place, now);

@@ -1,11 +1,11 @@
 -- Faults of the parts of an order are faults of it.
 use Rattle.std.proofs.Common.{◌≡◌, true, true≢false, refl, sym}
 use Rattle.tb_orders.specs.Telling as orders
-use Rattle.tb_orders.specs.Faults.{is_of_opening, is_of_printing}
+use Rattle.tb_orders.specs.Faults.{is_of_files, is_of_opening, is_of_printing}
 use Rattle.tb_orders.specs.NewKey.{is_of_giving, is_of_new_keys}
 use Rattle.tb_program.specs.declared.fault.Fault.{Fault}
 use Rattle.tb_program.specs.declared.fault.Fault.TheVariants.{Bad, BadBody, Memory, NoAnswer, NoClock, NoKey, NoListen, NoPage, NotEmpty, NotOurs, ReadFailed, Store, WriteFailed, WrongVersion}
-use Rattle.tb_files.specs.Faults.{is_of_checking, is_of_imports, is_of_keys, is_of_views}
+use Rattle.tb_files.specs.Faults.{is_of_checking, is_of_imports, is_of_keys, is_of_showing, is_of_views}
 
 pub of_input : (fault : Fault) → orders.is_of_inputs fault ≡ true → is_of_imports fault ≡ true
 of_input Bad is = absurd (true≢false (sym is))
@@ -23,7 +23,7 @@ of_input Store is = refl
 of_input WriteFailed is = refl
 of_input WrongVersion is = refl
 
-pub of_audit : (fault : Fault) → is_of_printing fault ≡ true → is_of_checking fault ≡ true
+pub of_audit : (fault : Fault) → is_of_printing fault ≡ true → orders.is_of_answers fault ≡ true
 of_audit Bad is = absurd (true≢false (sym is))
 of_audit BadBody is = absurd (true≢false (sym is))
 of_audit Memory is = refl
@@ -33,11 +33,11 @@ of_audit NoAnswer is = absurd (true≢false (sym is))
 of_audit NoKey is = absurd (true≢false (sym is))
 of_audit NoPage is = absurd (true≢false (sym is))
 of_audit NotEmpty is = absurd (true≢false (sym is))
-of_audit NotOurs is = refl
+of_audit NotOurs is = absurd (true≢false (sym is))
 of_audit ReadFailed is = absurd (true≢false (sym is))
-of_audit Store is = refl
+of_audit Store is = absurd (true≢false (sym is))
 of_audit WriteFailed is = refl
-of_audit WrongVersion is = refl
+of_audit WrongVersion is = absurd (true≢false (sym is))
 
 pub of_keep : (fault : Fault) → orders.is_of_answers fault ≡ true → is_of_checking fault ≡ true
 of_keep Bad is = absurd (true≢false (sym is))
@@ -55,21 +55,37 @@ of_keep Store is = refl
 of_keep WriteFailed is = refl
 of_keep WrongVersion is = refl
 
-pub of_view : (fault : Fault) → orders.is_of_answers fault ≡ true → is_of_views fault ≡ true
+pub of_showing : (fault : Fault) → orders.is_of_answers fault ≡ true → is_of_showing fault ≡ true
+of_showing Bad is = absurd (true≢false (sym is))
+of_showing BadBody is = absurd (true≢false (sym is))
+of_showing Memory is = refl
+of_showing NoClock is = absurd (true≢false (sym is))
+of_showing NoListen is = absurd (true≢false (sym is))
+of_showing NoAnswer is = absurd (true≢false (sym is))
+of_showing NoKey is = absurd (true≢false (sym is))
+of_showing NoPage is = absurd (true≢false (sym is))
+of_showing NotEmpty is = absurd (true≢false (sym is))
+of_showing NotOurs is = absurd (true≢false (sym is))
+of_showing ReadFailed is = absurd (true≢false (sym is))
+of_showing Store is = refl
+of_showing WriteFailed is = refl
+of_showing WrongVersion is = absurd (true≢false (sym is))
+
+pub of_view : (fault : Fault) → is_of_showing fault ≡ true → is_of_views fault ≡ true
 of_view Bad is = absurd (true≢false (sym is))
 of_view BadBody is = absurd (true≢false (sym is))
 of_view Memory is = refl
-of_view NoClock is = absurd (true≢false (sym is))
+of_view NoClock is = refl
 of_view NoListen is = absurd (true≢false (sym is))
 of_view NoAnswer is = absurd (true≢false (sym is))
 of_view NoKey is = absurd (true≢false (sym is))
 of_view NoPage is = absurd (true≢false (sym is))
 of_view NotEmpty is = absurd (true≢false (sym is))
-of_view NotOurs is = refl
+of_view NotOurs is = absurd (true≢false (sym is))
 of_view ReadFailed is = absurd (true≢false (sym is))
 of_view Store is = refl
 of_view WriteFailed is = refl
-of_view WrongVersion is = refl
+of_view WrongVersion is = absurd (true≢false (sym is))
 
 pub of_opening : (fault : Fault) → is_of_opening fault ≡ true → is_of_imports fault ≡ true
 of_opening Bad is = absurd (true≢false (sym is))
@@ -134,3 +150,35 @@ of_keyed ReadFailed is = refl
 of_keyed Store is = refl
 of_keyed WriteFailed is = refl
 of_keyed WrongVersion is = refl
+
+pub of_file : (fault : Fault) → is_of_files fault ≡ true → is_of_imports fault ≡ true
+of_file Bad is = absurd (true≢false (sym is))
+of_file BadBody is = absurd (true≢false (sym is))
+of_file Memory is = refl
+of_file NoClock is = absurd (true≢false (sym is))
+of_file NoListen is = absurd (true≢false (sym is))
+of_file NoAnswer is = absurd (true≢false (sym is))
+of_file NoKey is = absurd (true≢false (sym is))
+of_file NoPage is = absurd (true≢false (sym is))
+of_file NotEmpty is = absurd (true≢false (sym is))
+of_file NotOurs is = absurd (true≢false (sym is))
+of_file ReadFailed is = absurd (true≢false (sym is))
+of_file Store is = refl
+of_file WriteFailed is = absurd (true≢false (sym is))
+of_file WrongVersion is = absurd (true≢false (sym is))
+
+pub of_key_file : (fault : Fault) → is_of_files fault ≡ true → is_of_keys fault ≡ true
+of_key_file Bad is = absurd (true≢false (sym is))
+of_key_file BadBody is = absurd (true≢false (sym is))
+of_key_file Memory is = refl
+of_key_file NoClock is = absurd (true≢false (sym is))
+of_key_file NoListen is = absurd (true≢false (sym is))
+of_key_file NoAnswer is = absurd (true≢false (sym is))
+of_key_file NoKey is = absurd (true≢false (sym is))
+of_key_file NoPage is = absurd (true≢false (sym is))
+of_key_file NotEmpty is = absurd (true≢false (sym is))
+of_key_file NotOurs is = absurd (true≢false (sym is))
+of_key_file ReadFailed is = absurd (true≢false (sym is))
+of_key_file Store is = refl
+of_key_file WriteFailed is = absurd (true≢false (sym is))
+of_key_file WrongVersion is = absurd (true≢false (sym is))

@@ -1,3 +1,4 @@
 pub mod Faults
+pub mod Stopped
 pub mod Unmade
 pub mod Unopened

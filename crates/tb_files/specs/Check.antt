@@ -3,22 +3,23 @@ use Rattle.std.specs.Prelude.{◌≡◌, ℕ, List, Option}
 use Rattle.std.specs.Io.KnownBytes.{Appends}
 use Rattle.sqlite.specs.Files.{file_state}
 use Rattle.sqlite_disk.specs.declared.Disk.{Ghosts as DiskGhosts}
+use Rattle.sqlite_disk.specs.declared.Files.{Files}
 use Rattle.sqlite_store.specs.declared.store.FileStore.{FileStore}
-use Rattle.tb_calls.specs.declared.keep.Keep.{Ghosts}
 use Rattle.tb_keeper.specs.declared.sql_keep.SqlKeep.{SqlKeep}
-use Rattle.tb_files.specs.File.{IsFileSession}
+use Rattle.tb_files.specs.File.{IsSaved}
 use Rattle.tb_keeper.specs.Auditing.{IsCountOf}
 use Rattle.tb_keeper.specs.declared.auditing.Audit.{Audit}
 use Rattle.tb_orders.specs.Auditing.{audit_line, ending_of_audit}
 use Rattle.tb_orders.specs.declared.ending.Ending.{Ending}
 use Rattle.tb_lookup.specs.Reopening.{OfContent}
 
-module _ {D : Type 0} {d : DiskGhosts D} (g : Ghosts (SqlKeep (FileStore D d))) where
-  -- what is told was counted in the content over which the session began
-  pub record IsChecked (before after : Option (List ℕ)) (ending : Ending) : Type 0 where
-    pub old : SqlKeep (FileStore D d)
+module _ {D : Type 0} {d : DiskGhosts D} where
+  -- what is told was counted in the content that a keeper found, and the file is saved then
+  pub record IsChecked (old : SqlKeep (FileStore D d)) (before after : Option (List ℕ))
+      (ending : Ending) : Type 0 where
     pub new : SqlKeep (FileStore D d)
-    pub session : IsFileSession g old new
+    pub files : Files D
+    pub saved : IsSaved new.conn files
     pub audit : Audit
     pub counted : OfContent (file_state old.conn) (file_state new.conn)
         (λ content. IsCountOf content audit)

@@ -1,6 +1,7 @@
 -- Which faults come of an order over a file.
 use Rattle.std.specs.Prelude.{Bool, true}
 use Rattle.tb_orders.specs.Faults.{is_of_opening}
+use Rattle.tb_orders.specs.Telling.{is_of_answers}
 use Rattle.tb_program.specs.declared.fault.Fault.{Fault}
 use Rattle.tb_program.specs.declared.fault.Fault.TheVariants.{BadBody, NoClock, NoKey, ReadFailed, WriteFailed}
 
@@ -13,6 +14,11 @@ is_of_checking fault = is_of_opening fault
 abbrev pub is_of_views : Fault → Bool
 is_of_views NoClock = true
 is_of_views fault = is_of_checking fault
+
+-- of what is done for a view once a session has begun
+abbrev pub is_of_showing : Fault → Bool
+is_of_showing NoClock = true
+is_of_showing fault = is_of_answers fault
 
 -- of a key that is given in it
 abbrev pub is_of_keys : Fault → Bool

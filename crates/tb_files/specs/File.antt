@@ -1,7 +1,7 @@
--- What a session over a file begins with and ends with. What a path leads to can't be named: it is told of a connection to it.
+-- What a session over a file begins with and ends with. What a path leads to can't be named: a connection to it can.
 use Rattle.std.specs.Prelude.{◌≡◌, true}
 use Rattle.sqlite.specs.Closing.{IsCopied}
-use Rattle.sqlite.specs.Files.{file_state, over_files}
+use Rattle.sqlite.specs.Files.{file_state}
 use Rattle.sqlite.specs.Held.{Held}
 use Rattle.sqlite.specs.State.{HasCleanDisk}
 use Rattle.sqlite_disk.specs.declared.Disk.{Ghosts as DiskGhosts}
@@ -11,13 +11,8 @@ use Rattle.tb_calls.specs.declared.keep.Keep.{Ghosts}
 use Rattle.tb_keeper.specs.declared.sql_keep.SqlKeep.{SqlKeep}
 use Rattle.sqlite_wal.specs.Reads.{AreClean}
 use Rattle.tb_calls.specs.Call.{State}
-use Rattle.tb_headline.specs.Refusals.{IsRefused}
 use Rattle.tb_headline.specs.Headline.{IsAt, IsFileOf}
-use Rattle.tb_program.specs.declared.fault.Fault.{Fault}
-use Rattle.tb_program.specs.declared.fault.Fault.TheVariants as fault
 use Rattle.tb_sql.specs.Opening.{has_tables}
-use Rattle.tb_sql.specs.declared.opening.OpenFault.{OpenFault}
-use Rattle.tb_sql.specs.declared.opening.OpenFault.TheVariants as opening
 
 module _ {D : Type 0} {d : DiskGhosts D} where
   -- where the disk returned what was written, the last commit is in the database file
@@ -26,27 +21,21 @@ module _ {D : Type 0} {d : DiskGhosts D} where
 
 module _ {D : Type 0} {d : DiskGhosts D} (g : Ghosts (SqlKeep (FileStore D d))) where
   -- a connection found the tables of a version, and where their rows are those of a state, the keeper over it is at that state
-  pub record IsBegun (keep : SqlKeep (FileStore D d)) : Type 0 where
-    pub found : Held (FileStore D d)
+  pub record IsBegun (found : Held (FileStore D d)) (keep : SqlKeep (FileStore D d)) : Type 0 where
     pub ours : has_tables keep.found (file_state found).now.schema ≡ true
     pub at : HasCleanDisk (file_state found) → (s : State) → IsFileOf s (file_state found).now.trees
         → IsAt s (g.holds keep) (g.after_stop keep)
 
-  -- a connection found what isn't taken
-  pub record IsNotTaken (fault : OpenFault) : Type 0 where
-    pub found : Held (FileStore D d)
-    pub left : Held (FileStore D d)
-    pub refused : IsRefused over_files found (file_state left) fault
-
-  -- That it is no file of boards, or of another version, is told of what was found alone. Other faults have no cause that can be named:
-  -- the machine doesn't open it, its disk fails, or memory is wanting.
-  abbrev pub IsUnopened : Fault → Type 0
-  IsUnopened fault.NotOurs = IsNotTaken opening.NotOurs
-  IsUnopened fault.WrongVersion = IsNotTaken opening.WrongVersion
-  IsUnopened other = Unit {0}
-
   -- a session from its beginning over a file to what it leaves, saved
   pub record IsFileSession (old new : SqlKeep (FileStore D d)) : Type 0 where
-    pub begun : IsBegun old
+    pub found : Held (FileStore D d)
+    pub begun : IsBegun found old
     pub files : Files D
     pub saved : IsSaved new.conn files
+
+  -- in a session that began over what a connection found
+  pub record InSession (found : Held (FileStore D d))
+      (Does : SqlKeep (FileStore D d) → Type 0) : Type 0 where
+    pub old : SqlKeep (FileStore D d)
+    pub begun : IsBegun found old
+    pub does : Does old

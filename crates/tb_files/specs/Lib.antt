@@ -1,8 +1,10 @@
 pub mod Check
+pub mod Failed
 pub mod Faults
 pub mod File
 pub mod Import
 pub mod Init
 pub mod Key
+pub mod NotDone
 pub mod Notice
 pub mod View

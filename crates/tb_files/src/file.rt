@@ -3,12 +3,14 @@ ghost use Rattle.sqlite.specs.Files.{file_state};
 ghost use Rattle.sqlite.specs.State.{HasCleanDisk, Opens};
 ghost use Rattle.std.specs.Io.KnownBytes.{Appends};
 ghost use Rattle.std.specs.Prelude.{◌≡◌, false, IfErr, IfOk, Ok, OnErr, OnOk, true};
-ghost use Rattle.tb_files.specs.File.{IsBegun, IsSaved, IsUnopened};
+ghost use Rattle.tb_files.specs.File.{IsBegun, IsSaved};
+ghost use Rattle.tb_files.specs.NotDone.{IsUntaken};
 ghost use Rattle.tb_files.specs.Notice.{notice, rest_of_notice};
 ghost use Rattle.tb_orders.specs.Faults.{is_of_files, is_of_opening};
 ghost use Rattle.tb_program.specs.declared.fault.Fault.TheVariants.{Store, WriteFailed};
 ghost use Rattle.tb_values.specs.Appends.{AppendsFront};
 
+use crate::not_done::Untaken;
 use sqlite::{Connection, Error, ErrorCode, File, FileStore};
 use std::fs;
 use std::io::Write;
@@ -34,19 +36,22 @@ const HAS_A_HISTORY: &str = " has a history from now on, and programs before thi
 /// The store of a real file.
 pub type RealFile = FileStore<File>;
 
-/// Opens the file at a path, or makes an empty one where none is. It isn't opened with a log that belongs to another file or is damaged:
+/// Opens the file at a path. One that isn't there isn't made. It isn't opened with a log that belongs to another file or is damaged:
 /// the engine would take the log as it is, and drop what it can't read.
-pub(crate) fn open_file(rt: &HostRuntime, path: &str) -> Result<Connection<RealFile>, Fault>
+pub fn open_file(rt: &HostRuntime, path: &str) -> Result<Connection<RealFile>, Fault>
     ensures fault { IfErr result (λ fault. is_of_files fault ≡ true) }
     ensures idle { IfOk result (λ conn. conn.in_transaction ≡ false) }
     ensures opens { IfOk result (λ conn. HasCleanDisk (file_state conn) → Opens (file_state conn)) }
 {
+    if fs::metadata(rt, path).is_err() {
+        return Err(Fault::Store);
+    }
     look_at_log(rt, path)?;
     take_opened(Connection::open(rt, path))
 }
 
 /// Opens the file at a path, or makes an empty one with sums of its pages, which its owner alone may read and write.
-pub(crate) fn open_new_file(rt: &HostRuntime, path: &str) -> Result<Connection<RealFile>, Fault>
+pub fn open_new_file(rt: &HostRuntime, path: &str) -> Result<Connection<RealFile>, Fault>
     ensures fault { IfErr result (λ fault. is_of_files fault ≡ true) }
     ensures idle { IfOk result (λ conn. conn.in_transaction ≡ false) }
     ensures opens { IfOk result (λ conn. HasCleanDisk (file_state conn) → Opens (file_state conn)) }
@@ -80,21 +85,24 @@ fn take_opened(opened: Result<Connection<RealFile>, Error>) -> Result<Connection
     }
 }
 
-/// Begins a session over the boards in the file at a path. A file that isn't there isn't made.
-pub fn open_desk(rt: &HostRuntime, path: &str) -> Result<Desk<SqlKeep<RealFile>>, Fault>
-    ensures begun { IfOk result (IsBegun ⟦<SqlKeep<RealFile> as Keep>⟧) }
-    ensures unopened { IfErr result (IsUnopened ⟦<SqlKeep<RealFile> as Keep>⟧) }
-    ensures fault { IfErr result (λ fault. is_of_opening fault ≡ true) }
+/// Begins a session over the boards that a connection to the file at a path found.
+pub fn open_desk(
+    rt: &HostRuntime,
+    path: &str,
+    conn: Connection<RealFile>,
+) -> Result<Desk<SqlKeep<RealFile>>, Untaken<Connection<RealFile>>>
+    requires idle { conn.in_transaction ≡ false }
+    requires opens { HasCleanDisk (file_state conn) → Opens (file_state conn) }
+    ensures begun { IfOk result (IsBegun ⟦<SqlKeep<RealFile> as Keep>⟧ conn) }
+    ensures untaken { IfErr result (λ untaken. IsUntaken conn untaken.left untaken.fault) }
+    ensures fault { IfErr result (λ untaken. is_of_opening untaken.fault ≡ true) }
 {
-    if fs::metadata(rt, path).is_err() {
-        return Err(Fault::Store);
-    }
-    match open_file(rt, path) {
-        Ok(conn) => match resume(rt.alloc(), conn) {
-            Ok(desk) => Ok(with_notice(rt, path, desk)),
-            Err((_, fault)) => Err(fault_of_opening(fault)),
-        },
-        Err(fault) => Err(fault),
+    match resume(rt.alloc(), conn) {
+        Ok(desk) => Ok(with_notice(rt, path, desk)),
+        Err((left, fault)) => Err(Untaken {
+            left,
+            fault: fault_of_opening(fault),
+        }),
     }
 }
 

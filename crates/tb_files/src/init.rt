@@ -1,32 +1,45 @@
 //! A new file of boards.
-ghost use Rattle.std.specs.Prelude.{◌≡◌, IfErr, IfOk, true};
+ghost use Rattle.std.specs.Prelude.{◌≡◌, false, IfErr, IfOk, true};
+ghost use Rattle.sqlite.specs.Files.{file_state};
+ghost use Rattle.sqlite.specs.State.{HasCleanDisk, Opens};
 ghost use Rattle.tb_calls.specs.Call.{opening};
 ghost use Rattle.tb_files.specs.Init.{IsMade, IsNotMade};
+ghost use Rattle.tb_files.specs.NotDone.{failure_of};
 ghost use Rattle.tb_orders.specs.Faults.{is_of_making};
 
-use crate::file::{RealFile, close_desk, open_new_file};
+use crate::file::{RealFile, close_desk};
+use crate::not_done::{NotDone, Untaken};
+use sqlite::Connection;
+use std::alloc::Global;
 use tb_calls::Keep;
 use tb_command_line::InitOrder;
 use tb_headline::session::make;
 use tb_keeper::SqlKeep;
-use tb_orders::{Ending, fault_of_making};
-use tb_program::Fault;
+use tb_orders::{Ending, OrderFault, fault_of_making};
 
-/// Makes the tables of a file with one person, who owns its first board. A file that isn't there is made for its owner alone.
-pub fn make_file(rt: &HostRuntime, order: &InitOrder) -> Result<Ending, Fault>
+/// Makes the tables of a file with one person, who owns its first board.
+pub fn make_file(
+    alloc: Global,
+    conn: Connection<RealFile>,
+    order: &InitOrder,
+) -> Result<Ending, NotDone<Connection<RealFile>>>
+    requires idle { conn.in_transaction ≡ false }
+    requires opens { HasCleanDisk (file_state conn) → Opens (file_state conn) }
     ensures made { IfOk result (λ ending. (ending ≡ Ending.Accepted)
-        × IsMade ⟦<SqlKeep<RealFile> as Keep>⟧
+        × IsMade ⟦<SqlKeep<RealFile> as Keep>⟧ conn
         (opening order.now.name order.now.key)) }
-    ensures unmade { IfErr result
-        (IsNotMade ⟦<SqlKeep<RealFile> as Keep>⟧ (opening order.now.name order.now.key)) }
-    ensures fault { IfErr result (λ fault. is_of_making fault ≡ true) }
+    ensures unmade { IfErr result (IsNotMade ⟦<SqlKeep<RealFile> as Keep>⟧ conn
+        (opening order.now.name order.now.key)) }
+    ensures fault { IfErr result (λ undone. is_of_making (failure_of undone).fault ≡ true) }
 {
-    let conn = open_new_file(rt, order.file.as_str())?;
-    match make(rt.alloc(), conn, &order.name, &order.key) {
-        Ok(desk) => {
-            close_desk(desk)?;
-            Ok(Ending::Accepted)
-        }
-        Err((_, fault)) => Err(fault_of_making(fault)),
+    match make(alloc, conn, &order.name, &order.key) {
+        Ok(desk) => match close_desk(desk) {
+            Ok(()) => Ok(Ending::Accepted),
+            Err(fault) => Err(NotDone::Failed(OrderFault { fault, item: None })),
+        },
+        Err((left, fault)) => Err(NotDone::Untaken(Untaken {
+            left,
+            fault: fault_of_making(fault),
+        })),
     }
 }

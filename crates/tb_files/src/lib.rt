@@ -9,11 +9,13 @@ mod file;
 mod import;
 mod init;
 mod key;
+mod not_done;
 mod view;
 
 pub use check::check_file;
-pub use file::{RealFile, close_desk, open_desk};
+pub use file::{RealFile, close_desk, open_desk, open_file, open_new_file};
 pub use import::{import_into_file, import_parts_into_file};
 pub use init::make_file;
 pub use key::give_key_in_file;
+pub use not_done::{NotDone, Untaken};
 pub use view::print_board;

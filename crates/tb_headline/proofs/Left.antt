@@ -8,6 +8,7 @@ use Rattle.tb_calls.specs.declared.call.Call.{Call}
 use Rattle.tb_calls.specs.Call.{State, replies_to}
 use Rattle.tb_calls.specs.Leaving.{StandsAfter}
 use Rattle.tb_core.specs.GoodWorld.{IsGoodWorld}
+use Rattle.tb_keeper.specs.declared.people_at_hand.People.{People}
 use Rattle.tb_keeper.specs.Holds.{Holds, Kept}
 use Rattle.tb_keeper.specs.Laws.{alone}
 use Rattle.tb_calls.specs.declared.reply.Reply.{Reply}
@@ -22,14 +23,14 @@ pub clean_before : (old new : Database) → (new.is_clean ≡ true → old.is_cl
 clean_before old new before clean = no_doubt old.is_clean (before (honest new clean))
 
 -- until the store has failed, they are those of what is held
-own_rows : (failed : Bool) (people boards : ℕ) (es : List (ℕ × Board)) (d : Database) (s : State) → Kept failed people boards es d s
+own_rows : (failed : Bool) (people : People) (boards : ℕ) (es : List (ℕ × Board)) (d : Database) (s : State) → Kept failed people boards es d s
     → failed ≡ false → HasCleanDisk d → (db : Trees) → d.may_leave db → AreTreesOf s db
 own_rows true people boards es d s kept fine clean db left = absurd (true≢false fine)
 own_rows false people boards es d s kept fine clean db left =
     let stored = kept.0 in
     record { content = stored.content; rows = stored.rows; stored = stored.stands.left clean db left }
 
-left_rows : (failed : Bool) (people boards : ℕ) (es : List (ℕ × Board)) (d : Database) (s : State) → Kept failed people boards es d s
+left_rows : (failed : Bool) (people : People) (boards : ℕ) (es : List (ℕ × Board)) (d : Database) (s : State) → Kept failed people boards es d s
     → HasCleanDisk d → (db : Trees) → d.may_leave db → (t : State) × AreTreesOf t db
 left_rows false people boards es d s kept clean db left =
     let stored = kept.0 in
@@ -41,7 +42,7 @@ left_rows true people boards es d s kept clean db left =
       | inr is ↦ (kept.0, record { content = either.after; rows = either.rows_after; stored = is })
     ]
 
-module _ (failed : Bool) (people boards : ℕ) (es : List (ℕ × Board)) (d : Database) where
+module _ (failed : Bool) (people : People) (boards : ℕ) (es : List (ℕ × Board)) (d : Database) where
   abbrev now : State → Type 0
   now = Holds failed people boards es d
 

@@ -9,6 +9,7 @@ use Rattle.tb_calls.specs.Leaving.{StandsAfter}
 use Rattle.tb_desk.proofs.Resumed.{take_whole}
 use Rattle.tb_headline.proofs.Left.{leaves}
 use Rattle.tb_headline.specs.Headline.{IsCut, IsPlayed, calls_handled}
+use Rattle.tb_keeper.specs.declared.people_at_hand.People.{People}
 use Rattle.tb_keeper.specs.Holds.{Holds}
 use Rattle.tb_lookup.specs.Stored.{MayLeave}
 use Rattle.tb_serve.proofs.Following.{stands_behind}
@@ -35,7 +36,7 @@ one_more s calls more now stops stood =
     let none : length calls + 0 ≡ length calls = omega arith in
     subst (λ (n : ℕ). StandsAfter s (calls ++ more) n now stops) none (stands_behind s calls more 0 now stops stood)
 
-pub played : (site : Site) (failed : Bool) (people boards : ℕ) (es : List (ℕ × Board)) (d : Database) → HasCleanDisk d
+pub played : (site : Site) (failed : Bool) (people : People) (boards : ℕ) (es : List (ℕ × Board)) (d : Database) → HasCleanDisk d
     → (s : State) (done : List (ℕ × Happening (Option ℕ))) (talks later : ℕ → Talk)
     → Plays site s done talks later (Holds failed people boards es d) (MayLeave d)
     → IsPlayed site s done talks later (Holds failed people boards es d) (MayLeave d) d
@@ -54,7 +55,7 @@ played site failed people boards es d clean s done talks later (steps, end, done
       leaves = leaves failed people boards es d clean s calls (length calls) (all_stand s calls now (MayLeave d) here);
     }
 
-pub cut : (site : Site) (failed : Bool) (people boards : ℕ) (es : List (ℕ × Board)) (d : Database) → HasCleanDisk d
+pub cut : (site : Site) (failed : Bool) (people : People) (boards : ℕ) (es : List (ℕ × Board)) (d : Database) → HasCleanDisk d
     → (s : State) (done : List (ℕ × Happening (Option ℕ))) (talks later : ℕ → Talk)
     → IsStopped site s done talks later (Holds failed people boards es d) (MayLeave d)
     → IsCut site s done talks later (Holds failed people boards es d) (MayLeave d) d

@@ -23,6 +23,11 @@ pub record IsBegun (bytes : List ℕ) (begun : Begun) : Type 0 where
   pub framed : body_length begun.head ≡ Ok begun.size
   pub closing : begun.closes ≡ asks_to_close begun.head
 
+-- the message at the front has so many bytes in all, head and body; 0 where its head was not read
+abbrev pub Wants : List ℕ → ℕ → Type 0
+Wants bytes wanted = (wanted ≡ 0)
+    ⊎ ((begun : Begun) × IsBegun bytes begun × (wanted ≡ begun.len + begun.size))
+
 -- the bytes that came and were not taken; how many messages were; and whether the connection is closed after the last one
 pub record Held : Type 0 where
   pub bytes : List ℕ

@@ -4,7 +4,7 @@ ghost use Rattle.tb_http.specs.Closing.{message_limit};
 ghost use Rattle.tb_http.specs.declared.begun.Begun.{Begun};
 ghost use Rattle.tb_http.specs.OpenHead.{IsOpenHead};
 ghost use Rattle.tb_http.specs.Wire.{BeginsWithMessage, is_last};
-ghost use Rattle.tb_http.specs.Inbox.{HasFault, IsBegun, IsUnfinished};
+ghost use Rattle.tb_http.specs.Inbox.{HasFault, IsBegun, IsUnfinished, Wants};
 
 use crate::begun::{Begun, Taken, begin, take_begun};
 use crate::closing::MESSAGE_LIMIT;
@@ -24,7 +24,9 @@ pub struct FieldRoom {
 }
 
 impl FieldRoom {
-    pub fn new(alloc: Global) -> Result<FieldRoom, AllocError> {
+    pub fn new(alloc: Global) -> Result<FieldRoom, AllocError>
+        ensures { IfOk result (λ made. length made.spans.items ≡ FIELD_ROOM) }
+    {
         Ok(FieldRoom {
             spans: vec![in alloc; EMPTY_HEADER_SPAN; FIELD_ROOM]?,
         })
@@ -219,7 +221,9 @@ impl Inbox {
     }
 
     /// How many bytes the message at the front has in all, once its head was read, and else 0.
-    pub fn wanted(&self) -> usize {
+    pub fn wanted(&self) -> usize
+        ensures { Wants self.now.bytes result }
+    {
         match &self.begun {
             Some(begun) => begun.len + begun.size,
             None => 0,

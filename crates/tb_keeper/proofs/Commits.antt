@@ -42,7 +42,9 @@ use Rattle.tb_lookup.proofs.Standing.{stored_again}
 use Rattle.tb_keeper.specs.declared.writing.CallRows.{CallRows}
 use Rattle.tb_keeper.specs.Committing.{deed_row, entry_changes, LeadTo}
 use Rattle.tb_keeper.specs.Forms.{HasChangeForm}
+use Rattle.tb_keeper.specs.declared.people_at_hand.People.{People}
 use Rattle.tb_keeper.specs.Holds.{Holds, IsAtHand}
+use Rattle.tb_keeper.specs.PeopleAtHand.{AreStillKnown, IsKnownIn}
 use Rattle.tb_keeper.specs.Laws.{alone}
 use Rattle.tb_keeper.proofs.ChangedForms.{changes_kept}
 use Rattle.tb_keeper.proofs.Holding.{as_either, held_of, holds_of}
@@ -131,11 +133,11 @@ module _ (s : State) (changes : List Change) (deed : Option Deed) (call : Call) 
       }
 
 -- the rows are looked up, then the row of the reply, then that of the deed
-module _ (old planned kept_found new : Database) (people boards : ℕ) (cached : List (ℕ × Board)) (changes : List Change) (deed : Option Deed) (call : Call) (reply : Reply) (rows : List RowChange) (kept : KeptRow) (entry : Option HistoryRow)
+module _ (old planned kept_found new : Database) (people : People) (boards : ℕ) (cached : List (ℕ × Board)) (changes : List Change) (deed : Option Deed) (call : Call) (reply : Reply) (rows : List RowChange) (kept : KeptRow) (entry : Option HistoryRow)
     (one : IsAsBefore old planned) (idle_one : planned.in_transaction ≡ false) (two : IsAsBefore planned kept_found) (idle_two : kept_found.in_transaction ≡ false) (three : IsAsBefore kept_found new)
     (formed : AllByRecursion HasChangeForm changes)
-    (leads : OfState old planned (λ s. AreOf s.world cached → people ≡ length s.world.people → (d : Option Deed) (k : Call) → MayCommit s changes d k → Leads rows s.world (changed s.world changes)))
-    (row : OfState planned kept_found (λ s. kept ≡ kept_row s.world (name_of call, kept_of call reply)))
+    (leads : OfState old planned (λ s. AreOf s.world cached → people.count ≡ length s.world.people → (d : Option Deed) (k : Call) → MayCommit s changes d k → Leads rows s.world (changed s.world changes)))
+    (row : OfState planned kept_found (λ s. IsKnownIn s.world people.known → kept ≡ kept_row s.world (name_of call, kept_of call reply)))
     (note : OfState kept_found new (λ s. kept.person ≡ unwrap_or (number_of s.world call.member) 0 → entry ≡ option_map (deed_row s call) deed))
     (moment : IsSome deed → IsMoment call.moment) where
   pub all_lead : OfState old new (λ s. IsAtHand people boards cached s.world → MayCommit s changes deed call
@@ -144,7 +146,7 @@ module _ (old planned kept_found new : Database) (people boards : ℕ) (cached :
       let clean_found = three.clean clean in
       let at_planned = stored_again s old planned stored one idle_one in
       let at_found = stored_again s planned kept_found at_planned two idle_two in
-      let is = row clean_found s at_planned in
+      let is = row clean_found s at_planned hand.known_is in
       rows_written s changes deed call reply rows kept entry content may (changes_kept s.world changes of_s.form formed)
       (leads (two.clean clean_found) s stored hand.cached_are hand.people_are deed call may) is (note clean s at_found (ap (λ (k : KeptRow). k.person) is)) moment of_s
 
@@ -184,7 +186,7 @@ module _ (old mid new : Database) (Hand May : State → Type 0) (later : State �
 
 -- ---- what a keeper holds after that
 
-module _ (failed : Bool) (people boards : ℕ) (cached : List (ℕ × Board)) (d : Database) (s after : State) (fine : failed ≡ false) where
+module _ (failed : Bool) (people : People) (boards : ℕ) (cached : List (ℕ × Board)) (d : Database) (s after : State) (fine : failed ≡ false) where
   -- nothing was written
   pub either_first : Holds failed people boards cached d s → HoldsEither s after (λ t. Holds failed people boards cached d t) (λ t. MayLeave d t)
   either_first holds = record { held = inl holds; stops = λ t left. inl (alone failed people boards cached d s t holds fine left) }
@@ -193,19 +195,19 @@ module _ (failed : Bool) (people boards : ℕ) (cached : List (ℕ × Board)) (d
   pub either_second : Holds failed people boards cached d after → HoldsEither s after (λ t. Holds failed people boards cached d t) (λ t. MayLeave d t)
   either_second holds = record { held = inr holds; stops = λ t left. inr (alone failed people boards cached d after t holds fine left) }
 
-module _ (failed : Bool) (people boards : ℕ) (cached : List (ℕ × Board)) (old : Database) (s : State) (changes : List Change) (deed : Option Deed) (call : Call) (fine : failed ≡ false) (held : Holds failed people boards cached old s) (may : MayCommit s changes deed call)
-    (new : Database) (failed_then : Bool) (people_then boards_then : ℕ) (now : List (ℕ × Board)) (same_failed : failed_then ≡ failed) (same_people : people_then ≡ people) (same_boards : boards_then ≡ boards)
+module _ (failed : Bool) (people : People) (boards : ℕ) (cached : List (ℕ × Board)) (old : Database) (s : State) (changes : List Change) (deed : Option Deed) (call : Call) (fine : failed ≡ false) (held : Holds failed people boards cached old s) (may : MayCommit s changes deed call)
+    (new : Database) (failed_then : Bool) (people_then : People) (boards_then : ℕ) (now : List (ℕ × Board)) (same_failed : failed_then ≡ failed) (known : AreStillKnown old new people people_then) (same_boards : boards_then ≡ boards)
     (before : HasCleanDisk new → HasCleanDisk old) (of : OfState old new (λ t. AreOf t.world cached → AreOf t.world now)) where
   was : HasCleanDisk new → IsStored s old × IsAtHand people boards cached s.world
   was clean = held_of failed people boards cached old s fine (before clean) held
 
   at_hand : HasCleanDisk new → IsAtHand people_then boards_then now s.world
-  at_hand clean = let both = was clean in record { people_are = same_people ∙ both.1.people_are; boards_are = same_boards ∙ both.1.boards_are; cached_are = of clean s both.0 both.1.cached_are }
+  at_hand clean = let both = was clean in record { people_are = known.count_is ∙ both.1.people_are; known_is = known.known_is clean s both.0 both.1.known_is; boards_are = same_boards ∙ both.1.boards_are; cached_are = of clean s both.0 both.1.cached_are }
 
   pub commit_memory : OfState old new (λ t. IsStored t new) → Holds failed_then people_then boards_then now new s
   commit_memory stays = holds_of failed_then people_then boards_then now new s (same_failed ∙ fine) (record { good = held.good; kept = λ clean. (stays clean s (was clean).0, at_hand clean) })
 
-  pub commit_ok : (reply : Reply) (failed_later : Bool) (later_people later_boards : ℕ) (later : List (ℕ × Board)) (d : Database) → failed_later ≡ failed_then → d ≡ new
+  pub commit_ok : (reply : Reply) (failed_later : Bool) (later_people : People) (later_boards : ℕ) (later : List (ℕ × Board)) (d : Database) → failed_later ≡ failed_then → d ≡ new
       → OfState old new (λ t. IsAtHand people boards cached t.world → MayCommit t changes deed call → IsStored (with_reply t changes deed call reply) new)
       → ((w : World) → IsAtHand people_then boards_then now w → IsGoodWorld (changed w changes) → IsAtHand later_people later_boards later (changed w changes))
       → Holds failed_later later_people later_boards later d (with_reply s changes deed call reply)

@@ -14,7 +14,10 @@ use Rattle.tb_board.specs.World.{has_name}
 use Rattle.tb_cache.specs.BoardCache.{AreOf}
 use Rattle.tb_core.specs.GoodWorld.{IsGoodWorld}
 use Rattle.tb_keeper.specs.Counts.{is_new_board, is_new_person, one_if}
+use Rattle.tb_keeper.specs.declared.people_at_hand.People.{People}
 use Rattle.tb_keeper.specs.Holds.{IsAtHand}
+use Rattle.tb_keeper.specs.PeopleAtHand.{IsKnownIn, known_after}
+use Rattle.tb_keeper.proofs.KnownPeople.{known_follows}
 
 as_one : (b : Bool) → cond b 1 0 ≡ one_if b
 as_one true = refl
@@ -93,13 +96,13 @@ boards_after w (c ∷ cs) =
     omega (arith, rest, one, all)
 
 -- what is at hand follows the changes
-pub hand_follows : (people boards later_people later_boards : ℕ) (cached later : List (ℕ × Board)) (cs : List Change)
-    → (people + count_by is_new_person cs ≤ 10000 → later_people ≡ people + count_by is_new_person cs) → (boards + count_by is_new_board cs ≤ 10000 → later_boards ≡ boards + count_by is_new_board cs)
+pub hand_follows : (people later_people : People) (boards later_boards : ℕ) (cached later : List (ℕ × Board)) (cs : List Change)
+    → (people.count + count_by is_new_person cs ≤ 10000 → later_people.count ≡ people.count + count_by is_new_person cs) → later_people.known ≡ known_after people.known cs → (boards + count_by is_new_board cs ≤ 10000 → later_boards ≡ boards + count_by is_new_board cs)
     → ((w : World) → AreOf w cached → AreOf (changed w cs) later)
     → (w : World) → IsAtHand people boards cached w → IsGoodWorld (changed w cs) → IsAtHand later_people later_boards later (changed w cs)
-hand_follows people boards later_people later_boards cached later cs are_people are_boards follows w hand good =
-    let now_people : length (changed w cs).people ≡ people + count_by is_new_person cs = people_after w cs ∙ ap (λ n. n + count_by is_new_person cs) (sym hand.people_are) in
+hand_follows people later_people boards later_boards cached later cs are_people knows are_boards follows w hand good =
+    let now_people : length (changed w cs).people ≡ people.count + count_by is_new_person cs = people_after w cs ∙ ap (λ n. n + count_by is_new_person cs) (sym hand.people_are) in
     let now_boards : length (changed w cs).boards ≡ boards + count_by is_new_board cs = boards_after w cs ∙ ap (λ n. n + count_by is_new_board cs) (sym hand.boards_are) in
-    let few_people : people + count_by is_new_person cs ≤ 10000 = subst (λ (n : ℕ). n ≤ 10000) now_people good.people in
+    let few_people : people.count + count_by is_new_person cs ≤ 10000 = subst (λ (n : ℕ). n ≤ 10000) now_people good.people in
     let few_boards : boards + count_by is_new_board cs ≤ 10000 = subst (λ (n : ℕ). n ≤ 10000) now_boards good.boards in
-    record { people_are = are_people few_people ∙ sym now_people; boards_are = are_boards few_boards ∙ sym now_boards; cached_are = follows w hand.cached_are }
+    record { people_are = are_people few_people ∙ sym now_people; known_is = subst (IsKnownIn (changed w cs)) (sym knows) (known_follows w people.known cs hand.known_is); boards_are = are_boards few_boards ∙ sym now_boards; cached_are = follows w hand.cached_are }

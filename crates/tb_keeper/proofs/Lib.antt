@@ -10,6 +10,7 @@ pub mod FoundBoards
 pub mod Holding
 pub mod Images
 pub mod KnownAhead
+pub mod KnownPeople
 pub mod LentRows
 pub mod Looked
 pub mod NotedMarks
@@ -17,8 +18,10 @@ pub mod NotedRows
 pub mod SeenPeople
 pub mod Settled
 pub mod SoundHistories
+pub mod SoundRows
 pub mod SoundStates
 pub mod SoundSteps
 pub mod Taken
+pub mod Using
 pub mod WholeCount
 pub mod WokenMasks

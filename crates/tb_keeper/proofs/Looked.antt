@@ -1,5 +1,5 @@
 -- What is looked up is what a command looks at.
-use Rattle.std.proofs.Common.{◌≡◌, ◌∙◌, ◌==◌, inl, inr, if◌then◌else◌, ℕ, Bool, true, false, true≢false, List, [], ◌∷◌, Option, Some, None, Ordering, nat_eq, option_map, unwrap_or, refl, sym, ap, subst}
+use Rattle.std.proofs.Common.{◌≡◌, ◌∙◌, ◌==◌, inl, inr, if◌then◌else◌, ℕ, Bool, true, false, true≢false, List, [], ◌∷◌, length, Option, Some, None, Ordering, nat_eq, option_map, unwrap_or, refl, sym, ap, subst}
 use Rattle.std.specs.Prelude.{IfSome, IsSome, is_some, slice_get, find as found_among}
 use Rattle.std.specs.List.{AllByRecursion}
 use Rattle.std.specs.Map.{lookup}
@@ -37,7 +37,6 @@ use Rattle.tb_lookup.specs.Stored.{IsKnown, IsStored}
 use Rattle.tb_keeper.specs.declared.looking.Glance.{Glance}
 use Rattle.tb_keeper.specs.declared.looking.Parties.{Parties}
 use Rattle.tb_keeper.specs.Looking.{board_at, caller_role, takes, AreParties, IsGlance, IsGlanceAt, IsSeenAtHand}
-use Rattle.tb_keeper.specs.Holds.{IsAtHand}
 
 -- ---- people
 
@@ -207,11 +206,11 @@ glance_off w name c parties other off are other_is = record {
 }
 
 -- with how many people and boards there are it is all that a command looks at
-pub all_seen : (w : World) (name : List ℕ) (c : Command) (glance : Glance) (people boards : ℕ) (cached : List (ℕ × Board)) (seen : Seen)
-    → seen ≡ record { caller = glance.caller; own = glance.own; board = glance.board; other = glance.other; owners = glance.owners; people = people; boards = boards } → IsAtHand people boards cached w → IsGlance w name c glance → seen ≡ seen_of w name c
-all_seen w name c glance people boards cached seen is hand at = is ∙ same
+pub all_seen : (w : World) (name : List ℕ) (c : Command) (glance : Glance) (people boards : ℕ) (seen : Seen)
+    → seen ≡ record { caller = glance.caller; own = glance.own; board = glance.board; other = glance.other; owners = glance.owners; people = people; boards = boards } → people ≡ length w.people → boards ≡ length w.boards → IsGlance w name c glance → seen ≡ seen_of w name c
+all_seen w name c glance people boards seen is of_people of_boards at = is ∙ same
   where
     same : record { caller = glance.caller; own = glance.own; board = glance.board; other = glance.other; owners = glance.owners; people = people; boards = boards } ≡ seen_of w name c
     same = λ i.
-        let now : Seen = record { caller = at.caller_is i; own = at.own_is i; board = at.board_is i; other = at.other_is i; owners = at.owners_are i; people = hand.people_are i; boards = hand.boards_are i } in
+        let now : Seen = record { caller = at.caller_is i; own = at.own_is i; board = at.board_is i; other = at.other_is i; owners = at.owners_are i; people = of_people i; boards = of_boards i } in
         now

@@ -1,6 +1,7 @@
 -- What a look leaves of what is held, however it ended.
 use Rattle.std.proofs.Common.{◌≡◌, ℕ, Bool, true, false, ◌||◌, List, Result, Ok, Err, refl, sym, subst}
 use Rattle.std.specs.Prelude.{IfOk}
+use Rattle.std.proofs.lemmas.Result.{IfOk-weaker}
 use Rattle.sqlite.specs.State.{State as Database}
 use Rattle.tb_board.specs.declared.board.Board.{Board}
 use Rattle.tb_calls.specs.Call.{State}
@@ -13,8 +14,10 @@ use Rattle.tb_sql.specs.declared.store.StoreFault.TheVariants.{Memory as NoRoom,
 use Rattle.tb_lookup.specs.Reopening.{OfState}
 use Rattle.tb_lookup.specs.Stored.{MayLeave}
 use Rattle.tb_keeper.specs.Ending.{ended}
-use Rattle.tb_keeper.specs.Holds.{Holds}
-use Rattle.tb_keeper.proofs.Holding.{failure_leaves, look_leaves, told}
+use Rattle.tb_keeper.specs.declared.people_at_hand.People.{People}
+use Rattle.tb_keeper.specs.Holds.{Holds, IsAtHand}
+use Rattle.tb_keeper.proofs.Holding.{hand_after, hand_failure_leaves, hand_leaves, hand_told}
+use Rattle.tb_keeper.proofs.KnownPeople.{same_people}
 
 or_false : (b : Bool) → b ≡ (b || false)
 or_false true = refl
@@ -33,30 +36,43 @@ ended_ok P (Err Failed) found = tt
 pub settled_ok : {T : Type 0} (P : T → Type 0) (r : Result T StoreFault) (e : Result T KeepFault) → e ≡ ended r → IfOk r P → IfOk e P
 settled_ok P r e is found = subst (λ y. IfOk y P) (sym is) (ended_ok P r found)
 
-module _ (failed : Bool) (people boards : ℕ) (cached later : List (ℕ × Board)) (old new : Database) (fine : failed ≡ false) (before : IsAsBefore old new) (idle : old.in_transaction ≡ false → new.in_transaction ≡ false) where
-  found_told : {T : Type 0} (P : T → State → Type 0) (r : Result T StoreFault) → IfOk r (λ x. OfState old new (P x)) → new.is_clean ≡ true → (s : State) → Holds failed people boards cached old s → IfOk r (λ x. P x s)
-  found_told P (Ok x) found is s held = told failed people boards cached later old new fine before idle (P x) found is s held
+module _ (failed : Bool) (people later_people : People) (boards : ℕ) (cached later : List (ℕ × Board)) (old new : Database) (fine : failed ≡ false) (before : IsAsBefore old new) (idle : old.in_transaction ≡ false → new.in_transaction ≡ false) where
+  found_told : {T : Type 0} (P : T → State → Type 0) (r : Result T StoreFault) → IfOk r (λ x. OfState old new (λ s. IsAtHand people boards cached s.world → P x s)) → new.is_clean ≡ true → (s : State) → Holds failed people boards cached old s
+      → IfOk r (λ x. P x s)
+  found_told P (Ok x) found is s held = (hand_told failed people later_people boards cached later old new fine before idle (P x) found is s held).1
   found_told P (Err f) found is s held = tt
 
-  -- what is looked up of a state that is held
-  pub settled_told : {T : Type 0} (P : T → State → Type 0) (r : Result T StoreFault) (e : Result T KeepFault) → e ≡ ended r → IfOk r (λ x. OfState old new (P x)) → new.is_clean ≡ true → (s : State) → Holds failed people boards cached old s
-      → IfOk e (λ x. P x s)
-  settled_told P r e as_told found is s held = settled_ok (λ x. P x s) r e as_told (found_told P r found is s held)
+  -- what is looked up of a state that is held, by what is at hand
+  pub settled_hand_told : {T : Type 0} (P : T → State → Type 0) (r : Result T StoreFault) (e : Result T KeepFault) → e ≡ ended r → IfOk r (λ x. OfState old new (λ s. IsAtHand people boards cached s.world → P x s)) → new.is_clean ≡ true → (s : State)
+      → Holds failed people boards cached old s → IfOk e (λ x. P x s)
+  settled_hand_told P r e as_told found is s held = settled_ok (λ x. P x s) r e as_told (found_told P r found is s held)
 
-  leaves : {T : Type 0} (r : Result T StoreFault) → OfState old new (λ s. AreOf s.world cached → AreOf s.world later)
-      → IsStill (λ s. Holds failed people boards cached old s) (λ t. MayLeave old t) (λ s. Holds (failed || is_store (ended r)) people boards later new s) (λ t. MayLeave new t)
+  leaves : {T : Type 0} (r : Result T StoreFault) → OfState old new (λ s. IsAtHand people boards cached s.world → IsAtHand later_people boards later s.world)
+      → IsStill (λ s. Holds failed people boards cached old s) (λ t. MayLeave old t) (λ s. Holds (failed || is_store (ended r)) later_people boards later new s) (λ t. MayLeave new t)
   leaves (Ok x) of =
-      subst (λ b. IsStill (λ s. Holds failed people boards cached old s) (λ t. MayLeave old t) (λ s. Holds b people boards later new s) (λ t. MayLeave new t)) (or_false failed)
-      (look_leaves failed people boards cached later old new fine before idle of)
+      subst (λ b. IsStill (λ s. Holds failed people boards cached old s) (λ t. MayLeave old t) (λ s. Holds b later_people boards later new s) (λ t. MayLeave new t)) (or_false failed)
+      (hand_leaves failed people later_people boards cached later old new fine before idle of)
   leaves (Err NoRoom) of =
-      subst (λ b. IsStill (λ s. Holds failed people boards cached old s) (λ t. MayLeave old t) (λ s. Holds b people boards later new s) (λ t. MayLeave new t)) (or_false failed)
-      (look_leaves failed people boards cached later old new fine before idle of)
+      subst (λ b. IsStill (λ s. Holds failed people boards cached old s) (λ t. MayLeave old t) (λ s. Holds b later_people boards later new s) (λ t. MayLeave new t)) (or_false failed)
+      (hand_leaves failed people later_people boards cached later old new fine before idle of)
   leaves (Err Failed) of =
-      subst (λ b. IsStill (λ s. Holds failed people boards cached old s) (λ t. MayLeave old t) (λ s. Holds b people boards later new s) (λ t. MayLeave new t)) (or_true failed)
-      (failure_leaves failed people boards cached later old new fine before idle)
+      subst (λ b. IsStill (λ s. Holds failed people boards cached old s) (λ t. MayLeave old t) (λ s. Holds b later_people boards later new s) (λ t. MayLeave new t)) (or_true failed)
+      (hand_failure_leaves failed people later_people boards cached later old new fine before idle)
 
   -- a look leaves what is held, and so does one that fails
+  pub settled_hand_leaves : {T : Type 0} (r : Result T StoreFault) (e : Result T KeepFault) → e ≡ ended r → OfState old new (λ s. IsAtHand people boards cached s.world → IsAtHand later_people boards later s.world)
+      → IsStill (λ s. Holds failed people boards cached old s) (λ t. MayLeave old t) (λ s. Holds (failed || is_store e) later_people boards later new s) (λ t. MayLeave new t)
+  settled_hand_leaves r e as_told of =
+      subst (λ y. IsStill (λ s. Holds failed people boards cached old s) (λ t. MayLeave old t) (λ s. Holds (failed || is_store y) later_people boards later new s) (λ t. MayLeave new t)) (sym as_told) (leaves r of)
+
+module _ (failed : Bool) (people : People) (boards : ℕ) (cached later : List (ℕ × Board)) (old new : Database) (fine : failed ≡ false) (before : IsAsBefore old new) (idle : old.in_transaction ≡ false → new.in_transaction ≡ false) where
+  -- so where what is at hand isn't needed
+  pub settled_told : {T : Type 0} (P : T → State → Type 0) (r : Result T StoreFault) (e : Result T KeepFault) → e ≡ ended r → IfOk r (λ x. OfState old new (P x)) → new.is_clean ≡ true → (s : State) → Holds failed people boards cached old s
+      → IfOk e (λ x. P x s)
+  settled_told P r e as_told found is s held =
+      settled_hand_told failed people people boards cached later old new fine before idle P r e as_told (IfOk-weaker r (λ x. OfState old new (P x)) (λ x. OfState old new (λ s. IsAtHand people boards cached s.world → P x s)) (λ x of clean s stored hand. of clean s stored) found) is s held
+
+  -- and where the same people are known
   pub settled_leaves : {T : Type 0} (r : Result T StoreFault) (e : Result T KeepFault) → e ≡ ended r → OfState old new (λ s. AreOf s.world cached → AreOf s.world later)
       → IsStill (λ s. Holds failed people boards cached old s) (λ t. MayLeave old t) (λ s. Holds (failed || is_store e) people boards later new s) (λ t. MayLeave new t)
-  settled_leaves r e as_told of =
-      subst (λ y. IsStill (λ s. Holds failed people boards cached old s) (λ t. MayLeave old t) (λ s. Holds (failed || is_store y) people boards later new s) (λ t. MayLeave new t)) (sym as_told) (leaves r of)
+  settled_leaves r e as_told of = settled_hand_leaves failed people people boards cached later old new fine before idle r e as_told (hand_after people people boards cached later old new (same_people people old new) of)

@@ -19,7 +19,7 @@ use Rattle.tb_lookup.specs.Migrating.{IsStoredInEither, IsStoredInFirst, IsStore
 use Rattle.tb_lookup.proofs.Migrating.{migrated_rows}
 use Rattle.tb_keeper.specs.Holds.{Holds}
 use Rattle.tb_keeper.specs.Versions.{OfFirstState, OfSecondState}
-use Rattle.tb_keeper.proofs.Holding.{made_held}
+use Rattle.tb_keeper.proofs.Holding.{counted, made_held}
 
 people_rows : (n : ℕ) (ps : List Person) → length (rows_from (λ k p. person_row k p ∷ []) n ps) ≡ length ps
 people_rows n [] = refl
@@ -28,7 +28,7 @@ people_rows n (p ∷ ps) = let later = people_rows (n + 1) ps in omega (arith, l
 module _ (old new : Database) where
   -- what is held once a store has been migrated
   pub migrated_held : (counts : Counts) (cached : List (ℕ × Board)) → cached ≡ [] → new.in_transaction ≡ false → (HasCleanDisk new → IsTrue new.is_open)
-      → ((content : Content) → StandsOld content old → StandsBy (IsMigrated content counts) (AreRows (migrated content)) new) → OfFirstState old new (λ s. Holds false counts.people counts.boards cached new s)
+      → ((content : Content) → StandsOld content old → StandsBy (IsMigrated content counts) (AreRows (migrated content)) new) → OfFirstState old new (λ s. Holds false (counted counts.people) counts.boards cached new s)
   migrated_held counts cached none idle usable done clean s stored =
       let content = stored.content in
       let now = done content stored.stands in
@@ -42,7 +42,7 @@ module _ (old new : Database) where
 
   -- what is held once a store of the second version has a history
   pub widened_held : (counts : Counts) (cached : List (ℕ × Board)) → cached ≡ [] → new.in_transaction ≡ false → (HasCleanDisk new → IsTrue new.is_open)
-      → ((content : Content) → StandsSecond content old → StandsBy (IsWidened content counts) (AreRows (without_history content)) new) → OfSecondState old new (λ s. Holds false counts.people counts.boards cached new s)
+      → ((content : Content) → StandsSecond content old → StandsBy (IsWidened content counts) (AreRows (without_history content)) new) → OfSecondState old new (λ s. Holds false (counted counts.people) counts.boards cached new s)
   widened_held counts cached none idle usable done clean s stored =
       let content = stored.content in
       let now = done content stored.stands in

@@ -19,11 +19,13 @@ use Rattle.tb_sql_tables.specs.Content.{Content}
 use Rattle.tb_sql_tables.specs.Found.{AreFound, IsOneOf}
 use Rattle.tb_keeper.specs.declared.auditing.Audit.{Audit}
 use Rattle.tb_keeper.specs.declared.auditing.Checked.{Checked}
-use Rattle.tb_keeper.specs.Auditing.{differs, is_instance_on, is_link_on, AreChecksOf, CountsRows, IsCheckBy, IsCheckOf, IsCheckOfRow, IsCheckWith, IsCountOf, IsOwned, IsRowCheck, IsTablesCheck, StandsFor}
+use Rattle.tb_keeper.specs.Auditing.{differs, is_instance_on, is_link_on, AreChecksOf, CountsBoards, CountsRows, IsCheckBy, IsCheckOf, IsCheckOfRow, IsCheckWith, IsCountOf, IsOwned, IsRowCheck, IsTablesCheck, StandsFor}
 use Rattle.tb_keeper.specs.SoundHistories.{IsSoundHistory}
+use Rattle.tb_keeper.specs.SoundRows.{AreNumbered, HasPeople}
 use Rattle.tb_lookup.specs.Reopening.{OfContent}
 use Rattle.tb_keeper.proofs.Counting.{IsOneMore}
 use Rattle.tb_lookup.proofs.Standing.{stood}
+use Rattle.tb_task.specs.Limits.{most_boards}
 
 -- what is found of a board between looks that change nothing
 pub check_whole : (start second third fourth after : Database) (row : BoardRow) (horizon : Option HorizonRow) (tasks : List TaskRow) (gone : List GoneRow) (links : List LinkRow) (instances : List InstanceRow) (checked : Checked)
@@ -55,9 +57,9 @@ check_whole start second third fourth after row horizon tasks gone links instanc
     }
 
 -- what is found of a row: its roles first, its history last
-pub row_whole : (start second third after : Database) (row : BoardRow) (tables checked : Checked) → IsAsBefore start second → IsAsBefore second third → IsAsBefore third after
-    → OfContent start second (λ c. IsOwned c row.id) → OfContent second third (λ c. IsCheckOfRow c row tables) → OfContent third after (λ c. IsCheckWith c row.id tables checked) → OfContent start after (λ c. IsRowCheck c row checked)
-row_whole start second third after row tables checked one two three owned check history clean c stands =
+pub row_whole : (start second third after : Database) (people : ℕ) (row : BoardRow) (tables checked : Checked) → IsAsBefore start second → IsAsBefore second third → IsAsBefore third after
+    → OfContent start second (λ c. IsOwned c people row.id) → OfContent second third (λ c. IsCheckOfRow c row tables) → OfContent third after (λ c. IsCheckWith c row.id tables checked) → OfContent start after (λ c. IsRowCheck c people row checked)
+row_whole start second third after people row tables checked one two three owned check history clean c stands =
     let clean_third = three.clean clean in
     let at_second = stood c start second stands one in
     record {
@@ -96,11 +98,12 @@ with_horizon P Q start mid after one two first rest clean c stands = rest clean 
 pub behind : (P : Content → Type 0) (old mid new : Database) → IsAsBefore old mid → OfContent mid new P → OfContent old new P
 behind P old mid new one found clean c stands = found clean c (stood c old mid stands one)
 
-checks_more : (c : Content) (rows : List BoardRow) (checks : List Checked) (row : BoardRow) (checked : Checked) → AreChecksOf c rows checks → IsRowCheck c row checked → AreChecksOf c (rows ++ row ∷ []) (checks ++ checked ∷ [])
-checks_more c [] [] row checked each one = (one, tt)
-checks_more c [] (x ∷ xs) row checked each one = absurd each
-checks_more c (r ∷ rows) [] row checked each one = absurd each
-checks_more c (r ∷ rows) (x ∷ xs) row checked each one = (each.0, checks_more c rows xs row checked each.1 one)
+checks_more : (c : Content) (people : ℕ) (rows : List BoardRow) (checks : List Checked) (row : BoardRow) (checked : Checked) → AreChecksOf c people rows checks → IsRowCheck c people row checked
+    → AreChecksOf c people (rows ++ row ∷ []) (checks ++ checked ∷ [])
+checks_more c people [] [] row checked each one = (one, tt)
+checks_more c people [] (x ∷ xs) row checked each one = absurd each
+checks_more c people (r ∷ rows) [] row checked each one = absurd each
+checks_more c people (r ∷ rows) (x ∷ xs) row checked each one = (each.0, checks_more c people rows xs row checked each.1 one)
 
 abbrev tasks_in : List Checked → ℕ
 tasks_in checks = sum_by (λ (x : Checked). x.tasks) checks
@@ -118,33 +121,43 @@ faults_more checks checked =
     go true = omega arith
     go false = refl
 
-rows_more : (c : Content) (rows : List BoardRow) (row : BoardRow) (audit later : Audit) (checked : Checked) → IsRowCheck c row checked → IsOneMore audit later checked → CountsRows c rows audit → CountsRows c (rows ++ row ∷ []) later
-rows_more c rows row audit later checked one more counts = record {
+rows_more : (c : Content) (people : ℕ) (rows : List BoardRow) (row : BoardRow) (audit later : Audit) (checked : Checked) → IsRowCheck c people row checked → IsOneMore audit later checked → CountsRows c people rows audit
+    → CountsRows c people (rows ++ row ∷ []) later
+rows_more c people rows row audit later checked one more counts = record {
   checks = counts.checks ++ checked ∷ [];
-  each = checks_more c rows counts.checks row checked counts.each one;
+  each = checks_more c people rows counts.checks row checked counts.each one;
   boards_are = more.boards ∙ ap (λ n. n + 1) counts.boards_are ∙ sym (length-append rows (row ∷ []));
   tasks_are = more.tasks ∙ ap (λ n. n + checked.tasks) counts.tasks_are ∙ sym (tasks_more counts.checks checked);
   faults_are = more.faults ∙ ap (λ n. cond checked.as_stored n (n + 1)) counts.faults_are ∙ sym (faults_more counts.checks checked);
 }
 
 -- so it is with each content that stood at the start
-abbrev pub CountsFirst : Database → Database → List BoardRow → Audit → Type 0
-CountsFirst start now rows audit = OfContent start now (λ c. CountsRows c rows audit)
+abbrev pub CountsFirst : Database → Database → ℕ → List BoardRow → Audit → Type 0
+CountsFirst start now people rows audit = OfContent start now (λ c. CountsRows c people rows audit)
 
-pub none_first : (start now : Database) → CountsFirst start now [] (record { boards = 0; tasks = 0; faults = 0 })
-none_first start now clean c stands = record { checks = []; each = tt; boards_are = refl; tasks_are = refl; faults_are = refl }
+pub none_first : (start now : Database) (people : ℕ) → CountsFirst start now people [] (record { boards = 0; tasks = 0; faults = 0 })
+none_first start now people clean c stands = record { checks = []; each = tt; boards_are = refl; tasks_are = refl; faults_are = refl }
 
-pub one_first : (start before after : Database) (all : List BoardRow) (n : ℕ) (row : BoardRow) (audit later : Audit) (checked : Checked) → n < length all → row ≡ get_or all n row → IsAsBefore start before → IsAsBefore before after
-    → OfContent before after (λ c. IsRowCheck c row checked) → IsOneMore audit later checked → CountsFirst start before (take n all) audit → CountsFirst start after (take (n + 1) all) later
-one_first start before after all n row audit later checked within here same one is more first clean c stands =
+pub one_first : (start before after : Database) (people : ℕ) (all : List BoardRow) (n : ℕ) (row : BoardRow) (audit later : Audit) (checked : Checked) → n < length all → row ≡ get_or all n row → IsAsBefore start before
+    → IsAsBefore before after → OfContent before after (λ c. IsRowCheck c people row checked) → IsOneMore audit later checked → CountsFirst start before people (take n all) audit → CountsFirst start after people (take (n + 1) all) later
+one_first start before after people all n row audit later checked within here same one is more first clean c stands =
     let whole : take (n + 1) all ≡ take n all ++ row ∷ [] = take_more all n row within ∙ ap (λ x. take n all ++ x ∷ []) (sym here) in
-    subst (λ rows. CountsRows c rows later) (sym whole) (rows_more c (take n all) row audit later checked (is clean c (stood c start before stands same)) more (first (one.clean clean) c stands))
+    subst (λ rows. CountsRows c people rows later) (sym whole) (rows_more c people (take n all) row audit later checked (is clean c (stood c start before stands same)) more (first (one.clean clean) c stands))
 
-pub all_first : (start now : Database) (all : List BoardRow) (n : ℕ) (audit : Audit) → length all ≤ n → CountsFirst start now (take n all) audit → CountsFirst start now all audit
-all_first start now all n audit end first = subst (λ rows. CountsFirst start now rows audit) (take_all n all end) first
+pub all_first : (start now : Database) (people : ℕ) (all : List BoardRow) (n : ℕ) (audit : Audit) → length all ≤ n → CountsFirst start now people (take n all) audit → CountsFirst start now people all audit
+all_first start now people all n audit end first = subst (λ rows. CountsFirst start now people rows audit) (take_all n all end) first
 
 -- the rows that are found are those of the content
-pub count_whole : (old mid new : Database) (rows : List BoardRow) → IsAsBefore old mid → OfContent old mid (λ c. AreFound IsBoardBefore c.boards rows) → IsAsBefore mid new → (audit : Audit)
-    → OfContent mid new (λ c. CountsRows c rows audit) → OfContent old new (λ c. IsCountOf c audit)
-count_whole old mid new rows one found two audit counts clean c stands =
-    record { rows = rows; found = found (two.clean clean) c stands; counts = counts clean c (stood c old mid stands one) }
+pub count_whole : (old mid new : Database) (people : ℕ) (rows : List BoardRow) → IsAsBefore old mid → OfContent old mid (λ c. AreFound IsBoardBefore c.boards rows) → IsAsBefore mid new → length rows ≤ most_boards → AreNumbered rows
+    → (audit : Audit) → OfContent mid new (λ c. CountsRows c people rows audit) → OfContent old new (λ c. CountsBoards c people audit)
+count_whole old mid new people rows one found two few numbered audit counts clean c stands =
+    record { rows = rows; found = found (two.clean clean) c stands; few = few; numbered = numbered; counts = counts clean c (stood c old mid stands one) }
+
+-- people are found first, and then the boards
+pub all_counted : (old mid new : Database) (people : ℕ) (audit : Audit) → IsAsBefore old mid → IsAsBefore mid new → OfContent old mid (λ c. HasPeople c people) → OfContent mid new (λ c. CountsBoards c people audit)
+    → OfContent old new (λ c. IsCountOf c audit)
+all_counted old mid new people audit one two has counts clean c stands = record {
+  people = people;
+  has_people = has (two.clean clean) c stands;
+  boards = counts clean c (stood c old mid stands one);
+}

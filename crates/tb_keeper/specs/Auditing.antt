@@ -1,6 +1,6 @@
 -- What an audit counts.
-use Rattle.std.specs.Prelude.{◌≡◌, ◌⊎◌, ◌+◌, ◌==◌, ◌↔◌, ℕ, Bool, IsTrue, true, List, [], ◌∷◌, Option, None, Some, Ok, filter, length, map, not, sum_by, IsPermutation}
-use Rattle.std.specs.List.{list_any, AllByRecursion}
+use Rattle.std.specs.Prelude.{◌≡◌, ◌≤◌, ◌⊎◌, ◌+◌, ◌==◌, ◌↔◌, ℕ, Bool, IsTrue, true, List, [], ◌∷◌, Option, None, Some, Ok, filter, length, map, not, sum_by, IsPermutation}
+use Rattle.std.specs.List.{list_all, list_any, AllByRecursion}
 use Rattle.tb_board.specs.declared.board.Board.{Board}
 use Rattle.tb_board.specs.declared.world.World.{World}
 use Rattle.tb_board.specs.Good.{IsGood}
@@ -18,6 +18,8 @@ use Rattle.tb_rows.specs.AsStored.{AreAsStored}
 use Rattle.tb_rows.specs.Rows.{board_instances, board_links, board_row, board_tasks, horizon_row, world_rows}
 use Rattle.tb_rows.specs.Reading.{board_of, is_gone_on, is_task_on}
 use Rattle.tb_keeper.specs.SoundHistories.{IsSoundHistory}
+use Rattle.tb_keeper.specs.SoundRows.{is_role_row, AreNumbered, HasPeople}
+use Rattle.tb_task.specs.Limits.{most_boards}
 use Rattle.tb_keeper.specs.declared.auditing.Audit.{Audit}
 use Rattle.tb_keeper.specs.declared.auditing.Checked.{Checked}
 
@@ -162,39 +164,50 @@ is_role_on n row = row.board == n
 abbrev pub is_owners : RoleRow → Bool
 is_owners row = row.kind == 1
 
--- the board of a number has an owner
-pub record IsOwned (c : Content) (n : ℕ) : Type 0 where
+-- The board of a number has an owner, and the roles on it are those of so many people.
+pub record IsOwned (c : Content) (people n : ℕ) : Type 0 where
   pub roles : List RoleRow
   pub found : AreFound IsRoleBefore (filter (is_role_on n) c.roles) roles
   pub owned : list_any is_owners roles ≡ true
+  pub people_on : list_all (is_role_row people) roles ≡ true
 
 -- so is that of a row, and so it is with what is found on its number, and with its history
-pub record IsRowCheck (c : Content) (row : BoardRow) (checked : Checked) : Type 0 where
-  pub owned : IsOwned c row.id
+pub record IsRowCheck (c : Content) (people : ℕ) (row : BoardRow) (checked : Checked) : Type 0 where
+  pub owned : IsOwned c people row.id
   pub tables : Checked
   pub board : IsCheckOfRow c row tables
   pub history : IsCheckWith c row.id tables checked
 
 -- a check for each row
-abbrev pub AreChecksOf : Content → List BoardRow → List Checked → Type 0
-AreChecksOf c [] [] = Unit {0}
-AreChecksOf c [] (x ∷ xs) = ⊥
-AreChecksOf c (row ∷ rows) [] = ⊥
-AreChecksOf c (row ∷ rows) (x ∷ xs) = IsRowCheck c row x × AreChecksOf c rows xs
+abbrev pub AreChecksOf : Content → ℕ → List BoardRow → List Checked → Type 0
+AreChecksOf c people [] [] = Unit {0}
+AreChecksOf c people [] (x ∷ xs) = ⊥
+AreChecksOf c people (row ∷ rows) [] = ⊥
+AreChecksOf c people (row ∷ rows) (x ∷ xs) =
+    IsRowCheck c people row x × AreChecksOf c people rows xs
 
 abbrev pub differs : Checked → Bool
 differs checked = not checked.as_stored
 
 -- the audit has the numbers of these rows, of the tasks of their boards, and of the boards that have other rows than their own
-pub record CountsRows (c : Content) (rows : List BoardRow) (audit : Audit) : Type 0 where
+pub record CountsRows (c : Content) (people : ℕ) (rows : List BoardRow) (audit : Audit)
+    : Type 0 where
   pub checks : List Checked
-  pub each : AreChecksOf c rows checks
+  pub each : AreChecksOf c people rows checks
   pub boards_are : audit.boards ≡ length rows
   pub tasks_are : audit.tasks ≡ sum_by (λ (x : Checked). x.tasks) checks
   pub faults_are : audit.faults ≡ length (filter differs checks)
 
--- the audit counts all boards of the content
-pub record IsCountOf (c : Content) (audit : Audit) : Type 0 where
+-- it counts all boards, which are numbered from 1
+pub record CountsBoards (c : Content) (people : ℕ) (audit : Audit) : Type 0 where
   pub rows : List BoardRow
   pub found : AreFound IsBoardBefore c.boards rows
-  pub counts : CountsRows c rows audit
+  pub few : length rows ≤ most_boards
+  pub numbered : AreNumbered rows
+  pub counts : CountsRows c people rows audit
+
+-- The audit counts all boards of the content. Replies and roles are those of its people.
+pub record IsCountOf (c : Content) (audit : Audit) : Type 0 where
+  pub people : ℕ
+  pub has_people : HasPeople c people
+  pub boards : CountsBoards c people audit

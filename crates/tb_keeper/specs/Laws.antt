@@ -7,9 +7,10 @@ use Rattle.tb_core.specs.GoodWorld.{IsGoodWorld}
 use Rattle.tb_calls.specs.Call.{State}
 use Rattle.tb_lookup.specs.Stored.{MayLeave}
 use Rattle.tb_lookup.proofs.States.{stored_alone}
+use Rattle.tb_keeper.specs.declared.people_at_hand.People.{People}
 use Rattle.tb_keeper.specs.Holds.{Holds}
 
-module _ (failed : Bool) (people boards : ℕ) (cached : List (ℕ × Board)) (d : Database) where
+module _ (failed : Bool) (people : People) (boards : ℕ) (cached : List (ℕ × Board)) (d : Database) where
   -- of a store that hasn't returned what was written nothing is said
   pub given : (s : State) → IsGoodWorld s.world
       → (d.is_clean ≡ true → Holds failed people boards cached d s)

@@ -9,5 +9,9 @@ pub mod Laws
 pub mod Lending
 pub mod Looking
 pub mod Noting
+pub mod PeopleAtHand
 pub mod SoundHistories
+pub mod SoundRows
+pub mod Using
 pub mod Versions
+pub mod WrittenBytes

@@ -1,6 +1,6 @@
 //! The boards at hand, and what follows changes there.
 
-ghost use Rattle.std.specs.Prelude.{◌≡◌, ◌+◌, ◌≤◌, ℕ, None, Some, IfOk, IfSome, IsSome, OnOk, false, nat_eq};
+ghost use Rattle.std.specs.Prelude.{◌≡◌, ◌+◌, ◌≤◌, ℕ, None, Ok, Some, IfOk, IfSome, IsSome, OnErr, OnOk, false, nat_eq};
 ghost use Rattle.std.specs.List.{count_by};
 ghost use Rattle.std.specs.Map.{lookup};
 ghost use Rattle.sqlite.specs.Held.{state};
@@ -14,6 +14,7 @@ ghost use Rattle.tb_sql.specs.Opening.{IsAsBefore};
 ghost use Rattle.tb_lookup.specs.Reopening.{OfState};
 ghost use Rattle.tb_keeper.specs.Counts.{is_new_board, is_new_person, one_if};
 ghost use Rattle.tb_keeper.specs.Holds.{IsAtHand};
+ghost use Rattle.tb_keeper.specs.Using.{found_in, put_by, used_at};
 ghost use Rattle.tb_task.specs.Limits.{most_boards, most_people};
 
 use crate::sql_keep::SqlKeep;
@@ -38,15 +39,14 @@ pub(crate) fn board_at<S: Alter>(
     ensures found { IfOk result (λ board. OfState (state S.Store conn.old) (state S.Store conn.new)
         (λ s. AreOf s.world cache.old.entries → board ≡ find_board s.world number)) }
     ensures at_hand { IfOk result (λ board. board ≡ lookup (nat_eq number) cache.new.entries) }
+    ensures used { cache.new.entries ≡ used_at cache.old number (found_in result) }
     ensures unread { IsSome (lookup (nat_eq number) cache.old.entries) → conn.new ≡ conn.old }
     ensures cached { OfState (state S.Store conn.old) (state S.Store conn.new)
         (λ s. AreOf s.world cache.old.entries → AreOf s.world cache.new.entries) }
     ensures same { IsAsBefore (state S.Store conn.old) (state S.Store conn.new) }
 {
-    match cache.look(number) {
-        Ok(Some(board)) => return Ok(Some(board)),
-        Ok(None) => {}
-        Err(_) => return Err(StoreFault::Memory),
+    if let Some(board) = cached_board(cache, number)? {
+        return Ok(Some(board));
     }
     let found = stored_board(alloc, conn, number)?;
     match put_at_hand(cache, &found) {
@@ -55,11 +55,29 @@ pub(crate) fn board_at<S: Alter>(
     }
 }
 
+/// One owner more of the board of a number, if it is at hand. It is the last used one then.
+fn cached_board(cache: &mut BoardCache, number: u32) -> Result<Option<Shared<Board>>, StoreFault>
+    ensures found { IfOk result (λ found. found ≡ lookup (nat_eq number) cache.old.entries) }
+    ensures there { IfOk result (λ found. found ≡ lookup (nat_eq number) cache.new.entries) }
+    ensures used { cache.new.entries ≡ used_at cache.old number (found_in result) }
+    ensures none { result ≡ Ok None → cache.new ≡ cache.old }
+    ensures of { (w : World) → AreOf w cache.old.entries → AreOf w cache.new.entries }
+{
+    if cache.cached(number).is_none() {
+        return Ok(None);
+    }
+    match cache.look(number) {
+        Ok(board) => Ok(board),
+        Err(_) => Err(StoreFault::Memory),
+    }
+}
+
 /// Puts a board at hand, if there is one.
 fn put_at_hand(cache: &mut BoardCache, board: &Option<Shared<Board>>) -> Result<(), AllocError>
     ensures there { OnOk result
         (IfSome board.now (λ b. lookup (nat_eq b.number) cache.new.entries ≡ Some b)) }
-    ensures none { board.now ≡ None → cache.new.entries ≡ cache.old.entries }
+    ensures put { OnOk result (cache.new.entries ≡ put_by cache.old board.now) }
+    ensures same { OnErr result (cache.new.entries ≡ cache.old.entries) }
     ensures of { (w : World) → AreOf w cache.old.entries
         → IfSome board.now (λ b. find_board w b.number ≡ Some b)
         → AreOf w cache.new.entries }
@@ -83,14 +101,14 @@ impl<S: Alter> SqlKeep<S> {
         ensures others { (n : ℕ) → TouchesNone n changes.now
             → lookup (nat_eq n) self.new.cache.entries ≡ lookup (nat_eq n) self.old.cache.entries }
     {
-        self.people = people_with(self.people, changes);
+        self.people.follow(changes);
         self.boards = boards_with(self.boards, changes);
         let _whole = self.cache.follow(alloc, changes);
     }
 }
 
 /// So many people, and those who come in. A good world has no more than its limit.
-fn people_with(people: usize, changes: &[Change]) -> usize
+pub(crate) fn people_with(people: usize, changes: &[Change]) -> usize
     ensures { people + count_by is_new_person changes.now ≤ most_people
         → result ≡ people + count_by is_new_person changes.now }
 {

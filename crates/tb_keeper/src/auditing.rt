@@ -16,7 +16,7 @@ ghost use Rattle.tb_sql.specs.Changes.{is_horizon, IsInstanceBefore, IsLinkBefor
 ghost use Rattle.tb_sql.specs.Opening.{IsAsBefore};
 ghost use Rattle.tb_sql_tables.specs.Content.{Content, Stands};
 ghost use Rattle.tb_sql_tables.specs.Found.{AreFound, IsOneOf};
-ghost use Rattle.tb_keeper.specs.Auditing.{is_instance_on, is_link_on, known_horizon, sound, CountsRows, HasBoardsOf, IsCheckBy, IsCheckOf, IsCheckOfRow, IsCheckWith, IsCountOf, IsRowCheck, IsTablesCheck, StandFor, StandsFor, Tells};
+ghost use Rattle.tb_keeper.specs.Auditing.{is_instance_on, is_link_on, known_horizon, sound, CountsBoards, CountsRows, HasBoardsOf, IsCheckBy, IsCheckOf, IsCheckOfRow, IsCheckWith, IsCountOf, IsRowCheck, IsTablesCheck, StandFor, StandsFor, Tells};
 ghost use Rattle.tb_keeper.specs.Holds.{Holds};
 ghost use Rattle.tb_lookup.specs.Reopening.{OfContent};
 ghost use Rattle.tb_lookup.specs.Stored.{IsStored, MayLeave};
@@ -163,12 +163,15 @@ fn audit_boards<S: Alter>(
         (λ c. (w : World) → IsGoodWorld w → HasForm w → HasBoardsOf w c → Tells c w.boards audit)) }
     ensures whole { IfOk result
         (λ audit. OfContent (state S.Store conn.old) (state S.Store conn.new)
-        (λ c. IsCountOf c audit)) }
+        (λ c. CountsBoards c people audit)) }
     ensures same { IsAsBefore (state S.Store conn.old) (state S.Store conn.new) }
 {
     ids_are_read();
     let rows = board_rows(conn)?;
-    if rows.len() > MOST_BOARDS || !are_numbered(rows.as_slice()) {
+    if rows.len() > MOST_BOARDS {
+        return Err(StoreFault::Store);
+    }
+    if !are_numbered(rows.as_slice()) {
         return Err(StoreFault::Store);
     }
     audit_rows(alloc, conn, people, rows.as_slice())
@@ -189,7 +192,7 @@ fn audit_rows<S: Alter>(
         (λ c. (bs : List Board) → StandFor c rows.now bs → Tells c bs audit)) }
     ensures whole { IfOk result
         (λ audit. OfContent (state S.Store conn.old) (state S.Store conn.new)
-        (λ c. CountsRows c rows.now audit)) }
+        (λ c. CountsRows c people rows.now audit)) }
     ensures same { IsAsBefore (state S.Store conn.old) (state S.Store conn.new) }
 {
     let mut audit = Audit {
@@ -241,7 +244,7 @@ fn check_row<S: Alter>(
         (λ c. (b : Board) → StandsFor c row.now b → IsCheckOf c b checked)) }
     ensures whole { IfOk result
         (λ checked. OfContent (state S.Store conn.old) (state S.Store conn.new)
-        (λ c. IsRowCheck c row.now checked)) }
+        (λ c. IsRowCheck c people row.now checked)) }
     ensures few { IfOk result (λ checked. checked.tasks ≤ most_tasks) }
     ensures same { IsAsBefore (state S.Store conn.old) (state S.Store conn.new) }
 {

@@ -9,6 +9,7 @@ ghost use Rattle.tb_lookup.specs.Stored.{AreRowsOf};
 ghost use Rattle.tb_lookup.specs.Migrating.{IsEmptyOrStored};
 ghost use Rattle.tb_keeper.specs.Holds.{Holds};
 
+use crate::people_at_hand::People;
 use crate::sql_keep::SqlKeep;
 use crate::written_bytes::NO_BYTES;
 use sqlite::{Alter, Connection};
@@ -66,7 +67,10 @@ impl<S: Alter> SqlKeep<S> {
         match create(&mut conn, first.rows.as_slice()) {
             Ok(()) => Ok(SqlKeep {
                 conn,
-                people: 1,
+                people: People {
+                    count: 1,
+                    known: None,
+                },
                 boards: 1,
                 cache: first.cache,
                 failed: false,

@@ -20,6 +20,7 @@ mod looking;
 mod members;
 mod noting;
 mod opening;
+mod people_at_hand;
 mod row_changes;
 mod sound_histories;
 mod sound_rows;

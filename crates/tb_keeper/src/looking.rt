@@ -11,8 +11,10 @@ ghost use Rattle.tb_core.specs.Apply.{board_of, number_for, other_of, own_for, s
 ghost use Rattle.tb_sql.specs.Opening.{IsAsBefore};
 ghost use Rattle.tb_lookup.specs.Reopening.{OfState};
 ghost use Rattle.tb_keeper.specs.Looking.{AreParties, IsGlance, IsGlanceAt, IsSeenAtHand, caller_role, takes};
+ghost use Rattle.tb_keeper.specs.PeopleAtHand.{AreStillKnown, IsKnownIn};
 
 use crate::at_hand::board_at;
+use crate::people_at_hand::{People, person_at, roles_at};
 use sqlite::{Alter, Connection};
 use std::alloc::Global;
 use tb_board::{Key, Name, Person, Role};
@@ -22,7 +24,6 @@ use tb_core::{Command, Seen, SeenBoard, SeenPerson};
 use tb_lookup::people::stored_person;
 use tb_lookup::people_on::stored_name;
 use tb_lookup::replies::stored_reply;
-use tb_lookup::roles::roles_found;
 use tb_sql::store::StoreFault;
 use tb_task::TaskId;
 use tb_values::Duplicate;
@@ -31,18 +32,21 @@ use tb_values::Duplicate;
 pub(crate) fn find_key<S: Alter>(
     alloc: Global,
     conn: &mut Connection<S>,
+    people: &mut People,
     name: &Name,
 ) -> Result<Option<Key>, StoreFault>
     ensures idle { conn.old.in_transaction ≡ false → conn.new.in_transaction ≡ false }
     ensures found { IfOk result
         (λ key. OfState (state S.Store conn.old) (state S.Store conn.new)
-        (λ s. key ≡ key_of s.world name.now)) }
+        (λ s. IsKnownIn s.world people.old.known → key ≡ key_of s.world name.now)) }
+    ensures people { AreStillKnown (state S.Store conn.old) (state S.Store conn.new)
+        people.old people.new }
     ensures same { IsAsBefore (state S.Store conn.old) (state S.Store conn.new) }
 {
     if !conn.is_autocommit() {
         return Err(StoreFault::Store); // Never: each call ends its transaction.
     }
-    match stored_person(alloc, conn, name)? {
+    match person_at(alloc, conn, people, name)? {
         Some(person) => Ok(person.key),
         None => Ok(None),
     }
@@ -73,19 +77,22 @@ pub(crate) fn find_first<S: Alter>(
 pub(crate) fn find_reply<S: Alter>(
     alloc: Global,
     conn: &mut Connection<S>,
+    people: &mut People,
     name: &Name,
     id: TaskId,
 ) -> Result<Option<KeptReply>, StoreFault>
     ensures idle { conn.old.in_transaction ≡ false → conn.new.in_transaction ≡ false }
     ensures found { IfOk result
         (λ kept. OfState (state S.Store conn.old) (state S.Store conn.new)
-        (λ s. kept ≡ get s.kept (name.now, id))) }
+        (λ s. IsKnownIn s.world people.old.known → kept ≡ get s.kept (name.now, id))) }
+    ensures people { AreStillKnown (state S.Store conn.old) (state S.Store conn.new)
+        people.old people.new }
     ensures same { IsAsBefore (state S.Store conn.old) (state S.Store conn.new) }
 {
     if !conn.is_autocommit() {
         return Err(StoreFault::Store);
     }
-    let Some(person) = stored_person(alloc, conn, name)? else {
+    let Some(person) = person_at(alloc, conn, people, name)? else {
         return Ok(None);
     };
     stored_reply(conn, person.number, id)
@@ -148,12 +155,16 @@ pub(crate) fn look_up<S: Alter>(
     alloc: Global,
     conn: &mut Connection<S>,
     cache: &mut BoardCache,
+    people: &mut People,
     name: &Name,
     command: &Command,
 ) -> Result<Glance, StoreFault>
     ensures idle { conn.old.in_transaction ≡ false → conn.new.in_transaction ≡ false }
     ensures found { IfOk result (λ glance. OfState (state S.Store conn.old) (state S.Store conn.new)
-        (λ s. AreOf s.world cache.old.entries → IsGlance s.world name.now command.now glance)) }
+        (λ s. AreOf s.world cache.old.entries → IsKnownIn s.world people.old.known
+        → IsGlance s.world name.now command.now glance)) }
+    ensures people { AreStillKnown (state S.Store conn.old) (state S.Store conn.new)
+        people.old people.new }
     ensures at_hand { IfOk result (λ glance. (n : ℕ) → board_of command.now ≡ Some n
         → IsSeenAtHand cache.new.entries n glance.board) }
     ensures cached { OfState (state S.Store conn.old) (state S.Store conn.new)
@@ -163,9 +174,9 @@ pub(crate) fn look_up<S: Alter>(
     if !conn.is_autocommit() {
         return Err(StoreFault::Store);
     }
-    let parties = find_parties(alloc, conn, name, command)?;
+    let parties = find_parties(alloc, conn, people, name, command)?;
     match command.board() {
-        Some(board) => glance_at(alloc, conn, cache, board, takes(command), parties),
+        Some(board) => glance_at(alloc, conn, cache, people, board, takes(command), parties),
         None => Ok(Glance {
             caller: parties.caller,
             own: parties.own,
@@ -179,6 +190,7 @@ pub(crate) fn look_up<S: Alter>(
 fn find_parties<S: Alter>(
     alloc: Global,
     conn: &mut Connection<S>,
+    people: &mut People,
     name: &Name,
     command: &Command,
 ) -> Result<Parties, StoreFault>
@@ -186,13 +198,37 @@ fn find_parties<S: Alter>(
     ensures idle { conn.new.in_transaction ≡ false }
     ensures found { IfOk result
         (λ parties. OfState (state S.Store conn.old) (state S.Store conn.new)
-        (λ s. AreParties s.world name.now command.now parties)) }
+        (λ s. IsKnownIn s.world people.old.known
+        → AreParties s.world name.now command.now parties)) }
+    ensures people { AreStillKnown (state S.Store conn.old) (state S.Store conn.new)
+        people.old people.new }
     ensures same { IsAsBefore (state S.Store conn.old) (state S.Store conn.new) }
 {
-    let caller = find_number(alloc, conn, name)?;
+    let caller = find_caller(alloc, conn, people, name)?;
     let own = find_own(alloc, conn, name, command)?;
     let other = find_other(alloc, conn, command)?;
     Ok(Parties { caller, own, other })
+}
+
+/// The number of the caller, who is known from then on.
+fn find_caller<S: Alter>(
+    alloc: Global,
+    conn: &mut Connection<S>,
+    people: &mut People,
+    name: &Name,
+) -> Result<Option<usize>, StoreFault>
+    requires { conn.old.in_transaction ≡ false }
+    ensures idle { conn.new.in_transaction ≡ false }
+    ensures found { IfOk result (λ number. OfState (state S.Store conn.old) (state S.Store conn.new)
+        (λ s. IsKnownIn s.world people.old.known → number ≡ number_of s.world name.now)) }
+    ensures people { AreStillKnown (state S.Store conn.old) (state S.Store conn.new)
+        people.old people.new }
+    ensures same { IsAsBefore (state S.Store conn.old) (state S.Store conn.new) }
+{
+    match person_at(alloc, conn, people, name)? {
+        Some(person) => Ok(Some(person.number)),
+        None => Ok(None),
+    }
 }
 
 /// The caller, where the command is about that person's own key.
@@ -288,6 +324,7 @@ fn glance_at<S: Alter>(
     alloc: Global,
     conn: &mut Connection<S>,
     cache: &mut BoardCache,
+    people: &mut People,
     board: u32,
     takes: bool,
     parties: Parties,
@@ -295,14 +332,17 @@ fn glance_at<S: Alter>(
     requires { conn.old.in_transaction ≡ false }
     ensures idle { conn.new.in_transaction ≡ false }
     ensures found { IfOk result (λ glance. OfState (state S.Store conn.old) (state S.Store conn.new)
-        (λ s. AreOf s.world cache.old.entries → IsGlanceAt s.world board takes parties glance)) }
+        (λ s. AreOf s.world cache.old.entries → IsKnownIn s.world people.old.known
+        → IsGlanceAt s.world board takes parties glance)) }
+    ensures people { AreStillKnown (state S.Store conn.old) (state S.Store conn.new)
+        people.old people.new }
     ensures at_hand { IfOk result (λ glance. IsSeenAtHand cache.new.entries board glance.board) }
     ensures cached { OfState (state S.Store conn.old) (state S.Store conn.new)
         (λ s. AreOf s.world cache.old.entries → AreOf s.world cache.new.entries) }
     ensures same { IsAsBefore (state S.Store conn.old) (state S.Store conn.new) }
 {
     let caller = parties.caller.unwrap_or(0); // Nobody has this number.
-    let roles = roles_found(alloc, conn, board, caller, parties.other)?;
+    let roles = roles_at(alloc, conn, people, board, caller, parties.other)?;
     let role = role_of_caller(takes, parties.caller, roles.caller);
     let seen = see_board(alloc, conn, cache, board, role)?;
     Ok(Glance {

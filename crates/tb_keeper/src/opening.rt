@@ -11,6 +11,7 @@ ghost use Rattle.tb_lookup.specs.Migrating.{IsStoredInEither, IsStoredInFirst, I
 ghost use Rattle.tb_keeper.specs.Holds.{Holds, IsAtHand};
 ghost use Rattle.tb_keeper.specs.Versions.{OfFirstState, OfSecondState};
 
+use crate::people_at_hand::People;
 use crate::sql_keep::SqlKeep;
 use crate::written_bytes::NO_BYTES;
 use sqlite::{Alter, Connection};
@@ -110,10 +111,10 @@ impl<S: Alter> SqlKeep<S> {
     }
 }
 
-/// What a keeper has at hand at first: how many people and boards there are, and no board.
+/// What a keeper has at hand at first: how many people and boards there are, but no person and no board.
 #[derive(Drop)]
 struct AtHand {
-    people: usize,
+    people: People,
     boards: usize,
     cache: BoardCache,
 }
@@ -160,7 +161,10 @@ fn at_hand<S: Alter>(alloc: Global, conn: &mut Connection<S>) -> Result<AtHand, 
     let people = count_people(conn)?;
     let boards = count_boards(conn)?;
     Ok(AtHand {
-        people,
+        people: People {
+            count: people,
+            known: None,
+        },
         boards,
         cache,
     })
@@ -183,7 +187,10 @@ fn migrated<S: Alter>(alloc: Global, conn: &mut Connection<S>) -> Result<AtHand,
     };
     let counts = migrate(alloc, conn)?;
     Ok(AtHand {
-        people: counts.people,
+        people: People {
+            count: counts.people,
+            known: None,
+        },
         boards: counts.boards,
         cache,
     })
@@ -206,7 +213,10 @@ fn widened<S: Alter>(alloc: Global, conn: &mut Connection<S>) -> Result<AtHand, 
     };
     let counts = widen(conn)?;
     Ok(AtHand {
-        people: counts.people,
+        people: People {
+            count: counts.people,
+            known: None,
+        },
         boards: counts.boards,
         cache,
     })

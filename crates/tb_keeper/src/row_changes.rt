@@ -19,9 +19,12 @@ ghost use Rattle.tb_lookup.specs.Stored.{kept_row};
 ghost use Rattle.tb_task.specs.Storable.{IsMoment};
 ghost use Rattle.tb_keeper.specs.Committing.{deed_row, entry_changes};
 ghost use Rattle.tb_keeper.specs.Forms.{HasChangeForm};
+ghost use Rattle.tb_keeper.specs.PeopleAtHand.{AreStillKnown, IsKnownIn};
+ghost use Rattle.tb_keeper.specs.Using.{found_in, used_by, IsUsed};
 
 use crate::at_hand::board_at;
 use crate::forms::have_forms;
+use crate::people_at_hand::{People, person_at};
 use sqlite::{Alter, Connection};
 use std::alloc::{AllocError, Global};
 use tb_board::{Board, Change};
@@ -29,7 +32,6 @@ use tb_cache::BoardCache;
 use tb_calls::{Call, Reply};
 use tb_deeds::Deed;
 use tb_lookup::histories::last_entry;
-use tb_lookup::people::stored_person;
 use tb_rows::{part_changes, touched_board};
 use tb_sql::changes::RowChange;
 use tb_sql::store::StoreFault;
@@ -62,6 +64,7 @@ pub(crate) fn rows_for<S: Alter>(
         (λ s. AreOf s.world cache.old.entries → people ≡ length s.world.people
         → (deed : Option DeedValue) (call : CallValue) → MayCommit s changes.now deed call
         → Leads rows s.world (changed s.world changes.now))) }
+    ensures used { IsUsed cache.old (touched_board changes.now) cache.new.entries }
     ensures cached { OfState (state S.Store conn.old) (state S.Store conn.new)
         (λ s. AreOf s.world cache.old.entries → AreOf s.world cache.new.entries) }
     ensures same { IsAsBefore (state S.Store conn.old) (state S.Store conn.new) }
@@ -85,6 +88,8 @@ fn find_part<S: Alter>(
     ensures found { IfOk result (λ part. OfState (state S.Store conn.old) (state S.Store conn.new)
         (λ s. AreOf s.world cache.old.entries
         → part ≡ board_in s.world (touched_board changes.now))) }
+    ensures used { cache.new.entries
+        ≡ used_by cache.old (touched_board changes.now) (found_in result) }
     ensures cached { OfState (state S.Store conn.old) (state S.Store conn.new)
         (λ s. AreOf s.world cache.old.entries → AreOf s.world cache.new.entries) }
     ensures same { IsAsBefore (state S.Store conn.old) (state S.Store conn.new) }
@@ -108,17 +113,20 @@ fn board_of(part: &Option<Shared<Board>>) -> Option<&Board>
 pub(crate) fn kept_row_for<S: Alter>(
     alloc: Global,
     conn: &mut Connection<S>,
+    people: &mut People,
     call: &Call,
     reply: &Reply,
 ) -> Result<KeptRow, StoreFault>
     requires { conn.old.in_transaction ≡ false }
     ensures idle { conn.new.in_transaction ≡ false }
     ensures row { IfOk result (λ row. OfState (state S.Store conn.old) (state S.Store conn.new)
-        (λ s. row ≡ kept_row s.world
+        (λ s. IsKnownIn s.world people.old.known → row ≡ kept_row s.world
         (name_of call.now, record { content = call.now.content; reply = reply.now }))) }
+    ensures people { AreStillKnown (state S.Store conn.old) (state S.Store conn.new)
+        people.old people.new }
     ensures same { IsAsBefore (state S.Store conn.old) (state S.Store conn.new) }
 {
-    let Some(person) = stored_person(alloc, conn, &call.member)? else {
+    let Some(person) = person_at(alloc, conn, people, &call.member)? else {
         return Err(StoreFault::Store); // Never: the caller of what may be committed is known.
     };
     let Ok(number) = u32::try_from(person.number) else {

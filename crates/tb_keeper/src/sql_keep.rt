@@ -1,21 +1,23 @@
-ghost use Rattle.std.specs.Prelude.{◌≡◌, ◌||◌, ℕ, None, Some, IfOk, IfSome, IsErrOf, IsSome, false, if◌then◌else◌, nat_eq, true};
+ghost use Rattle.std.specs.Prelude.{◌≡◌, ◌||◌, ℕ, None, Some, IfOk, IfSome, IsErrOf, IsSome, OnOk, false, if◌then◌else◌, nat_eq, true};
 ghost use Rattle.std.specs.Map.{lookup};
 ghost use Rattle.std.specs.Option.{option_map};
 ghost use Rattle.sqlite.specs.Held.{state};
 ghost use Rattle.sqlite.specs.State.{HasCleanDisk};
 ghost use Rattle.tb_board.specs.World.{find_board, key_of};
 ghost use Rattle.tb_calls.specs.Call.{State};
-ghost use Rattle.tb_calls.specs.Keep.{IsStill, is_store};
+ghost use Rattle.tb_calls.specs.Keep.{HoldsEither, IsStill, MayCommit, is_store, with_reply};
 ghost use Rattle.tb_core.specs.Apply.{board_of, seen_of};
 ghost use Rattle.tb_lookup.specs.Stored.{IsStored, IsStoredAsEither, MayLeave};
 ghost use Rattle.tb_keeper.specs.Ending.{ended};
 ghost use Rattle.tb_keeper.specs.Holds.{Holds};
 ghost use Rattle.tb_keeper.specs.Looking.{IsSeenAtHand};
+ghost use Rattle.tb_keeper.specs.Using.{IsUsedToCommit};
 
 use crate::histories::find_history;
 use crate::looking::{find_key, find_reply, look_up};
 use crate::members::{find_boards, find_people};
-use crate::written_bytes::both;
+use crate::people_at_hand::People;
+use crate::written_bytes::with_more;
 use sqlite::{Alter, Connection};
 use std::alloc::Global;
 use tb_board::{Board, Change, Key, Name};
@@ -29,12 +31,12 @@ use tb_sql::store::StoreFault;
 use tb_task::TaskId;
 use tb_values::Items;
 
-/// Keeps a world and the replies given in one SQLite file. It has at hand how many people and boards there are, and the boards that
-/// were used last; all else it looks up at each call.
+/// Keeps a world and the replies given in one SQLite file. It has at hand how many people and boards there are, the person that was
+/// found last, and the boards that were used last; all else it looks up at each call.
 #[derive(Drop)]
 pub struct SqlKeep<S: Alter> {
     pub(crate) conn: Connection<S>,
-    pub(crate) people: usize,
+    pub(crate) people: People,
     pub(crate) boards: usize,
     pub(crate) cache: BoardCache,
     pub(crate) failed: bool,
@@ -122,7 +124,7 @@ impl<S: Alter> Keep for SqlKeep<S> {
         if self.failed {
             return Err(KeepFault::Store);
         }
-        let end = find_key(alloc, &mut self.conn, name);
+        let end = find_key(alloc, &mut self.conn, &mut self.people, name);
         self.settle(end)
     }
 
@@ -135,7 +137,7 @@ impl<S: Alter> Keep for SqlKeep<S> {
         if self.failed {
             return Err(KeepFault::Store);
         }
-        let end = find_reply(alloc, &mut self.conn, name, id);
+        let end = find_reply(alloc, &mut self.conn, &mut self.people, name, id);
         self.settle(end)
     }
 
@@ -164,8 +166,15 @@ impl<S: Alter> Keep for SqlKeep<S> {
         if self.failed {
             return Err(KeepFault::Store);
         }
-        match look_up(alloc, &mut self.conn, &mut self.cache, name, command) {
-            Ok(glance) => Ok(glance.seen(self.people, self.boards)),
+        match look_up(
+            alloc,
+            &mut self.conn,
+            &mut self.cache,
+            &mut self.people,
+            name,
+            command,
+        ) {
+            Ok(glance) => Ok(glance.seen(self.people.count, self.boards)),
             Err(StoreFault::Memory) => Err(KeepFault::Memory),
             Err(StoreFault::Store) => {
                 self.failed = true;
@@ -212,6 +221,7 @@ impl<S: Alter> Keep for SqlKeep<S> {
         self.written
     }
 
+    /// The board that the changes touch is at hand from then on, where there is memory for it.
     fn commit(
         &mut self,
         alloc: Global,
@@ -219,13 +229,52 @@ impl<S: Alter> Keep for SqlKeep<S> {
         deed: Option<Deed>,
         call: &Call,
         reply: &Reply,
-    ) -> Result<(), KeepFault> {
+    ) -> Result<(), KeepFault>
+        ensures ok { (s : State)
+            → Holds self.old.failed self.old.people self.old.boards self.old.cache.entries
+            (state S.Store self.old.conn) s
+            → MayCommit s changes.now deed call.now
+            → OnOk result
+            (Holds self.new.failed self.new.people self.new.boards self.new.cache.entries
+            (state S.Store self.new.conn)
+            (with_reply s changes.now deed call.now reply.now)) }
+        ensures memory { (s : State)
+            → Holds self.old.failed self.old.people self.old.boards self.old.cache.entries
+            (state S.Store self.old.conn) s
+            → MayCommit s changes.now deed call.now → IsErrOf result KeepFault.Memory
+            → Holds self.new.failed self.new.people self.new.boards self.new.cache.entries
+            (state S.Store self.new.conn) s }
+        ensures store { (s : State)
+            → Holds self.old.failed self.old.people self.old.boards self.old.cache.entries
+            (state S.Store self.old.conn) s
+            → MayCommit s changes.now deed call.now → self.old.failed ≡ false
+            → HoldsEither s (with_reply s changes.now deed call.now reply.now)
+            (λ t. Holds self.new.failed self.new.people self.new.boards self.new.cache.entries
+            (state S.Store self.new.conn) t)
+            (λ t. MayLeave (state S.Store self.new.conn) t) }
+        ensures stays { (s : State)
+            → Holds self.old.failed self.old.people self.old.boards self.old.cache.entries
+            (state S.Store self.old.conn) s
+            → MayCommit s changes.now deed call.now → self.old.failed ≡ true
+            → IsStill
+            (λ s. Holds self.old.failed self.old.people self.old.boards self.old.cache.entries
+            (state S.Store self.old.conn) s)
+            (λ t. MayLeave (state S.Store self.old.conn) t)
+            (λ s. Holds self.new.failed self.new.people self.new.boards self.new.cache.entries
+            (state S.Store self.new.conn) s)
+            (λ t. MayLeave (state S.Store self.new.conn) t) }
+        ensures used { IsUsedToCommit self.old.cache changes.now result self.new.cache.entries }
+        ensures failed { self.new.failed ≡ is_store result }
+        ensures honest { (state S.Store self.new.conn).is_clean ≡ true
+            → (state S.Store self.old.conn).is_clean ≡ true }
+        ensures closed { self.old.failed ≡ true → IsErrOf result KeepFault.Store }
+    {
         if self.failed {
             return Err(KeepFault::Store);
         }
         match self.write_call(alloc, changes, deed, call, reply) {
             Ok(more) => {
-                self.written = both(self.written, more);
+                self.written = with_more(self.written, more);
                 self.follow(alloc, changes);
                 Ok(())
             }

@@ -10,6 +10,11 @@ ghost use Rattle.tb_lookup.specs.Reopening.{OfState};
 ghost use Rattle.tb_lookup.specs.Stored.{IsStored, IsStoredAsEither};
 ghost use Rattle.tb_keeper.specs.Committing.{LeadTo};
 ghost use Rattle.tb_keeper.specs.Holds.{IsAtHand};
+ghost use Rattle.tb_keeper.specs.PeopleAtHand.{AreStillKnown};
+ghost use Rattle.tb_keeper.specs.WrittenBytes.{bytes_of_call};
+ghost use Rattle.tb_keeper.specs.declared.writing.CallRows.{CallRows};
+ghost use Rattle.tb_keeper.specs.Using.{IsUsed};
+ghost use Rattle.tb_rows.specs.Part.{touched_board};
 
 use crate::row_changes::{entry_row_for, hold_to_forms, kept_row_for, rows_for, with_entry};
 use crate::sql_keep::SqlKeep;
@@ -43,9 +48,11 @@ impl<S: Alter> SqlKeep<S> {
     ) -> Result<CallRows, StoreFault>
         requires { self.old.conn.in_transaction ≡ false }
         ensures idle { self.new.conn.in_transaction ≡ false }
-        ensures people { self.new.people ≡ self.old.people }
+        ensures people { AreStillKnown (state S.Store self.old.conn) (state S.Store self.new.conn)
+            self.old.people self.new.people }
         ensures boards { self.new.boards ≡ self.old.boards }
         ensures failed { self.new.failed ≡ self.old.failed }
+        ensures used { IsUsed self.old.cache (touched_board changes.now) self.new.cache.entries }
         ensures cached { OfState (state S.Store self.old.conn) (state S.Store self.new.conn)
             (λ s. AreOf s.world self.old.cache.entries → AreOf s.world self.new.cache.entries) }
         ensures leads { IfOk result
@@ -56,8 +63,9 @@ impl<S: Alter> SqlKeep<S> {
         ensures same { IsAsBefore (state S.Store self.old.conn) (state S.Store self.new.conn) }
     {
         hold_to_forms(changes)?;
-        let rows = rows_for(alloc, &mut self.conn, &mut self.cache, self.people, changes)?;
-        let kept = kept_row_for(alloc, &mut self.conn, call, reply)?;
+        let people = self.people.count;
+        let rows = rows_for(alloc, &mut self.conn, &mut self.cache, people, changes)?;
+        let kept = kept_row_for(alloc, &mut self.conn, &mut self.people, call, reply)?;
         let entry = entry_row_for(&mut self.conn, deed, call, kept.person)?;
         match with_entry(rows, entry) {
             Ok(changes) => Ok(CallRows { changes, kept }),
@@ -75,11 +83,13 @@ impl<S: Alter> SqlKeep<S> {
         call: &Call,
         reply: &Reply,
     ) -> Result<Written, StoreFault>
-        ensures people { self.new.people ≡ self.old.people }
+        ensures people { AreStillKnown (state S.Store self.old.conn) (state S.Store self.new.conn)
+            self.old.people self.new.people }
         ensures boards { self.new.boards ≡ self.old.boards }
         ensures failed { self.new.failed ≡ self.old.failed }
         ensures clean { HasCleanDisk (state S.Store self.new.conn)
             → HasCleanDisk (state S.Store self.old.conn) }
+        ensures used { IsUsed self.old.cache (touched_board changes.now) self.new.cache.entries }
         ensures cached { OfState (state S.Store self.old.conn) (state S.Store self.new.conn)
             (λ s. AreOf s.world self.old.cache.entries → AreOf s.world self.new.cache.entries) }
         ensures ok { OnOk result
@@ -88,6 +98,12 @@ impl<S: Alter> SqlKeep<S> {
             → MayCommit s changes.now deed call.now
             → IsStored (with_reply s changes.now deed call.now reply.now)
             (state S.Store self.new.conn))) }
+        ensures bytes { IfOk result
+            (λ written. (rows : CallRows) × (written ≡ bytes_of_call rows deed)
+            × OfState (state S.Store self.old.conn) (state S.Store self.new.conn)
+            (λ s. IsAtHand self.old.people self.old.boards self.old.cache.entries s.world
+            → MayCommit s changes.now deed call.now
+            → LeadTo s (with_reply s changes.now deed call.now reply.now) rows)) }
         ensures memory { result ≡ Err StoreFault.Memory
             → OfState (state S.Store self.old.conn) (state S.Store self.new.conn)
             (λ s. IsStored s (state S.Store self.new.conn)) }

@@ -16,6 +16,7 @@ use Rattle.tb_calls.specs.declared.call.KeptReply.{KeptReply}
 use Rattle.tb_calls.specs.Call.{State}
 use Rattle.tb_calls.specs.History.{content_in, history_seen}
 use Rattle.tb_deeds.specs.declared.kind.DeedKind.{DeedKind}
+use Rattle.tb_deeds.specs.declared.kind.DeedKind.TheVariants.{Import, ImportTodo}
 use Rattle.tb_deeds.specs.Kinds.{kind_of_number}
 use Rattle.tb_deeds.proofs.Numbers.{kind_found}
 use Rattle.tb_history.specs.declared.entry.Entry.{Entry}
@@ -28,7 +29,7 @@ use Rattle.tb_history.specs.History.{entries_on, numbered}
 use Rattle.tb_history.specs.Pages.{chosen, is_about, shown_entry, with_content}
 use Rattle.tb_sql.specs.Opening.{IsAsBefore}
 use Rattle.tb_sql_tables.specs.declared.rows.HistoryRow.{HistoryRow}
-use Rattle.tb_lookup.specs.Histories.{AreChosen, AreShown, IsReadBy, IsShown}
+use Rattle.tb_lookup.specs.Histories.{AreChosen, AreShown, IsImport, IsReadBy, IsShown}
 use Rattle.tb_lookup.specs.Named.{IsNameAt}
 use Rattle.tb_lookup.specs.Reopening.{OfState}
 use Rattle.tb_lookup.specs.Replies.{IsReplyFound}
@@ -101,6 +102,27 @@ pub entry_shown : (old mid new : Database) (b : Board) (row : HistoryRow) (entry
     → shown ≡ with_content row.number entry task content → OfState old new (λ s. IsShown s b row shown)
 entry_shown old mid new b row entry kept shown task content one idle two read found at what made clean s stored =
     shown_back s b row entry kept shown task content (read (two.clean clean) s stored) (found clean s (stored_again s old mid stored one idle)) at what made
+
+-- ---- that of an import is shown without what it brought
+
+none_of_import : (what : DeedKind) (o : Option (List ℕ)) → IsImport what → ◌≡◌ {A = Option (List ℕ)} None (option_and_then (content_shown what) o)
+none_of_import what None import = refl
+none_of_import what (Some content) (inl is) = sym (ap (λ (k : DeedKind). content_shown k content) is)
+none_of_import what (Some content) (inr is) = sym (ap (λ (k : DeedKind). content_shown k content) is)
+
+module _ (s : State) (b : Board) (row : HistoryRow) (entry : Entry) (shown : ShownEntry) (task : Option ℕ) where
+  pub import_back : IsReadBy s row entry → IsImport entry.what → task ≡ option_and_then (slice_get (ids b.tasks)) entry.place → shown ≡ with_content row.number entry task None → IsShown s b row shown
+  import_back read import at made e of_s is =
+      let same : entry ≡ e.1 = read b.number e of_s is in
+      let number : row.number ≡ e.0 = ap (λ (r : HistoryRow). r.number) is in
+      let on : task ≡ option_and_then (slice_get (ids b.tasks)) e.1.place = at ∙ ap (λ (x : Entry). option_and_then (slice_get (ids b.tasks)) x.place) same in
+      let kind : IsImport e.1.what = subst (λ (x : Entry). IsImport x.what) same import in
+      let seen : ◌≡◌ {A = Option (List ℕ)} None (option_and_then (content_shown e.1.what) (content_in s e.1.member e.1.id)) = none_of_import e.1.what (content_in s e.1.member e.1.id) kind in
+      made ∙ (λ i. with_content (number i) (same i) (on i) (seen i))
+
+pub import_shown : (old new : Database) (b : Board) (row : HistoryRow) (entry : Entry) (shown : ShownEntry) (task : Option ℕ) → OfState old new (λ s. IsReadBy s row entry) → IsImport entry.what
+    → task ≡ option_and_then (slice_get (ids b.tasks)) entry.place → shown ≡ with_content row.number entry task None → OfState old new (λ s. IsShown s b row shown)
+import_shown old new b row entry shown task read import at made clean s stored = import_back s b row entry shown task (read clean s stored) import at made
 
 -- ---- one after the other
 

@@ -1,10 +1,12 @@
 -- What the rows of a board's history tell of its entries.
-use Rattle.std.specs.Prelude.{◌≡◌, ℕ, List, map}
+use Rattle.std.specs.Prelude.{◌≡◌, ◌⊎◌, ℕ, List, map}
 use Rattle.std.specs.List.{AllByRecursion}
 use Rattle.tb_board.specs.declared.board.Board.{Board}
 use Rattle.tb_board.specs.Tasks.{ids}
 use Rattle.tb_calls.specs.Call.{State}
 use Rattle.tb_calls.specs.History.{content_in}
+use Rattle.tb_deeds.specs.declared.kind.DeedKind.{DeedKind}
+use Rattle.tb_deeds.specs.declared.kind.DeedKind.TheVariants.{Import, ImportTodo}
 use Rattle.tb_history.specs.declared.entry.Entry.{Entry}
 use Rattle.tb_history.specs.declared.page.ShownEntry.{ShownEntry}
 use Rattle.tb_history.specs.declared.page.Which.{Which}
@@ -34,3 +36,7 @@ AreShown s b rows shown = (es : List (ℕ × Entry))
     → AllByRecursion (λ (e : ℕ × Entry). IsEntryOf s b.number e.1) es
     → rows ≡ map (entry_row s.world b.number) es
     → shown ≡ map (shown_entry (content_in s) (ids b.tasks)) es
+
+-- an import of one of both forms
+abbrev pub IsImport : DeedKind → Type 0
+IsImport what = (what ≡ Import) ⊎ (what ≡ ImportTodo)

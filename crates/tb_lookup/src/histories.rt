@@ -1,12 +1,13 @@
 //! The histories of boards, as the tables tell them.
 
-ghost use Rattle.std.specs.Prelude.{◌≡◌, ◌+◌, ◌-◌, false, length, min, option_and_then, option_map, slice_get, IfOk};
+ghost use Rattle.std.specs.Prelude.{◌≡◌, ◌+◌, ◌-◌, false, true, length, min, option_and_then, option_map, slice_get, IfOk};
 ghost use Rattle.sqlite.specs.Held.{state};
 ghost use Rattle.tb_board.specs.Tasks.{ids};
 ghost use Rattle.tb_calls.specs.History.{history_seen};
 ghost use Rattle.tb_history.specs.History.{entries_on};
+ghost use Rattle.tb_history.specs.Pages.{with_content};
 ghost use Rattle.tb_sql.specs.Opening.{IsAsBefore};
-ghost use Rattle.tb_lookup.specs.Histories.{AreChosen, AreShown, IsReadBy, IsShown};
+ghost use Rattle.tb_lookup.specs.Histories.{AreChosen, AreShown, IsImport, IsReadBy, IsShown};
 ghost use Rattle.tb_lookup.specs.Reopening.{OfState};
 
 use crate::gathering::put;
@@ -157,7 +158,8 @@ fn shown_entries<S: Alter>(
     Ok(entries)
 }
 
-/// The entry of a row, as it is shown on a board. That its person or its kept reply isn't there is a failure of the store.
+/// The entry of a row, as it is shown on a board. What an import brought isn't shown, so it isn't read. That an entry's person isn't
+/// there, or the kept reply where it is read, is a failure of the store.
 fn shown_entry<S: Alter>(
     alloc: Global,
     conn: &mut Connection<S>,
@@ -171,12 +173,35 @@ fn shown_entry<S: Alter>(
     ensures same { IsAsBefore (state S.Store conn.old) (state S.Store conn.new) }
 {
     let entry = stored_entry(alloc, conn, row)?;
+    let task = task_at(board, entry.place);
+    if is_import(entry.what) {
+        return shown(alloc, row.number, &entry, task, None);
+    }
     let Some(kept) = stored_reply(conn, row.person as usize, row.call)? else {
         return Err(StoreFault::Store);
     };
     let content = shown_content(kept.content.as_slice(), entry.what);
-    let task = task_at(board, entry.place);
-    match ShownEntry::of_entry(alloc, row.number, &entry, task, content) {
+    shown(alloc, row.number, &entry, task, content)
+}
+
+fn is_import(what: DeedKind) -> bool
+    ensures { result ≡ true → IsImport what }
+{
+    matches!(what, DeedKind::Import | DeedKind::ImportTodo)
+}
+
+/// The entry of this number, as it is shown with this task and content.
+fn shown(
+    alloc: Global,
+    number: u32,
+    entry: &Entry,
+    task: Option<TaskId>,
+    content: Option<&str>,
+) -> Result<ShownEntry, StoreFault>
+    ensures { IfOk result (λ shown. shown
+        ≡ with_content number entry.now task (option_map (λ text. text.now) content.entry)) }
+{
+    match ShownEntry::of_entry(alloc, number, entry, task, content) {
         Ok(shown) => Ok(shown),
         Err(_) => Err(StoreFault::Memory),
     }

@@ -1,3 +1,4 @@
+mod Fields
 mod Floatless
 mod Keys
 mod Weekdays

@@ -1,11 +1,11 @@
 -- Boards by their numbers or titles, and the line of the settings that names one.
-use Rattle.std.specs.Prelude.{ℕ, Bool, true, false, ◌||◌, is_some, List, [], ◌∷◌, ◌++◌, codes, decimal, Option, Some, None, option_and_then, if◌then◌else◌}
+use Rattle.std.specs.Prelude.{ℕ, Bool, true, false, not, ◌||◌, is_some, List, [], ◌∷◌, ◌++◌, codes, decimal, Option, Some, None, option_and_then, if◌then◌else◌}
 use Rattle.std.specs.Str.{bytes_eq, trim}
 use Rattle.serde_json.specs.Data.{Data, Items, no_items, item}
 use Rattle.serde_json.specs.Find.{as_array, get}
 use Rattle.serde_json.specs.Read.{read}
 use Rattle.tb_my.specs.Days.{Text}
-use Rattle.tb_my.specs.Settings.{lines_of, value_of}
+use Rattle.tb_my.specs.Settings.{is_note, lines_of, value_of}
 use Rattle.tb_my.specs.Shown.{number_at, text_at}
 
 -- ---- the board that a text names
@@ -65,8 +65,36 @@ abbrev pub with_board : Text → Text → Text
 with_board text board =
     kept_lines (lines_of text) ++ (codes "board = " ++ (board ++ 10 ∷ []))
 
--- what is written where somebody says whom to ask
-abbrev pub settings_text : Text → Text → Text → Text
-settings_text server name board =
-    codes "server = " ++ (server ++ (codes "\nname = " ++ (name
-    ++ (codes "\nboard = " ++ (board ++ 10 ∷ [])))))
+-- ---- the settings of somebody who says whom to ask
+
+-- a note, or where the key is
+abbrev pub is_unasked : Text → Bool
+is_unasked line = is_note line || is_some (value_of line (codes "key-file"))
+
+abbrev pub is_asked_line : Text → Bool
+is_asked_line line = not (is_unasked (trim line))
+
+-- empty lines and those that are asked for go
+abbrev pub left_line : Text → Text
+left_line [] = []
+left_line (byte ∷ bytes) =
+    if is_asked_line (byte ∷ bytes) then [] else (byte ∷ bytes) ++ 10 ∷ []
+
+abbrev pub left_lines : List Text → Text
+left_lines [] = []
+left_lines (line ∷ lines) = left_line line ++ left_lines lines
+
+-- no board is one that is named before each word
+abbrev pub board_line : Text → Text
+board_line [] = []
+board_line (byte ∷ bytes) = codes "board = " ++ ((byte ∷ bytes) ++ 10 ∷ [])
+
+abbrev pub asked_lines : Text → Text → Text → Text
+asked_lines server name board =
+    codes "server = " ++ (server ++ (codes "\nname = " ++ (name ++ 10 ∷ board_line board)))
+
+-- what nobody is asked for stays as it was, and what was said is behind it
+-- Rule: `tb setup` keeps the line of the key's file, and notes. Tried by my.sh.
+abbrev pub settings_text : Text → Text → Text → Text → Text
+settings_text before server name board =
+    left_lines (lines_of before) ++ asked_lines server name board

@@ -3,7 +3,7 @@ use Rattle.std.specs.Prelude.{ℕ, Bool, true, false, ◌==◌, ◌||◌, List, 
 use Rattle.std.specs.Str.{trim_start}
 use Rattle.serde_json.specs.Data.{Data}
 use Rattle.serde_json.specs.Read.{read}
-use Rattle.tb_my.specs.Days.{Text, before_key}
+use Rattle.tb_my.specs.Days.{Text, after_key, before_key}
 use Rattle.tb_my.specs.Shown.{number_at}
 use Rattle.tb_my.specs.Telling.{text_or}
 
@@ -11,9 +11,17 @@ abbrev pub begins_json : Text → Bool
 begins_json [] = false
 begins_json (byte ∷ bytes) = (byte == 91) || (byte == 123)
 
+-- what some editors put in front of a text, U+FEFF
+abbrev pub byte_order_mark : Text
+byte_order_mark = 239 ∷ 187 ∷ 191 ∷ []
+
+-- Rule: an import takes a text with a byte order mark as the text without it. Tried by my.sh.
+abbrev pub without_mark : Text → Text
+without_mark text = unwrap_or (after_key byte_order_mark text) text
+
 -- a text that begins with a bracket is JSON, and another one lines of todo.txt
 abbrev pub is_json : Text → Bool
-is_json text = begins_json (trim_start text)
+is_json text = begins_json (trim_start (without_mark text))
 
 abbrev pub without_end : Text → Text
 without_end text = unwrap_or (before_key (codes "\n") text) text

@@ -96,10 +96,15 @@ name_of setting = do
   text ← given kind.Name setting
   fitting kind.Name (read_name text)
 
-abbrev pub board_of : Option Text → Result Text MyFault
-board_of setting = do
-  text ← given kind.Board setting
-  fitting kind.Board (if is_some (read_title text) then Some text else None)
+-- none is needed where a word asks of none
+abbrev pub board_of : Option Text → Result (Option Text) MyFault
+board_of None = Ok None
+board_of (Some text) =
+    fitting kind.Board (if is_some (read_title text) then Some (Some text) else None)
+
+-- Rule: the words that ask of a board need one, and no others. Tried by my.sh.
+abbrev pub needed_board : Asker → Result Text MyFault
+needed_board asker = given kind.Board asker.board
 
 abbrev pub asker_of : Settings → Result Asker MyFault
 asker_of settings = do

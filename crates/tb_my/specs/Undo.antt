@@ -1,12 +1,12 @@
 -- What takes back the calls of a command, and how it is kept: lines of fields with tabs between them.
-use Rattle.std.specs.Prelude.{ℕ, Bool, true, false, ◌==◌, ◌||◌, nat_lt, List, [], ◌∷◌, ◌++◌, codes, Option, Some, None, option_map, if◌then◌else◌}
-use Rattle.std.specs.List.{list_any, slice_split}
-use Rattle.std.specs.Str.{bytes_eq}
+use Rattle.std.specs.Prelude.{ℕ, ◌+◌, ◌-◌, Bool, true, false, ◌==◌, ◌&&◌, nat_le, nat_lt, List, [], ◌∷◌, ◌++◌, codes, map, Option, Some, None, option_map, if◌then◌else◌}
+use Rattle.std.specs.List.{slice_split}
+use Rattle.std.specs.Str.{bytes_eq, chars, encode_utf8_all}
 use Rattle.tb_my.specs.Days.{Text}
 use Rattle.tb_my.specs.Settings.{lines_of}
 use Rattle.tb_my.specs.declared.sent.Sent.{Sent}
 
--- Rule: `tb undo` takes back done, delete, start, stop, notes and links. Tried by my.sh.
+-- Rule: `tb undo` takes back done, delete, start, stop, notes of any text and links. Tried by my.sh.
 unfoldable pub opposite_word : Text → Option Text
 opposite_word word =
     if bytes_eq word (codes "done") then Some (codes "reopen")
@@ -29,20 +29,40 @@ tabbed_after (field ∷ fields) = 9 ∷ (field ++ tabbed_after fields)
 abbrev pub tabbed : Text → List Text → Text
 tabbed field fields = field ++ (tabbed_after fields ++ 10 ∷ [])
 
-abbrev pub is_control : ℕ → Bool
-is_control byte = nat_lt byte 32
+-- ---- a word as a field, which has no tab and no end of a line
 
--- a field has no tab and no end of a line
-abbrev pub has_control : List Text → Bool
-has_control [] = false
-has_control (field ∷ fields) = list_any is_control field || has_control fields
+abbrev pub is_control : ℕ → Bool
+is_control c = nat_lt c 32
+
+-- U+0001 and the character 64 behind it stand for a control character
+abbrev pub kept_char : ℕ → List ℕ
+kept_char c = if is_control c then 1 ∷ (c + 64) ∷ [] else c ∷ []
+
+abbrev pub kept_chars : List ℕ → List ℕ
+kept_chars [] = []
+kept_chars (c ∷ cs) = kept_char c ++ kept_chars cs
+
+unfoldable pub kept_word : Text → Text
+kept_word text = encode_utf8_all (kept_chars (chars text))
+
+abbrev pub opened_char : ℕ → ℕ
+opened_char c = if nat_le 64 c && nat_lt c 96 then c - 64 else c
+
+-- the characters of a field, behind U+0001 or not
+abbrev pub opened_chars : Bool → List ℕ → List ℕ
+opened_chars is_marked [] = []
+opened_chars true (c ∷ cs) = opened_char c ∷ opened_chars false cs
+opened_chars false (c ∷ cs) =
+    if c == 1 then opened_chars true cs else c ∷ opened_chars false cs
+
+unfoldable pub opened_word : Text → Text
+opened_word field = encode_utf8_all (opened_chars false (chars field))
 
 -- ---- what is kept
 
 abbrev pub kept_with : Text → Option Text → List Text → Text
 kept_with told None words = []
-kept_with told (Some word) words =
-    if has_control words then [] else tabbed told (word ∷ words)
+kept_with told (Some word) words = tabbed told (word ∷ map kept_word words)
 
 -- what was told of a call, and what takes it back: nothing where nothing does
 abbrev pub kept_of : Text → List Text → Text
@@ -63,7 +83,7 @@ fields_of line = slice_split (λ b. b == 9) line
 
 abbrev pub taken_back : Text → List Text → Sent
 taken_back told words =
-    record { words = words; told = codes "Taken back: " ++ told; call = None }
+    record { words = map opened_word words; told = codes "Taken back: " ++ told; call = None }
 
 abbrev pub undone_of : List Text → List Sent
 undone_of (told ∷ word ∷ words) = taken_back told (word ∷ words) ∷ []

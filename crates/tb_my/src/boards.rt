@@ -2,9 +2,9 @@
 ghost use Rattle.std.specs.Prelude.{◌≡◌, ◌++◌, IfOk, OnOk, map, option_map, string_bytes};
 ghost use Rattle.serde_json.specs.Read.{read};
 ghost use Rattle.serde_json.specs.View.{items_view, view};
-ghost use Rattle.tb_my.specs.Boards.{board_named, first_named, first_of, if_named, is_board_line, is_named, is_text, kept_line, kept_lines, named_in, settings_text, with_board};
+ghost use Rattle.tb_my.specs.Boards.{asked_lines, board_line, board_named, first_named, first_of, if_named, is_asked_line, is_board_line, is_named, is_text, is_unasked, kept_line, kept_lines, left_line, left_lines, named_in, settings_text, with_board};
 
-use crate::settings::{lines_of, value_of};
+use crate::settings::{is_note, lines_of, value_of};
 use crate::shown::{number_at, text_at};
 use serde_json::Value;
 use std::alloc::{AllocError, Global};
@@ -117,21 +117,76 @@ fn is_board_line(line: &str) -> bool
     value_of(line.trim(), "board").is_some()
 }
 
-/// The lines of settings that say whom to ask.
+/// The settings that say whom to ask, after those before that nobody is asked for: notes, and where the key is.
 pub fn settings_text(
     alloc: Global,
+    before: &str,
     server: &str,
     name: &str,
     board: &str,
 ) -> Result<Text, AllocError>
-    ensures { IfOk result (λ text. text ≡ settings_text server.now name.now board.now) }
+    ensures { IfOk result (λ text. text
+        ≡ settings_text before.now server.now name.now board.now) }
 {
-    let mut text = String::from_str(alloc, "server = ")?;
+    let lines = lines_of(alloc, before)?;
+    let mut text = left_lines(alloc, lines.as_slice())?;
+    push_asked(&mut text, server, name, board)?;
+    Ok(Text::from_string(text))
+}
+
+fn left_lines(alloc: Global, lines: &[&str]) -> Result<String, AllocError>
+    ensures { IfOk result (λ text. string_bytes text
+        ≡ left_lines (map (λ line. line.now) lines.entry.now)) }
+{
+    let mut text = String::new(alloc);
+    for line in lines {
+        push_left(&mut text, line)?;
+    }
+    Ok(text)
+}
+
+/// Puts a line at the end, unless it is empty or one that is asked for.
+fn push_left(text: &mut String, line: &str) -> Result<(), AllocError>
+    ensures { OnOk result (string_bytes text.new ≡ string_bytes text.old ++ left_line line.now) }
+{
+    if line.is_empty() || is_asked_line(line) {
+        return Ok(());
+    }
+    text.push_str(line)?;
+    text.push('\n')
+}
+
+fn is_asked_line(line: &str) -> bool
+    ensures { result ≡ is_asked_line line.now }
+{
+    !is_unasked(line.trim())
+}
+
+fn is_unasked(line: &str) -> bool
+    ensures { result ≡ is_unasked line.now }
+{
+    is_note(line) || value_of(line, "key-file").is_some()
+}
+
+fn push_asked(text: &mut String, server: &str, name: &str, board: &str) -> Result<(), AllocError>
+    ensures { OnOk result (string_bytes text.new
+        ≡ string_bytes text.old ++ asked_lines server.now name.now board.now) }
+{
+    text.push_str("server = ")?;
     text.push_str(server)?;
     text.push_str("\nname = ")?;
     text.push_str(name)?;
-    text.push_str("\nboard = ")?;
-    text.push_str(board)?;
     text.push('\n')?;
-    Ok(Text::from_string(text))
+    push_board(text, board)
+}
+
+fn push_board(text: &mut String, board: &str) -> Result<(), AllocError>
+    ensures { OnOk result (string_bytes text.new ≡ string_bytes text.old ++ board_line board.now) }
+{
+    if board.is_empty() {
+        return Ok(());
+    }
+    text.push_str("board = ")?;
+    text.push_str(board)?;
+    text.push('\n')
 }

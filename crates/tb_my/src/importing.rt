@@ -2,9 +2,9 @@
 ghost use Rattle.std.specs.Prelude.{◌≡◌, ◌++◌, IfOk, OnOk, Some, string_bytes};
 ghost use Rattle.serde_json.specs.Read.{read};
 ghost use Rattle.serde_json.specs.View.{view};
-ghost use Rattle.tb_my.specs.Importing.{begins_json, count_text, counts_of, import_told, import_words, is_json, new_and_known, other_counts, told_of, without_end};
+ghost use Rattle.tb_my.specs.Importing.{begins_json, count_text, counts_of, import_told, import_words, is_json, new_and_known, other_counts, told_of, without_end, without_mark};
 
-use crate::days::before_key;
+use crate::days::{after_key, before_key};
 use crate::sent::three_words;
 use crate::shown::number_at;
 use serde_json::Value;
@@ -13,11 +13,23 @@ use std::fmt::Write;
 use tb_json::parse;
 use tb_values::{Items, Text};
 
+const BYTE_ORDER_MARK: &str = "\u{feff}";
+
 /// Whether a text begins as JSON, with a bracket: another one is lines of todo.txt.
 pub fn is_json(text: &str) -> bool
     ensures { result ≡ is_json text.now }
 {
-    begins_json(text.trim_start().as_bytes())
+    begins_json(without_mark(text).trim_start().as_bytes())
+}
+
+/// A text without the byte order mark that some editors put in front.
+pub fn without_mark(text: &str) -> &str
+    ensures { result.now ≡ without_mark text.now }
+{
+    match after_key(text, BYTE_ORDER_MARK) {
+        Some(rest) => rest,
+        None => text,
+    }
 }
 
 fn begins_json(text: &[u8]) -> bool

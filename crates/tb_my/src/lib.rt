@@ -25,13 +25,15 @@ mod zone;
 pub use boards::{board_named, settings_text, with_board};
 pub use days::{after_key, before_key, moment_named, weekdays_are_next};
 pub use fault::MyFault;
-pub use importing::{import_told, import_words, is_json};
+pub use importing::{import_told, import_words, is_json, without_mark};
 pub use look::{Seen, read_seen};
 pub use options::{board_given, listed_words, words_after_board};
 pub use part::Setting;
 pub use query::{Days, Query, Sort, Test, query_of};
 pub use sent::{Sent, looks, sent_of};
-pub use settings::{Asker, SettingName, Settings, asker_of, read_settings, settings_over};
+pub use settings::{
+    Asker, SettingName, Settings, asker_of, needed_board, read_settings, settings_over,
+};
 pub use shown::{shown_answer, text_at};
 pub use telling::{fault_text, push_shown, refusal_text};
 pub use undo::{kept_sent, undo_head, undone_in};

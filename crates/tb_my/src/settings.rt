@@ -3,14 +3,14 @@ ghost use Rattle.std.specs.List.{slice_split};
 ghost use Rattle.std.specs.Prelude.{◌≡◌, IfOk, is_some, map, option_map};
 ghost use Rattle.tb_board.specs.Names.{read_title};
 ghost use Rattle.tb_my.specs.Outcome.{Reads};
-ghost use Rattle.tb_my.specs.Settings.{asker_of, board_of, is_note, lines_of, name_of, no_settings, or_setting, server_of, settings_of, settings_over, value_of, with_line};
+ghost use Rattle.tb_my.specs.Settings.{asker_of, board_of, is_note, lines_of, name_of, needed_board, no_settings, or_setting, server_of, settings_of, settings_over, value_of, with_line};
 
 use crate::days::after_key;
 use crate::fault::{MyFault, bad_line};
 use std::alloc::{AllocError, Global};
 use tb_board::{Name, Title};
 use tb_command_line::is_server;
-use tb_values::Text;
+use tb_values::{Duplicate, Text};
 
 /// What a setting is of.
 #[derive(Clone, Copy, Debug, PartialEq, Eq)]
@@ -39,7 +39,7 @@ pub struct Asker {
     pub server: Text,
     pub name: Name,
     /// The number of a board, or its title.
-    pub board: Text,
+    pub board: Option<Text>,
     /// Where the key is, if not where `send` reads it.
     pub key_file: Option<Text>,
 }
@@ -90,7 +90,7 @@ fn with_line(alloc: Global, settings: Settings, line: &str) -> Result<Settings, 
     Ok(settings)
 }
 
-fn is_note(line: &str) -> bool
+pub(crate) fn is_note(line: &str) -> bool
     ensures { result ≡ is_note line.now }
 {
     match line.as_bytes() {
@@ -169,16 +169,26 @@ fn name_of(alloc: Global, setting: Option<Text>) -> Result<Name, MyFault>
     }
 }
 
-fn board_of(alloc: Global, setting: Option<Text>) -> Result<Text, MyFault>
+fn board_of(alloc: Global, setting: Option<Text>) -> Result<Option<Text>, MyFault>
     ensures { Reads result (board_of setting) }
 {
     let Some(text) = setting else {
-        return Err(MyFault::Lacks(SettingName::Board));
+        return Ok(None);
     };
     if is_board(alloc, text.as_str())? {
-        Ok(text)
+        Ok(Some(text))
     } else {
         Err(MyFault::Unfit(SettingName::Board))
+    }
+}
+
+/// The board that is asked of, by a word that asks of one.
+pub fn needed_board(asker: &Asker) -> Result<Text, MyFault>
+    ensures { Reads result (needed_board asker.now) }
+{
+    match &asker.board {
+        Some(board) => Ok(board.duplicate()?),
+        None => Err(MyFault::Lacks(SettingName::Board)),
     }
 }
 

@@ -64,7 +64,7 @@ const NO_NAME: &str =
     "Who are you? Write a line as `name = ann` into ~/.config/taskboard/config, or set TASKBOARD_NAME.";
 
 const NO_BOARD: &str =
-    "Which board? Write a line as `board = 1` into ~/.config/taskboard/config, or set TASKBOARD_BOARD.";
+    "Which board? `tb boards` lists yours, and `tb use 1` writes board 1 into ~/.config/taskboard/config. Or set TASKBOARD_BOARD.";
 
 const NO_KEY_FILE: &str =
     "The file of the key can't be read, has no key, or others may read it (chmod 600). Mend the line `key-file = ..` of ~/.config/taskboard/config, or TASKBOARD_KEY_FILE.";

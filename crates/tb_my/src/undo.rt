@@ -1,12 +1,19 @@
 //! What takes back the calls of a command, and how it is kept.
-ghost use Rattle.std.specs.List.{list_any, slice_split};
-ghost use Rattle.std.specs.Prelude.{◌≡◌, ◌++◌, ◌∷◌, [], IfOk, OnOk, map, option_map, string_bytes};
-ghost use Rattle.tb_my.specs.Undo.{fields_of, has_control, is_control, kept_of, kept_sent, kept_with, opposite_word, tabbed, tabbed_after, taken_back, undo_head, undone_after, undone_from, undone_in, undone_of};
+ghost use Rattle.std.specs.List.{slice_split};
+ghost use Rattle.std.specs.Prelude.{◌≡◌, ◌++◌, ◌∷◌, [], IfOk, OnOk, chars, false, map, option_map, string_bytes};
+ghost use Rattle.std.specs.Str.{encode_utf8_all};
+ghost use Rattle.tb_my.specs.Undo.{fields_of, is_control, kept_char, kept_chars, kept_of, kept_sent, kept_with, kept_word, opened_char, opened_chars, opened_word, opposite_word, tabbed, tabbed_after, taken_back, undo_head, undone_after, undone_from, undone_in, undone_of};
 
 use crate::sent::Sent;
 use crate::settings::lines_of;
 use std::alloc::{AllocError, Global};
 use tb_values::{Items, Text};
+
+/// What stands before the character for a control character.
+const MARK: char = '\u{1}';
+
+/// How far that is behind the control character.
+const CONTROLS: u8 = 64;
 
 /// Who asked which server, as it stands before what takes back their calls.
 pub fn undo_head(alloc: Global, server: &str, name: &str) -> Result<Text, AllocError>
@@ -36,49 +43,67 @@ fn kept_of(alloc: Global, told: &str, word: &str, words: &[Text]) -> Result<Text
     let Some(word) = opposite_word(word) else {
         return Ok(Text::new(alloc));
     };
-    if has_control(words) {
-        return Ok(Text::new(alloc));
-    }
     let mut text = String::from_str(alloc, told)?;
     text.push('\t')?;
     text.push_str(word)?;
-    push_tabbed(&mut text, words)?;
+    push_tabbed(alloc, &mut text, words)?;
     text.push('\n')?;
     Ok(Text::from_string(text))
 }
 
-fn push_tabbed(text: &mut String, fields: &[Text]) -> Result<(), AllocError>
+fn push_tabbed(alloc: Global, text: &mut String, words: &[Text]) -> Result<(), AllocError>
     ensures { OnOk result (string_bytes text.new
-        ≡ string_bytes text.old ++ tabbed_after fields.now) }
+        ≡ string_bytes text.old ++ tabbed_after (map kept_word words.now)) }
 {
-    for field in fields {
+    for word in words {
         text.push('\t')?;
-        text.push_str(field.as_str())?;
+        push_word(alloc, text, word.as_str())?;
     }
     Ok(())
 }
 
-fn has_control(fields: &[Text]) -> bool
-    ensures { result ≡ has_control fields.now }
+/// Puts a word at the end, with two characters for each control character, so that it is one field.
+#[tactic(auto, unfolding(crate::specs::Undo::kept_word))]
+fn push_word(alloc: Global, text: &mut String, word: &str) -> Result<(), AllocError>
+    ensures value { OnOk result (string_bytes text.new ≡ string_bytes text.old ++ kept_word word.now) }
+    ensures again { opened_word (kept_word word.now) ≡ word.now }
 {
-    for field in fields {
-        if has_control_byte(field.as_bytes()) {
-            return true;
-        }
+    let characters = characters_of(alloc, word)?;
+    push_characters(text, characters.as_slice())
+}
+
+fn characters_of(alloc: Global, text: &str) -> Result<Vec<char>, AllocError>
+    ensures { IfOk result (λ characters. characters.items ≡ chars text.now) }
+{
+    text.chars().collect(alloc)
+}
+
+fn push_characters(text: &mut String, characters: &[char]) -> Result<(), AllocError>
+    ensures { OnOk result (string_bytes text.new
+        ≡ string_bytes text.old ++ encode_utf8_all (kept_chars characters.now)) }
+{
+    for character in characters {
+        push_character(text, *character)?;
     }
-    false
+    Ok(())
 }
 
-fn has_control_byte(bytes: &[u8]) -> bool
-    ensures { result ≡ list_any is_control bytes.now }
+fn push_character(text: &mut String, character: char) -> Result<(), AllocError>
+    ensures { OnOk result (string_bytes text.new
+        ≡ string_bytes text.old ++ encode_utf8_all (kept_char character)) }
 {
-    bytes.iter().any(|byte| is_control(*byte))
+    if is_control(character) {
+        text.push(MARK)?;
+        text.push((character as u8 + CONTROLS) as char)
+    } else {
+        text.push(character)
+    }
 }
 
-fn is_control(byte: u8) -> bool
-    ensures { result ≡ is_control byte }
+fn is_control(character: char) -> bool
+    ensures { result ≡ is_control character }
 {
-    byte < b' '
+    character < ' '
 }
 
 /// The word of the call that takes back one of this word.
@@ -164,7 +189,7 @@ fn taken_back(alloc: Global, told: &str, words: &[&str]) -> Result<Sent, AllocEr
     ensures { IfOk result (λ sent. sent
         ≡ taken_back told.now (map (λ word. word.now) words.entry.now)) }
 {
-    let words = texts_of(alloc, words)?;
+    let words = words_of(alloc, words)?;
     let mut text = Text::from_str(alloc, "Taken back: ")?;
     text.push_str(told)?;
     Ok(Sent {
@@ -180,12 +205,50 @@ fn fields_of(alloc: Global, line: &str) -> Result<Vec<&str>, AllocError>
     line.split('\t').collect(alloc)
 }
 
-fn texts_of(alloc: Global, words: &[&str]) -> Result<Items<Text>, AllocError>
-    ensures { IfOk result (λ texts. texts ≡ map (λ word. word.now) words.entry.now) }
+fn words_of(alloc: Global, fields: &[&str]) -> Result<Items<Text>, AllocError>
+    ensures { IfOk result
+        (λ words. words ≡ map opened_word (map (λ field. field.now) fields.entry.now)) }
 {
-    let mut texts = Items::new(alloc);
-    for word in words {
-        texts.push(Text::from_str(alloc, word)?)?;
+    let mut words = Items::new(alloc);
+    for field in fields {
+        words.push(opened_word(alloc, field)?)?;
     }
-    Ok(texts)
+    Ok(words)
+}
+
+/// The word that a field was kept of.
+#[tactic(auto, unfolding(crate::specs::Undo::opened_word))]
+fn opened_word(alloc: Global, field: &str) -> Result<Text, AllocError>
+    ensures { IfOk result (λ word. word ≡ opened_word field.now) }
+{
+    let characters = characters_of(alloc, field)?;
+    opened_text(alloc, characters.as_slice())
+}
+
+fn opened_text(alloc: Global, characters: &[char]) -> Result<Text, AllocError>
+    ensures { IfOk result (λ text. text ≡ encode_utf8_all (opened_chars false characters.now)) }
+{
+    let mut text = String::new(alloc);
+    let mut is_marked = false;
+    for character in characters {
+        if is_marked {
+            text.push(opened_char(*character))?;
+            is_marked = false;
+        } else if *character == MARK {
+            is_marked = true;
+        } else {
+            text.push(*character)?;
+        }
+    }
+    Ok(Text::from_string(text))
+}
+
+fn opened_char(character: char) -> char
+    ensures { result ≡ opened_char character }
+{
+    if '@' <= character && character <= '_' {
+        (character as u8 - CONTROLS) as char
+    } else {
+        character
+    }
 }

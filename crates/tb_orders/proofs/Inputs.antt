@@ -1,5 +1,5 @@
 -- An import of an input, by what the import of its text promises.
-use Rattle.std.proofs.Common.{◌≡◌, ◌⊎◌, ℕ, Bool, true, List, [], ◌∷◌, Option, IfOk, IfSome, OnOk, Result, Ok, Err, true≢false, ap, arith, inl, inr, refl, subst, sym}
+use Rattle.std.proofs.Common.{◌≡◌, ◌⊎◌, ℕ, Bool, true, List, [], ◌∷◌, Option, IfOk, IfSome, OnOk, Result, Ok, Err, true≢false, arith, inl, inr, refl, subst, sym}
 use Rattle.std.specs.Io.KnownBytes.{Appends}
 use Rattle.tb_asking.specs.Asking.{asked_of}
 use Rattle.tb_asking.specs.declared.asked.Asked.{Asked}
@@ -10,9 +10,9 @@ use Rattle.tb_calls.specs.Leaving.{Only, StandsAfter}
 use Rattle.tb_calls.specs.declared.call.Call.{Call}
 use Rattle.tb_command_line.specs.declared.order.ImportOrder.{ImportOrder}
 use Rattle.tb_http.specs.declared.message.Message.{Message}
-use Rattle.tb_orders.specs.Input.{AreAskedBy, IsAskedBy, IsMade}
+use Rattle.tb_orders.specs.Input.{IsMade}
 use Rattle.tb_orders.specs.Message.{message_of}
-use Rattle.tb_orders.specs.Orders.{AsksFor, calls_made, ending_of, line_text}
+use Rattle.tb_orders.specs.Orders.{AsksFor, ending_of, line_text}
 use Rattle.tb_orders.specs.Telling.{is_of_imports, is_of_inputs, is_of_messages}
 use Rattle.tb_orders.specs.declared.ending.Ending.{Ending}
 use Rattle.tb_program.specs.declared.fault.Fault.{Fault}
@@ -52,49 +52,6 @@ made_by (Ok ending) order text m at input s honest now before after is whole tol
 pub none_made : (s : State) (now stops : State → Type 0) → now s → Only s stops → StandsAfter s [] 0 now stops
 none_made s now stops held only =
     record { held = (s, held, (0, omega arith, omega arith, refl)); stops = λ t left. (0, omega arith, omega arith, only t left) }
-
--- a message that asks for no call left the desk as it was
-none_stood : {D : Type 0} (r : Result Ending Fault) (s : State) (holds stops : D → State → Type 0) (old new : D)
-    → ((r ≡ Err BadBody) ⊎ (r ≡ Err Memory)) × (new ≡ old) → holds old s → Only s (stops old)
-    → StandsAfter s [] (calls_made r) (holds new) (stops new)
-none_stood r s holds stops old new same held only =
-    let none : calls_made r ≡ 0 = elim same.0 [ inl is ↦ ap calls_made is | inr is ↦ ap calls_made is ] in
-    let before = subst (λ n. StandsAfter s [] n (holds old) (stops old)) (sym none) (none_made s (holds old) (stops old) held only) in
-    subst (λ d. StandsAfter s [] (calls_made r) (holds d) (stops d)) (sym same.1) before
-
--- what stands is what a call led to that was asked for, or nothing was
-pub stood_by : {D : Type 0} (r : Result Ending Fault) (order : ImportOrder) (text : List ℕ) (m : Message) (at : ℕ) (input : Option (List ℕ)) (s : State)
-    (holds stops : D → State → Type 0) (old new : D) → m ≡ message_of order text → IfSome input (λ all. text ≡ all)
-    → ((call : Call) → AsksFor m at call → StandsAfter s (call ∷ []) (calls_made r) (holds new) (stops new))
-    → (((call : Call) → AsksFor m at call → ⊥) → ((r ≡ Err BadBody) ⊎ (r ≡ Err Memory)) × (new ≡ old))
-    → holds old s → Only s (stops old)
-    → (calls : List Call) × AreAskedBy order input calls × StandsAfter s calls (calls_made r) (holds new) (stops new)
-stood_by r order text m at input s holds stops old new is whole stands unasked held only =
-    elim (asks_or_not m at) [
-      | inl made ↦ (
-        made.0 ∷ [],
-        record { text = text; at = at; whole = whole; asked = subst (λ x. AsksFor x at made.0) is made.1 },
-        stands made.0 made.1,
-      )
-      | inr none ↦ ([], tt, none_stood r s holds stops old new (unasked none) held only)
-    ]
-
--- what an input couldn't be made into a message for, made no call
-pub unread_made : (fault : Fault) → is_of_messages fault ≡ true → calls_made (Err fault) ≡ 0
-unread_made Bad is = absurd (true≢false (sym is))
-unread_made BadBody is = refl
-unread_made Memory is = refl
-unread_made NoClock is = refl
-unread_made NoListen is = absurd (true≢false (sym is))
-unread_made NoAnswer is = absurd (true≢false (sym is))
-unread_made NoKey is = absurd (true≢false (sym is))
-unread_made NoPage is = absurd (true≢false (sym is))
-unread_made NotEmpty is = absurd (true≢false (sym is))
-unread_made NotOurs is = absurd (true≢false (sym is))
-unread_made ReadFailed is = refl
-unread_made Store is = absurd (true≢false (sym is))
-unread_made WriteFailed is = absurd (true≢false (sym is))
-unread_made WrongVersion is = absurd (true≢false (sym is))
 
 pub of_message : (fault : Fault) → is_of_messages fault ≡ true → is_of_inputs fault ≡ true
 of_message Bad is = absurd (true≢false (sym is))

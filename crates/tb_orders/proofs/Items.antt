@@ -3,7 +3,7 @@ use Rattle.std.proofs.Common.{◌≡◌, ◌∷◌, ◌+◌, ℕ, List, Option, 
 use Rattle.tb_asking.specs.Asking.{asked_of}
 use Rattle.tb_command_line.specs.declared.order.ImportOrder.{ImportOrder}
 use Rattle.tb_orders.specs.Items.{IsBadAmong, IsBadBehind, IsBadIn, item_in}
-use Rattle.tb_orders.specs.Cutting.{parts_of}
+use Rattle.tb_orders.specs.Lists.{IsCut}
 use Rattle.tb_orders.specs.Message.{message_of}
 use Rattle.tb_orders.specs.Running.{part_message}
 use Rattle.tb_orders.specs.declared.ending.Ending.{Ending}
@@ -39,7 +39,7 @@ bad_behind order n parts part rest at r is bad =
 
 -- of an input
 pub bad_among : (order : ImportOrder) (input : Option (List ℕ)) (text : List ℕ) (parts : List (List ℕ)) (at : ℕ) (r : Result Ending OrderFault)
-    → IfSome input (λ all. text ≡ all) → parts_of order.kind text ≡ Some parts
+    → IfSome input (λ all. text ≡ all) → IsCut order.kind text (Some parts)
     → IfErr r (λ failed. IfSome failed.item (IsBadBehind order 0 parts at)) → IfErr r (λ failed. IfSome failed.item (IsBadAmong order input))
 bad_among order input text parts at r whole cut bad =
     failed_weaker r (IsBadBehind order 0 parts at) (IsBadAmong order input)

@@ -1,5 +1,7 @@
+pub mod Doing
 pub mod Exported
 pub mod Given
+pub mod Halves
 pub mod Inputs
 pub mod Items
 pub mod NewKeys

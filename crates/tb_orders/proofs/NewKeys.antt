@@ -5,7 +5,7 @@ use Rattle.tb_orders.specs.NewKey.{IsAsked, IsKeyFor, new_key}
 use Rattle.tb_orders.specs.declared.new_key.NewKey.{NewKey}
 
 -- a key for it under an identifier of bytes that were drawn
-pub asked_of : (order : KeyOrder) (input : Option (List ℕ)) (key drawn : List ℕ) (moment : ℕ) (asked : NewKey)
-    → IsKeyFor order.is_read input key → length drawn ≡ 16 → asked ≡ new_key order key drawn moment → IsAsked order input asked
-asked_of order input key drawn moment asked known long is =
-    subst (IsAsked order input) (sym is) (record { name_is = refl; made_is = refl; key_is = known; id_is = (drawn, long, refl) })
+pub asked_of : (given : ℕ → Type 0) (order : KeyOrder) (input : Option (List ℕ)) (key drawn : List ℕ) (moment : ℕ) (asked : NewKey)
+    → IsKeyFor order.is_read input key → length drawn ≡ 16 → given moment → asked ≡ new_key order key drawn moment → IsAsked given order input asked
+asked_of given order input key drawn moment asked known long came is =
+    subst (IsAsked given order input) (sym is) (record { name_is = refl; made_is = refl; key_is = known; id_is = (drawn, long, refl); at_is = came })

@@ -1,5 +1,5 @@
 -- Runs of parts, by what the import of each promises.
-use Rattle.std.proofs.Common.{◌≡◌, ◌≢◌, ◌⊎◌, ◌∙◌, ◌+◌, ◌==◌, ℕ, zero, suc, Bool, true, false, if◌then◌else◌, List, [], ◌∷◌, ◌++◌, length, take, Option, Some, None, IfOk, IfSome, OnOk, Result, Ok, Err, ap, append_assoc, arith, inl, inr, refl, subst, sym}
+use Rattle.std.proofs.Common.{◌≡◌, ◌≢◌, ◌⊎◌, ◌∙◌, ◌+◌, ◌==◌, ℕ, zero, suc, Bool, true, false, if◌then◌else◌, List, [], ◌∷◌, ◌++◌, length, take, Option, Some, None, IfErr, IfOk, IfSome, OnErr, OnOk, Result, Ok, Err, add-one, ap, append_assoc, arith, inl, inr, refl, subst, sym}
 use Rattle.std.proofs.lemmas.List.{append-nil}
 use Rattle.std.specs.Io.KnownBytes.{Appends}
 use Rattle.tb_calls.specs.Call.{State, replies_after, replies_to, reply, told_in}
@@ -8,15 +8,18 @@ use Rattle.tb_calls.specs.declared.call.Call.{Call}
 use Rattle.tb_command_line.specs.declared.order.ImportOrder.{ImportOrder}
 use Rattle.tb_desk.proofs.Runs.{after_all, after_all-append}
 use Rattle.tb_http.specs.declared.message.Message.{Message}
+use Rattle.tb_orders.proofs.Doing.{front_of, made_exactly, made_first, silent_front, told_one}
 use Rattle.tb_orders.proofs.Inputs.{asks_or_not, none_made}
+use Rattle.tb_orders.specs.Doing.{made_of, may_act}
 use Rattle.tb_orders.specs.Orders.{AsksFor, calls_made, ending_of, line_text}
 use Rattle.tb_orders.specs.Running.{AreFirst, IsRun, IsRunOf, ends_as, is_refused, lines_text, messages_behind, part_message}
 use Rattle.tb_orders.specs.declared.ending.Ending.{Ending}
 use Rattle.tb_orders.specs.declared.ending.Ending.TheVariants.{Accepted, Refused}
 use Rattle.tb_program.specs.declared.fault.Fault.{Fault}
-use Rattle.tb_program.specs.declared.fault.Fault.TheVariants.{BadBody, Memory}
+use Rattle.tb_program.specs.declared.fault.Fault.TheVariants.{BadBody, Memory, WriteFailed}
 use Rattle.tb_calls.specs.declared.reply.Reply.{Reply}
-use Rattle.tb_values.proofs.Appends.{Appends-nil, Appends-then}
+use Rattle.tb_values.proofs.Appends.{Appends-nil, Appends-then, AppendsFront-then, Keeps-refl}
+use Rattle.tb_values.specs.Appends.{AppendsFront}
 
 -- ---- replies and states after a first call
 
@@ -50,6 +53,14 @@ told_more : (r : Result Ending Fault) (a b c : Option (List ℕ)) (xs ys : List 
 told_more (Ok ending) a b c xs ys first rest = Appends-then a b c xs ys first rest
 told_more (Err fault) a b c xs ys first rest = tt
 
+front_more : (r : Result Ending Fault) (a b c : Option (List ℕ)) (xs ys : List ℕ) → Appends a b xs → OnErr r (AppendsFront b c ys) → OnErr r (AppendsFront a c (xs ++ ys))
+front_more (Ok ending) a b c xs ys first rest = tt
+front_more (Err fault) a b c xs ys first rest = AppendsFront-then a b c xs ys first rest
+
+-- the replies to the first calls, and one call before them
+replies_first : (s : State) (c : Call) (cs : List Call) (n : ℕ) → replies_to s (take (n + 1) (c ∷ cs)) ≡ reply s [] c ∷ replies_to (after_all s (c ∷ [])) (take n cs)
+replies_first s c cs n = ap (λ k. replies_to s (take k (c ∷ cs))) (add-one n) ∙ replies_more s c (take n cs)
+
 is_then : (b : Bool) → (if b then true else false) ≡ true → b ≡ true
 is_then true is = refl
 is_then false is = is
@@ -63,13 +74,14 @@ ends_at : (b : Bool) → (if b then ends_as [] (if b then Accepted else Refused)
 ends_at true = refl
 ends_at false = refl
 
-ends_one : (r : Result Ending Fault) (x : Reply) → IfOk r (λ ending. ending ≡ ending_of x) → IfOk r (λ ending. ends_as (x ∷ []) ending ≡ true)
-ends_one (Ok ending) x is = subst (λ e. ends_as (x ∷ []) e ≡ true) (sym is) (ends_at (x.number == 0))
-ends_one (Err fault) x is = tt
+ends_one : (r : Result Ending Fault) (s : State) (c : Call) → IfOk r (λ ending. ending ≡ ending_of (reply s [] c))
+    → IfOk r (λ ending. ends_as (replies_to s (made_of r c)) ending ≡ true)
+ends_one (Ok ending) s c is = subst (λ e. ends_as (reply s [] c ∷ []) e ≡ true) (sym is) (ends_at ((reply s [] c).number == 0))
+ends_one (Err fault) s c is = tt
 
-done_one : (r : Result Ending Fault) → OnOk r (calls_made r ≡ 1)
-done_one (Ok ending) = refl
-done_one (Err fault) = tt
+done_one : (r : Result Ending Fault) (c : Call) → OnOk r (calls_made r ≡ length (made_of r c))
+done_one (Ok ending) c = refl
+done_one (Err fault) c = tt
 
 done_more : (r : Result Ending Fault) (n m : ℕ) → OnOk r (n ≡ m) → OnOk r (n + 1 ≡ suc m)
 done_more (Ok ending) n m is = omega (arith, is)
@@ -78,17 +90,19 @@ done_more (Err fault) n m is = tt
 -- ---- runs
 
 -- of no call
-pub none_run : (messages : List Message) (at : ℕ) (s : State) (fault : Fault) (honest : Bool) (now stops : State → Type 0) (before after : Option (List ℕ))
-    → now s → Only s stops → IsRun messages at s (Err fault) honest now stops before after
-none_run messages at s fault honest now stops before after held only = record {
+pub none_run : (messages : List Message) (at : ℕ) (s : State) (fault : Fault) (honest : Bool) (now stops : State → Type 0) (before : Option (List ℕ))
+    → now s → Only s stops → IsRun messages at s (Err fault) honest now stops before before
+none_run messages at s fault honest now stops before held only = record {
   calls = [];
   answered = 0;
   asked = tt;
   stands = none_made s now stops held only;
+  exact = omega arith;
   done = tt;
   all = λ e. absurd (cc);
   told = λ so. tt;
   ends = λ so. tt;
+  front = λ so. silent_front s [] 0 before before refl (Keeps-refl before);
 }
 
 -- of no message
@@ -99,44 +113,51 @@ end_run order n [] at s honest now stops before none held only = record {
   answered = 0;
   asked = tt;
   stands = none_made s now stops held only;
+  exact = omega arith;
   done = refl;
   all = λ e. refl;
   told = λ so. Appends-nil before;
   ends = λ so. refl;
+  front = λ so. tt;
 }
 end_run order n (part ∷ parts) at s honest now stops before none held only = absurd (omega arith)
 
 -- of one message
-pub one_run : {D : Type 0} (r : Result Ending Fault) (m : Message) (at : ℕ) (s : State) (honest : Bool) (holds stops : D → State → Type 0) (old new : D)
-    (before after : Option (List ℕ))
-    → (honest ≡ true → (call : Call) → AsksFor m at call → OnOk r (Appends before after (line_text (reply s [] call))))
+pub one_run : {D W : Type 0} (contents : W → Option (List ℕ)) (r : Result Ending Fault) (m : Message) (at : ℕ) (s : State) (honest : Bool) (holds stops : D → State → Type 0) (old new : D)
+    (before after : W)
+    → (honest ≡ true → (call : Call) → AsksFor m at call → OnOk r (Appends (contents before) (contents after) (line_text (reply s [] call))))
     → (honest ≡ true → (call : Call) → AsksFor m at call → IfOk r (λ ending. ending ≡ ending_of (reply s [] call)))
-    → ((call : Call) → AsksFor m at call → StandsAfter s (call ∷ []) (calls_made r) (holds new) (stops new))
-    → (((call : Call) → AsksFor m at call → ⊥) → ((r ≡ Err BadBody) ⊎ (r ≡ Err Memory)) × (new ≡ old))
-    → holds old s → Only s (stops old) → IsRun (m ∷ []) at s r honest (holds new) (stops new) before after
-one_run r m at s honest holds stops old new before after told ends stands unasked held only =
+    → (honest ≡ true → (call : Call) → AsksFor m at call → OnErr r (AppendsFront (contents before) (contents after) (line_text (reply s [] call))))
+    → IfErr r (λ fault. fault ≢ WriteFailed → after ≡ before)
+    → ((call : Call) → AsksFor m at call → StandsAfter s (made_of r call) (calls_made r) (holds new) (stops new))
+    → (((call : Call) → AsksFor m at call → ⊥) → ((r ≡ Err BadBody) ⊎ (r ≡ Err Memory)) × (new ≡ old) × (after ≡ before))
+    → holds old s → Only s (stops old) → IsRun (m ∷ []) at s r honest (holds new) (stops new) (contents before) (contents after)
+one_run contents r m at s honest holds stops old new before after told ends front silent stands unasked held only =
     elim (asks_or_not m at) [
       | inl made ↦ record {
-        calls = made.0 ∷ [];
+        calls = made_of r made.0;
         answered = calls_made r;
-        asked = (made.1, tt);
+        asked = made_first (may_act r) m at made.0 made.1;
         stands = stands made.0 made.1;
-        done = done_one r;
-        all = λ e. refl;
-        told = λ so. subst (λ text. OnOk r (Appends before after text)) (sym (append-nil (line_text (reply s [] made.0)))) (told so made.0 made.1);
-        ends = λ so. ends_one r (reply s [] made.0) (ends so made.0 made.1);
+        exact = made_exactly r made.0;
+        done = done_one r made.0;
+        all = λ e. ap (λ x. length (made_of x made.0)) e;
+        told = λ so. told_one r s made.0 (contents before) (contents after) (told so made.0 made.1);
+        ends = λ so. ends_one r s made.0 (ends so made.0 made.1);
+        front = λ so. front_of contents r s made.0 before after silent (front so made.0 made.1);
       }
       | inr none ↦ unmade (unasked none)
     ]
   where
-    at_fault : (fault : Fault) → r ≡ Err fault → new ≡ old → IsRun (m ∷ []) at s r honest (holds new) (stops new) before after
-    at_fault fault is same =
-        subst (λ x. IsRun (m ∷ []) at s x honest (holds new) (stops new) before after) (sym is)
-        (subst (λ d. IsRun (m ∷ []) at s (Err fault) honest (holds d) (stops d) before after) (sym same)
-        (none_run (m ∷ []) at s fault honest (holds old) (stops old) before after held only))
+    at_fault : (fault : Fault) → r ≡ Err fault → new ≡ old → after ≡ before → IsRun (m ∷ []) at s r honest (holds new) (stops new) (contents before) (contents after)
+    at_fault fault is same kept =
+        subst (λ x. IsRun (m ∷ []) at s x honest (holds new) (stops new) (contents before) (contents after)) (sym is)
+        (subst (λ d. IsRun (m ∷ []) at s (Err fault) honest (holds d) (stops d) (contents before) (contents after)) (sym same)
+        (subst (λ w. IsRun (m ∷ []) at s (Err fault) honest (holds old) (stops old) (contents before) (contents w)) (sym kept)
+        (none_run (m ∷ []) at s fault honest (holds old) (stops old) (contents before) held only)))
 
-    unmade : ((r ≡ Err BadBody) ⊎ (r ≡ Err Memory)) × (new ≡ old) → IsRun (m ∷ []) at s r honest (holds new) (stops new) before after
-    unmade why = elim why.0 [ inl is ↦ at_fault BadBody is why.1 | inr is ↦ at_fault Memory is why.1 ]
+    unmade : ((r ≡ Err BadBody) ⊎ (r ≡ Err Memory)) × (new ≡ old) × (after ≡ before) → IsRun (m ∷ []) at s r honest (holds new) (stops new) (contents before) (contents after)
+    unmade why = elim why.0 [ inl is ↦ at_fault BadBody is why.1 why.2 | inr is ↦ at_fault Memory is why.1 why.2 ]
 
 first_of_more : (m : Message) (ms : List Message) (at : ℕ) (calls : List Call) → AreFirst (m ∷ []) at calls → AreFirst (m ∷ ms) at calls
 first_of_more m ms at [] asked = tt
@@ -151,10 +172,12 @@ cut_run m ms at s r honest now stops before after apart run = record {
   answered = run.answered;
   asked = first_of_more m ms at run.calls run.asked;
   stands = run.stands;
+  exact = run.exact;
   done = run.done;
   all = λ e. absurd (apart e);
   told = run.told;
   ends = run.ends;
+  front = run.front;
 }
 
 -- one, and then others
@@ -180,6 +203,7 @@ then_run m ms at s r first last mid mid_stops now stops a b c honest run next =
           answered = rest.answered + 1;
           asked = (asked.0, rest.asked);
           stands = stands_behind s x rest.calls rest.answered now stops rest.stands;
+          exact = omega (arith, rest.exact);
           done = done_more r rest.answered (length rest.calls) rest.done;
           all = λ e. ap suc (rest.all e);
           told = λ so.
@@ -189,6 +213,10 @@ then_run m ms at s r first last mid mid_stops now stops a b c honest run next =
           ends = λ so.
               subst (λ rs. IfOk r (λ ending. ends_as rs ending ≡ true)) (sym (replies_more s x rest.calls))
               (ends_more r (reply s [] x) (replies_to t rest.calls) (ends (honest so)) (rest.ends so));
+          front = λ so.
+              subst (λ rs. OnErr r (AppendsFront a c (lines_text rs))) (sym (replies_first s x rest.calls rest.answered))
+              (front_more r a b c (line_text (reply s [] x)) (lines_text (replies_to t (take rest.answered rest.calls)))
+              (subst (Appends a b) (append-nil (line_text (reply s [] x))) (told (honest so))) (rest.front so));
         }
 
 -- ---- of parts
@@ -221,13 +249,13 @@ is_text_in None = tt
 is_text_in (Some text) = refl
 
 -- an input that came to no parts
-pub unread_run : (order : ImportOrder) (input : Option (List ℕ)) (s : State) (fault : Fault) (honest : Bool) (now stops : State → Type 0) (before after : Option (List ℕ))
-    → now s → Only s stops → IsRunOf order input s (Err fault) honest now stops before after
-unread_run order input s fault honest now stops before after held only = record {
+pub unread_run : (order : ImportOrder) (input : Option (List ℕ)) (s : State) (fault : Fault) (honest : Bool) (now stops : State → Type 0) (before : Option (List ℕ))
+    → now s → Only s stops → IsRunOf order input s (Err fault) honest now stops before before
+unread_run order input s fault honest now stops before held only = record {
   text = text_in input;
   parts = [];
   at = 0;
   whole = is_text_in input;
   cut = inr (refl, refl);
-  run = none_run [] 0 s fault honest now stops before after held only;
+  run = none_run [] 0 s fault honest now stops before held only;
 }

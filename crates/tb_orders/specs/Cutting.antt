@@ -1,5 +1,5 @@
 -- How a text is cut into parts, each of which one import takes.
-use Rattle.std.specs.Prelude.{ℕ, ◌+◌, ◌==◌, ◌&&◌, ◌||◌, Bool, true, false, List, [], ◌∷◌, ◌++◌, length, nat_le, nat_lt, Option, Some, None, if◌then◌else◌}
+use Rattle.std.specs.Prelude.{ℕ, ◌+◌, ◌==◌, ◌&&◌, ◌||◌, Bool, false, List, [], ◌∷◌, ◌++◌, length, nat_le, nat_lt, Option, Some, None, if◌then◌else◌}
 use Rattle.std.specs.List.{slice_split}
 use Rattle.tb_command_line.specs.declared.order.ImportKind.{ImportKind}
 use Rattle.tb_command_line.specs.declared.order.ImportKind.TheVariants as kind

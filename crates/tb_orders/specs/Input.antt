@@ -15,12 +15,6 @@ pub record IsAskedBy (order : ImportOrder) (input : Option (List ℕ)) (call : C
   pub whole : IfSome input (λ all. text ≡ all)
   pub asked : AsksFor (message_of order text) at call
 
--- calls that an order asks for by an input: one, or none where it asks for none or its text can't be read
-abbrev pub AreAskedBy : ImportOrder → Option (List ℕ) → List Call → Type 0
-AreAskedBy order input [] = Unit {0}
-AreAskedBy order input (call ∷ []) = IsAskedBy order input call
-AreAskedBy order input (c ∷ d ∷ calls) = ⊥
-
 -- the call that an order asks for by an input was made, and its reply, which is true of an honest store, is told and decides how the order ended
 pub record IsMade (order : ImportOrder) (input : Option (List ℕ)) (s : State) (honest : Bool)
     (now : State → Type 0)

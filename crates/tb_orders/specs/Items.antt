@@ -6,7 +6,7 @@ use Rattle.tb_asking.specs.declared.rejection.Rejection.{Rejection}
 use Rattle.tb_asking.specs.declared.rejection.Rejection.TheVariants.{Route, NoId, Body}
 use Rattle.tb_asking.specs.declared.body_fault.BadBody.TheVariants.{Whole, Field, Item}
 use Rattle.tb_command_line.specs.declared.order.ImportOrder.{ImportOrder}
-use Rattle.tb_orders.specs.Cutting.{parts_of}
+use Rattle.tb_orders.specs.Lists.{IsCut}
 use Rattle.tb_orders.specs.Message.{message_of}
 use Rattle.tb_orders.specs.Running.{part_message}
 use Rattle.tb_orders.specs.declared.ending.Ending.{Ending}
@@ -56,5 +56,5 @@ pub record IsBadAmong (order : ImportOrder) (input : Option (List ℕ))
   pub parts : List (List ℕ)
   pub at : ℕ
   pub whole : IfSome input (λ all. text ≡ all)
-  pub cut : parts_of order.kind text ≡ Some parts
+  pub cut : IsCut order.kind text (Some parts)
   pub is : IsBadBehind order 0 parts at item

@@ -1,10 +1,13 @@
 pub mod Auditing
 pub mod Cutting
+pub mod Doing
 pub mod Faults
 pub mod Identifier
 pub mod Input
 pub mod Items
+pub mod Lists
 pub mod Message
+pub mod Moments
 pub mod NewKey
 pub mod Orders
 pub mod Running

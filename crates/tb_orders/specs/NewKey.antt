@@ -65,12 +65,14 @@ new_key order key drawn at = record {
   at = at;
 }
 
--- what an order asks for with an input
-pub record IsAsked (order : KeyOrder) (input : Option (List ℕ)) (asked : NewKey) : Type 0 where
+-- what an order asks for with an input, at a moment that was given
+pub record IsAsked (given : ℕ → Type 0) (order : KeyOrder) (input : Option (List ℕ))
+    (asked : NewKey) : Type 0 where
   pub name_is : asked.name ≡ order.name
   pub made_is : asked.is_made ≡ not order.is_read
   pub key_is : IsKeyFor order.is_read input asked.key
   pub id_is : IsRandom asked.id
+  pub at_is : given asked.at
 
 -- ---- the call that gives it
 

@@ -1,19 +1,21 @@
 -- What an import in parts comes to.
-use Rattle.std.specs.Prelude.{◌≡◌, ◌⊎◌, ℕ, ◌+◌, ◌==◌, Bool, true, false, List, [], ◌∷◌, ◌++◌, length, Option, Some, IfSome, Result, Ok, IfOk, OnOk, IsErr, decimal, if◌then◌else◌}
+use Rattle.std.specs.Prelude.{◌≡◌, ◌⊎◌, ◌≤◌, ℕ, ◌+◌, ◌==◌, Bool, true, false, List, [], ◌∷◌, ◌++◌, length, take, Option, Some, IfSome, Result, Ok, Err, IfOk, OnOk, OnErr, IsErr, decimal, if◌then◌else◌}
 use Rattle.std.specs.Io.KnownBytes.{Appends}
 use Rattle.tb_calls.specs.Call.{State, replies_to}
 use Rattle.tb_calls.specs.Leaving.{StandsAfter}
 use Rattle.tb_calls.specs.declared.call.Call.{Call}
 use Rattle.tb_command_line.specs.declared.order.ImportOrder.{ImportOrder}
 use Rattle.tb_http.specs.declared.message.Message.{Message}
-use Rattle.tb_orders.specs.Cutting.{parts_of}
+use Rattle.tb_orders.specs.Lists.{IsCut}
 use Rattle.tb_orders.specs.Message.{message_under}
 use Rattle.tb_orders.specs.Orders.{AsksFor, line_text}
 use Rattle.tb_orders.specs.declared.ending.Ending.{Ending}
 use Rattle.tb_orders.specs.declared.ending.Ending.TheVariants.{Accepted, Refused}
 use Rattle.tb_program.specs.declared.fault.Fault.{Fault}
+use Rattle.tb_program.specs.declared.fault.Fault.TheVariants.{Store}
 use Rattle.tb_calls.specs.declared.reply.Reply.{Reply}
 use Rattle.tb_task.specs.TaskId.{named_id}
+use Rattle.tb_values.specs.Appends.{AppendsFront}
 
 -- the identifier of a part is made from the import's and the part's number
 -- Rule: each part has an identifier of its own. Tried by import.sh.
@@ -54,6 +56,12 @@ ends_as [] Refused = false
 ends_as (reply ∷ replies) ending = if reply.number == 0 then ends_as replies ending
     else is_refused replies ending
 
+-- the store may have failed at one call more than were answered
+abbrev pub more_by : Result Ending Fault → ℕ
+more_by (Ok ending) = 0
+more_by (Err Store) = 1
+more_by (Err other) = 0
+
 -- the calls of some first messages were made, one after another: all of them where the run was accepted
 pub record IsRun (messages : List Message) (at : ℕ) (s : State) (result : Result Ending Fault)
     (honest : Bool)
@@ -62,10 +70,13 @@ pub record IsRun (messages : List Message) (at : ℕ) (s : State) (result : Resu
   pub answered : ℕ
   pub asked : AreFirst messages at calls
   pub stands : StandsAfter s calls answered now may_leave
+  pub exact : length calls ≤ answered + more_by result
   pub done : OnOk result (answered ≡ length calls)
   pub all : result ≡ Ok Accepted → length calls ≡ length messages
   pub told : honest ≡ true → OnOk result (Appends before after (lines_text (replies_to s calls)))
   pub ends : honest ≡ true → IfOk result (λ ending. ends_as (replies_to s calls) ending ≡ true)
+  pub front : honest ≡ true → OnErr result
+      (AppendsFront before after (lines_text (replies_to s (take answered calls))))
 
 -- of an input in parts: of those of its text, or of none, and then it failed
 pub record IsRunOf (order : ImportOrder) (input : Option (List ℕ)) (s : State)
@@ -75,5 +86,5 @@ pub record IsRunOf (order : ImportOrder) (input : Option (List ℕ)) (s : State)
   pub parts : List (List ℕ)
   pub at : ℕ
   pub whole : IfSome input (λ all. text ≡ all)
-  pub cut : (parts_of order.kind text ≡ Some parts) ⊎ ((parts ≡ []) × IsErr result)
+  pub cut : IsCut order.kind text (Some parts) ⊎ ((parts ≡ []) × IsErr result)
   pub run : IsRun (messages_behind order 0 parts) at s result honest now may_leave before after

@@ -1,4 +1,4 @@
-//! A text in parts, each of which one import takes.
+//! A text in parts of its lines, each of which one import takes.
 ghost use Rattle.std.specs.Prelude.{◌≡◌, ◌<◌, ◌∷◌, [], IfOk, map, option_map, true};
 ghost use Rattle.tb_orders.specs.Cutting.{Cut, added, closed, cut_on, has_room, is_one, line_in, lines_of, parts_in, parts_of, put, uncut, with_room, without_close, without_open};
 ghost use Rattle.tb_task.specs.Limits.{most_items};
@@ -31,8 +31,8 @@ impl Model for Cutting {
     } };
 }
 
-/// The parts of a text, or none where a line is longer than a part.
-pub fn parts_of(
+/// The parts of a text that its lines cut, or none where a line is longer than a part.
+pub(crate) fn parts_by_lines(
     alloc: Global,
     kind: ImportKind,
     text: Items<u8>,
@@ -46,7 +46,7 @@ pub fn parts_of(
     parts_in(alloc, cut)
 }
 
-fn is_one(alloc: Global, text: &[u8]) -> Result<bool, AllocError>
+pub(crate) fn is_one(alloc: Global, text: &[u8]) -> Result<bool, AllocError>
     ensures { IfOk result (λ is. is ≡ is_one text.now) }
 {
     let lines = lines_of(alloc, text)?;
@@ -60,7 +60,7 @@ fn cut_text(alloc: Global, kind: ImportKind, text: &[u8]) -> Result<Cutting, All
     cut_lines(alloc, kind, lines.as_slice())
 }
 
-fn one_part(alloc: Global, text: Items<u8>) -> Result<Vec<Items<u8>>, AllocError>
+pub(crate) fn one_part(alloc: Global, text: Items<u8>) -> Result<Vec<Items<u8>>, AllocError>
     ensures { IfOk result (λ parts. parts.items ≡ text ∷ []) }
 {
     let mut parts = Vec::new(alloc);
@@ -68,7 +68,7 @@ fn one_part(alloc: Global, text: Items<u8>) -> Result<Vec<Items<u8>>, AllocError
     Ok(parts)
 }
 
-fn lines_of(alloc: Global, text: &[u8]) -> Result<Vec<&[u8]>, AllocError>
+pub(crate) fn lines_of(alloc: Global, text: &[u8]) -> Result<Vec<&[u8]>, AllocError>
     ensures { IfOk result (λ lines. map (λ line. line.now) lines.items ≡ lines_of text.now) }
 {
     text.split(|byte| *byte == b'\n').collect(alloc)
@@ -101,7 +101,7 @@ fn cut_lines(alloc: Global, kind: ImportKind, lines: &[&[u8]]) -> Result<Cutting
 }
 
 /// A line without a bracket of a list.
-fn line_in(kind: ImportKind, line: &[u8]) -> &[u8]
+pub(crate) fn line_in(kind: ImportKind, line: &[u8]) -> &[u8]
     ensures { result.now ≡ line_in kind line.now }
 {
     match kind {

@@ -1,9 +1,10 @@
 //! Imports of standard input.
-ghost use Rattle.std.specs.Prelude.{◌≡◌, ◌⊎◌, ◌∷◌, [], Err, IfErr, IfOk, IsErrOf, OnErr, OnOk, true};
+ghost use Rattle.std.specs.Prelude.{◌≡◌, ◌≢◌, ◌⊎◌, ◌∷◌, [], Err, IfErr, IfOk, IsErrOf, OnErr, OnOk, true};
 ghost use Rattle.std.specs.Io.KnownBytes.{Appends};
 ghost use Rattle.tb_calls.specs.Call.{State, once, plain, reply};
 ghost use Rattle.tb_calls.specs.Leaving.{Only, StandsAfter};
 ghost use Rattle.tb_calls.specs.declared.call.Call.{Call};
+ghost use Rattle.tb_orders.specs.Doing.{made_of};
 ghost use Rattle.tb_orders.specs.Orders.{AsksFor, calls_made, ending_of, line_text};
 ghost use Rattle.tb_orders.specs.Telling.{is_of_answers, is_of_imports};
 ghost use Rattle.tb_program.specs.declared.fault.Fault.TheVariants.{BadBody, Memory, Store, WriteFailed};
@@ -47,7 +48,9 @@ pub fn import_text<K: Keep, W: Write>(
         → IsErrOf result WriteFailed → K.holds desk.new (plain s (once s (call ∷ []))) }
     ensures stands { (s : State) → K.holds desk.old s → Only s (K.after_stop desk.old)
         → (call : Call) → AsksFor message.now at call
-        → StandsAfter s (call ∷ []) (calls_made result) (K.holds desk.new) (K.after_stop desk.new) }
+        → StandsAfter s (made_of result call) (calls_made result) (K.holds desk.new)
+        (K.after_stop desk.new) }
+    ensures silent { IfErr result (λ fault. fault ≢ WriteFailed → writer.new ≡ writer.old) }
     ensures unasked { ((call : Call) → AsksFor message.now at call → ⊥)
         → ((result ≡ Err BadBody) ⊎ (result ≡ Err Memory)) × (desk.new ≡ desk.old)
         × (writer.new ≡ writer.old) }
@@ -87,8 +90,9 @@ fn make_call<K: Keep, W: Write>(
     ensures written { (s : State) → K.holds desk.old s → IsErrOf result WriteFailed
         → K.holds desk.new (plain s (once s (call.now ∷ []))) }
     ensures stands { (s : State) → K.holds desk.old s → Only s (K.after_stop desk.old)
-        → StandsAfter s (call.now ∷ []) (calls_made result) (K.holds desk.new)
+        → StandsAfter s (made_of result call.now) (calls_made result) (K.holds desk.new)
         (K.after_stop desk.new) }
+    ensures silent { IfErr result (λ fault. fault ≢ WriteFailed → writer.new ≡ writer.old) }
     ensures honest { K.is_honest desk.new ≡ true → K.is_honest desk.old ≡ true }
     ensures fault { IfErr result (λ fault. is_of_answers fault ≡ true) }
     ensures store { IsErrOf result Store → K.has_failed desk.new ≡ true }

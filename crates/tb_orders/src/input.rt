@@ -1,14 +1,13 @@
 //! The import of an input, whole.
-ghost use Rattle.std.specs.Prelude.{◌≡◌, ℕ, List, IfErr, IfOk, IfSome, IsErrOf, true};
+ghost use Rattle.std.specs.Prelude.{◌≡◌, ◌≢◌, ℕ, List, IfErr, IfOk, IfSome, IsErrOf, true};
 ghost use Rattle.tb_calls.specs.Call.{State};
-ghost use Rattle.tb_calls.specs.Leaving.{Only, StandsAfter};
-ghost use Rattle.tb_calls.specs.declared.call.Call.{Call};
-ghost use Rattle.tb_orders.specs.Input.{AreAskedBy, IsMade};
+ghost use Rattle.tb_calls.specs.Leaving.{Only};
+ghost use Rattle.tb_orders.specs.Doing.{Does};
+ghost use Rattle.tb_orders.specs.Input.{IsMade};
 ghost use Rattle.tb_orders.specs.Items.{IsBadIn, end_of};
 ghost use Rattle.tb_orders.specs.Message.{message_of};
-ghost use Rattle.tb_orders.specs.Orders.{calls_made};
 ghost use Rattle.tb_orders.specs.Telling.{is_of_inputs, is_of_messages};
-ghost use Rattle.tb_program.specs.declared.fault.Fault.TheVariants.{Memory, Store};
+ghost use Rattle.tb_program.specs.declared.fault.Fault.TheVariants.{Memory, Store, WriteFailed};
 
 use crate::ending::Ending;
 use crate::importing::import_text;
@@ -45,10 +44,11 @@ pub fn import_input<K: Keep, R: Read + Drop, W: Write>(
         (K.is_honest desk.new) (K.holds desk.new) (W.contents writer.old) (W.contents writer.new)) }
     ensures memory { (s : State) → K.holds desk.old s → IsErrOf (end_of result) Memory
         → K.holds desk.new s }
-    ensures stands { (s : State) → K.holds desk.old s → Only s (K.after_stop desk.old)
-        → (calls : List Call) × AreAskedBy order.now (R.remaining reader) calls
-        × StandsAfter s calls (calls_made (end_of result)) (K.holds desk.new)
-        (K.after_stop desk.new) }
+    ensures does { (s : State) → K.holds desk.old s → Only s (K.after_stop desk.old)
+        → Does order.now (R.remaining reader) s (end_of result) (K.is_honest desk.new)
+        (K.holds desk.new) (K.after_stop desk.new) (W.contents writer.old) (W.contents writer.new) }
+    ensures silent { IfErr (end_of result)
+        (λ fault. fault ≢ WriteFailed → writer.new ≡ writer.old) }
     ensures item { IfErr result
         (λ failed. IfSome failed.item (IsBadIn order.now (R.remaining reader))) }
     ensures fault { IfErr (end_of result) (λ fault. is_of_inputs fault ≡ true) }

@@ -1,16 +1,17 @@
 //! The new key that an order is about: read, or made of random bytes.
-ghost use Rattle.std.specs.Prelude.{◌≡◌, ℕ, IfErr, IfOk, IfSome, List, Option, false, length, true};
+ghost use Rattle.std.specs.Prelude.{◌≡◌, ◌∷◌, [], ℕ, IfErr, IfOk, IfSome, IsErrOf, List, None, Option, false, length, true};
+ghost use Rattle.tb_orders.specs.Moments.{GaveOne};
 ghost use Rattle.tb_orders.specs.NewKey.{IsAsked, IsKeyFor, IsMadeKey, IsUnkeyed, first_line, is_of_new_keys, key_in, made_key, new_key};
+ghost use Rattle.tb_program.specs.declared.fault.Fault.TheVariants.{NoClock};
 
 use crate::identifier::random_id;
 use std::alloc::{AllocError, Global};
 use std::io::Read;
 use std::random::RandomSource;
-use std::time::Clock;
 use tb_asking::read_text as text_of;
 use tb_board::{Key, Name};
 use tb_command_line::KeyOrder;
-use tb_program::{Fault, machine_moment, read_text};
+use tb_program::{Clock, Fault, read_text};
 use tb_task::{Moment, TaskId};
 use tb_values::{Duplicate, Items};
 
@@ -29,14 +30,16 @@ pub struct NewKey {
 /// clock's. Errors: `NoKey` where the first line of the reader is no key, `ReadFailed` where the reader fails or there are no random
 /// bytes, `NoClock` and `Memory`.
 #[tactic(auto, using(crate::proofs::NewKeys::asked_of))]
-pub fn new_key_of<R: Read + Drop>(
+pub fn new_key_of<R: Read + Drop, C: Clock>(
     alloc: Global,
     order: &KeyOrder,
     reader: R,
     source: &impl RandomSource,
-    clock: &impl Clock,
+    clock: &mut C,
 ) -> Result<NewKey, Fault>
-    ensures asked { IfOk result (IsAsked order.now (R.remaining reader)) }
+    ensures asked { IfOk result
+        (IsAsked (GaveOne C.gives clock.old clock.new) order.now (R.remaining reader)) }
+    ensures timeless { IsErrOf result NoClock → C.gives (None ∷ []) clock.old clock.new }
     ensures unkeyed { IfErr result
         (λ fault. IsUnkeyed fault order.now.is_read (R.remaining reader)) }
     ensures fault { IfErr result (λ fault. is_of_new_keys fault ≡ true) }
@@ -45,7 +48,7 @@ pub fn new_key_of<R: Read + Drop>(
     let Some(drawn) = drawn_from(source) else {
         return Err(Fault::ReadFailed);
     };
-    let Some(at) = machine_moment(clock) else {
+    let Some(at) = clock.now() else {
         return Err(Fault::NoClock);
     };
     Ok(new_key(alloc, order, key, drawn, at)?)
@@ -79,6 +82,7 @@ fn key_for<R: Read + Drop>(
 ) -> Result<Key, Fault>
     ensures key { IfOk result (IsKeyFor is_read (R.remaining reader)) }
     ensures unkeyed { IfErr result (λ fault. IsUnkeyed fault is_read (R.remaining reader)) }
+    ensures timeless { IsErrOf result NoClock → ⊥ }
     ensures fault { IfErr result (λ fault. is_of_new_keys fault ≡ true) }
 {
     if is_read {
@@ -92,6 +96,7 @@ fn key_for<R: Read + Drop>(
 fn read_key<R: Read + Drop>(alloc: Global, reader: R) -> Result<Key, Fault>
     ensures key { IfOk result (IsKeyFor true (R.remaining reader)) }
     ensures unkeyed { IfErr result (λ fault. IsUnkeyed fault true (R.remaining reader)) }
+    ensures timeless { IsErrOf result NoClock → ⊥ }
     ensures fault { IfErr result (λ fault. is_of_new_keys fault ≡ true) }
 {
     match read_text(alloc, reader) {
@@ -128,6 +133,7 @@ fn make_key(alloc: Global, source: &impl RandomSource) -> Result<Key, Fault>
     ensures key { IfOk result IsMadeKey }
     ensures unkeyed { (input : Option (List ℕ))
         → IfErr result (λ fault. IsUnkeyed fault false input) }
+    ensures timeless { IsErrOf result NoClock → ⊥ }
     ensures fault { IfErr result (λ fault. is_of_new_keys fault ≡ true) }
 {
     let Some(drawn) = drawn_from(source) else {

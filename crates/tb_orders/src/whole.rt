@@ -2,14 +2,15 @@
 ghost use Rattle.std.specs.Prelude.{◌≡◌, ℕ, List, Some, IfErr, IfOk, IfSome, IsErrOf, true};
 ghost use Rattle.tb_calls.specs.Call.{State};
 ghost use Rattle.tb_calls.specs.Leaving.{Only};
-ghost use Rattle.tb_orders.specs.Cutting.{parts_of};
+ghost use Rattle.tb_orders.specs.Doing.{is_unread};
 ghost use Rattle.tb_orders.specs.Items.{IsBadAmong, end_of};
+ghost use Rattle.tb_orders.specs.Lists.{IsCut};
 ghost use Rattle.tb_orders.specs.Running.{IsRunOf};
 ghost use Rattle.tb_orders.specs.Telling.{is_of_inputs, is_of_messages};
 ghost use Rattle.tb_program.specs.declared.fault.Fault.TheVariants.{Store};
 
-use crate::cutting::parts_of;
 use crate::ending::Ending;
+use crate::lists::parts_of;
 use crate::order_fault::OrderFault;
 use crate::running::{Progress, Run, import_parts};
 use std::alloc::Global;
@@ -43,6 +44,8 @@ pub fn import_all<K: Keep, R: Read + Drop, W: Write>(
     ensures run { (s : State) → K.holds desk.old s → Only s (K.after_stop desk.old)
         → IsRunOf order.now (R.remaining reader) s (end_of result) (K.is_honest desk.new)
         (K.holds desk.new) (K.after_stop desk.new) (W.contents writer.old) (W.contents writer.new) }
+    ensures unread { IfErr (end_of result) (λ fault. is_unread fault ≡ true
+        → (desk.new ≡ desk.old) × (writer.new ≡ writer.old)) }
     ensures item { IfErr result
         (λ failed. IfSome failed.item (IsBadAmong order.now (R.remaining reader))) }
     ensures fault { IfErr (end_of result) (λ fault. is_of_inputs fault ≡ true) }
@@ -70,7 +73,7 @@ fn read_parts<R: Read + Drop>(
 ) -> Result<Arrived, Fault>
     ensures read { IfOk result
         (λ arrived. (text : List ℕ) × IfSome (R.remaining reader) (λ all. text ≡ all)
-        × (parts_of order.now.kind text ≡ Some arrived.parts.items)) }
+        × IsCut order.now.kind text (Some arrived.parts.items)) }
     ensures fault { IfErr result (λ fault. is_of_messages fault ≡ true) }
 {
     let text = read_all(alloc, reader)?;

@@ -5,7 +5,7 @@ use Rattle.tb_calls.specs.declared.fault.KeepFault.{KeepFault}
 use Rattle.tb_calls.specs.declared.fault.KeepFault.TheVariants.{Memory, Store}
 use Rattle.tb_calls.specs.Keep.{is_store as is_store_of_keep}
 use Rattle.tb_script.specs.declared.fault.LinesFault.{LinesFault}
-use Rattle.tb_script.specs.Fault.{fault_of, is_store}
+use Rattle.tb_script.specs.Fault.{fault_of, is_store, is_unread}
 
 -- an answered call doesn't change whether the store has failed
 pub as_before : {T : Type 0} (x : T) (old new : Bool) → new ≡ false → (old ≡ true → IsErrOf {T = T} {E = KeepFault} (Ok x) Store) → new ≡ old
@@ -22,3 +22,8 @@ pub told_on : {T U : Type 0} (fault : KeepFault) (r : Result U LinesFault) (old 
 told_on {T} Memory r true new is failed closed = let e : ◌≡◌ {A = Result T KeepFault} (Err Memory) (Err Store) = closed refl in absurd (cc)
 told_on {T} Memory r false new is failed closed = other_fault r false new (ap is_store is) failed
 told_on {T} Store r old new is failed closed = failed ∙ ap (λ b. b || old) (sym (ap is_store is))
+
+-- a call's fault isn't one of reading
+pub not_read : {U : Type 0} (fault : KeepFault) (r : Result U LinesFault) → r ≡ Err (fault_of fault) → is_unread r ≡ false
+not_read Memory r is = ap is_unread is
+not_read Store r is = ap is_unread is

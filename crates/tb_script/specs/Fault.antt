@@ -17,3 +17,11 @@ is_store (Err ReadFailed) = false
 is_store (Err WriteFailed) = false
 is_store (Err Memory) = false
 is_store (Err Store) = true
+
+-- the answer is that a read failed
+abbrev pub is_unread : {T : Type 0} → Result T LinesFault → Bool
+is_unread (Ok x) = false
+is_unread (Err ReadFailed) = true
+is_unread (Err WriteFailed) = false
+is_unread (Err Memory) = false
+is_unread (Err Store) = false

@@ -7,4 +7,5 @@ pub mod Outcome
 pub mod Reading
 pub mod Replies
 pub mod Runs
+pub mod Watching
 pub mod Words

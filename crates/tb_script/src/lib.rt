@@ -13,6 +13,7 @@ mod line_buffer;
 mod line_fault;
 mod reading;
 mod replies;
+mod watched;
 mod words;
 
 ghost use Rattle.std.specs.Prelude.{◌≡◌, ◌≢◌, ◌||◌, false, true, Err, IfOk, OnOk, OnErr, IfSome};
@@ -20,9 +21,10 @@ ghost use Rattle.std.specs.Io.KnownBytes.{Appends};
 ghost use Rattle.tb_calls.specs.Call.{State};
 ghost use Rattle.tb_values.specs.Appends.{AppendsFront};
 ghost use Rattle.tb_script.specs.Answering.{answer, first_state};
-ghost use Rattle.tb_script.specs.Fault.{is_store};
+ghost use Rattle.tb_script.specs.Fault.{is_store, is_unread};
 ghost use Rattle.tb_script.specs.Lines.{answers_from, lines_of};
 ghost use Rattle.tb_script.specs.Runs.{LeavesSome, after_lines};
+ghost use Rattle.tb_script.specs.Watching.{IsSpent};
 ghost use Rattle.tb_script.specs.declared.fault.LinesFault.TheVariants.{Store};
 
 pub use fault::LinesFault;
@@ -33,24 +35,27 @@ use tb_board::{Key, Name};
 use tb_calls::Keep;
 use tb_desk::{Desk, ListKeep};
 use tb_values::write_whole;
+pub use watched::Watched;
 
 /// How many reads a script may take.
 const READ_LIMIT: u64 = 1_099_511_627_776;
 
 /// Writes the answers to the reader's lines, and on a fault a front of them. The world begins with the person `root`, whose key is
-/// `root-key-1` and who owns board 1. The answers to a piece that is read are written before the next one is read.
+/// `root-key-1` and who owns board 1. The answers to a piece that is read are written before the next one is read. It ends with
+/// `ReadFailed` only where a read failed, or the script took too many.
 pub fn run_lines<R: Read + Drop, W: Write>(
     alloc: Global,
-    reader: R,
+    reader: &mut Watched<R>,
     writer: &mut W,
 ) -> Result<(), LinesFault>
-    ensures answers { OnOk result (IfSome (R.remaining reader) (λ script.
+    ensures answers { OnOk result (IfSome reader.old.left (λ script.
         Appends (W.contents writer.old) (W.contents writer.new)
         (answers_from answer first_state script))) }
-    ensures front { OnErr result (IfSome (R.remaining reader) (λ script.
+    ensures front { OnErr result (IfSome reader.old.left (λ script.
         AppendsFront (W.contents writer.old) (W.contents writer.new)
         (answers_from answer first_state script))) }
     ensures no_store { result ≢ Err Store }
+    ensures unread { is_unread result ≡ true → IsSpent reader.new }
 {
     let mut desk = first_desk(alloc)?;
     run_lines_on(alloc, reader, writer, &mut desk)
@@ -60,26 +65,27 @@ pub fn run_lines<R: Read + Drop, W: Write>(
 /// lines alone.
 pub fn run_lines_on<R: Read + Drop, W: Write, K: Keep>(
     alloc: Global,
-    mut reader: R,
+    reader: &mut Watched<R>,
     writer: &mut W,
     desk: &mut Desk<K>,
 ) -> Result<(), LinesFault>
     ensures answers { K.is_honest desk.new ≡ true → (s : State) → K.holds desk.old s
-        → OnOk result (IfSome (R.remaining reader) (λ script.
+        → OnOk result (IfSome reader.old.left (λ script.
         Appends (W.contents writer.old) (W.contents writer.new) (answers_from answer s script))) }
     ensures left { K.is_honest desk.new ≡ true → (s : State) → K.holds desk.old s
-        → OnOk result (IfSome (R.remaining reader) (λ script.
+        → OnOk result (IfSome reader.old.left (λ script.
         K.holds desk.new (after_lines s (lines_of script)))) }
     ensures front { K.is_honest desk.new ≡ true → (s : State) → K.holds desk.old s
-        → OnErr result (IfSome (R.remaining reader) (λ script.
+        → OnErr result (IfSome reader.old.left (λ script.
         LeavesSome s (lines_of script) (W.contents writer.old) (W.contents writer.new)
         (K.holds desk.new))) }
     ensures honest { K.is_honest desk.new ≡ true → K.is_honest desk.old ≡ true }
     ensures failed { K.has_failed desk.new ≡ (is_store result || K.has_failed desk.old) }
+    ensures unread { is_unread result ≡ true → IsSpent reader.new }
 {
     let mut buffer = LineBuffer::new(alloc);
     let mut chunk = [0u8; 8192];
-    'reads: for _ in 0..READ_LIMIT {
+    'reads: for _taken in 0..READ_LIMIT {
         let Ok(count) = reader.read(&mut chunk) else {
             return Err(LinesFault::ReadFailed);
         };
@@ -115,6 +121,7 @@ fn write_answers<W: Write>(writer: &mut W, answers: &[u8]) -> Result<(), LinesFa
     ensures front { OnErr result
         (AppendsFront (W.contents writer.old) (W.contents writer.new) answers.now) }
     ensures no_store { is_store result ≡ false }
+    ensures read { is_unread result ≡ false }
 {
     match write_whole(writer, answers) {
         Ok(()) => Ok(()),

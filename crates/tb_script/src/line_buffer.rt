@@ -1,8 +1,8 @@
 //! The line that has begun, and the answers to those before it.
-ghost use Rattle.std.specs.Prelude.{◌≡◌, ◌⊎◌, ◌||◌, ◌++◌, [], ℕ, true, IfOk, OnOk, OnErr, take};
+ghost use Rattle.std.specs.Prelude.{◌≡◌, ◌⊎◌, ◌||◌, ◌++◌, [], ℕ, false, true, IfOk, OnOk, OnErr, take};
 ghost use Rattle.tb_calls.specs.Call.{State};
 ghost use Rattle.tb_script.specs.Answering.{answer};
-ghost use Rattle.tb_script.specs.Fault.{is_store};
+ghost use Rattle.tb_script.specs.Fault.{is_store, is_unread};
 ghost use Rattle.tb_script.specs.Runs.{fed, fed_byte, from};
 
 use crate::answering::answer_line;
@@ -52,6 +52,7 @@ impl LineBuffer {
             (fed (from s self.old.line.items output.old.items) (take n chunk.now)).state }
         ensures honest { K.is_honest desk.new ≡ true → K.is_honest desk.old ≡ true }
         ensures failed { K.has_failed desk.new ≡ (is_store result || K.has_failed desk.old) }
+        ensures read { is_unread result ≡ false }
     {
         for byte in chunk {
             self.take_byte(desk, *byte, output)?;
@@ -79,6 +80,7 @@ impl LineBuffer {
             ⊎ K.holds desk.new (fed_byte (from s self.old.line.items output.old.items) byte).state }
         ensures honest { K.is_honest desk.new ≡ true → K.is_honest desk.old ≡ true }
         ensures failed { K.has_failed desk.new ≡ (is_store result || K.has_failed desk.old) }
+        ensures read { is_unread result ≡ false }
     {
         if byte == LINE_FEED {
             self.end_line(desk, output)?;
@@ -106,6 +108,7 @@ impl LineBuffer {
             → K.holds desk.new s ⊎ K.holds desk.new (answer s self.old.line.items).state }
         ensures honest { K.is_honest desk.new ≡ true → K.is_honest desk.old ≡ true }
         ensures failed { K.has_failed desk.new ≡ (is_store result || K.has_failed desk.old) }
+        ensures read { is_unread result ≡ false }
     {
         if self.line.is_empty() {
             return Ok(());

@@ -1,10 +1,10 @@
 -- What stands beside the key file while the key changes, and what is done about it before an order is sent.
-use Rattle.std.specs.Prelude.{◌≡◌, ◌<◌, ◌^◌, ℕ, Bool, true, [], ◌∷◌, ◌++◌, codes, Option, Some, None, option_and_then, if◌then◌else◌}
+use Rattle.std.specs.Prelude.{◌≡◌, ◌<◌, ◌^◌, ℕ, Bool, true, List, [], ◌∷◌, ◌++◌, codes, Option, Some, None, option_and_then, if◌then◌else◌}
 use Rattle.std.specs.Str.{bytes_eq}
 use Rattle.tb_board.specs.Names.{is_key, read_key}
 use Rattle.tb_client.specs.Request.{Text}
 use Rattle.tb_command_line.specs.declared.order.SendOrder.{SendOrder}
-use Rattle.tb_orders.specs.Identifier.{IsRandom}
+use Rattle.tb_sending.specs.Drawing.{IsDrawn}
 use Rattle.tb_sending.specs.declared.beside.Begun.{Begun}
 use Rattle.tb_sending.specs.declared.beside.Beside.{Beside}
 use Rattle.tb_sending.specs.declared.beside.Beside.TheVariants.{Nothing, Others, Ours}
@@ -55,12 +55,12 @@ abbrev pub new_change : ℕ → ℕ → Text → Option Begun
 new_change id random old = if bytes_eq (id_text random) old then None
     else begun_with id (read_key (id_text random))
 
--- under the order's identifier, to a key that random bytes make and that isn't the old one
-pub record IsNewChange (order : SendOrder) (old : Text) (begun : Begun) : Type 0 where
+-- under the order's identifier, to a key that the random bytes make which were given meanwhile, and that isn't the old one
+pub record IsNewChange {G : Type 0} (gives : Option (List ℕ) → G → G → Type 0) (before after : G) (order : SendOrder) (old : Text) (begun : Begun) : Type 0 where
   pub id : ℕ
   pub random : ℕ
   pub named : order.id ≡ Some id
-  pub drawn : IsRandom random
+  pub drawn : IsDrawn gives before after (Some random)
   pub is : new_change id random old ≡ Some begun
 
 -- ---- what is done

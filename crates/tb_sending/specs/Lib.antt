@@ -1,7 +1,10 @@
 pub mod Beside
 pub mod Changing
+pub mod Drawing
 pub mod Faults
 pub mod Key
+pub mod Lines
 pub mod Places
 pub mod Replies
 pub mod Sending
+pub mod Wires

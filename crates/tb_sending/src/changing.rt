@@ -4,6 +4,7 @@ ghost use Rattle.tb_sending.specs.Changing.{IsAsked, IsEnded, change_order, chan
 ghost use Rattle.tb_sending.specs.Faults.{is_of_sending};
 
 use crate::beside::Begun;
+use crate::chance::Chance;
 use crate::identifier::new_id;
 use crate::printing::ACCEPTED;
 use crate::sending::ask_words;
@@ -20,12 +21,13 @@ const UNKNOWN: u16 = 401;
 
 /// Asks for a change that was begun, under the old key. Where the server doesn't know that one, the change may have been made: then it is
 /// asked, by a change of the new key to itself, whether it knows the new one. What it answers last says whether the change was made.
-pub(crate) fn change_key<L: Line>(
+pub(crate) fn change_key<L: Line, G: Chance>(
     rt: &HostRuntime,
     order: &SendOrder,
     key: &Key,
     begun: &Begun,
     line: &mut L,
+    chance: &mut G,
 ) -> Result<Reply, Fault>
     ensures ended { IfOk result
         (IsEnded L.follows order.now key.now begun.now line.old line.new) }
@@ -35,7 +37,7 @@ pub(crate) fn change_key<L: Line>(
     if !is_unknown(&reply) {
         return Ok(reply);
     }
-    let Some(check) = new_id(rt) else {
+    let Some(check) = new_id(chance) else {
         return Err(Fault::ReadFailed); // The machine gave no random bytes.
     };
     ask_change(rt, order, check, &begun.key, &begun.key, line)

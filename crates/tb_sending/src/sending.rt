@@ -4,8 +4,11 @@ ghost use Rattle.tb_program.specs.declared.fault.Fault.TheVariants.{Memory};
 ghost use Rattle.tb_client.specs.Request.{request_of};
 ghost use Rattle.tb_sending.specs.Changing.{Sends, SendsNot};
 ghost use Rattle.tb_sending.specs.Faults.{is_of_sending};
+ghost use Rattle.tb_sending.specs.Lines.{IsLineTo};
 ghost use Rattle.tb_sending.specs.Sending.{AreNamed, AreRefused, AreReplied, AreUnnamed, ComesTo, Fails, IsMessage, IsNoMessage, IsReplied, IsSent, IsUnsent, Lacks, is_too_long};
 
+use crate::chance::Chance;
+use crate::dial::Dial;
 use crate::key::key_of;
 use crate::places::take_reply;
 use crate::printing::print_reply;
@@ -23,33 +26,36 @@ use tb_task::LONGEST_BODY;
 use tb_values::{Duplicate, Text};
 
 /// Sends a call or a view until it is answered, and prints the reply. A change of the own key that was begun is made before anything else
-/// is sent under that key. The server is first asked for the tasks of places, which stand in the order's words from then on. Which bytes reach a server isn't known, but which are sent to it is, and what comes of a reply.
-pub fn send_order<W: Write>(
+/// is sent under that key. The server is first asked for the tasks of places, which stand in the order's words from then on. Each message and each answer is of a connection that the dial made to the order's server.
+pub fn send_order<D: Dial + Drop, G: Chance, W: Write>(
     rt: &HostRuntime,
     order: &mut SendOrder,
+    dial: D,
+    chance: &mut G,
     writer: &mut W,
 ) -> Result<Ending, Fault>
-    ensures sent { IfOk result (λ ending. (old : _) × (new : _)
-        × Sends ⟦<ServerLine<'static> as Line>⟧.follows W.contents
+    ensures sent { IfOk result (λ ending. (old : _) × (new : _) × IsLineTo order.old dial old
+        × Sends ⟦<ServerLine<D> as Line>⟧.follows W.contents
         order.old order.new old new writer.old writer.new ending) }
-    ensures unsent { IfErr result (λ fault. ((old : _) × (new : _)
-        × SendsNot ⟦<ServerLine<'static> as Line>⟧.follows W.contents
+    ensures unsent { IfErr result (λ fault. ((old : _) × (new : _) × IsLineTo order.old dial old
+        × SendsNot ⟦<ServerLine<D> as Line>⟧.follows W.contents
         order.old order.new old new writer.old writer.new fault)
         ⊎ ((fault ≡ Memory) × (writer.new ≡ writer.old))) }
     ensures others { order.new ≡ record order.old { words = order.new.words } }
     ensures fault { IfErr result (λ fault. is_of_sending fault ≡ true) }
 {
-    let Ok(mut line) = ServerLine::new(rt, order) else {
+    let Ok(mut line) = ServerLine::new(dial, order) else {
         return Err(Fault::Memory);
     };
-    send_settled(rt, order, &mut line, writer)
+    send_settled(rt, order, &mut line, chance, writer)
 }
 
 /// The same over a line to the server: a change of the key that was begun comes first.
-fn send_settled<L: Line, W: Write>(
+fn send_settled<L: Line, G: Chance, W: Write>(
     rt: &HostRuntime,
     order: &mut SendOrder,
     line: &mut L,
+    chance: &mut G,
     writer: &mut W,
 ) -> Result<Ending, Fault>
     ensures sent { IfOk result (Sends L.follows W.contents
@@ -59,7 +65,7 @@ fn send_settled<L: Line, W: Write>(
     ensures others { order.new ≡ record order.old { words = order.new.words } }
     ensures fault { IfErr result (λ fault. is_of_sending fault ≡ true) }
 {
-    match settle(rt, order, line, writer) {
+    match settle(rt, order, line, chance, writer) {
         Ok(None) => send_over(rt, order, line, writer),
         Ok(Some(ending)) => Ok(ending),
         Err(fault) => Err(fault),

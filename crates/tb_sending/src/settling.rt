@@ -7,6 +7,7 @@ ghost use Rattle.tb_sending.specs.Changing.{EndsBefore, IsSettled, IsUnsettled, 
 ghost use Rattle.tb_sending.specs.Faults.{is_of_sending};
 
 use crate::beside::{Begun, Step, step_of};
+use crate::chance::Chance;
 use crate::changing::{change_key, changed_body, is_changed, is_unknown};
 use crate::identifier::new_id;
 use crate::key::folder_of;
@@ -28,10 +29,11 @@ const REFUSED: &str =
     "taskboard: The server didn't change the key. ~/.config/taskboard/key is as it was, and the new key is still in key.new beside it. Try again, or remove key.new to go on without the change.";
 
 /// Makes the change that an order asks for, or one that was begun before. None where the order is to be sent now.
-pub(crate) fn settle<L: Line, W: Write>(
+pub(crate) fn settle<L: Line, G: Chance, W: Write>(
     rt: &HostRuntime,
     order: &SendOrder,
     line: &mut L,
+    chance: &mut G,
     writer: &mut W,
 ) -> Result<Option<Ending>, Fault>
     ensures settled { IfOk result
@@ -63,10 +65,10 @@ pub(crate) fn settle<L: Line, W: Write>(
         Step::Send => Ok(None),
         Step::Stop => Err(Fault::Store),
         Step::Begin => {
-            let begun = begin(rt, order, &key, &folder)?;
-            finish(rt, order, &folder, &key, &begun, line, writer)
+            let begun = begin(rt, order, &key, &folder, chance)?;
+            finish(rt, order, &folder, &key, &begun, line, chance, writer)
         }
-        Step::Finish(begun) => finish(rt, order, &folder, &key, &begun, line, writer),
+        Step::Finish(begun) => finish(rt, order, &folder, &key, &begun, line, chance, writer),
         Step::Tidy => {
             folder.tidy()?;
             end_changed(rt, order, writer)
@@ -75,16 +77,17 @@ pub(crate) fn settle<L: Line, W: Write>(
 }
 
 /// Makes a new key, and keeps its change beside the key file before it is sent.
-fn begin(
+fn begin<G: Chance>(
     rt: &HostRuntime,
     order: &SendOrder,
     key: &Key,
     folder: &KeyFolder<'_>,
+    chance: &mut G,
 ) -> Result<Begun, Fault>
-    ensures begun { IfOk result (IsNewChange order.now key.now) }
+    ensures begun { IfOk result (IsNewChange G.gives chance.old chance.new order.now key.now) }
     ensures fault { IfErr result (λ fault. is_of_sending fault ≡ true) }
 {
-    let (Some(id), Some(random)) = (order.id, new_id(rt)) else {
+    let (Some(id), Some(random)) = (order.id, new_id(chance)) else {
         return Err(Fault::ReadFailed); // The machine gave no random bytes.
     };
     let Some(begun) = new_change(rt.alloc(), id, random, key)? else {
@@ -115,13 +118,14 @@ fn new_change(
 
 /// Sends a change that was begun, and moves the new key into place where it is accepted; then the order is to be sent, unless it asked
 /// for the change. A refusal ends the order, and leaves both files.
-fn finish<L: Line, W: Write>(
+fn finish<L: Line, G: Chance, W: Write>(
     rt: &HostRuntime,
     order: &SendOrder,
     folder: &KeyFolder<'_>,
     key: &Key,
     begun: &Begun,
     line: &mut L,
+    chance: &mut G,
     writer: &mut W,
 ) -> Result<Option<Ending>, Fault>
     ensures settled { IfOk result
@@ -133,7 +137,7 @@ fn finish<L: Line, W: Write>(
         (IsUnsettled W.contents writer.old writer.new) }
     ensures fault { IfErr result (λ fault. is_of_sending fault ≡ true) }
 {
-    let reply = change_key(rt, order, key, begun, line)?;
+    let reply = change_key(rt, order, key, begun, line, chance)?;
     if is_changed(rt.alloc(), &order.member, &reply)? {
         folder.put_in_place(order, begun, &reply)?;
         end_changed(rt, order, writer)

@@ -3,7 +3,7 @@ ghost use Rattle.std.specs.Prelude.{◌≡◌, ◌≤◌, ◌++◌, [], drop, le
 ghost use Rattle.tb_calls.specs.Call.{State};
 ghost use Rattle.tb_calls.specs.Leaving.{Only};
 ghost use Rattle.tb_http.specs.declared.begun.Begun.{Begun};
-ghost use Rattle.tb_http.specs.Inbox.{IsBegun};
+ghost use Rattle.tb_http.specs.Inbox.{IsBegun, Wants};
 ghost use Rattle.tb_serve.specs.Following.{Follows, has_stopped};
 ghost use Rattle.tb_serve.specs.Server.{HappensTo};
 ghost use Rattle.tb_serve.specs.Turns.{silent, turns};
@@ -120,7 +120,9 @@ impl Peer {
     }
 
     /// How many bytes the message at the front has in all, once its head was read, and else 0.
-    pub fn wanted(&self) -> usize {
+    pub fn wanted(&self) -> usize
+        ensures { Wants self.now.bytes result }
+    {
         self.inbox.wanted()
     }
 

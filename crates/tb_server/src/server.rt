@@ -2,6 +2,7 @@
 ghost use Rattle.std.specs.Prelude.{◌≡◌, ℕ, IfOk};
 ghost use Rattle.tb_event_loop.specs.History.{done_of as done_to};
 ghost use Rattle.tb_serve.specs.Server.{done_of, talk_at};
+ghost use Rattle.tb_http.specs.Inbox.{Wants};
 ghost use Rattle.tb_http.specs.Route.{kind_of};
 ghost use Rattle.tb_server.specs.Files.{gives_file as gives_file_so, is_free_file};
 ghost use Rattle.tb_server.specs.Serves.{IsTimed, Serves, moment_of};
@@ -10,7 +11,7 @@ ghost use Rattle.tb_server.specs.Joining.{serves_none, serves_then};
 ghost use Rattle.tb_serve.specs.Turns.{silent};
 
 use std::alloc::{AllocError, Global};
-use tb_calls::Keep;
+use tb_calls::{Keep, Written as KeptBytes};
 use tb_desk::Desk;
 use tb_event_loop::{Service, SocketEvent, StoreFailed};
 use tb_program::Clock;
@@ -98,6 +99,16 @@ fn gives_file(paths: &Paths, target: &[u8]) -> bool
     }
 }
 
+// What calls have written, as those count it who make them wait.
+fn sums_of(written: KeptBytes) -> Written
+    ensures { result ≡ record { own = written.own; swept = written.swept } }
+{
+    Written {
+        own: written.own,
+        swept: written.swept,
+    }
+}
+
 // What happens, at a moment where it is a turn.
 fn at_moment<'a, C: Clock>(clock: &mut C, happening: &SocketEvent<'a>) -> PeerEvent<'a>
     ensures timed { IsTimed (done_to happening.now) (done_of result) }
@@ -122,6 +133,8 @@ impl<K: Keep, C: Clock> Service for Server<K, C> {
     ghost held_at = { λ server place. (talk_at server.peers.items place).bytes };
 
     ghost owed_at = { λ server place. (talk_at server.peers.items place).out };
+
+    ghost wants = { λ server place wanted. Wants (talk_at server.peers.items place).bytes wanted };
 
     ghost closes_at = { λ server place. (talk_at server.peers.items place).is_closing };
 
@@ -187,11 +200,7 @@ impl<K: Keep, C: Clock> Service for Server<K, C> {
     }
 
     fn written(&self) -> Written {
-        let written = self.desk.written();
-        Written {
-            own: written.own,
-            swept: written.swept,
-        }
+        sums_of(self.desk.written())
     }
 
     fn is_file(&self, target: &[u8]) -> bool {

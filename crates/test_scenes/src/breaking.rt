@@ -13,7 +13,7 @@ use tb_core::{Command, Seen};
 use tb_deeds::Deed;
 use tb_desk::Desk;
 use tb_history::{HistoryPage, Which};
-use tb_script::{LinesFault, run_lines_on};
+use tb_script::{LinesFault, Watched, run_lines_on};
 use tb_task::TaskId;
 use tb_values::Items;
 
@@ -169,7 +169,8 @@ fn answer_until_break<K: Keep>(
     answers: &mut Vec<u8>,
 ) -> io::Result<usize> {
     for (answered, line) in lines.iter().enumerate() {
-        match run_lines_on(alloc, *line, answers, desk) {
+        let mut script = Watched::new(*line);
+        match run_lines_on(alloc, &mut script, answers, desk) {
             Err(LinesFault::Store) => return Ok(answered),
             end => ended(end)?,
         }
@@ -181,7 +182,8 @@ fn answer_until_break<K: Keep>(
 fn expect_nothing<K: Keep>(alloc: Global, lines: &[&[u8]], desk: &mut Desk<K>) -> io::Result<()> {
     for line in lines {
         let mut answers = Vec::new(alloc);
-        let end = run_lines_on(alloc, *line, &mut answers, desk);
+        let mut script = Watched::new(*line);
+        let end = run_lines_on(alloc, &mut script, &mut answers, desk);
         if !matches!(end, Err(LinesFault::Store)) && !answers.as_slice().starts_with(b"400 - ") {
             return Err(io::Error::other("a store that has failed answers"));
         }

@@ -5,7 +5,7 @@ use std::alloc::{AllocError, Global};
 use std::io;
 use tb_calls::Keep;
 use tb_desk::Desk;
-use tb_script::{LinesFault, run_lines_on};
+use tb_script::{LinesFault, Watched, run_lines_on};
 
 /// A line that can't be read.
 pub fn unreadable() -> io::Error {
@@ -68,7 +68,8 @@ pub fn answer_line<K: Keep>(
     line: &str,
 ) -> Result<String, AllocError> {
     let mut text = Vec::new(alloc);
-    match run_lines_on(alloc, line.as_bytes(), &mut text, desk) {
+    let mut script = Watched::new(line.as_bytes());
+    match run_lines_on(alloc, &mut script, &mut text, desk) {
         Ok(()) => String::from_str(alloc, str::from_utf8(text.as_slice()).unwrap_or("NotText")),
         Err(fault) => format!(in alloc; "{fault:?}"),
     }

@@ -8,7 +8,7 @@ use std::io;
 use tb_desk::Desk;
 use tb_keeper::first_version::create_v1;
 use tb_keeper::{CreateFault, SqlKeep};
-use tb_script::run_lines_on;
+use tb_script::{Watched, run_lines_on};
 use tb_sql::opening::{OpenFault, is_empty};
 use test_scenes::lines::ended;
 use test_scenes::{Owner, play_whole};
@@ -118,6 +118,7 @@ fn answer_over<S: Alter + Drop>(
 ) -> io::Result<(Vec<u8>, Connection<S>)> {
     let mut answers = Vec::new(owner.alloc);
     let mut desk = Desk::new(keep_in(owner, conn)?);
-    ended(run_lines_on(owner.alloc, lines, &mut answers, &mut desk))?;
+    let mut script = Watched::new(lines);
+    ended(run_lines_on(owner.alloc, &mut script, &mut answers, &mut desk))?;
     Ok((answers, desk.into_keep().close()))
 }

@@ -3,7 +3,7 @@ use crate::finding::{Finding, push_other};
 use crate::given::{bytes_of, halves, read_count};
 use bstr::ByteVec;
 use std::alloc::Global;
-use tb_script::run_lines;
+use tb_script::{Watched, run_lines};
 use test_scenes::ends::{Narrow, Pieces};
 
 pub(crate) fn script(alloc: Global, word: &str, given: &str) -> Finding {
@@ -22,7 +22,8 @@ fn played(alloc: Global, bytes: &[u8], sizes: &str, fails: bool, room: usize) ->
     for size in sizes.split(',') {
         let size = read_count(size);
         let mut writer = Narrow::of(alloc, room);
-        let ended = run_lines(alloc, Pieces::of(bytes, size, fails), &mut writer);
+        let mut script = Watched::new(Pieces::of(bytes, size, fails));
+        let ended = run_lines(alloc, &mut script, &mut writer);
         let answers = writer.taken.into_string_lossy()?;
         let one = format!(in alloc; "{ended:?}\n{answers}")?;
         push_other(&mut told, one.as_str())?;

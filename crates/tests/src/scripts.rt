@@ -2,7 +2,7 @@
 
 use std::alloc::AllocError;
 use std::{fs, io};
-use tb_script::run_lines;
+use tb_script::{Watched, run_lines};
 use test_scenes::lines::{compare, ended, unreadable};
 use test_scenes::{Owner, answer_through_break};
 use test_stores::{answer_in, stop_at_some, stop_each};
@@ -69,8 +69,9 @@ impl Case<'_> {
     /// Over lists, and over a store in memory.
     fn answer_in_memory(&self, rt: &HostRuntime) -> io::Result<()> {
         let script = self.script.as_slice();
+        let mut lines = Watched::new(script);
         let mut answers = Vec::new(self.owner.alloc);
-        ended(run_lines(self.owner.alloc, script, &mut answers))?;
+        ended(run_lines(self.owner.alloc, &mut lines, &mut answers))?;
         self.expect("over lists", answers.as_slice())?;
         let answers = answer_in(rt, self.owner, "--memory", script)?;
         self.expect("over memory", answers.as_slice())

@@ -11,5 +11,5 @@ returns-clause-answers g c = c.run_lines_on.ensures.answers refl first_state c.i
 pub returns-clause-front : goal.returns-clause-front
 returns-clause-front g c =
     on_err_weaker c.run_lines_on.result
-    (known_front first_state (g.R.Read.remaining c.args.reader) (g.W.Write.contents c.args.writer.now) (g.W.Write.contents c.run_lines_on.new.writer) ((list_keep.ghosts).holds c.run_lines_on.new.desk))
+    (known_front first_state c.args.reader.now.left (g.W.Write.contents c.args.writer.now) (g.W.Write.contents c.run_lines_on.new.writer) ((list_keep.ghosts).holds c.run_lines_on.new.desk))
     (c.run_lines_on.ensures.front refl first_state c.in_ok-desk.ensures)

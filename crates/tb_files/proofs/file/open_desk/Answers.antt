@@ -1,14 +1,13 @@
-use Rattle.tb_files.proofs.Unopened.{by_file, by_opening}
+use Rattle.tb_files.proofs.Unopened.{by_opening}
 use Rattle.tb_files.proofs.file.open_desk.Goals as goal
 
-pub returns-in-Ok-resume-clause-begun : goal.returns-in-Ok-resume-clause-begun
-returns-in-Ok-resume-clause-begun c = rw c.with_notice.ensures
+pub returns-in-Ok-clause-begun : goal.returns-in-Ok-clause-begun
+returns-in-Ok-clause-begun c = rw c.with_notice.ensures
     (record {
-      found = c.in-Ok.conn;
-      ours = c.in-Ok-resume.ensures.ours;
-      at = λ clean s rows. c.in-Ok-resume.ensures.begun (c.in-Ok.ensures.opens clean) s rows;
+      ours = c.in-Ok.ensures.ours;
+      at = λ clean s rows. c.in-Ok.ensures.begun (c.requires.opens clean) s rows;
     })
 
-pub returns-in-Ok-clause-unopened : goal.returns-in-Ok-clause-unopened
-returns-in-Ok-clause-unopened c = rw c.fault_of_opening.ensures.value
-    (by_opening _ c.in-Ok.conn c.in-Err-resume.field-0-0 c.in-Err-resume.fault c.in-Err-resume.ensures.refused)
+pub returns-in-Err-clause-untaken : goal.returns-in-Err-clause-untaken
+returns-in-Err-clause-untaken c = rw c.fault_of_opening.ensures.value
+    (by_opening c.args.conn c.in-Err.left c.in-Err.fault c.in-Err.ensures.refused)

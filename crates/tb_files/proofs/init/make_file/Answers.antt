@@ -1,21 +1,27 @@
-use Rattle.std.proofs.Common.{refl}
+use Rattle.std.proofs.Common.{ap, refl}
 use Rattle.tb_calls.specs.Call.{opening}
 use Rattle.tb_files.proofs.Unmade.{by_making}
 use Rattle.tb_files.proofs.init.make_file.Goals as goal
+use Rattle.tb_orders.specs.Items.{fault_alone}
 
-pub returns-in-Ok-clause-made : goal.returns-in-Ok-clause-made
-returns-in-Ok-clause-made c = (
+pub returns-in-Ok-close_desk-clause-made : goal.returns-in-Ok-close_desk-clause-made
+returns-in-Ok-close_desk-clause-made c = (
   refl,
   record {
-    found = c.in_ok-conn.conn;
     keep = c.in-Ok.desk;
-    at = λ clean. c.in-Ok.ensures.begun (c.in_ok-conn.ensures.opens clean);
-    files = c.in_ok-close_desk-in-Ok.ensures.saved.0;
-    saved = c.in_ok-close_desk-in-Ok.ensures.saved.1;
+    at = λ clean. c.in-Ok.ensures.begun (c.requires.opens clean);
+    files = c.in-Ok-close_desk.ensures.saved.0;
+    saved = c.in-Ok-close_desk.ensures.saved.1;
   },
 )
 
-pub returns-clause-unmade : goal.returns-clause-unmade
-returns-clause-unmade c = rw c.fault_of_making.ensures.value
-    (by_making _ (opening c.args.order.now.name c.args.order.now.key) c.in_ok-conn.conn c.in-Err.field-0-0 c.in-Err.fault
-    c.in-Err.ensures.unmade)
+pub returns-in-Err-close_desk-clause-unmade : goal.returns-in-Err-close_desk-clause-unmade
+returns-in-Err-close_desk-clause-unmade c = (
+  ap fault_alone c.in-Err-close_desk.ensures.fault,
+  record { keep = c.in-Ok.desk; at = λ clean. c.in-Ok.ensures.begun (c.requires.opens clean) },
+)
+
+pub returns-in-Err-clause-unmade : goal.returns-in-Err-clause-unmade
+returns-in-Err-clause-unmade c = rw c.fault_of_making.ensures.value
+    (by_making (opening c.args.order.now.name c.args.order.now.key) c.args.conn c.in-Err.left c.in-Err.fault
+    (rw c.in-Err.is at c.make.ensures.filled) c.in-Err.ensures.unmade)

@@ -1,30 +1,9 @@
-use Rattle.std.proofs.lemmas.Result.{IfErr-at_err, IfOk-at_ok}
-use Rattle.tb_files.proofs.Faults.{of_view}
+use Rattle.std.proofs.Common.{Err, ap}
 use Rattle.tb_files.proofs.view.print_board.Goals as goal
 
-pub returns-in_ok-close_desk-in-Ok-clause-shown : goal.returns-in_ok-close_desk-in-Ok-clause-shown
-returns-in_ok-close_desk-in-Ok-clause-shown g c = record {
-  old = c.in_ok-desk.desk;
-  new = c.print_stored_view-desk.result.0;
-  session = record {
-    begun = c.in_ok-desk.ensures.begun;
-    files = c.in_ok-close_desk-in-Ok.ensures.saved.0;
-    saved = c.in_ok-close_desk-in-Ok.ensures.saved.1;
-  };
-  at = c.in_ok-at.at;
-  told = λ honest s held. IfOk-at_ok _ c.in-Ok.is (c.print_stored_view-desk.ensures.told honest s held);
-  ends = λ honest s held. IfOk-at_ok _ c.in-Ok.is (c.print_stored_view-desk.ensures.ending honest s held);
-  same = c.print_stored_view-desk.ensures.same;
+pub returns-in-Err-show_board-clause-unwritten : goal.returns-in-Err-show_board-clause-unwritten
+returns-in-Err-show_board-clause-unwritten g c is = record {
+  old = c.in-Ok.desk;
+  begun = c.in-Ok.ensures.begun;
+  does = c.in-Err-show_board.ensures.unwritten (ap Err is);
 }
-
-pub returns-in-Err-clause-unwritten : goal.returns-in-Err-clause-unwritten
-returns-in-Err-clause-unwritten g c is = record {
-  old = c.in_ok-desk.desk;
-  new = c.print_stored_view-desk.result.0;
-  begun = c.in_ok-desk.ensures.begun;
-  at = c.in_ok-at.at;
-  front = λ honest s held. IfErr-at_err _ c.in-Err.is (c.print_stored_view-desk.ensures.front honest s held);
-}
-
-pub returns-in-Err-clause-fault : goal.returns-in-Err-clause-fault
-returns-in-Err-clause-fault g c = of_view _ (IfErr-at_err _ c.in-Err.is c.print_stored_view-desk.ensures.fault)

@@ -20,11 +20,11 @@ loop-row-preserved g c =
       counted = one_counted start before after c.args.rows.now c.loop-row.row-index c.row-item.result c.loop-row.audit c.with_board-audit.result c.in_ok-checked.checked c.loop-row-test.true c.row-item.is was.same
           c.in_ok-checked.ensures.same c.in_ok-checked.ensures.checked
           (record { boards = c.with_board-audit.ensures.boards; tasks = c.with_board-audit.ensures.tasks; faults = c.with_board-audit.ensures.faults }) was.counted;
-      first = one_first start before after c.args.rows.now c.loop-row.row-index c.row-item.result c.loop-row.audit c.with_board-audit.result c.in_ok-checked.checked c.loop-row-test.true c.row-item.is was.same
+      first = one_first start before after c.args.people c.args.rows.now c.loop-row.row-index c.row-item.result c.loop-row.audit c.with_board-audit.result c.in_ok-checked.checked c.loop-row-test.true c.row-item.is was.same
           c.in_ok-checked.ensures.same c.in_ok-checked.ensures.whole
           (record { boards = c.with_board-audit.ensures.boards; tasks = c.with_board-audit.ensures.tasks; faults = c.with_board-audit.ensures.faults }) was.first;
     }
 
 pub returns-clause-whole : goal.returns-clause-whole
 returns-clause-whole g c =
-    all_first (state g.S.Store c.args.conn.now) (state g.S.Store c.loop-row.conn) c.args.rows.now c.loop-row.row-index c.loop-row.audit c.loop-row-test.false c.loop-row.invariant.first
+    all_first (state g.S.Store c.args.conn.now) (state g.S.Store c.loop-row.conn) c.args.people c.args.rows.now c.loop-row.row-index c.loop-row.audit c.loop-row-test.false c.loop-row.invariant.first

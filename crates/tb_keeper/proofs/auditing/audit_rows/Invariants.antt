@@ -13,5 +13,5 @@ invariant-loop-row g l = record {
   tasks : l.audit.tasks ≤ 10000 * l.row-index;
   faults : l.audit.faults ≤ l.row-index;
   counted : CountsUpTo (state g.S.Store l.fn.conn) (state g.S.Store l.conn) l.rows (drop l.row-index l.rows) l.audit;
-  first : CountsFirst (state g.S.Store l.fn.conn) (state g.S.Store l.conn) (take l.row-index l.rows) l.audit;
+  first : CountsFirst (state g.S.Store l.fn.conn) (state g.S.Store l.conn) l.people (take l.row-index l.rows) l.audit;
 }

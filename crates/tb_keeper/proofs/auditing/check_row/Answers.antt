@@ -13,6 +13,6 @@ returns-clause-checked g c =
 pub returns-clause-whole : goal.returns-clause-whole
 returns-clause-whole g c =
     IfOk-weaker c.check_history.result _ _
-    (λ checked. row_whole (state g.S.Store c.args.conn.now) (state g.S.Store c.hold_roles.new.conn) (state g.S.Store c.check_board.new.conn) (state g.S.Store c.check_history.new.conn) c.args.row.now c.in_ok-tables.tables checked
+    (λ checked. row_whole (state g.S.Store c.args.conn.now) (state g.S.Store c.hold_roles.new.conn) (state g.S.Store c.check_board.new.conn) (state g.S.Store c.check_history.new.conn) c.args.people c.args.row.now c.in_ok-tables.tables checked
     c.in_ok-hold_roles.ensures.same c.in_ok-tables.ensures.same c.check_history.ensures.same c.in_ok-hold_roles.ensures.owned c.in_ok-tables.ensures.whole)
     c.check_history.ensures.checked

@@ -1,9 +1,11 @@
 use Rattle.std.proofs.Common.{◌≡◌, [], IfOk, OnErr, subst}
 use Rattle.tb_calls.specs.Call.{reply}
+use Rattle.tb_calls.specs.Leaving.{StandsAfter}
 use Rattle.tb_calls.specs.declared.call.Call.{Call}
-use Rattle.tb_orders.specs.Orders.{AsksFor, ending_of, line_text}
+use Rattle.tb_orders.specs.Doing.{made_of}
+use Rattle.tb_orders.specs.Orders.{AsksFor, calls_made, ending_of, line_text}
 use Rattle.tb_values.specs.Appends.{AppendsFront}
-use Rattle.tb_orders.proofs.Standing.{untouched}
+use Rattle.tb_orders.proofs.Inputs.{none_made}
 use Rattle.tb_orders.proofs.importing.import_text.Goals as goal
 
 pub returns-in-Ok-Call-clause-front : goal.returns-in-Ok-Call-clause-front
@@ -28,4 +30,12 @@ returns-in-Ok-Call-clause-unasked g c none =
     absurd (none c.in-Ok-Call.call asks)
 
 pub returns-clause-stands : goal.returns-clause-stands
-returns-clause-stands g c s held only call asks = untouched s call _ _ held only
+returns-clause-stands g c s held only call asks = none_made s _ _ held only
+
+pub returns-in-Ok-Call-clause-stands : goal.returns-in-Ok-Call-clause-stands
+returns-in-Ok-Call-clause-stands g c s held only call asks =
+    let read = c.in-Ok-Call.ensures in
+    let same : c.in-Ok-Call.call ≡ call = cc in
+    let k = g.K.Keep in
+    let P : Call → Type 0 = λ made. StandsAfter s (made_of c.make_call.result made) (calls_made c.make_call.result) (k.holds c.make_call.new.desk) (k.after_stop c.make_call.new.desk) in
+    subst P same (c.make_call.ensures.stands s held only)

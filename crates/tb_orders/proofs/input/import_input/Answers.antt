@@ -1,9 +1,9 @@
-use Rattle.std.proofs.Common.{◌≡◌, [], IfErr, IfSome, IsErrOf, Some, subst, sym}
+use Rattle.std.proofs.Common.{◌≡◌, IfErr, IfSome, IsErrOf, Some, subst}
 use Rattle.std.proofs.lemmas.Result.{IfErr-weaker}
 use Rattle.tb_asking.specs.Asking.{asked_of}
-use Rattle.tb_calls.specs.Leaving.{StandsAfter}
 use Rattle.tb_orders.specs.Items.{item_in}
-use Rattle.tb_orders.proofs.Inputs.{made_by, none_made, of_import, stood_by, unread_made}
+use Rattle.tb_orders.proofs.Doing.{done_by, none_done, unread_acts_not}
+use Rattle.tb_orders.proofs.Inputs.{made_by, of_import}
 use Rattle.tb_orders.proofs.Items.{bad_in}
 use Rattle.tb_orders.proofs.input.import_input.Goals as goal
 use Rattle.tb_program.specs.declared.fault.Fault.TheVariants.{Memory, Store}
@@ -19,13 +19,17 @@ returns-in-Ok-clause-made g c s held =
 pub returns-in-Ok-clause-memory : goal.returns-in-Ok-clause-memory
 returns-in-Ok-clause-memory g c s held e = c.import_text-end.ensures.memory s held (subst (λ r. IsErrOf r Memory) c.with_item.ensures.end e)
 
-pub returns-in-Ok-clause-stands : goal.returns-in-Ok-clause-stands
-returns-in-Ok-clause-stands g c s held only =
+pub returns-in-Ok-clause-does : goal.returns-in-Ok-clause-does
+returns-in-Ok-clause-does g c s held only =
     let read = c.in-Ok.ensures.read in
     let did = c.import_text-end.ensures in
     rw c.with_item.ensures.end
-    (stood_by c.import_text-end.result c.args.order.now read.0 _ _ _ s g.K.Keep.holds g.K.Keep.after_stop c.args.desk.now _ read.2 read.1
-    (did.stands s held only) (λ none. let same = did.unasked none in (same.0, same.1)) held only)
+    (done_by g.W.Write.contents c.import_text-end.result c.args.order.now read.0 c.in-Ok.arrived.message c.in-Ok.arrived.at _ s
+    (g.K.Keep.is_honest c.import_text-end.new.desk) g.K.Keep.holds g.K.Keep.after_stop c.args.desk.now c.import_text-end.new.desk
+    c.args.writer.now c.import_text-end.new.writer read.2 read.1 (λ so. did.told so s held) (λ so. did.front so s held) did.silent (did.stands s held only) did.unasked held only)
+
+pub returns-in-Ok-clause-silent : goal.returns-in-Ok-clause-silent
+returns-in-Ok-clause-silent g c = rw c.with_item.ensures.end c.import_text-end.ensures.silent
 
 pub returns-in-Ok-clause-item : goal.returns-in-Ok-clause-item
 returns-in-Ok-clause-item g c =
@@ -39,9 +43,7 @@ returns-in-Ok-clause-fault g c = rw c.with_item.ensures.end (IfErr-weaker c.impo
 pub returns-in-Ok-clause-store : goal.returns-in-Ok-clause-store
 returns-in-Ok-clause-store g c e = c.import_text-end.ensures.store (subst (λ r. IsErrOf r Store) c.with_item.ensures.end e)
 
-pub returns-in-Err-clause-stands : goal.returns-in-Err-clause-stands
-returns-in-Err-clause-stands g c s held only =
-    let now = g.K.Keep.holds c.args.desk.now in
-    let stops = g.K.Keep.after_stop c.args.desk.now in
-    let none = unread_made c.in-Err.fault c.in-Err.ensures.fault in
-    ([], tt, subst (λ n. StandsAfter s [] n now stops) (sym none) (none_made s now stops held only))
+pub returns-in-Err-clause-does : goal.returns-in-Err-clause-does
+returns-in-Err-clause-does g c s held only =
+    let acts_not = unread_acts_not c.in-Err.fault c.in-Err.ensures.fault in
+    none_done c.args.order.now _ s c.in-Err.fault _ _ _ (g.W.Write.contents c.args.writer.now) acts_not.0 acts_not.1 held only

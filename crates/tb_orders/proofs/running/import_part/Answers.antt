@@ -13,9 +13,9 @@ returns-in-Ok-clause-run g c s held only =
     rw c.with_item.ensures.end
     (subst (λ m. IsRun (m ∷ []) c.args.run.now.at s c.import_text-end.result (k.is_honest c.import_text-end.new.desk) (k.holds c.import_text-end.new.desk)
     (k.after_stop c.import_text-end.new.desk) (g.W.Write.contents c.args.writer.now) (g.W.Write.contents c.import_text-end.new.writer)) c.in-Ok.ensures
-    (one_run c.import_text-end.result c.in-Ok.message c.args.run.now.at s (k.is_honest c.import_text-end.new.desk) k.holds k.after_stop c.args.desk.now c.import_text-end.new.desk
-    (g.W.Write.contents c.args.writer.now) (g.W.Write.contents c.import_text-end.new.writer)
-    (λ so. did.told so s held) (λ so. did.ending so s held) (did.stands s held only) (λ none. let same = did.unasked none in (same.0, same.1)) held only))
+    (one_run g.W.Write.contents c.import_text-end.result c.in-Ok.message c.args.run.now.at s (k.is_honest c.import_text-end.new.desk) k.holds k.after_stop
+    c.args.desk.now c.import_text-end.new.desk c.args.writer.now c.import_text-end.new.writer
+    (λ so. did.told so s held) (λ so. did.ending so s held) (λ so. did.front so s held) did.silent (did.stands s held only) did.unasked held only))
 
 pub returns-in-Ok-clause-item : goal.returns-in-Ok-clause-item
 returns-in-Ok-clause-item g c =
@@ -29,4 +29,4 @@ pub returns-in-Ok-clause-store : goal.returns-in-Ok-clause-store
 returns-in-Ok-clause-store g c e = c.import_text-end.ensures.store (subst (λ r. IsErrOf r Store) c.with_item.ensures.end e)
 
 pub returns-in-Err-clause-run : goal.returns-in-Err-clause-run
-returns-in-Err-clause-run g c s held only = none_run _ _ s _ _ _ _ _ _ held only
+returns-in-Err-clause-run g c s held only = none_run _ _ s _ _ _ _ _ held only

@@ -1,6 +1,8 @@
-use Rattle.std.proofs.Common.{◌∙◌, Some, ap, inl, sym}
+use Rattle.std.proofs.Common.{◌∙◌, Some, inl, subst, sym, true≢false}
 use Rattle.std.proofs.lemmas.Result.{IfErr-weaker}
 use Rattle.tb_orders.specs.Items.{end_of}
+use Rattle.tb_orders.specs.Lists.{IsCut}
+use Rattle.tb_orders.proofs.Doing.{read_by_then}
 use Rattle.tb_orders.proofs.Inputs.{of_import}
 use Rattle.tb_orders.proofs.Items.{bad_among}
 use Rattle.tb_orders.proofs.Runs.{unread_run}
@@ -14,7 +16,7 @@ returns-in-Ok-clause-run g c s held only =
       parts = c.as_slice-parts.result.now;
       at = _;
       whole = read.1;
-      cut = inl (read.2 ∙ ap Some (sym c.as_slice-parts.ensures.value));
+      cut = inl (subst (λ ps. IsCut c.args.order.now.kind read.0 (Some ps)) (sym c.as_slice-parts.ensures.value) read.2);
       run = c.import_parts.ensures.run s held only;
     }
 
@@ -22,10 +24,14 @@ pub returns-in-Ok-clause-item : goal.returns-in-Ok-clause-item
 returns-in-Ok-clause-item g c =
     let read = c.in-Ok.ensures.read in
     bad_among c.args.order.now _ read.0 c.as_slice-parts.result.now c.in-Ok.arrived.at c.import_parts.result read.1
-    (read.2 ∙ ap Some (sym c.as_slice-parts.ensures.value)) c.import_parts.ensures.item
+    (subst (λ ps. IsCut c.args.order.now.kind read.0 (Some ps)) (sym c.as_slice-parts.ensures.value) read.2) c.import_parts.ensures.item
 
 pub returns-in-Ok-clause-fault : goal.returns-in-Ok-clause-fault
 returns-in-Ok-clause-fault g c = IfErr-weaker (end_of c.import_parts.result) _ _ of_import c.import_parts.ensures.fault
 
+pub returns-in-Ok-clause-unread : goal.returns-in-Ok-clause-unread
+returns-in-Ok-clause-unread g c =
+    IfErr-weaker (end_of c.import_parts.result) _ _ (λ fault of is. absurd (true≢false (sym is ∙ read_by_then fault of))) c.import_parts.ensures.fault
+
 pub returns-in-Err-clause-run : goal.returns-in-Err-clause-run
-returns-in-Err-clause-run g c s held only = unread_run _ _ s _ _ _ _ _ _ held only
+returns-in-Err-clause-run g c s held only = unread_run _ _ s _ _ _ _ _ held only

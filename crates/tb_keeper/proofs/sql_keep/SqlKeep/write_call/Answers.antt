@@ -2,9 +2,12 @@ use Rattle.std.proofs.Common.{◌≡◌, inl, Err, ap}
 use Rattle.sqlite.specs.Held.{state}
 use Rattle.tb_calls.specs.Keep.{MayCommit, with_reply}
 use Rattle.tb_lookup.proofs.Standing.{stored_again}
+use Rattle.tb_rows.specs.Part.{touched_board}
 use Rattle.tb_sql.specs.declared.store.StoreFault.TheVariants.{Memory, Store}
 use Rattle.tb_keeper.specs.Holds.{IsAtHand}
 use Rattle.tb_keeper.proofs.Commits.{write_done, write_failed, write_undone}
+use Rattle.tb_keeper.proofs.KnownPeople.{known_first}
+use Rattle.tb_keeper.proofs.Using.{unused}
 use Rattle.tb_keeper.proofs.sql_keep.SqlKeep.write_call.Goals as goal
 
 pub returns-in_err-rows-clause-memory : goal.returns-in_err-rows-clause-memory
@@ -23,6 +26,9 @@ returns-in-Ok-clause-ok g c =
     (λ s. MayCommit s c.args.changes.now c.args.deed c.args.call.now) (λ s. with_reply s c.args.changes.now c.args.deed c.args.call.now c.args.reply.now) c.in_ok-rows.rows c.in_ok-rows.ensures.same c.in_ok-rows.ensures.idle c.in-Ok.ensures.clean
     c.in_ok-rows.ensures.leads (rw c.as_slice.ensures at c.in-Ok.ensures.done) c.in-Ok.ensures.idle
 
+pub returns-in-Ok-clause-bytes : goal.returns-in-Ok-clause-bytes
+returns-in-Ok-clause-bytes g c = (c.in_ok-rows.rows, c.bytes_of_call.ensures, λ clean. c.in_ok-rows.ensures.leads (c.in-Ok.ensures.clean clean))
+
 pub returns-clause-memory : goal.returns-clause-memory
 returns-clause-memory g c is =
     let k = c.args.self.now in
@@ -38,3 +44,16 @@ returns-clause-store g c is =
     write_failed (state g.S.Store k.conn) (state g.S.Store c.call_rows.new.self.conn) (state g.S.Store c.write_rows.new.conn) (λ s. IsAtHand k.people k.boards k.cache.entries s.world)
     (λ s. MayCommit s c.args.changes.now c.args.deed c.args.call.now) (λ s. with_reply s c.args.changes.now c.args.deed c.args.call.now c.args.reply.now) c.in_ok-rows.rows c.in_ok-rows.ensures.same c.in_ok-rows.ensures.idle c.in-Err.ensures.clean
     c.in_ok-rows.ensures.leads (rw c.as_slice.ensures at (c.in-Err.ensures.store (ap Err fault)))
+
+pub returns-in-Ok-clause-people : goal.returns-in-Ok-clause-people
+returns-in-Ok-clause-people g c =
+    let k = c.args.self.now in
+    known_first (state g.S.Store k.conn) (state g.S.Store c.call_rows.new.self.conn) (state g.S.Store c.write_rows.new.conn) k.people c.call_rows.new.self.people c.in_ok-rows.ensures.people c.in-Ok.ensures.clean
+
+pub returns-clause-people : goal.returns-clause-people
+returns-clause-people g c =
+    let k = c.args.self.now in
+    known_first (state g.S.Store k.conn) (state g.S.Store c.call_rows.new.self.conn) (state g.S.Store c.write_rows.new.conn) k.people c.call_rows.new.self.people c.in_ok-rows.ensures.people c.in-Err.ensures.clean
+
+pub returns-then-not-is_autocommit-clause-used : goal.returns-then-not-is_autocommit-clause-used
+returns-then-not-is_autocommit-clause-used g c = unused c.args.self.now.cache (touched_board c.args.changes.now)

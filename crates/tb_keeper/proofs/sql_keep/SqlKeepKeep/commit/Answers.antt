@@ -1,8 +1,10 @@
-use Rattle.std.proofs.Common.{◌∙◌, Err, ap, subst}
+use Rattle.std.proofs.Common.{◌∙◌, Err, ap, refl, subst}
 use Rattle.sqlite.specs.Held.{state}
 use Rattle.sqlite.specs.State.{HasCleanDisk}
 use Rattle.tb_keeper.proofs.Commits.{commit_memory, commit_ok, commit_store, either_first, either_second}
+use Rattle.tb_rows.specs.Part.{touched_board}
 use Rattle.tb_keeper.proofs.Holding.{honest}
+use Rattle.tb_keeper.proofs.Using.{unused}
 use Rattle.tb_keeper.proofs.sql_keep.SqlKeepKeep.commit.Goals as goal
 
 pub returns-in-Ok-clause-ok : goal.returns-in-Ok-clause-ok
@@ -54,3 +56,19 @@ returns-in-Err-Store-clause-store g c s held may fine =
 
 pub returns-in-Err-Store-clause-honest : goal.returns-in-Err-Store-clause-honest
 returns-in-Err-Store-clause-honest g c = honest (state g.S.Store c.args.self.now.conn) (state g.S.Store c.write_call.new.self.conn) c.in-Err-Store.ensures.clean
+
+-- ---- what is at hand
+
+pub returns-then-self-clause-used : goal.returns-then-self-clause-used
+returns-then-self-clause-used g c =
+    let cache = c.args.self.now.cache in
+    (cache.entries, unused cache (touched_board c.args.changes.now), refl, tt)
+
+pub returns-in-Ok-clause-used : goal.returns-in-Ok-clause-used
+returns-in-Ok-clause-used g c = (c.write_call.new.self.cache.entries, c.in-Ok.ensures.used, tt, c.follow.ensures.others)
+
+pub returns-in-Err-Memory-clause-used : goal.returns-in-Err-Memory-clause-used
+returns-in-Err-Memory-clause-used g c = (c.write_call.new.self.cache.entries, c.in-Err-Memory.ensures.used, refl, tt)
+
+pub returns-in-Err-Store-clause-used : goal.returns-in-Err-Store-clause-used
+returns-in-Err-Store-clause-used g c = (c.write_call.new.self.cache.entries, c.in-Err-Store.ensures.used, refl, tt)

@@ -1,0 +1,18 @@
+use Rattle.std.proofs.Common.{◌∙◌, Bool, ap, subst, List}
+use Rattle.tb_event_loop.specs.Arrivals.{StaysReady, may_accept, told_of}
+use Rattle.tb_event_loop.specs.declared.arrivals.Arrivals.{Arrivals}
+use Rattle.tb_event_loop.specs.declared.sockets.Told.{Told}
+use Rattle.tb_event_loop.proofs.event_loop.EventLoop.prepare.Goals as goal
+
+pub returns-clause-heard : goal.returns-clause-heard
+returns-clause-heard g c =
+    let old = c.args.self.now.arrivals in
+    let heard = c.hear.ensures ∙ ap (λ (told : List Told). told_of told old) c.told.ensures in
+    subst (λ (ready : Bool). StaysReady g.N.Sockets.follows ready c.seat_all.new.self.is_ready c.args.sockets.now c.seat_all.new.sockets)
+    (ap (λ (a : Arrivals). a.is_ready) heard) c.seat_all.ensures.heard
+
+pub returns-clause-tried : goal.returns-clause-tried
+returns-clause-tried g c none may =
+    let old = c.args.self.now.arrivals in
+    let heard = c.hear.ensures ∙ ap (λ (told : List Told). told_of told old) c.told.ensures in
+    c.seat_all.ensures.tried (ap (λ (a : Arrivals). a.is_waiting) heard ∙ none) (ap (λ (a : Arrivals). may_accept a c.now-self.result) heard ∙ may)
