@@ -4,7 +4,7 @@
 // A browser asks for the worker at each start, and a page that stays open every few minutes; it is installed anew where a byte of it differs. The
 // next line, made by tests/page_content.py, differs with every other file, so a new version is found then, also where its files are as long as
 // before.
-// Content of the other files: 7825ca17bd57f4121bddf8863e1d74cb7dd63b03f09263af5c56d96d434d20dd
+// Content of the other files: 3f1fc87cda1710d039de4871b693306d7b93b07d63cd53064d47334b99f268ca
 
 const VERSION = "taskboard ";
 const FILE = /^\/(?:[a-z0-9_.-]+\.(?:html|css|js|svg|png|ico))?$/;

@@ -320,8 +320,14 @@ const buttons = (place) => [...document.querySelectorAll(`${place} button`)].fil
 return [...buttons(".filters").filter(isCut), ...buttons("#notices .notice").filter(isOn)].map((button) => button.textContent);"""
 
 
+# Whether the last button of the messages is what a finger meets in its place.
+IS_ON_TOP = """const button = [...document.querySelectorAll("#notices button")].at(-1), { left, top, width, height } = button.getBoundingClientRect();
+return document.elementFromPoint(left + width / 2, top + height / 2) === button"""
+
+
 def on_a_phone(office):
-    """In a narrow window no button of the filters is cut off, and none of a message stands upon its text; and no focus goes behind an open task."""
+    """In a narrow window no button of the filters is cut off, none of a message stands upon its text, and an open task doesn't hide a message; and no
+    focus goes behind an open task."""
     browser, board = office.browser, new_board("Narrow", bob="member")
     task = add(board, description="Read on a phone")
     office.begin(board, "bob")
@@ -333,6 +339,10 @@ def on_a_phone(office):
         browser.size(width, height)
         expect(f"buttons that are cut off or in the way at {width}", [], browser.run(CUT))
     office.shot("narrow")
+    browser.size(390, 844)
+    office.go(board, "tasks", task)
+    browser.wait(IS_OPEN)
+    browser.wait(IS_ON_TOP)
     browser.run("[...document.querySelectorAll('#notices button')].at(-1).click()")
     browser.wait("return document.querySelectorAll('#notices .refused').length === 0")
     behind_a_task(office, board, task)
