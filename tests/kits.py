@@ -1,7 +1,7 @@
 """Meets the tools of the test command with kits that are made up here: python3 kits.py
 
-`fits` of `tools/wrong_bodies.py` takes a kit that has the functions which it calls, and none that lacks one or has it in another form. `is_as_shipped` of
-`tools/gate.py` compares the program of `dist/` whatever kit built it: a difference under the same letter fails, and under another it is told."""
+`fits` of `tools/wrong_bodies.py` and of `tools/plan.py` takes a kit that has the functions which it calls, and none that lacks one or has it in another form. A plan
+begins each task after those that it waits for, within the jobs and the memory that there are. `is_as_shipped` of `tools/gate.py` compares the program of `dist/` whatever kit built it: a difference under the same letter fails, and under another it is told."""
 import contextlib
 import gzip
 import io
@@ -9,10 +9,12 @@ import os
 import pathlib
 import sys
 import tempfile
+import time
 
 TOP = pathlib.Path(__file__).resolve().parent.parent
 sys.path.insert(0, str(TOP / "tools"))
 import gate
+import plan
 import wrong_bodies
 
 FORMS = {
@@ -23,6 +25,7 @@ FORMS = {
     "edits_of": "crate",
     "handles_of": "room",
 }
+PLANNED = {"in_lanes": "tasks", "processors": "", "free": "", "ending": "", "main": "words"}
 KIT = """import types
 
 class Crate:
@@ -47,6 +50,16 @@ KITS = {
     "one that ends where it is read": (kit_of(FORMS) + "\nraise SystemExit(2)\n", False),
     "no kit": (None, False),
 }
+PLANNED_KITS = {
+    "one that plans": (kit_of(FORMS | PLANNED), True),
+    "one without lanes": (kit_of(FORMS | {name: words for name, words in PLANNED.items() if name != "in_lanes"}), False),
+    "one whose lanes want a number": (kit_of(FORMS | PLANNED | {"in_lanes": "tasks, number"}), False),
+    "one whose edits aren't tried here": (kit_of(PLANNED), False),
+}
+# Crates of a made-up repository: those that each waits for, its lines, and its memory.
+TASKS = {
+    "values": ((), 10, 1e9), "rows": (("values",), 30, 6e9), "calls": (("values",), 20, 6e9), "names": ((), 5, 9e9), "keeper": (("rows", "calls"), 40, 20e9),
+}
 faults = []
 
 
@@ -55,8 +68,8 @@ def expect(what, wanted, got):
         faults.append(f"{what}: wanted {wanted}, got {got}")
 
 
-def fits(text):
-    """Whether the kit with this command fits, or where there is none whether that does."""
+def fits(text, tool=wrong_bodies):
+    """Whether the kit with this command fits a tool, or where there is none whether that does."""
     path = os.environ["PATH"]
     with tempfile.TemporaryDirectory() as folder:
         if text:
@@ -65,7 +78,7 @@ def fits(text):
             rt.chmod(0o755)
         os.environ["PATH"] = folder
         try:
-            return wrong_bodies.fits()
+            return tool.fits()
         finally:
             os.environ["PATH"] = path
 
@@ -97,9 +110,34 @@ def try_programs(folder):
         expect(what, (wanted, True), (is_good, words in said))
 
 
+def planned(most_jobs, memory):
+    """What a plan did with the made-up crates: whether each began after those that it waits for, and how often more than there is was taken."""
+    begun, ended, taken, beyond = [], set(), {}, []
+
+    def work(name, below, size):
+        def call(given, jobs):
+            begun.append((name, set(below) <= ended and all(given[it] for it in below)))
+            taken[name] = jobs, size * plan.TAKEN
+            jobs_taken, memory_taken = map(sum, zip(*list(taken.values())))
+            beyond.append(jobs_taken > most_jobs or memory_taken > memory and len(taken) > 1)
+            time.sleep(0.02)
+            del taken[name]
+            ended.add(name)
+            return True
+        return call
+
+    tasks = {name: (below, lines, size, work(name, below, size)) for name, (below, lines, size) in TASKS.items()}
+    return plan.Lanes(tasks, most_jobs, memory).run(), sorted(begun), sum(beyond)
+
+
+for most_jobs, memory in ((1, 1e9), (2, 6e9), (5, 8e9), (5, 50e9)):
+    wanted = dict.fromkeys(TASKS, True), [(name, True) for name in sorted(TASKS)], 0
+    expect(f"a plan with {most_jobs} jobs", wanted, planned(most_jobs, memory))
+for kit, (command, is_wanted) in PLANNED_KITS.items():
+    expect(f"{kit}, to plan", is_wanted, fits(command, plan))
 for kit, (command, is_wanted) in KITS.items():
     expect(kit, is_wanted, fits(command))
 with tempfile.TemporaryDirectory() as room:
     try_programs(pathlib.Path(room))
-print("\n".join(faults) or f"{len(KITS)} kits are taken or not as they fit, and programs of two kits are compared")
+print("\n".join(faults) or f"{len(KITS) + len(PLANNED_KITS)} kits are taken or not as they fit, and programs of two kits are compared")
 sys.exit(bool(faults))

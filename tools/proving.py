@@ -1,6 +1,6 @@
 """Runs `rt ci` in a folder, tells on standard error how far it is, and measures the processor time of each crate.
 
-`rt ci` proves crates side by side, each over the statements of those below, the longest chain first; it needs no scheduler beside it.
+`rt ci` proves crates side by side, each over the statements of those below, the longest chain first, by the plan of `plan.py`.
 What each crate costs is read from /proc while its provers run, so it may miss the last half second of each."""
 import os
 import re
@@ -9,6 +9,8 @@ import subprocess
 import sys
 import threading
 import time
+
+import plan
 
 TICKS = os.sysconf("SC_CLK_TCK")
 BETWEEN_LOOKS = 0.5
@@ -210,7 +212,7 @@ def prove(top, log, heard=lambda name: None):
         elif re.fullmatch(r"rt: .* NOT PROVED.*", line):
             print(line, file=sys.stderr, flush=True)
 
-    command = Command(["rt", "ci"], top, log, hear)
+    command = Command(plan.command(), top, log, hear)
     try:
         return command.end()
     except BaseException:
