@@ -190,7 +190,7 @@ def check_tests():
             tell(path, 0, f"no row of tests/{name}")
     quick = text.partition("## Tests of `tests/quick.sh`")[2].partition("\n## ")[0]
     told = set(re.findall(r"(?m)^\| `tests/([\w.]+)", quick))
-    run = set(re.findall(r"(?m)^attempt ([\w.]+)", (TOP / "tests/quick.sh").read_text()))
+    run = set(re.findall(r"(?m)^\s*attempt ([\w.]+)", (TOP / "tests/quick.sh").read_text()))
     for name in sorted(told ^ run):
         tell(path, 0, f"tests/{name} is in the table of quick.sh or run by it, and not both")
 
