@@ -1,7 +1,7 @@
 """Meets the tools of the test command with kits that are made up here: python3 kits.py
 
 `fits` of `tools/wrong_bodies.py` and of `tools/plan.py` takes a kit that has the functions which it calls, and none that lacks one or has it in another form. A plan
-begins each task after those that it waits for, within the jobs and the memory that there are. `is_as_shipped` of `tools/gate.py` compares the program of `dist/` whatever kit built it: a difference under the same letter fails, and under another it is told."""
+begins each task after those that it waits for, the longest chain first, within the jobs and the memory that there are. `is_as_shipped` of `tools/gate.py` compares the program of `dist/` whatever kit built it: a difference under the same letter fails, and under another it is told."""
 import contextlib
 import gzip
 import io
@@ -15,6 +15,7 @@ TOP = pathlib.Path(__file__).resolve().parent.parent
 sys.path.insert(0, str(TOP / "tools"))
 import gate
 import plan
+import proving
 import wrong_bodies
 
 FORMS = {
@@ -127,12 +128,17 @@ def planned(most_jobs, memory):
         return call
 
     tasks = {name: (below, lines, size, work(name, below, size)) for name, (below, lines, size) in TASKS.items()}
-    return plan.Lanes(tasks, most_jobs, memory).run(), sorted(begun), sum(beyond)
+    return plan.Lanes(tasks, most_jobs, memory).run(), begun, sum(beyond)
 
 
 for most_jobs, memory in ((1, 1e9), (2, 6e9), (5, 8e9), (5, 50e9)):
     wanted = dict.fromkeys(TASKS, True), [(name, True) for name in sorted(TASKS)], 0
-    expect(f"a plan with {most_jobs} jobs", wanted, planned(most_jobs, memory))
+    given, begun, beyond = planned(most_jobs, memory)
+    expect(f"a plan with {most_jobs} jobs", wanted, (given, sorted(begun), beyond))
+    if most_jobs == 1:
+        expect("the longest chain first", ["values", "rows", "calls", "keeper", "names"], [name for name, _ in begun])
+SAID = ["rt: values proved", "rt: rows is kept: an earlier run", "rt: calls NOT PROVED", "rt: keeper: its tests are proved", "2 passed, 3 failed"]
+expect("crates of which no proof is told", ["calls", "keeper", "names"], proving.untold(SAID, TASKS))
 for kit, (command, is_wanted) in PLANNED_KITS.items():
     expect(f"{kit}, to plan", is_wanted, fits(command, plan))
 for kit, (command, is_wanted) in KITS.items():

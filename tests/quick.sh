@@ -99,7 +99,7 @@ of_machines() {
 
 room=$(mktemp -d)
 trap 'rm -rf "$room"' EXIT
-trap 'trap - TERM; kill 0' INT TERM HUP
+trap 'rm -rf "$room"; trap - TERM; kill 0' INT TERM HUP
 : >"$room/failed"
 of_pages &
 of_orders &

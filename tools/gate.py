@@ -55,8 +55,14 @@ def prove(room, wanted, heard):
     status, lines, sums = proving.prove(room, LOG, heard)
     for line in proving.failures(lines):
         print(line)
-    is_well, program = status == 0, f"{room}/crates/taskboard/out/taskboard"
-    if os.path.exists(program):
+    untold = proving.untold(lines, proving.crates_of(room))
+    if untold:
+        print(f"rt ci doesn't say that these are proved: {', '.join(untold)}")
+    is_well, program = status == 0 and not untold, f"{room}/crates/taskboard/out/taskboard"
+    if is_well and not os.path.exists(program):
+        print("rt ci built no program")
+        is_well = False
+    elif os.path.exists(program):
         is_well = is_as_shipped(wanted, program) and is_well
         if is_well:
             build.put(program, wanted)

@@ -2,8 +2,9 @@
 """Runs the kit's `rt ci` by a plan of its own: `plan.py` in place of `rt ci`, at the top of a repository.
 
 The kit reckons with about twice the memory that a check takes: of 24 GiB it gives the largest crates all, so that they wait for each other while processors are
-idle. This plan reckons with what was measured. It has one more job than there are processors, since a check also waits for the disk, and gives the longest chain of
-crates two where that leaves none idle. Where the kit has other forms `fits` says so, and then its own plan holds."""
+idle. This plan reckons with what was measured. It has one job more than there are processors, since a check with several has parts that run alone, and gives two to
+the first crate of the longest chain where two are free. It says nothing of what is proved: the kit does, and `gate.py` looks for its word on each crate. Where the kit
+has other forms `fits` says so, and then the kit's plan holds."""
 import concurrent.futures
 import inspect
 import os
