@@ -30,14 +30,14 @@ pub fn stored_reply<S: Alter>(
         return Err(StoreFault::Store); // No person has such a number.
     };
     match kept_row_at(conn, person, id)? {
-        Some(row) => Ok(Some(reply_of(row)?)),
+        Some(row) => Ok(Some(reply_of(row))),
         None => Ok(None),
     }
 }
 
-/// What a row keeps. Numbers that no reply has are a failure of the store.
-fn reply_of(row: KeptRow) -> Result<KeptReply, StoreFault>
-    ensures { IfOk result (λ kept. kept ≡ reply_in row) }
+/// What a row keeps.
+fn reply_of(row: KeptRow) -> KeptReply
+    ensures { result ≡ reply_in row }
 {
     let KeptRow {
         content,
@@ -46,16 +46,10 @@ fn reply_of(row: KeptRow) -> Result<KeptReply, StoreFault>
         body,
         ..
     } = row;
-    let Ok(number) = u8::try_from(number) else {
-        return Err(StoreFault::Store);
-    };
-    let Ok(status) = u16::try_from(status) else {
-        return Err(StoreFault::Store);
-    };
     let reply = Reply {
         number,
         status,
         body,
     };
-    Ok(KeptReply { content, reply })
+    KeptReply { content, reply }
 }
