@@ -1,9 +1,10 @@
 //! Kept replies, as the tables tell them.
 
-ghost use Rattle.std.specs.Prelude.{◌≡◌, false, IfOk};
+ghost use Rattle.std.specs.Prelude.{◌≡◌, false, IfOk, Err, ◌<◌, ◌^◌};
 ghost use Rattle.sqlite.specs.Held.{state};
 ghost use Rattle.tb_sql.specs.Opening.{IsAsBefore};
-ghost use Rattle.tb_lookup.specs.Reopening.{OfState};
+ghost use Rattle.tb_sql_tables.specs.Failing.{KeepsFaults};
+ghost use Rattle.tb_lookup.specs.Reopening.{OfState, FailsOfState};
 ghost use Rattle.tb_lookup.specs.Stored.{reply_in};
 ghost use Rattle.tb_lookup.specs.Replies.{IsReplyFound};
 
@@ -24,6 +25,9 @@ pub fn stored_reply<S: Alter>(
     ensures idle { conn.new.in_transaction ≡ false }
     ensures found { IfOk result (λ kept. OfState (state S.Store conn.old) (state S.Store conn.new)
         (λ s. IsReplyFound s person id kept)) }
+    ensures excused { result ≡ Err StoreFault.Store → person < 2 ^ 32
+        → FailsOfState (state S.Store conn.old) (state S.Store conn.new) }
+    ensures faults { KeepsFaults (state S.Store conn.old) (state S.Store conn.new) }
     ensures same { IsAsBefore (state S.Store conn.old) (state S.Store conn.new) }
 {
     let Ok(person) = u32::try_from(person) else {
