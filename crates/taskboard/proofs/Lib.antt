@@ -1,3 +1,1 @@
-pub mod Bringing
 pub mod Handed
-pub mod Sessions

@@ -1,4 +1,3 @@
 pub mod Orders
 pub mod Page
-pub mod Running
 pub mod Serve

@@ -1,5 +1,4 @@
-pub mod Begun
 pub mod Faults
-pub mod Quiet
+pub mod Stopped
 pub mod Unmade
 pub mod Unopened

@@ -7,4 +7,3 @@ pub mod Items
 pub mod NewKeys
 pub mod Runs
 pub mod Standing
-pub mod Unasked
