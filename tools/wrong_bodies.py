@@ -146,18 +146,20 @@ class TriedCrate:
         return texts, numbers
 
     def try_together(self):
-        """Tries edits at once, as many as change different functions, then those that are left, and keeps how each fails."""
+        """Tries edits at once, as many as change different functions, then those that are left, and keeps how each fails. What one check proved of the functions that
+        they call isn't proved again by the next."""
         left = [number for number, functions in enumerate(self.functions) if functions]
-        while len(left) > 1:
-            texts, numbers = self.joined(left)
-            if not numbers:
-                return
-            self.try_joined(texts, numbers)
-            left = [it for it in left if it not in numbers]
+        with tempfile.TemporaryDirectory(prefix="rt-tried-") as proved:
+            while left:
+                texts, numbers = self.joined(left)
+                if not numbers:
+                    return
+                self.try_joined(texts, numbers, proved)
+                left = [it for it in left if it not in numbers]
 
-    def try_joined(self, texts, numbers):
+    def try_joined(self, texts, numbers, proved):
         """Tries these edits at once. Where one of them can't be read all are left to be tried alone."""
-        ran = self.kit.checked(self.crate, texts, only([it for number in numbers for it in self.functions[number]]), None)
+        ran = self.kit.checked(self.crate, texts, only([it for number in numbers for it in self.functions[number]]), proved)
         lines = ran.stdout.rstrip("\n").split("\n")
         if ran.returncode != 1 or any(self.kit.unread(it, texts) for it in lines):
             return

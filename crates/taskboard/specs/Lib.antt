@@ -1,3 +1,4 @@
 pub mod Orders
 pub mod Page
+pub mod Running
 pub mod Serve

@@ -70,8 +70,8 @@ IsNamed order named = named ≡ order
 abbrev pub IsTold : Option (List ℕ) → Option (List ℕ) → Ending → List ℕ → Type 0
 IsTold before after ending text = (ending ≡ Accepted) × Appends before after text
 
-module _ {D L W : Type 0} {d : DiskGhosts D} (g : Ghosts (SqlKeep (FileStore D d)))
-    (follows : List Event → L → L → Type 0) (contents : W → Option (List ℕ)) where
+module _ {L W : Type 0} (follows : List Event → L → L → Type 0)
+    (contents : W → Option (List ℕ)) where
   -- the call or view was sent over a line to the server
   pub record IsSentOver (order : SendOrder) (before after : W) (ending : Ending) : Type 0 where
     pub ready : SendOrder
@@ -79,6 +79,8 @@ module _ {D L W : Type 0} {d : DiskGhosts D} (g : Ghosts (SqlKeep (FileStore D d
     pub new : L
     pub comes : Sends follows contents order ready old new before after ending
 
+module _ {D L W : Type 0} {d : DiskGhosts D} (g : Ghosts (SqlKeep (FileStore D d)))
+    (follows : List Event → L → L → Type 0) (contents : W → Option (List ℕ)) where
   -- With an input, and a writer before and after it. Which file a path leads to, and which moments the machine's clock gives, isn't known.
   abbrev pub IsDone : Order → Option (List ℕ) → W → W → Ending → Type 0
   IsDone (Init order) input before after ending =
@@ -99,7 +101,8 @@ module _ {D L W : Type 0} {d : DiskGhosts D} (g : Ghosts (SqlKeep (FileStore D d
       (λ old. IsChecked old (contents before) (contents after) ending)
   IsDone (Key order) input before after ending =
       IsKeyGiven g (λ at. Unit {0}) order input (contents before) (contents after) ending
-  IsDone (Send order) input before after ending = IsSentOver order before after ending
+  IsDone (Send order) input before after ending =
+      IsSentOver follows contents order before after ending
   -- what the words become is `sent_of` of `tb_my`; of the asking as a whole nothing is said
   IsDone (My order) input before after ending = Unit {0}
   IsDone (Help topic) input before after ending =

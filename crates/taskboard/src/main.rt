@@ -4,7 +4,7 @@
 #![tactic(auto)]
 
 ghost use Rattle.std.specs.Io.KnownBytes.{Appends};
-ghost use Rattle.std.specs.Prelude.{◌≡◌, ◌≢◌, Err, IfErr, IfOk, IfSome, OnErr, true};
+ghost use Rattle.std.specs.Prelude.{◌≡◌, ◌≢◌, Err, IfErr, IfOk, IfSome, Ok, OnErr, true};
 ghost use Rattle.taskboard.specs.Orders.{IsDone, IsNamed, is_of_order, is_of_telling, script_text};
 ghost use Rattle.tb_orders.specs.Faults.{is_of_scripts};
 ghost use Rattle.tb_program.specs.declared.fault.Fault.TheVariants.{ReadFailed, Store};
@@ -12,15 +12,19 @@ ghost use Rattle.tb_script.specs.Watching.{IsSpent};
 ghost use Rattle.tb_values.specs.Appends.{AppendsFront};
 
 mod clock;
+mod file_orders;
 mod mine;
 mod my_deeds;
 mod my_settings;
 mod my_terminal;
+mod running;
+mod sending;
 mod serve;
 mod served_file;
 
-use crate::clock::MachineClock;
+use crate::file_orders::{check, give_key, init, view};
 use crate::mine::ask_mine;
+use crate::sending::send;
 use crate::serve::serve_file;
 use std::alloc::Global;
 use std::io::{Read, Write};
@@ -29,15 +33,12 @@ use tb_calls::Keep;
 use tb_causes::{tell_cause, tell_words};
 use tb_client::Line;
 use tb_command_line::{Order, Topic};
-use tb_files::{
-    RealFile, check_file, give_key_in_file, import_into_file, import_parts_into_file, make_file,
-    open_file, open_new_file, print_board,
-};
+use tb_files::{RealFile, import_into_file, import_parts_into_file};
 use tb_keeper::SqlKeep;
 use tb_orders::{Ending, OrderFault, fault_of_script, print_fault, read_order, status_of};
 use tb_program::{Fault, print_text};
 use tb_script::{Watched, run_lines};
-use tb_sending::{MachineChance, MachineDial, ServerLine, name_call, send_order};
+use tb_sending::{MachineChance, MachineDial, ServerLine, name_call};
 
 /// Which program this is.
 const VERSION: &str = "\
@@ -104,35 +105,30 @@ fn carry_out<R: Read + Drop, W: Write>(
         order.old (R.remaining reader) writer.old writer.new) }
     ensures fault { IfErr result (λ failed. is_of_order order.old failed.fault ≡ true) }
 {
-    let mut clock = MachineClock { rt };
     match order {
-        Order::Init(order) => {
-            let conn = open_new_file(rt, order.file.as_str())?;
-            Ok(make_file(rt.alloc(), conn, order)?)
-        }
-        Order::Serve(order) => Ok(serve_file(rt, order)?),
-        Order::Run => {
-            let mut script = Watched::new(reader);
-            Ok(run_script(rt.alloc(), &mut script, writer)?)
-        }
+        Order::Init(order) => init(rt, order),
+        Order::Serve(order) => alone(serve_file(rt, order)),
+        Order::Run => alone(run_script(rt.alloc(), &mut Watched::new(reader), writer)),
         Order::Import(order) => import_into_file(rt, order, reader, writer),
         Order::ImportAll(order) => import_parts_into_file(rt, order, reader, writer),
-        Order::View(order) => {
-            let conn = open_file(rt, order.file.as_str())?;
-            Ok(print_board(rt, conn, order, &mut clock, writer)?)
-        }
-        Order::Check(file) => {
-            let conn = open_file(rt, file.as_str())?;
-            Ok(check_file(rt, file, conn, writer)?)
-        }
-        Order::Key(order) => Ok(give_key_in_file(rt, order, reader, &mut clock, writer)?),
-        Order::Send(order) => {
-            let dial = MachineDial::new(rt);
-            Ok(send_order(rt, order, dial, &mut MachineChance::new(rt), writer)?)
-        }
-        Order::My(order) => Ok(ask_mine(rt, order, reader, writer)?),
-        Order::Help(topic) => Ok(tell(writer, topic.text())?),
-        Order::Version => Ok(tell(writer, VERSION)?),
+        Order::View(order) => view(rt, order, writer),
+        Order::Check(file) => check(rt, file, writer),
+        Order::Key(order) => alone(give_key(rt, order, reader, writer)),
+        Order::Send(order) => alone(send(rt, order, writer)),
+        Order::My(order) => alone(ask_mine(rt, order, reader, writer)),
+        Order::Help(topic) => alone(tell(writer, topic.text())),
+        Order::Version => alone(tell(writer, VERSION)),
+    }
+}
+
+/// The end of an order of whose fault nothing more is told.
+fn alone(ended: Result<Ending, Fault>) -> Result<Ending, OrderFault>
+    ensures ended { IfOk result (λ ending. ended ≡ Ok ending) }
+    ensures fault { IfErr result (λ failed. ended ≡ Err failed.fault) }
+{
+    match ended {
+        Ok(ending) => Ok(ending),
+        Err(fault) => Err(OrderFault { fault, item: None }),
     }
 }
 

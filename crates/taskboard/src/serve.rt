@@ -6,6 +6,7 @@ ghost use Rattle.tb_event_loop.specs.History.{still_to_end};
 ghost use Rattle.tb_program.specs.declared.fault.Fault.TheVariants.{NoPage};
 
 use crate::clock::MachineClock;
+use crate::running::run_server;
 use crate::served_file::ServedFile;
 use std::alloc::AllocError;
 use std::fs;
@@ -43,15 +44,15 @@ pub(crate) fn serve_file(rt: &HostRuntime, order: &ServeOrder) -> Result<Ending,
     let watch = ServedFile::of(rt, order.file.as_str());
     let mut sockets = listen(rt, order)?;
     let mut event_loop = loop_for(rt, order)?;
-    let mut server = Server::new(rt.alloc(), desk, MachineClock { rt }, page)?;
+    let server = Server::new(rt.alloc(), desk, MachineClock { rt }, page)?;
     tell_start(rt, order);
     let mut journal = Journal::new(rt.alloc(), rt, rt.stderr(), order.log);
-    match event_loop.serve(&mut sockets, &mut server, &mut journal, &watch) {
-        Ok(()) => {
-            close_desk(server.into_desk())?;
+    match run_server(&mut event_loop, &mut sockets, server, &mut journal, &watch) {
+        Ok(desk) => {
+            close_desk(desk)?;
             Ok(Ending::Accepted)
         }
-        Err(fault) => {
+        Err((fault, _)) => {
             tell_moved(rt, order, fault);
             Err(fault_of_loop(fault))
         }

@@ -2,7 +2,7 @@
 use Rattle.std.proofs.Common.{◌≡◌, ℕ, ◌<◌, ◌≤◌, Bool, true, false, List, [], ◌∷◌, ◌++◌, length, take, drop, refl, sym, ap, ◌∙◌, subst, append-nil, append_assoc, inl, inr, arith}
 use Rattle.std.proofs.lemmas.Bool.{and_from, and_parts, false≢true}
 use Rattle.std.proofs.lemmas.List.{length-take-le, take-append-drop}
-use Rattle.tb_event_loop.specs.Deeds.{Acts, Begins, Comes, Deed, Did, Does, DoesTo, GivesTurn, IsRead, IsWrite, Owes, TurnsOrNot, called, calls_by, calls_in, done_by, done_in, gave_turn}
+use Rattle.tb_event_loop.specs.Deeds.{Acts, ActsAt, AreAt, Begins, Comes, Deed, Did, Does, DoesTo, GivesTurn, IsRead, IsWrite, Owes, TurnsOrNot, called, calls_by, calls_in, done_by, done_in, gave_turn}
 use Rattle.tb_event_loop.specs.Done.{Done, came, ends_in, opened, turned, went}
 use Rattle.tb_event_loop.specs.Sockets.{Called, Quietly, accepted, are_quiet, closed, deaf, dropped, is_quiet, read, seated, shut, unaccepted, unread, unwritten, waited, wrote}
 use Rattle.tb_event_loop.proofs.Doing.{done_append}
@@ -11,6 +11,10 @@ calls_append : (xs ys : List Deed) → calls_in (xs ++ ys) ≡ calls_in xs ++ ca
 calls_append [] ys = refl
 calls_append (deed ∷ xs) ys =
     ap (λ more. calls_by deed ++ more) (calls_append xs ys) ∙ sym (append_assoc (calls_by deed) (calls_in xs) (calls_in ys))
+
+are_append : (place : ℕ) (xs ys : List (ℕ × Done)) → AreAt place xs → AreAt place ys → AreAt place (xs ++ ys)
+are_append place [] ys first more = more
+are_append place (x ∷ xs) ys first more = (first.0, are_append place xs ys first.1 more)
 
 module _ {V : Type 0} (happens : Bool → List (ℕ × Done) → V → V → Type 0) (owed : V → ℕ → List ℕ) where
   does_then : (xs ys : List Deed) (a b c : V) → Does happens owed xs a b → Does happens owed ys b c → Does happens owed (xs ++ ys) a c
@@ -159,16 +163,51 @@ module _ {N V : Type 0} (asks : List Called → N → N → Type 0) (happens : B
       → Acts asks happens owed stopped (called (closed place) ∷ []) (n, v) (m, w)
   acts_closed stopped place n m v w asked happened = (asked, does_one happens owed stopped (called (closed place)) v w tt happened)
 
+  -- ---- what was done to the connection of one place
+
+  pub acts_at_then : (place : ℕ) → ((first more : List Called) (a b c : N) → asks first a b → asks more b c → asks (first ++ more) a c)
+      → (stopped : Bool) (xs ys : List Deed) (a b c : N × V) → ActsAt place asks happens owed false xs a b → ActsAt place asks happens owed stopped ys b c
+      → ActsAt place asks happens owed stopped (xs ++ ys) a c
+  acts_at_then place joined stopped xs ys a b c first more = (
+    acts_then joined stopped xs ys a b c first.0 more.0,
+    subst (AreAt place) (sym (done_append xs ys)) (are_append place (done_in xs) (done_in ys) first.1 more.1),
+  )
+
+  pub at_quiet : (place : ℕ) (old new : N) (v : V) → Quietly asks old new → Did (ActsAt place asks happens owed) false 0 (old, v) (new, v)
+  at_quiet place old new v quiet =
+      let none = done_of_quiet quiet.calls quiet.quiet in
+      record {
+        deeds = quiet_deeds quiet.calls;
+        done = (
+          (
+            subst (λ (calls : List Called). asks calls old new) (sym (calls_of_quiet quiet.calls)) quiet.made,
+            does_quiet happens owed quiet.calls quiet.quiet v,
+          ),
+          subst (AreAt place) (sym none) tt,
+        );
+        ends = ap ends_in none;
+      }
+
+  pub at_nothing : (place : ℕ) → ((n : N) → asks [] n n) → (n : N) (v : V) → Did (ActsAt place asks happens owed) false 0 (n, v) (n, v)
+  at_nothing place unchanged n v = record { deeds = []; done = ((unchanged n, refl), tt); ends = refl }
+
   pub did_turn : ((n : N) → asks [] n n) → (stopped : Bool) (place : ℕ) (n : N) (v w : V) → TurnsOrNot happens stopped place v w
-      → Did (Acts asks happens owed) stopped 0 (n, v) (n, w)
-  did_turn unchanged stopped place n v w (inl is) = record { deeds = gave_turn place ∷ []; done = acts_turn unchanged stopped place n v w is; ends = refl }
+      → Did (ActsAt place asks happens owed) stopped 0 (n, v) (n, w)
+  did_turn unchanged stopped place n v w (inl is) =
+      record { deeds = gave_turn place ∷ []; done = (acts_turn unchanged stopped place n v w is, (refl, tt)); ends = refl }
   did_turn unchanged stopped place n v w (inr is) =
-      subst (λ (s : Bool). Did (Acts asks happens owed) s 0 (n, v) (n, w)) (sym is.0)
-      (subst (λ (u : V). Did (Acts asks happens owed) false 0 (n, v) (n, u)) (sym is.1) (did_nothing unchanged n v))
+      subst (λ (s : Bool). Did (ActsAt place asks happens owed) s 0 (n, v) (n, w)) (sym is.0)
+      (subst (λ (u : V). Did (ActsAt place asks happens owed) false 0 (n, v) (n, u)) (sym is.1) (at_nothing place unchanged n v))
 
   pub begins_turn : ((n : N) → asks [] n n) → (stopped : Bool) (place : ℕ) (n : N) (v w : V) → happens stopped ((place, turned) ∷ []) v w
-      → GivesTurn (Acts asks happens owed) stopped place (n, v) (n, w)
-  begins_turn unchanged stopped place n v w is = record { first = gave_turn place; is = refl; more = []; done = acts_turn unchanged stopped place n v w is }
+      → GivesTurn (ActsAt place asks happens owed) stopped place (n, v) (n, w)
+  begins_turn unchanged stopped place n v w is =
+      record { first = gave_turn place; is = refl; more = []; done = (acts_turn unchanged stopped place n v w is, (refl, tt)); ends = refl }
+
+  pub did_closed : (stopped : Bool) (place : ℕ) (n m : N) (v w : V) → asks (closed place ∷ []) n m → happens stopped ((place, opened) ∷ []) v w
+      → Did (ActsAt place asks happens owed) stopped 1 (n, v) (m, w)
+  did_closed stopped place n m v w asked happened =
+      record { deeds = called (closed place) ∷ []; done = (acts_closed stopped place n m v w asked happened, (refl, tt)); ends = refl }
 
   -- ---- one read
 
@@ -186,16 +225,19 @@ module _ {N V : Type 0} (asks : List Called → N → N → Type 0) (happens : B
       acts_came stopped place (take count piece) n m v w asked (omega (arith, size, some)) happened
 
   pub did_read : (stopped : Bool) (place : ℕ) (bytes : List ℕ) (a b : N × V) → Acts asks happens owed stopped (called (read place bytes) ∷ []) a b
-      → Did (Acts asks happens owed) stopped 0 a b
-  did_read stopped place [] a b done = record { deeds = called (read place []) ∷ []; done = done; ends = refl }
-  did_read stopped place (byte ∷ bytes) a b done = record { deeds = called (read place (byte ∷ bytes)) ∷ []; done = done; ends = refl }
+      → Did (ActsAt place asks happens owed) stopped 0 a b
+  did_read stopped place [] a b done = record { deeds = called (read place []) ∷ []; done = (done, tt); ends = refl }
+  did_read stopped place (byte ∷ bytes) a b done = record { deeds = called (read place (byte ∷ bytes)) ∷ []; done = (done, (refl, tt)); ends = refl }
 
   pub begins_read : (stopped : Bool) (place : ℕ) (bytes : List ℕ) (a b : N × V) → Acts asks happens owed stopped (called (read place bytes) ∷ []) a b
-      → Begins (Acts asks happens owed) stopped (IsRead place) a b
-  begins_read stopped place bytes a b done = record { first = called (read place bytes); is = refl; more = []; done = done }
+      → Begins (ActsAt place asks happens owed) stopped (IsRead place) a b
+  begins_read stopped place [] a b done = record { first = called (read place []); is = refl; more = []; done = (done, tt); ends = refl }
+  begins_read stopped place (byte ∷ bytes) a b done =
+      record { first = called (read place (byte ∷ bytes)); is = refl; more = []; done = (done, (refl, tt)); ends = refl }
 
-  pub did_fail : (call : Called) → is_quiet call ≡ true → (n m : N) (v : V) → asks (call ∷ []) n m → Did (Acts asks happens owed) false 0 (n, v) (m, v)
-  did_fail call is n m v asked = did_quiet n m v (quiet_one asks call is n m asked)
+  pub did_fail : (place : ℕ) (call : Called) → is_quiet call ≡ true → (n m : N) (v : V) → asks (call ∷ []) n m
+      → Did (ActsAt place asks happens owed) false 0 (n, v) (m, v)
+  did_fail place call is n m v asked = at_quiet place n m v (quiet_one asks call is n m asked)
 
   -- ---- one write
 
@@ -214,13 +256,15 @@ module _ {N V : Type 0} (asks : List Called → N → N → Type 0) (happens : B
       (sym is ∙ sym (take-append-drop count bytes)) (subst (λ (k : ℕ). happens stopped ((place, went k) ∷ []) v w) (sym size) happened)
 
   pub did_write : (stopped : Bool) (place : ℕ) (bytes : List ℕ) (a b : N × V) → Acts asks happens owed stopped (called (wrote place bytes) ∷ []) a b
-      → Did (Acts asks happens owed) stopped 0 a b
-  did_write stopped place [] a b done = record { deeds = called (wrote place []) ∷ []; done = done; ends = refl }
-  did_write stopped place (byte ∷ bytes) a b done = record { deeds = called (wrote place (byte ∷ bytes)) ∷ []; done = done; ends = refl }
+      → Did (ActsAt place asks happens owed) stopped 0 a b
+  did_write stopped place [] a b done = record { deeds = called (wrote place []) ∷ []; done = (done, tt); ends = refl }
+  did_write stopped place (byte ∷ bytes) a b done = record { deeds = called (wrote place (byte ∷ bytes)) ∷ []; done = (done, (refl, tt)); ends = refl }
 
   pub begins_write : (stopped : Bool) (place : ℕ) (bytes : List ℕ) (a b : N × V) → Acts asks happens owed stopped (called (wrote place bytes) ∷ []) a b
-      → Begins (Acts asks happens owed) stopped (IsWrite place) a b
-  begins_write stopped place bytes a b done = record { first = called (wrote place bytes); is = refl; more = []; done = done }
+      → Begins (ActsAt place asks happens owed) stopped (IsWrite place) a b
+  begins_write stopped place [] a b done = record { first = called (wrote place []); is = refl; more = []; done = (done, tt); ends = refl }
+  begins_write stopped place (byte ∷ bytes) a b done =
+      record { first = called (wrote place (byte ∷ bytes)); is = refl; more = []; done = (done, (refl, tt)); ends = refl }
 
   -- what was done to the service alone
   comes_happens : ((v : V) → happens false [] v v) → (done : List (ℕ × Done)) (stopped : Bool) (a b : V) → Comes happens owed done stopped a b → happens stopped done a b

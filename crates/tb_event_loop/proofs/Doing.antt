@@ -1,9 +1,9 @@
 -- What was done, one part after the other.
-use Rattle.std.proofs.Common.{◌≡◌, ℕ, ◌+◌, ◌≤◌, Bool, false, List, [], ◌∷◌, ◌++◌, Option, Some, None, Err, refl, sym, ap, ◌∙◌, subst, append_assoc, arith}
+use Rattle.std.proofs.Common.{◌≡◌, ℕ, ◌+◌, ◌≤◌, Bool, false, List, [], ◌∷◌, ◌++◌, Option, Some, None, refl, sym, ap, ◌∙◌, subst, append_assoc, arith}
 use Rattle.std.specs.Prelude.{IfSome}
 use Rattle.tb_event_loop.specs.Deeds.{Begins, Deed, Did, done_by, done_in}
 use Rattle.tb_event_loop.specs.Done.{Done, ends_in}
-use Rattle.tb_event_loop.specs.History.{EndsAll, Goes, Leaves}
+use Rattle.tb_event_loop.specs.History.{Goes, Leaves}
 
 ends_append : (xs ys : List (ℕ × Done)) → ends_in (xs ++ ys) ≡ ends_in xs + ends_in ys
 ends_append [] ys = omega arith
@@ -14,7 +14,7 @@ done_append [] ys = refl
 done_append (deed ∷ xs) ys =
     ap (λ more. done_by deed ++ more) (done_append xs ys) ∙ sym (append_assoc (done_by deed) (done_in xs) (done_in ys))
 
-ends_among : (xs ys : List Deed) → ends_in (done_in (xs ++ ys)) ≡ ends_in (done_in xs) + ends_in (done_in ys)
+pub ends_among : (xs ys : List Deed) → ends_in (done_in (xs ++ ys)) ≡ ends_in (done_in xs) + ends_in (done_in ys)
 ends_among xs ys = ap ends_in (done_append xs ys) ∙ ends_append (done_in xs) (done_in ys)
 
 pub did_then : {V : Type 0} (follows : Bool → List Deed → V → V → Type 0)
@@ -29,12 +29,13 @@ did_then follows joined stopped m n a b c first more = record {
 -- what begins with a deed, and what was done behind it
 pub begins_then : {V : Type 0} (follows : Bool → List Deed → V → V → Type 0)
     → ((stopped : Bool) (first more : List Deed) (a b c : V) → follows false first a b → follows stopped more b c → follows stopped (first ++ more) a c)
-    → (stopped : Bool) (kind : Deed → Type 0) (n : ℕ) (a b c : V) → Begins follows false kind a b → Did follows stopped n b c → Begins follows stopped kind a c
-begins_then follows joined stopped kind n a b c first more = record {
+    → (stopped : Bool) (kind : Deed → Type 0) (a b c : V) → Begins follows false kind a b → Did follows stopped 0 b c → Begins follows stopped kind a c
+begins_then follows joined stopped kind a b c first more = record {
   first = first.first;
   is = first.is;
   more = first.more ++ more.deeds;
   done = joined stopped (first.first ∷ first.more) more.deeds a b c first.done more.done;
+  ends = omega (arith, ends_among (first.first ∷ first.more) more.deeds, first.ends, more.ends);
 }
 
 -- ---- connections that have still to end
@@ -69,13 +70,6 @@ goes_then follows joined stopped before middle now a b c first more = (
 
 -- ---- the end
 
-ends_most : (limit : Option ℕ) (ended : ℕ) (now : Option ℕ) → Leaves limit ended now → IfSome limit (λ most. ended ≤ most)
+pub ends_most : (limit : Option ℕ) (ended : ℕ) (now : Option ℕ) → Leaves limit ended now → IfSome limit (λ most. ended ≤ most)
 ends_most None ended now leaves = tt
 ends_most (Some limit) ended now leaves = omega (arith, leaves.2)
-
--- it ended by a fault
-pub ends_early : {V E : Type 0} (follows : Bool → List Deed → V → V → Type 0) (stopped : Bool) (fault : E) (limit now : Option ℕ) (a b : V)
-    → Goes follows stopped limit now a b
-    → (deeds : List Deed) × follows stopped deeds a b × EndsAll {T = Unit {0}} (Err fault) limit (ends_in (done_in deeds))
-ends_early follows stopped fault limit now a b went =
-    (went.1.deeds, went.1.done, ends_most limit (ends_in (done_in went.1.deeds)) now (subst (λ (n : ℕ). Leaves limit n now) (sym went.1.ends) went.2))

@@ -3,5 +3,9 @@ pub mod Arriving
 pub mod Changing
 pub mod Doing
 pub mod Parting
+pub mod Rounding
+pub mod Seeing
 pub mod Serving
+pub mod Sparing
+pub mod Visiting
 pub mod Waiting

@@ -1,5 +1,5 @@
 -- What a loop does, as one list: the calls of its sockets, and the turns that it gives.
-use Rattle.std.specs.Prelude.{◌≡◌, ◌⊎◌, ℕ, Bool, true, false, List, [], ◌∷◌, ◌++◌, length}
+use Rattle.std.specs.Prelude.{◌≡◌, ◌⊎◌, ℕ, ◌==◌, Bool, true, false, List, [], ◌∷◌, ◌++◌, length}
 use Rattle.tb_event_loop.specs.Done.{Done, ends_in, opened, came, turned, went}
 use Rattle.tb_event_loop.specs.Sockets.{Called, read, wrote, closed, unread, unwritten, dropped}
 
@@ -63,18 +63,41 @@ abbrev pub Acts : {N V : Type 0} → (List Called → N → N → Type 0)
 Acts calls happens owed stopped deeds a b =
     calls (calls_in deeds) a.0 b.0 × DoesTo happens owed stopped deeds a.1 b.1
 
+-- all of this was done to the connection of one place
+abbrev pub AreAt : ℕ → List (ℕ × Done) → Type 0
+AreAt place [] = Unit {0}
+AreAt place (done ∷ more) = (done.0 ≡ place) × AreAt place more
+
+-- none of this was
+abbrev pub AreElsewhere : ℕ → List (ℕ × Done) → Type 0
+AreElsewhere place [] = Unit {0}
+AreElsewhere place (done ∷ more) = ((done.0 == place) ≡ false) × AreElsewhere place more
+
+-- the same, and nothing was done but to the connection of one place
+abbrev pub ActsAt : {N V : Type 0} → ℕ → (List Called → N → N → Type 0)
+    → (Bool → List (ℕ × Done) → V → V → Type 0) → (V → ℕ → List ℕ) → Bool → List Deed
+    → N × V → N × V → Type 0
+ActsAt place calls happens owed stopped deeds a b =
+    Acts calls happens owed stopped deeds a b × AreAt place (done_in deeds)
+
+-- one of the deeds is of this kind
+abbrev pub Has : (Deed → Type 0) → List Deed → Type 0
+Has kind [] = ⊥
+Has kind (deed ∷ deeds) = kind deed ⊎ Has kind deeds
+
 -- Some deeds were done, one after the other, and so many connections ended by them.
 pub record Did {S : Type 0} (acts : Bool → List Deed → S → S → Type 0) (stopped : Bool) (ended : ℕ) (old new : S) : Type 0 where
   pub deeds : List Deed
   pub done : acts stopped deeds old new
   pub ends : ends_in (done_in deeds) ≡ ended
 
--- A deed of this kind was done first, and what came of it.
+-- A deed of this kind was done first, and what came of it. No connection ended.
 pub record Begins {S : Type 0} (acts : Bool → List Deed → S → S → Type 0) (stopped : Bool) (kind : Deed → Type 0) (old new : S) : Type 0 where
   pub first : Deed
   pub is : kind first
   pub more : List Deed
   pub done : acts stopped (first ∷ more) old new
+  pub ends : ends_in (done_in (first ∷ more)) ≡ 0
 
 -- The connection of a place had its turn, and what came of it was done.
 abbrev pub IsTurn : ℕ → Deed → Type 0

@@ -1,7 +1,7 @@
 -- What a loop did, from its beginning to its end.
 use Rattle.std.specs.Prelude.{◌≡◌, ℕ, ◌+◌, ◌≤◌, Bool, List, Option, Some, None, Result, Ok, Err, IfSome}
-use Rattle.tb_event_loop.specs.Deeds.{Deed, Did}
-use Rattle.tb_event_loop.specs.Done.{Done, opened, came, turned, went}
+use Rattle.tb_event_loop.specs.Deeds.{Deed, Did, done_in}
+use Rattle.tb_event_loop.specs.Done.{Done, ends_in, opened, came, turned, went}
 use Rattle.tb_event_loop.specs.declared.event_loop.EventLoop.{EventLoop}
 use Rattle.tb_event_loop.specs.declared.service.SocketEvent.{SocketEvent}
 use Rattle.tb_event_loop.specs.declared.service.SocketEvent.TheVariants.{Opened, Came, Turn, Went}
@@ -27,6 +27,13 @@ abbrev pub Goes : {S : Type 0} → (Bool → List Deed → S → S → Type 0) �
     → Option ℕ → S → S → Type 0
 Goes acts stopped before now old new =
     (ended : ℕ) × Did acts stopped ended old new × Leaves before ended now
+
+-- The same, and this is said of what was done.
+pub record GoesBy {S : Type 0} (acts : Bool → List Deed → S → S → Type 0) (stopped : Bool) (kind : List Deed → Type 0) (before now : Option ℕ) (old new : S) : Type 0 where
+  pub deeds : List Deed
+  pub done : acts stopped deeds old new
+  pub says : kind deeds
+  pub left : Leaves before (ends_in (done_in deeds)) now
 
 -- A loop that ends well had a limit, and exactly so many connections ended; none that has a limit ends more.
 abbrev pub EndsAll : {T E : Type 0} → Result T E → Option ℕ → ℕ → Type 0

@@ -9,9 +9,11 @@ pub mod Guesses
 pub mod Head
 pub mod History
 pub mod Journal
+pub mod Laps
 pub mod Logging
 pub mod Places
 pub mod RequestLine
+pub mod Rounds
 pub mod Serving
 pub mod Sharing
 pub mod Sockets

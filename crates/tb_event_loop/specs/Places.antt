@@ -1,7 +1,8 @@
 -- The places of connections: who has a turn, who lets go of a place, and what a connection needs.
-use Rattle.std.specs.Prelude.{◌≡◌, ◌⊎◌, ℕ, ◌<◌, ◌≤◌, Bool, true, false, not, ◌&&◌, ◌||◌, nat_le, if◌then◌else◌, IsTrue, OnSome, List, [], ◌∷◌, Option, Some, None, slice_get, slice_set, unwrap_or, ◌+◌, ◌-◌, ◌^◌, max, min, replicate}
+use Rattle.std.specs.Prelude.{◌≡◌, ◌⊎◌, ℕ, ◌<◌, ◌≤◌, Bool, true, false, not, ◌&&◌, ◌||◌, nat_le, if◌then◌else◌, IsTrue, OnSome, List, [], ◌∷◌, Option, Some, None, slice_get, slice_set, unwrap_or, ◌==◌, ◌+◌, ◌-◌, ◌^◌, max, min, replicate}
 use Rattle.std.specs.Borrow.{LendsSo, MutBor, Fml}
 use Rattle.std.specs.Option.{option_map}
+use Rattle.tb_event_loop.specs.Deeds.{OwesBytes}
 use Rattle.tb_event_loop.specs.Connection.{fresh, leaving, may_go, needs_bytes, short_of_bytes}
 use Rattle.tb_event_loop.specs.Guesses.{is_due, looked_at}
 use Rattle.tb_event_loop.specs.contracts.connection.Connection.{the_row as connection_row}
@@ -265,6 +266,36 @@ IsAnswered files places place now held =
     × IsTrue (takes_bytes (stage_in places place))
     × IsTrue (may_answer_at (connection_in places place))
     × IsTrue (is_turned_in files places place now held)
+
+-- an answer is on its way
+abbrev pub is_answering : Stage → Bool
+is_answering (Answering since taken) = true
+is_answering stage = false
+
+-- Its socket takes bytes of the answer that is on its way.
+abbrev pub IsWritten : Places → ℕ → List ℕ → Type 0
+IsWritten places place owed =
+    (is_leaving (connection_in places place) ≡ false)
+    × IsTrue (is_answering (stage_in places place))
+    × (can_write_at (connection_in places place) ≡ true)
+    × OwesBytes owed
+
+-- It needs bytes, and they are read.
+abbrev pub IsHeard : Places → ℕ → Type 0
+IsHeard places place =
+    (is_leaving (connection_in places place) ≡ false) × NeedsBytes places place
+
+-- Other places have the connections and the stages that they had, and hold what they held. But for the end and for how much persons
+-- and boards may write, what the places share stays.
+pub record Spares (place : ℕ) (old new : Places) : Type 0 where
+  pub connections : (c : ℕ) → (place == c) ≡ false
+      → connection_in new c ≡ connection_in old c
+  pub stages : (c : ℕ) → (place == c) ≡ false → stage_in new c ≡ stage_in old c
+  pub holds : (c : ℕ) → (place == c) ≡ false → hold_in new c ≡ hold_in old c
+  pub first : new.first ≡ old.first
+  pub round : new.round ≡ old.round
+  pub rooms : new.rooms ≡ old.rooms
+  pub limits : new.limits ≡ old.limits
 
 -- ---- the connection of a place, lent to be changed
 

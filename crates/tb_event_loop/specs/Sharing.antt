@@ -1,5 +1,5 @@
 -- What the connections share.
-use Rattle.std.specs.Prelude.{◌≡◌, ℕ, zero, suc, ◌-◌, Bool, true, false, not, ◌&&◌, ◌||◌, nat_lt, if◌then◌else◌, List, take, Option, Some, None, slice_set, unwrap_or, min}
+use Rattle.std.specs.Prelude.{◌≡◌, ℕ, zero, suc, ◌+◌, ◌-◌, Bool, true, false, not, ◌&&◌, ◌||◌, nat_lt, if◌then◌else◌, List, take, Option, Some, None, slice_set, unwrap_or, min}
 use Rattle.std.specs.List.{list_any}
 use Rattle.tb_event_loop.specs.Places.{LetsGoOne, SetsHold, connection_in, has_turn, hold_in}
 use Rattle.tb_event_loop.specs.declared.connection.Connection.{Connection}
@@ -89,7 +89,7 @@ with_first places = record places { first = first_after places.cut places.end }
 -- the places from the first on, and then those before it
 abbrev pub place_from : ℕ → ℕ → ℕ → ℕ
 place_from first step end =
-    if nat_lt (plus first step) end then plus first step else plus first step - end
+    if nat_lt step (end - first) then first + step else step - (end - first)
 
 abbrev pub taken_in : Places → List Hold
 taken_in places = take places.end places.holds.items

@@ -1,15 +1,17 @@
 //! The loop over the listener and the connections.
-ghost use Rattle.std.specs.Prelude.{◌≡◌, ◌⊎◌, ◌||◌, ℕ, if◌then◌else◌, IfErr, IfOk, IsErr, List, [], ◌∷◌, None, OnOk, Some, false, is_err, take, true};
+ghost use Rattle.std.specs.Prelude.{◌≡◌, ◌<◌, ◌⊎◌, ◌||◌, ℕ, if◌then◌else◌, IfErr, IfOk, IsErr, [], ◌∷◌, None, OnOk, Some, false, is_err, take, true};
 ghost use Rattle.tb_event_loop.specs.Arrivals.{StaysReady, TriesToAccept, are_held_up, may_accept, tells_listener, told_of};
-ghost use Rattle.tb_event_loop.specs.Deeds.{Acts, Begins, Deed, DoesTo, GivesTurn, IsWrite, calls_in, done_in};
-ghost use Rattle.tb_event_loop.specs.Done.{Done, ends_in};
+ghost use Rattle.tb_event_loop.specs.Deeds.{Acts, ActsAt, done_in};
+ghost use Rattle.tb_event_loop.specs.Done.{ends_in};
 ghost use Rattle.tb_event_loop.specs.Ending.{has_stopped};
 ghost use Rattle.tb_event_loop.specs.EventLoop.{IsBusy, IsWaitOf};
-ghost use Rattle.tb_event_loop.specs.History.{EndsAll, Goes, Leaves, still_to_end};
-ghost use Rattle.tb_event_loop.specs.Places.{IsAnswered, IsUntilDue, connection_in, is_leaving, is_over_at};
+ghost use Rattle.tb_event_loop.specs.History.{EndsAll, Goes, GoesBy, Leaves, still_to_end};
+ghost use Rattle.tb_event_loop.specs.Laps.{IsMadeOfLaps};
+ghost use Rattle.tb_event_loop.specs.Places.{IsUntilDue, Spares, connection_in, is_leaving};
+ghost use Rattle.tb_event_loop.specs.Rounds.{IsRound, IsTurnOf, IsVisited, Visits, VisitsNext, begun};
 ghost use Rattle.tb_event_loop.specs.Serving.{IsCutOff, Runs};
-ghost use Rattle.tb_event_loop.specs.Sockets.{Called, Quietly, deaf, waited};
-ghost use Rattle.tb_event_loop.specs.declared.fault.LoopFault.TheVariants.{Memory, Moved, Sockets, Store};
+ghost use Rattle.tb_event_loop.specs.Sockets.{deaf, waited};
+ghost use Rattle.tb_event_loop.specs.declared.fault.LoopFault.TheVariants.{Moved, Sockets, Store};
 ghost use Rattle.tb_timeouts.specs.Deciding.{IsLongestWait};
 
 use crate::arrivals::{Arrivals, RETRY};
@@ -69,10 +71,11 @@ impl EventLoop {
         journal: &mut Journal<C, W>,
         watch: &P,
     ) -> Result<(), LoopFault>
-        ensures after { (history : List (ℕ × Done))
-            × V.follows (has_stopped result) history service.old service.new
-            × EndsAll result (still_to_end self.old) (ends_in history) }
-        ensures deeds { Runs N.follows V.follows V.owed_at (has_stopped result)
+        ensures after { (runs : Runs N.follows V.follows V.owed_at (has_stopped result)
+            (sockets.old, service.old) (sockets.new, service.new))
+            × EndsAll result (still_to_end self.old) (ends_in (done_in runs.deeds)) }
+        ensures laps { IsMadeOfLaps N.follows N.last_told V.follows V.gives_file V.held_at V.owed_at
+            (has_stopped result) (is_err result) self.old
             (sockets.old, service.old) (sockets.new, service.new) }
         ensures cause { result ≡ Err Sockets → IsCutOff N.follows sockets.old sockets.new }
         ensures fault { IfErr result
@@ -172,6 +175,11 @@ impl EventLoop {
             self.old.still_to_end self.new.still_to_end
             (sockets.old, service.old) (sockets.new, service.new) }
         ensures failed { IsErr result → V.has_failed service.new ≡ true }
+        ensures visits { OnOk result (IsRound N.follows V.follows V.gives_file V.held_at V.owed_at
+            self.old self.new (sockets.old, service.old) (sockets.new, service.new)) }
+        ensures each { OnOk result ((place : ℕ) → place < self.old.places.end
+            → IsVisited N.follows V.follows V.gives_file V.held_at V.owed_at
+            place (begun self.old) (sockets.old, service.old) (sockets.new, service.new)) }
     {
         self.seen = self.now;
         self.places.begin_round();
@@ -193,8 +201,8 @@ impl EventLoop {
         journal: &mut Journal<C, W>,
         place: usize,
     ) -> Result<(), StoreFailed>
-        ensures after { Goes (Acts N.follows V.follows V.owed_at) (is_err result)
-            self.old.still_to_end self.new.still_to_end
+        ensures visits { VisitsNext N.follows V.follows V.gives_file V.held_at V.owed_at
+            (is_err result) place self.old self.new
             (sockets.old, service.old) (sockets.new, service.new) }
         ensures failed { IsErr result → V.has_failed service.new ≡ true }
     {
@@ -212,15 +220,10 @@ impl EventLoop {
         journal: &mut Journal<C, W>,
         place: usize,
     ) -> Result<(), StoreFailed>
-        ensures after { Goes (Acts N.follows V.follows V.owed_at) (is_err result)
-            self.old.still_to_end self.new.still_to_end
+        ensures visits { Visits N.follows V.follows V.gives_file V.held_at V.owed_at
+            (is_err result) place self.old self.new
             (sockets.old, service.old) (sockets.new, service.new) }
         ensures failed { IsErr result → V.has_failed service.new ≡ true }
-        ensures turned { is_over_at self.old.places place self.old.now ≡ false
-            → IsAnswered (V.gives_file service.old) self.old.places place self.old.now
-            (V.held_at service.old place)
-            → GivesTurn (Acts N.follows V.follows V.owed_at) (is_err result) place
-            (sockets.old, service.old) (sockets.new, service.new) }
         ensures left { OnOk result (is_leaving (connection_in self.new.places place) ≡ false) }
     {
         if !self.places.begin_turn(sockets, place, self.now) {
@@ -236,6 +239,8 @@ impl EventLoop {
     fn count_time<C: Clock, W: Write>(&mut self, journal: &mut Journal<C, W>, place: usize)
         ensures left { connection_in self.new.places place ≡ connection_in self.old.places place }
         ensures limit { self.new.still_to_end ≡ self.old.still_to_end }
+        ensures spares { Spares place self.old.places self.new.places }
+        ensures moment { self.new.now ≡ self.old.now }
     {
         let before = self.seen;
         self.seen = journal.now();
@@ -250,14 +255,14 @@ impl EventLoop {
         journal: &mut Journal<C, W>,
         place: usize,
     ) -> Result<(), StoreFailed>
-        ensures after { Goes (Acts N.follows V.follows V.owed_at) (is_err result)
+        ensures turn { GoesBy (ActsAt place N.follows V.follows V.owed_at) (is_err result)
+            (IsTurnOf (V.gives_file service.old) self.old.places place self.old.now
+            (V.held_at service.old place) (V.owed_at service.old place))
             self.old.still_to_end self.new.still_to_end
             (sockets.old, service.old) (sockets.new, service.new) }
+        ensures spares { Spares place self.old.places self.new.places }
+        ensures moment { self.new.now ≡ self.old.now }
         ensures failed { IsErr result → V.has_failed service.new ≡ true }
-        ensures turned { IsAnswered (V.gives_file service.old) self.old.places place self.old.now
-            (V.held_at service.old place)
-            → GivesTurn (Acts N.follows V.follows V.owed_at) (is_err result) place
-            (sockets.old, service.old) (sockets.new, service.new) }
         ensures left { OnOk result (is_leaving (connection_in self.new.places place) ≡ false) }
     {
         self.places.act(sockets, service, journal, place, self.now)?;
@@ -274,9 +279,11 @@ impl EventLoop {
         service: &mut V,
         place: usize,
     ) -> Result<(), StoreFailed>
-        ensures after { Goes (Acts N.follows V.follows V.owed_at) (is_err result)
+        ensures after { Goes (ActsAt place N.follows V.follows V.owed_at) (is_err result)
             self.old.still_to_end self.new.still_to_end
             (sockets.old, service.old) (sockets.new, service.new) }
+        ensures spares { Spares place self.old.places self.new.places }
+        ensures moment { self.new.now ≡ self.old.now }
         ensures failed { IsErr result → V.has_failed service.new ≡ true }
         ensures left { connection_in self.new.places place ≡ None }
     {

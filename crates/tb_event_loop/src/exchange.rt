@@ -1,6 +1,6 @@
 //! The bytes between a socket and the service.
 ghost use Rattle.std.specs.Prelude.{◌≡◌, IsErr, is_err, true};
-ghost use Rattle.tb_event_loop.specs.Deeds.{Acts, Begins, Did, IsRead, IsWrite};
+ghost use Rattle.tb_event_loop.specs.Deeds.{ActsAt, Begins, Did, IsRead, IsWrite};
 ghost use Rattle.tb_event_loop.specs.Sockets.{Quietly};
 
 use crate::connection::{Connection, PIECE};
@@ -14,10 +14,10 @@ pub(crate) fn read_some<N: Sockets, V: Service>(
     service: &mut V,
     place: usize,
 ) -> Result<(), StoreFailed>
-    ensures after { Did (Acts N.follows V.follows V.owed_at) (is_err result) 0
+    ensures after { Did (ActsAt place N.follows V.follows V.owed_at) (is_err result) 0
         (sockets.old, service.old) (sockets.new, service.new) }
     ensures failed { IsErr result → V.has_failed service.new ≡ true }
-    ensures reads { Begins (Acts N.follows V.follows V.owed_at) (is_err result) (IsRead place)
+    ensures reads { Begins (ActsAt place N.follows V.follows V.owed_at) (is_err result) (IsRead place)
         (sockets.old, service.old) (sockets.new, service.new) }
 {
     let mut piece = [0u8; PIECE];
@@ -55,10 +55,10 @@ pub(crate) fn write_some<N: Sockets, V: Service>(
     service: &mut V,
     place: usize,
 ) -> Result<(), StoreFailed>
-    ensures after { Did (Acts N.follows V.follows V.owed_at) (is_err result) 0
+    ensures after { Did (ActsAt place N.follows V.follows V.owed_at) (is_err result) 0
         (sockets.old, service.old) (sockets.new, service.new) }
     ensures failed { IsErr result → V.has_failed service.new ≡ true }
-    ensures writes { Begins (Acts N.follows V.follows V.owed_at) (is_err result) (IsWrite place)
+    ensures writes { Begins (ActsAt place N.follows V.follows V.owed_at) (is_err result) (IsWrite place)
         (sockets.old, service.old) (sockets.new, service.new) }
 {
     match sockets.write(place, service.unsent(place)) {

@@ -1,6 +1,6 @@
 //! The places of connections: who is in each, and what each is doing.
 ghost use Rattle.std.specs.Prelude.{◌≡◌, ◌↔◌, IsTrue, IfOk, position, slice_set, take, true};
-ghost use Rattle.tb_event_loop.specs.Places.{Changes, Enters, HasTurn, HaveTurns, IsEmpty, IsEndWithin, IsNeed, LendsConnection, LetsGoOne, NeedsBytes, Seats, SetsHold, SetsStage, Vacates, connection_in, hold_in, is_leaving, is_read, may_answer_at, may_turn_of, stage_in};
+ghost use Rattle.tb_event_loop.specs.Places.{Changes, Enters, HasTurn, HaveTurns, IsEmpty, IsEndWithin, IsNeed, LendsConnection, LetsGoOne, NeedsBytes, Seats, SetsHold, SetsStage, Spares, Vacates, connection_in, hold_in, is_leaving, is_read, may_answer_at, may_turn_of, stage_in};
 ghost use Rattle.std.specs.Borrow.{sem};
 ghost use Rattle.std.specs.Option.{option_copied_mut, option_map};
 ghost use Rattle.tb_event_loop.specs.Connection.{leaving, marked, short_of_bytes};
@@ -152,6 +152,7 @@ impl Places {
     pub(crate) fn drop_bytes<N: Sockets>(&mut self, sockets: &mut N, place: usize)
         ensures same { self.new ≡ record self.old { connections = self.new.connections } }
         ensures quiet { Quietly N.follows sockets.old sockets.new }
+        ensures spares { Spares place self.old self.new }
     {
         if let Some(connection) = self.connection(place) {
             drop_some(connection, sockets, place);

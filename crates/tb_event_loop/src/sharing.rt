@@ -127,11 +127,11 @@ impl Places {
     pub(crate) fn place_at(&self, step: usize, end: usize) -> usize
         ensures { result ≡ place_from self.now.first step end }
     {
-        let place = self.first.saturating_add(step);
-        if place < end {
-            place
+        let behind = end.saturating_sub(self.first);
+        if step < behind {
+            self.first + step
         } else {
-            place.saturating_sub(end)
+            step - behind
         }
     }
 

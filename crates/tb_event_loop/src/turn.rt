@@ -1,8 +1,8 @@
 //! The turn of one connection: at most one read, one message and one write.
 ghost use Rattle.std.specs.Prelude.{◌≡◌, ◌↔◌, ◌⊎◌, [], ◌∷◌, IsErr, IsOk, IsTrue, false, is_err, slice_set, true};
-ghost use Rattle.tb_event_loop.specs.Deeds.{Acts, Begins, Did, GivesTurn, IsRead, IsWrite, OwesBytes, TurnsOrNot};
+ghost use Rattle.tb_event_loop.specs.Deeds.{ActsAt, Begins, Did, GivesTurn, IsRead, IsWrite, OwesBytes, TurnsOrNot};
 ghost use Rattle.tb_event_loop.specs.Done.{turned};
-ghost use Rattle.tb_event_loop.specs.Places.{Ends, GoesOn, HasTurn, IsAnswered, LacksAll, NeedsBytes, SetsStage, Settles, can_write_at, connection_in, is_over_at, is_turned_in, is_waiting, may_answer_at, stage_in};
+ghost use Rattle.tb_event_loop.specs.Places.{Ends, GoesOn, HasTurn, IsAnswered, IsHeard, IsWritten, LacksAll, NeedsBytes, SetsStage, Settles, Spares, can_write_at, connection_in, is_over_at, is_turned_in, is_waiting, may_answer_at, stage_in};
 ghost use Rattle.tb_event_loop.specs.Sockets.{Quietly};
 ghost use Rattle.tb_timeouts.specs.Stage.{next_stage, read_stage, waiting_stage};
 ghost use Rattle.tb_timeouts.specs.declared.stage.Need.TheVariants.{End};
@@ -76,13 +76,20 @@ impl Places {
         place: usize,
         now: u64,
     ) -> Result<(), StoreFailed>
-        ensures after { Did (Acts N.follows V.follows V.owed_at) (is_err result) 0
+        ensures after { Did (ActsAt place N.follows V.follows V.owed_at) (is_err result) 0
             (sockets.old, service.old) (sockets.new, service.new) }
         ensures failed { IsErr result → V.has_failed service.new ≡ true }
         ensures turned { IsAnswered (V.gives_file service.old) self.old place now
             (V.held_at service.old place)
-            → GivesTurn (Acts N.follows V.follows V.owed_at) (is_err result) place
+            → GivesTurn (ActsAt place N.follows V.follows V.owed_at) (is_err result) place
             (sockets.old, service.old) (sockets.new, service.new) }
+        ensures written { IsWritten self.old place (V.owed_at service.old place)
+            → Begins (ActsAt place N.follows V.follows V.owed_at) (is_err result) (IsWrite place)
+            (sockets.old, service.old) (sockets.new, service.new) }
+        ensures heard { IsHeard self.old place
+            → Begins (ActsAt place N.follows V.follows V.owed_at) (is_err result) (IsRead place)
+            (sockets.old, service.old) (sockets.new, service.new) }
+        ensures spares { Spares place self.old self.new }
     {
         if self.is_gone(place) {
             return Ok(());
@@ -107,14 +114,18 @@ impl Places {
         place: usize,
         now: u64,
     ) -> Result<(), StoreFailed>
-        ensures after { Did (Acts N.follows V.follows V.owed_at) (is_err result) 0
+        ensures after { Did (ActsAt place N.follows V.follows V.owed_at) (is_err result) 0
             (sockets.old, service.old) (sockets.new, service.new) }
         ensures failed { IsErr result → V.has_failed service.new ≡ true }
         ensures turned { IsTrue (may_answer_at (connection_in self.old place))
             → IsTrue (is_turned_in (V.gives_file service.old) self.old place now
             (V.held_at service.old place))
-            → GivesTurn (Acts N.follows V.follows V.owed_at) (is_err result) place
+            → GivesTurn (ActsAt place N.follows V.follows V.owed_at) (is_err result) place
             (sockets.old, service.old) (sockets.new, service.new) }
+        ensures heard { NeedsBytes self.old place
+            → Begins (ActsAt place N.follows V.follows V.owed_at) (is_err result) (IsRead place)
+            (sockets.old, service.old) (sockets.new, service.new) }
+        ensures spares { Spares place self.old self.new }
     {
         self.read(sockets, service, place, now)?;
         self.respond(sockets, service, journal, place, now)
@@ -129,14 +140,15 @@ impl Places {
         place: usize,
         now: u64,
     ) -> Result<(), StoreFailed>
-        ensures after { Did (Acts N.follows V.follows V.owed_at) (is_err result) 0
+        ensures after { Did (ActsAt place N.follows V.follows V.owed_at) (is_err result) 0
             (sockets.old, service.old) (sockets.new, service.new) }
         ensures failed { IsErr result → V.has_failed service.new ≡ true }
         ensures turned { IsTrue (may_answer_at (connection_in self.old place))
             → IsTrue (is_turned_in (V.gives_file service.old) self.old place now
             (V.held_at service.old place))
-            → GivesTurn (Acts N.follows V.follows V.owed_at) (is_err result) place
+            → GivesTurn (ActsAt place N.follows V.follows V.owed_at) (is_err result) place
             (sockets.old, service.old) (sockets.new, service.new) }
+        ensures spares { Spares place self.old self.new }
     {
         self.answer(service, journal, place, now)?;
         self.reply(sockets, service, place, now)
@@ -149,13 +161,14 @@ impl Places {
         place: usize,
         now: u64,
     ) -> Result<(), StoreFailed>
-        ensures after { Did (Acts N.follows V.follows V.owed_at) (is_err result) 0
+        ensures after { Did (ActsAt place N.follows V.follows V.owed_at) (is_err result) 0
             (sockets.old, service.old) (sockets.new, service.new) }
         ensures failed { IsErr result → V.has_failed service.new ≡ true }
         ensures writes { OwesBytes (V.owed_at service.old place)
             → can_write_at (connection_in self.old place) ≡ true
-            → Begins (Acts N.follows V.follows V.owed_at) (is_err result) (IsWrite place)
+            → Begins (ActsAt place N.follows V.follows V.owed_at) (is_err result) (IsWrite place)
             (sockets.old, service.old) (sockets.new, service.new) }
+        ensures spares { Spares place self.old self.new }
     {
         self.write(sockets, service, place, now)?;
         self.settle(sockets, service, place, now);
@@ -169,6 +182,7 @@ impl Places {
         ensures others { self.new
             ≡ record self.old { connections = self.new.connections; stages = self.new.stages } }
         ensures quiet { Quietly N.follows sockets.old sockets.new }
+        ensures spares { Spares place self.old self.new }
     {
         self.drop_bytes(sockets, place);
         let stage = self.stage(place).bytes_dropped();
@@ -183,7 +197,7 @@ impl Places {
         place: usize,
         now: u64,
     ) -> Result<(), StoreFailed>
-        ensures after { Did (Acts N.follows V.follows V.owed_at) (is_err result) 0
+        ensures after { Did (ActsAt place N.follows V.follows V.owed_at) (is_err result) 0
             (sockets.old, service.old) (sockets.new, service.new) }
         ensures failed { IsErr result → V.has_failed service.new ≡ true }
         ensures well { ¬ NeedsBytes self.old place → IsOk result }
@@ -191,8 +205,9 @@ impl Places {
         ensures same { ¬ NeedsBytes self.old place → self.new ≡ self.old }
         ensures silent { ¬ NeedsBytes self.old place → sockets.new ≡ sockets.old }
         ensures reads { NeedsBytes self.old place
-            → Begins (Acts N.follows V.follows V.owed_at) (is_err result) (IsRead place)
+            → Begins (ActsAt place N.follows V.follows V.owed_at) (is_err result) (IsRead place)
             (sockets.old, service.old) (sockets.new, service.new) }
+        ensures spares { Spares place self.old self.new }
     {
         if !self.needs_bytes(place) {
             return Ok(());
@@ -209,12 +224,13 @@ impl Places {
         service: &mut V,
         place: usize,
     ) -> Result<(), StoreFailed>
-        ensures after { Did (Acts N.follows V.follows V.owed_at) (is_err result) 0
+        ensures after { Did (ActsAt place N.follows V.follows V.owed_at) (is_err result) 0
             (sockets.old, service.old) (sockets.new, service.new) }
         ensures failed { IsErr result → V.has_failed service.new ≡ true }
         ensures reads { NeedsBytes self.old place
-            → Begins (Acts N.follows V.follows V.owed_at) (is_err result) (IsRead place)
+            → Begins (ActsAt place N.follows V.follows V.owed_at) (is_err result) (IsRead place)
             (sockets.old, service.old) (sockets.new, service.new) }
+        ensures spares { Spares place self.old self.new }
     {
         match self.connection(place) {
             Some(connection) => read_some(connection, sockets, service, place),
@@ -242,6 +258,7 @@ impl Places {
             (V.held_at service.old place) ≡ false → service.new ≡ service.old }
         ensures same { may_answer_at (connection_in self.old place) ≡ false
             → self.new ≡ self.old }
+        ensures spares { Spares place self.old self.new }
     {
         if !self.may_answer(place) {
             return Ok(());
@@ -277,7 +294,9 @@ impl Places {
         place: usize,
         before: Written,
         now: u64,
-    ) {
+    )
+        ensures spares { Spares place self.old self.new }
+    {
         let answer = service.unsent(place);
         if answer.is_empty() {
             self.lack_bytes(place);
@@ -299,13 +318,14 @@ impl Places {
         place: usize,
         now: u64,
     ) -> Result<(), StoreFailed>
-        ensures after { Did (Acts N.follows V.follows V.owed_at) (is_err result) 0
+        ensures after { Did (ActsAt place N.follows V.follows V.owed_at) (is_err result) 0
             (sockets.old, service.old) (sockets.new, service.new) }
         ensures failed { IsErr result → V.has_failed service.new ≡ true }
         ensures writes { OwesBytes (V.owed_at service.old place)
             → can_write_at (connection_in self.old place) ≡ true
-            → Begins (Acts N.follows V.follows V.owed_at) (is_err result) (IsWrite place)
+            → Begins (ActsAt place N.follows V.follows V.owed_at) (is_err result) (IsWrite place)
             (sockets.old, service.old) (sockets.new, service.new) }
+        ensures spares { Spares place self.old self.new }
     {
         let before = service.unsent(place).len();
         self.write_bytes(sockets, service, place)?;
@@ -323,13 +343,14 @@ impl Places {
         service: &mut V,
         place: usize,
     ) -> Result<(), StoreFailed>
-        ensures after { Did (Acts N.follows V.follows V.owed_at) (is_err result) 0
+        ensures after { Did (ActsAt place N.follows V.follows V.owed_at) (is_err result) 0
             (sockets.old, service.old) (sockets.new, service.new) }
         ensures failed { IsErr result → V.has_failed service.new ≡ true }
         ensures writes { OwesBytes (V.owed_at service.old place)
             → can_write_at (connection_in self.old place) ≡ true
-            → Begins (Acts N.follows V.follows V.owed_at) (is_err result) (IsWrite place)
+            → Begins (ActsAt place N.follows V.follows V.owed_at) (is_err result) (IsWrite place)
             (sockets.old, service.old) (sockets.new, service.new) }
+        ensures spares { Spares place self.old self.new }
     {
         if service.unsent(place).is_empty() {
             return Ok(());

@@ -151,34 +151,18 @@ of_keyed Store is = refl
 of_keyed WriteFailed is = refl
 of_keyed WrongVersion is = refl
 
-pub of_file : (fault : Fault) → is_of_files fault ≡ true → is_of_imports fault ≡ true
-of_file Bad is = absurd (true≢false (sym is))
-of_file BadBody is = absurd (true≢false (sym is))
-of_file Memory is = refl
-of_file NoClock is = absurd (true≢false (sym is))
-of_file NoListen is = absurd (true≢false (sym is))
-of_file NoAnswer is = absurd (true≢false (sym is))
-of_file NoKey is = absurd (true≢false (sym is))
-of_file NoPage is = absurd (true≢false (sym is))
-of_file NotEmpty is = absurd (true≢false (sym is))
-of_file NotOurs is = absurd (true≢false (sym is))
-of_file ReadFailed is = absurd (true≢false (sym is))
-of_file Store is = refl
-of_file WriteFailed is = absurd (true≢false (sym is))
-of_file WrongVersion is = absurd (true≢false (sym is))
-
-pub of_key_file : (fault : Fault) → is_of_files fault ≡ true → is_of_keys fault ≡ true
-of_key_file Bad is = absurd (true≢false (sym is))
-of_key_file BadBody is = absurd (true≢false (sym is))
-of_key_file Memory is = refl
-of_key_file NoClock is = absurd (true≢false (sym is))
-of_key_file NoListen is = absurd (true≢false (sym is))
-of_key_file NoAnswer is = absurd (true≢false (sym is))
-of_key_file NoKey is = absurd (true≢false (sym is))
-of_key_file NoPage is = absurd (true≢false (sym is))
-of_key_file NotEmpty is = absurd (true≢false (sym is))
-of_key_file NotOurs is = absurd (true≢false (sym is))
-of_key_file ReadFailed is = absurd (true≢false (sym is))
-of_key_file Store is = refl
-of_key_file WriteFailed is = absurd (true≢false (sym is))
-of_key_file WrongVersion is = absurd (true≢false (sym is))
+pub of_files : (fault : Fault) → is_of_files fault ≡ true → is_of_opening fault ≡ true
+of_files Bad is = absurd (true≢false (sym is))
+of_files BadBody is = absurd (true≢false (sym is))
+of_files Memory is = refl
+of_files NoClock is = absurd (true≢false (sym is))
+of_files NoListen is = absurd (true≢false (sym is))
+of_files NoAnswer is = absurd (true≢false (sym is))
+of_files NoKey is = absurd (true≢false (sym is))
+of_files NoPage is = absurd (true≢false (sym is))
+of_files NotEmpty is = absurd (true≢false (sym is))
+of_files NotOurs is = refl
+of_files ReadFailed is = absurd (true≢false (sym is))
+of_files Store is = refl
+of_files WriteFailed is = absurd (true≢false (sym is))
+of_files WrongVersion is = refl

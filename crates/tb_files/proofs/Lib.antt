@@ -1,4 +1,5 @@
+pub mod Begun
 pub mod Faults
-pub mod Stopped
+pub mod Quiet
 pub mod Unmade
 pub mod Unopened

@@ -7,7 +7,7 @@ use Rattle.tb_calls.specs.Call.{State}
 use Rattle.tb_calls.specs.Leaving.{Only}
 use Rattle.tb_calls.specs.declared.keep.Keep.{Ghosts}
 use Rattle.tb_command_line.specs.declared.order.ImportOrder.{ImportOrder}
-use Rattle.tb_files.specs.File.{IsBegun}
+use Rattle.tb_files.specs.File.{BeginsSession}
 use Rattle.tb_files.specs.NotDone.{IsUntaken}
 use Rattle.tb_keeper.specs.declared.sql_keep.SqlKeep.{SqlKeep}
 use Rattle.tb_orders.specs.Doing.{Does}
@@ -53,11 +53,8 @@ module _ {D W : Type 0} {d : DiskGhosts D} (g : Ghosts (SqlKeep (FileStore D d))
 
   -- an import in a session
   pub record IsImportCut (order : ImportOrder) (input : Option (List ℕ)) (before after : W)
-      (told : Fault) : Type 0 where
-    pub old : SqlKeep (FileStore D d)
+      (told : Fault) (old : SqlKeep (FileStore D d)) : Type 0 where
     pub new : SqlKeep (FileStore D d)
-    pub found : Held (FileStore D d)
-    pub begun : IsBegun g found old
     pub end : Result Ending Fault
     pub ends : EndsIn end told
     pub does : (s : State) → g.holds old s → Only s (g.after_stop old)
@@ -66,11 +63,8 @@ module _ {D W : Type 0} {d : DiskGhosts D} (g : Ghosts (SqlKeep (FileStore D d))
 
   -- an import in parts in a session
   pub record IsRunCut (order : ImportOrder) (input : Option (List ℕ)) (before after : W)
-      (told : Fault) : Type 0 where
-    pub old : SqlKeep (FileStore D d)
+      (told : Fault) (old : SqlKeep (FileStore D d)) : Type 0 where
     pub new : SqlKeep (FileStore D d)
-    pub found : Held (FileStore D d)
-    pub begun : IsBegun g found old
     pub end : Result Ending Fault
     pub ends : EndsIn end told
     pub run : (s : State) → g.holds old s → Only s (g.after_stop old)
@@ -78,9 +72,9 @@ module _ {D W : Type 0} {d : DiskGhosts D} (g : Ghosts (SqlKeep (FileStore D d))
         (contents before) (contents after)
 
   abbrev pub IsImportFailed : ImportOrder → Option (List ℕ) → W → W → Fault → Type 0
-  IsImportFailed order input before after told =
-      IsUnbegun before after told ⊎ IsImportCut order input before after told
+  IsImportFailed order input before after told = IsUnbegun before after told
+      ⊎ BeginsSession g (IsImportCut order input before after told)
 
   abbrev pub IsRunFailed : ImportOrder → Option (List ℕ) → W → W → Fault → Type 0
-  IsRunFailed order input before after told =
-      IsUnbegun before after told ⊎ IsRunCut order input before after told
+  IsRunFailed order input before after told = IsUnbegun before after told
+      ⊎ BeginsSession g (IsRunCut order input before after told)

@@ -39,3 +39,7 @@ module _ {D : Type 0} {d : DiskGhosts D} (g : Ghosts (SqlKeep (FileStore D d))) 
     pub old : SqlKeep (FileStore D d)
     pub begun : IsBegun found old
     pub does : Does old
+
+  -- in one that began over what some connection found
+  abbrev pub BeginsSession : (SqlKeep (FileStore D d) → Type 0) → Type 0
+  BeginsSession Does = (found : Held (FileStore D d)) × InSession found Does

@@ -8,9 +8,10 @@ ghost use Rattle.tb_files.specs.File.{InSession};
 ghost use Rattle.tb_files.specs.NotDone.{IsNotDone, failure_of};
 ghost use Rattle.tb_orders.specs.Telling.{is_of_answers};
 
-use crate::file::{RealFile, close_keep, open_desk};
+use crate::file::{close_keep, open_desk};
 use crate::not_done::NotDone;
-use sqlite::Connection;
+use sqlite::{Connection, FileStore};
+use sqlite_disk::Disk;
 use std::alloc::Global;
 use std::io::Write;
 use tb_calls::Keep;
@@ -21,18 +22,18 @@ use tb_values::Text;
 
 /// Prints how many boards and tasks a file has, and how many boards differ from what their tasks say.
 #[tactic(auto, using(crate::proofs::Faults::of_keep))]
-pub fn check_file<W: Write>(
+pub fn check_file<D: Disk + Drop, W: Write>(
     rt: &HostRuntime,
     file: &Text,
-    conn: Connection<RealFile>,
+    conn: Connection<FileStore<D>>,
     writer: &mut W,
-) -> Result<Ending, NotDone<Connection<RealFile>>>
+) -> Result<Ending, NotDone<Connection<FileStore<D>>>>
     requires idle { conn.in_transaction ≡ false }
     requires opens { HasCleanDisk (file_state conn) → Opens (file_state conn) }
-    ensures checked { IfOk result (λ ending. InSession ⟦<SqlKeep<RealFile> as Keep>⟧ conn
+    ensures checked { IfOk result (λ ending. InSession ⟦<SqlKeep<FileStore<D>> as Keep>⟧ conn
         (λ old. IsChecked old (W.contents writer.old) (W.contents writer.new) ending)) }
     ensures undone { IfErr result
-        (IsNotDone ⟦<SqlKeep<RealFile> as Keep>⟧ is_of_answers conn) }
+        (IsNotDone ⟦<SqlKeep<FileStore<D>> as Keep>⟧ is_of_answers conn) }
     ensures fault { IfErr result (λ undone. is_of_checking (failure_of undone).fault ≡ true) }
 {
     match open_desk(rt, file.as_str(), conn) {
@@ -46,9 +47,9 @@ pub fn check_file<W: Write>(
 
 /// Prints what an audit found, and closes the file.
 #[tactic(auto, using(crate::proofs::Faults::of_audit))]
-fn check_rows<W: Write>(
+fn check_rows<D: Disk + Drop, W: Write>(
     alloc: Global,
-    keep: SqlKeep<RealFile>,
+    keep: SqlKeep<FileStore<D>>,
     writer: &mut W,
 ) -> Result<Ending, Fault>
     ensures checked { IfOk result

@@ -3,15 +3,18 @@ ghost use Rattle.sqlite.specs.Files.{file_state};
 ghost use Rattle.sqlite.specs.State.{HasCleanDisk, Opens};
 ghost use Rattle.std.specs.Io.KnownBytes.{Appends};
 ghost use Rattle.std.specs.Prelude.{◌≡◌, false, IfErr, IfOk, Ok, OnErr, OnOk, true};
+ghost use Rattle.tb_files.specs.Failed.{IsUnopened};
 ghost use Rattle.tb_files.specs.File.{IsBegun, IsSaved};
 ghost use Rattle.tb_files.specs.NotDone.{IsUntaken};
 ghost use Rattle.tb_files.specs.Notice.{notice, rest_of_notice};
 ghost use Rattle.tb_orders.specs.Faults.{is_of_files, is_of_opening};
+ghost use Rattle.tb_orders.specs.Items.{fault_alone};
 ghost use Rattle.tb_program.specs.declared.fault.Fault.TheVariants.{Store, WriteFailed};
 ghost use Rattle.tb_values.specs.Appends.{AppendsFront};
 
 use crate::not_done::Untaken;
 use sqlite::{Connection, Error, ErrorCode, File, FileStore};
+use sqlite_disk::Disk;
 use std::fs;
 use std::io::Write;
 use std::os::unix::fs::OpenOptionsExt;
@@ -19,7 +22,7 @@ use tb_calls::Keep;
 use tb_desk::Desk;
 use tb_headline::session::resume;
 use tb_keeper::SqlKeep;
-use tb_orders::fault_of_opening;
+use tb_orders::{Ending, OrderFault, fault_of_opening};
 use tb_program::{Fault, print_line, print_text};
 use tb_sql::opening::Version;
 use tb_wal::find_log_fault;
@@ -86,14 +89,14 @@ fn take_opened(opened: Result<Connection<RealFile>, Error>) -> Result<Connection
 }
 
 /// Begins a session over the boards that a connection to the file at a path found.
-pub fn open_desk(
+pub fn open_desk<D: Disk + Drop>(
     rt: &HostRuntime,
     path: &str,
-    conn: Connection<RealFile>,
-) -> Result<Desk<SqlKeep<RealFile>>, Untaken<Connection<RealFile>>>
+    conn: Connection<FileStore<D>>,
+) -> Result<Desk<SqlKeep<FileStore<D>>>, Untaken<Connection<FileStore<D>>>>
     requires idle { conn.in_transaction ≡ false }
     requires opens { HasCleanDisk (file_state conn) → Opens (file_state conn) }
-    ensures begun { IfOk result (IsBegun ⟦<SqlKeep<RealFile> as Keep>⟧ conn) }
+    ensures begun { IfOk result (IsBegun ⟦<SqlKeep<FileStore<D>> as Keep>⟧ conn) }
     ensures untaken { IfErr result (λ untaken. IsUntaken conn untaken.left untaken.fault) }
     ensures fault { IfErr result (λ untaken. is_of_opening untaken.fault ≡ true) }
 {
@@ -106,12 +109,29 @@ pub fn open_desk(
     }
 }
 
+/// Opens the file at a path, and begins a session over the boards in it.
+#[tactic(auto, using(crate::proofs::Faults::of_files))]
+pub(crate) fn begin(rt: &HostRuntime, path: &str) -> Result<Desk<SqlKeep<RealFile>>, Fault>
+    ensures begun { IfOk result
+        (λ desk. (found : _) × IsBegun ⟦<SqlKeep<RealFile> as Keep>⟧ found desk) }
+    ensures unopened { IfErr result (IsUnopened ⟦<SqlKeep<RealFile> as Keep>⟧) }
+    ensures fault { IfErr result (λ fault. is_of_opening fault ≡ true) }
+{
+    match open_file(rt, path) {
+        Ok(conn) => match open_desk(rt, path, conn) {
+            Ok(desk) => Ok(desk),
+            Err(untaken) => Err(untaken.fault),
+        },
+        Err(fault) => Err(fault),
+    }
+}
+
 /// The desk. Where its file was of a version before, what became of it is told on standard error.
-fn with_notice(
+fn with_notice<D: Disk + Drop>(
     rt: &HostRuntime,
     path: &str,
-    desk: Desk<SqlKeep<RealFile>>,
-) -> Desk<SqlKeep<RealFile>>
+    desk: Desk<SqlKeep<FileStore<D>>>,
+) -> Desk<SqlKeep<FileStore<D>>>
     ensures { result ≡ desk }
 {
     let keep = desk.into_keep();
@@ -153,15 +173,30 @@ fn tell_rest<W: Write>(writer: &mut W, path: &str, what: &str) -> Result<(), Fau
 }
 
 /// Ends a session.
-pub fn close_desk(desk: Desk<SqlKeep<RealFile>>) -> Result<(), Fault>
+pub fn close_desk<D: Disk + Drop>(desk: Desk<SqlKeep<FileStore<D>>>) -> Result<(), Fault>
     ensures saved { OnOk result ((files : _) × IsSaved desk.conn files) }
     ensures fault { IfErr result (λ fault. fault ≡ Store) }
 {
     close_keep(desk.into_keep())
 }
 
+/// Ends a session in which an order ended so.
+pub(crate) fn close_after<D: Disk + Drop>(
+    desk: Desk<SqlKeep<FileStore<D>>>,
+    ending: Ending,
+) -> Result<Ending, OrderFault>
+    ensures saved { IfOk result
+        (λ told. (told ≡ ending) × ((files : _) × IsSaved desk.conn files)) }
+    ensures fault { IfErr result (λ failed. failed ≡ fault_alone Store) }
+{
+    match close_desk(desk) {
+        Ok(()) => Ok(ending),
+        Err(fault) => Err(OrderFault { fault, item: None }),
+    }
+}
+
 /// Copies what was committed into the database file, and closes it.
-pub(crate) fn close_keep(keep: SqlKeep<RealFile>) -> Result<(), Fault>
+pub(crate) fn close_keep<D: Disk + Drop>(keep: SqlKeep<FileStore<D>>) -> Result<(), Fault>
     ensures saved { OnOk result ((files : _) × IsSaved keep.conn files) }
     ensures fault { IfErr result (λ fault. fault ≡ Store) }
 {

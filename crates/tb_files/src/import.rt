@@ -1,19 +1,22 @@
 //! Imports of an input into the boards of a file.
 ghost use Rattle.std.specs.Prelude.{◌≡◌, IfErr, IfOk, IfSome, false, true};
-ghost use Rattle.tb_files.specs.Failed.{IsImportFailed, IsRunFailed, may_print, may_print_parts};
+ghost use Rattle.tb_files.specs.Failed.{IsImportCut, IsImportFailed, IsRunCut, IsRunFailed, may_print, may_print_parts};
 ghost use Rattle.tb_files.specs.Faults.{is_of_imports};
-ghost use Rattle.tb_files.specs.Import.{IsImported, IsImportedInParts};
+ghost use Rattle.tb_files.specs.Import.{IsImported, IsImportedInParts, IsImportedInPartsOver, IsImportedOver};
 ghost use Rattle.tb_orders.specs.Items.{IsBadAmong, IsBadIn};
 
-use crate::file::{RealFile, close_desk, open_desk, open_file};
+use crate::file::{RealFile, begin, close_after};
+use sqlite::FileStore;
+use sqlite_disk::Disk;
 use std::io::{IsTerminal, Read, Write};
 use tb_calls::Keep;
 use tb_command_line::ImportOrder;
+use tb_desk::Desk;
 use tb_keeper::SqlKeep;
 use tb_orders::{Ending, OrderFault, Progress, import_all, import_input};
 
 /// Imports an input by one call.
-#[tactic(auto, using(crate::proofs::Faults::of_input, crate::proofs::Faults::of_opening, crate::proofs::Faults::of_file))]
+#[tactic(auto, using(crate::proofs::Faults::of_opening))]
 pub fn import_into_file<R: Read + Drop, W: Write>(
     rt: &HostRuntime,
     order: &ImportOrder,
@@ -30,15 +33,42 @@ pub fn import_into_file<R: Read + Drop, W: Write>(
         (λ failed. IfSome failed.item (IsBadIn order.now (R.remaining reader))) }
     ensures fault { IfErr result (λ failed. is_of_imports failed.fault ≡ true) }
 {
-    let conn = open_file(rt, order.file.as_str())?;
-    let mut desk = open_desk(rt, order.file.as_str(), conn)?;
-    let ending = import_input(rt.alloc(), &mut desk, order, reader, rt, writer)?;
-    close_desk(desk)?;
-    Ok(ending)
+    match begin(rt, order.file.as_str()) {
+        Ok(desk) => import_over(rt, desk, order, reader, writer),
+        Err(fault) => Err(OrderFault { fault, item: None }),
+    }
 }
 
-/// The same in as many parts as the text takes.
-#[tactic(auto, using(crate::proofs::Faults::of_input, crate::proofs::Faults::of_opening, crate::proofs::Faults::of_file))]
+/// Imports an input by one call in a session, and ends the session.
+#[tactic(auto, using(crate::proofs::Faults::of_input))]
+fn import_over<D: Disk + Drop, R: Read + Drop, W: Write>(
+    rt: &HostRuntime,
+    desk: Desk<SqlKeep<FileStore<D>>>,
+    order: &ImportOrder,
+    reader: R,
+    writer: &mut W,
+) -> Result<Ending, OrderFault>
+    ensures imported { IfOk result
+        (λ ending. IsImportedOver ⟦<SqlKeep<FileStore<D>> as Keep>⟧ order.now (R.remaining reader)
+        (W.contents writer.old) (W.contents writer.new) ending desk) }
+    ensures failed { IfErr result
+        (λ failed. IsImportCut ⟦<SqlKeep<FileStore<D>> as Keep>⟧ W.contents order.now
+        (R.remaining reader) writer.old writer.new failed.fault desk) }
+    ensures silent { IfErr result
+        (λ failed. may_print failed.fault ≡ false → writer.new ≡ writer.old) }
+    ensures item { IfErr result
+        (λ failed. IfSome failed.item (IsBadIn order.now (R.remaining reader))) }
+    ensures fault { IfErr result (λ failed. is_of_imports failed.fault ≡ true) }
+{
+    let mut desk = desk;
+    match import_input(rt.alloc(), &mut desk, order, reader, rt, writer) {
+        Ok(ending) => close_after(desk, ending),
+        Err(failed) => Err(failed),
+    }
+}
+
+/// Imports an input in as many parts as its text takes.
+#[tactic(auto, using(crate::proofs::Faults::of_opening))]
 pub fn import_parts_into_file<R: Read + Drop, W: Write>(
     rt: &HostRuntime,
     order: &ImportOrder,
@@ -55,19 +85,39 @@ pub fn import_parts_into_file<R: Read + Drop, W: Write>(
         (λ failed. IfSome failed.item (IsBadAmong order.now (R.remaining reader))) }
     ensures fault { IfErr result (λ failed. is_of_imports failed.fault ≡ true) }
 {
-    let conn = open_file(rt, order.file.as_str())?;
-    let mut desk = open_desk(rt, order.file.as_str(), conn)?;
-    let ending = import_all(
-        rt.alloc(),
-        &mut desk,
-        order,
-        reader,
-        rt,
-        writer,
-        &Counter { rt },
-    )?;
-    close_desk(desk)?;
-    Ok(ending)
+    match begin(rt, order.file.as_str()) {
+        Ok(desk) => import_parts_over(rt, desk, order, reader, writer),
+        Err(fault) => Err(OrderFault { fault, item: None }),
+    }
+}
+
+/// Imports an input in parts in a session, and ends the session.
+#[tactic(auto, using(crate::proofs::Faults::of_input))]
+fn import_parts_over<D: Disk + Drop, R: Read + Drop, W: Write>(
+    rt: &HostRuntime,
+    desk: Desk<SqlKeep<FileStore<D>>>,
+    order: &ImportOrder,
+    reader: R,
+    writer: &mut W,
+) -> Result<Ending, OrderFault>
+    ensures imported { IfOk result
+        (λ ending. IsImportedInPartsOver ⟦<SqlKeep<FileStore<D>> as Keep>⟧ order.now
+        (R.remaining reader) (W.contents writer.old) (W.contents writer.new) ending desk) }
+    ensures failed { IfErr result
+        (λ failed. IsRunCut ⟦<SqlKeep<FileStore<D>> as Keep>⟧ W.contents order.now
+        (R.remaining reader) writer.old writer.new failed.fault desk) }
+    ensures silent { IfErr result
+        (λ failed. may_print_parts failed.fault ≡ false → writer.new ≡ writer.old) }
+    ensures item { IfErr result
+        (λ failed. IfSome failed.item (IsBadAmong order.now (R.remaining reader))) }
+    ensures fault { IfErr result (λ failed. is_of_imports failed.fault ≡ true) }
+{
+    let mut desk = desk;
+    let progress = Counter { rt };
+    match import_all(rt.alloc(), &mut desk, order, reader, rt, writer, &progress) {
+        Ok(ending) => close_after(desk, ending),
+        Err(failed) => Err(failed),
+    }
 }
 
 /// Tells on standard error, where that is a terminal, which part of a longer text is begun.

@@ -7,9 +7,10 @@ ghost use Rattle.tb_files.specs.Init.{IsMade, IsNotMade};
 ghost use Rattle.tb_files.specs.NotDone.{failure_of};
 ghost use Rattle.tb_orders.specs.Faults.{is_of_making};
 
-use crate::file::{RealFile, close_desk};
+use crate::file::close_desk;
 use crate::not_done::{NotDone, Untaken};
-use sqlite::Connection;
+use sqlite::{Connection, FileStore};
+use sqlite_disk::Disk;
 use std::alloc::Global;
 use tb_calls::Keep;
 use tb_command_line::InitOrder;
@@ -18,17 +19,17 @@ use tb_keeper::SqlKeep;
 use tb_orders::{Ending, OrderFault, fault_of_making};
 
 /// Makes the tables of a file with one person, who owns its first board.
-pub fn make_file(
+pub fn make_file<D: Disk + Drop>(
     alloc: Global,
-    conn: Connection<RealFile>,
+    conn: Connection<FileStore<D>>,
     order: &InitOrder,
-) -> Result<Ending, NotDone<Connection<RealFile>>>
+) -> Result<Ending, NotDone<Connection<FileStore<D>>>>
     requires idle { conn.in_transaction ≡ false }
     requires opens { HasCleanDisk (file_state conn) → Opens (file_state conn) }
     ensures made { IfOk result (λ ending. (ending ≡ Ending.Accepted)
-        × IsMade ⟦<SqlKeep<RealFile> as Keep>⟧ conn
+        × IsMade ⟦<SqlKeep<FileStore<D>> as Keep>⟧ conn
         (opening order.now.name order.now.key)) }
-    ensures unmade { IfErr result (IsNotMade ⟦<SqlKeep<RealFile> as Keep>⟧ conn
+    ensures unmade { IfErr result (IsNotMade ⟦<SqlKeep<FileStore<D>> as Keep>⟧ conn
         (opening order.now.name order.now.key)) }
     ensures fault { IfErr result (λ undone. is_of_making (failure_of undone).fault ≡ true) }
 {

@@ -4,7 +4,7 @@ ghost use Rattle.tb_files.specs.Faults.{is_of_keys};
 ghost use Rattle.tb_files.specs.Key.{IsKeyGiven};
 ghost use Rattle.tb_orders.specs.Moments.{GaveOne};
 
-use crate::file::{RealFile, close_desk, open_desk, open_file};
+use crate::file::{RealFile, begin, close_desk};
 use std::io::{Read, Write};
 use tb_calls::Keep;
 use tb_command_line::KeyOrder;
@@ -13,7 +13,7 @@ use tb_orders::{Ending, give_key, new_key_of};
 use tb_program::{Clock, Fault};
 
 /// Gives somebody a new key, which is read, or made and printed. The file isn't opened where there is no key to give.
-#[tactic(auto, using(crate::proofs::Faults::of_new_key, crate::proofs::Faults::of_keyed, crate::proofs::Faults::of_giving, crate::proofs::Faults::of_key_file))]
+#[tactic(auto, using(crate::proofs::Faults::of_new_key, crate::proofs::Faults::of_keyed, crate::proofs::Faults::of_giving))]
 pub fn give_key_in_file<R: Read + Drop, C: Clock, W: Write>(
     rt: &HostRuntime,
     order: &KeyOrder,
@@ -27,11 +27,7 @@ pub fn give_key_in_file<R: Read + Drop, C: Clock, W: Write>(
     ensures fault { IfErr result (λ fault. is_of_keys fault ≡ true) }
 {
     let asked = new_key_of(rt.alloc(), order, reader, rt, clock)?;
-    let conn = open_file(rt, order.file.as_str())?;
-    let desk = match open_desk(rt, order.file.as_str(), conn) {
-        Ok(desk) => desk,
-        Err(untaken) => return Err(untaken.fault),
-    };
+    let desk = begin(rt, order.file.as_str())?;
     let (desk, end) = give_key(rt.alloc(), desk.into_keep(), &asked, writer);
     match end {
         Ok(ending) => {

@@ -9,9 +9,10 @@ ghost use Rattle.tb_files.specs.View.{IsCutShort, IsShown};
 ghost use Rattle.tb_orders.specs.Moments.{GaveOne};
 ghost use Rattle.tb_program.specs.declared.fault.Fault.TheVariants.{NoClock, WriteFailed};
 
-use crate::file::{RealFile, close_desk, open_desk};
+use crate::file::{close_desk, open_desk};
 use crate::not_done::NotDone;
-use sqlite::Connection;
+use sqlite::{Connection, FileStore};
+use sqlite_disk::Disk;
 use std::alloc::Global;
 use std::io::Write;
 use tb_calls::Keep;
@@ -23,26 +24,26 @@ use tb_program::{Clock, Fault};
 
 /// Prints a view of a board at the moment that the clock gives, from the file that a connection was opened to.
 #[tactic(auto, using(crate::proofs::Faults::of_view))]
-pub fn print_board<C: Clock, W: Write>(
+pub fn print_board<D: Disk + Drop, C: Clock, W: Write>(
     rt: &HostRuntime,
-    conn: Connection<RealFile>,
+    conn: Connection<FileStore<D>>,
     order: &ViewOrder,
     clock: &mut C,
     writer: &mut W,
-) -> Result<Ending, NotDone<Connection<RealFile>>>
+) -> Result<Ending, NotDone<Connection<FileStore<D>>>>
     requires idle { conn.in_transaction ≡ false }
     requires opens { HasCleanDisk (file_state conn) → Opens (file_state conn) }
-    ensures shown { IfOk result (λ ending. InSession ⟦<SqlKeep<RealFile> as Keep>⟧ conn
-        (λ old. IsShown ⟦<SqlKeep<RealFile> as Keep>⟧ (GaveOne C.gives clock.old clock.new)
+    ensures shown { IfOk result (λ ending. InSession ⟦<SqlKeep<FileStore<D>> as Keep>⟧ conn
+        (λ old. IsShown ⟦<SqlKeep<FileStore<D>> as Keep>⟧ (GaveOne C.gives clock.old clock.new)
         order.now old (W.contents writer.old) (W.contents writer.new) ending)) }
     ensures unwritten { IfErr result (λ undone. (failure_of undone).fault ≡ WriteFailed
-        → InSession ⟦<SqlKeep<RealFile> as Keep>⟧ conn
-        (λ old. IsCutShort ⟦<SqlKeep<RealFile> as Keep>⟧ (GaveOne C.gives clock.old clock.new)
+        → InSession ⟦<SqlKeep<FileStore<D>> as Keep>⟧ conn
+        (λ old. IsCutShort ⟦<SqlKeep<FileStore<D>> as Keep>⟧ (GaveOne C.gives clock.old clock.new)
         order.now old (W.contents writer.old) (W.contents writer.new))) }
     ensures timeless { IfErr result (λ undone. (failure_of undone).fault ≡ NoClock
         → C.gives (None ∷ []) clock.old clock.new) }
     ensures undone { IfErr result
-        (IsNotDone ⟦<SqlKeep<RealFile> as Keep>⟧ is_of_showing conn) }
+        (IsNotDone ⟦<SqlKeep<FileStore<D>> as Keep>⟧ is_of_showing conn) }
     ensures fault { IfErr result (λ undone. is_of_views (failure_of undone).fault ≡ true) }
 {
     match open_desk(rt, order.file.as_str(), conn) {
@@ -55,17 +56,17 @@ pub fn print_board<C: Clock, W: Write>(
 }
 
 /// Prints a view at the moment that the clock gives, and closes the file.
-fn show_board<C: Clock, W: Write>(
+fn show_board<D: Disk + Drop, C: Clock, W: Write>(
     alloc: Global,
-    desk: Desk<SqlKeep<RealFile>>,
+    desk: Desk<SqlKeep<FileStore<D>>>,
     order: &ViewOrder,
     clock: &mut C,
     writer: &mut W,
 ) -> Result<Ending, Fault>
-    ensures shown { IfOk result (IsShown ⟦<SqlKeep<RealFile> as Keep>⟧
+    ensures shown { IfOk result (IsShown ⟦<SqlKeep<FileStore<D>> as Keep>⟧
         (GaveOne C.gives clock.old clock.new) order.now desk
         (W.contents writer.old) (W.contents writer.new)) }
-    ensures unwritten { IsErrOf result WriteFailed → IsCutShort ⟦<SqlKeep<RealFile> as Keep>⟧
+    ensures unwritten { IsErrOf result WriteFailed → IsCutShort ⟦<SqlKeep<FileStore<D>> as Keep>⟧
         (GaveOne C.gives clock.old clock.new) order.now desk
         (W.contents writer.old) (W.contents writer.new) }
     ensures timeless { IsErrOf result NoClock → C.gives (None ∷ []) clock.old clock.new }

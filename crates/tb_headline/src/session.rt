@@ -1,6 +1,6 @@
 //! A session over a file: it begins with an empty database or with a store that stands, and handles
 //! calls, or serves connections, until it stops.
-ghost use Rattle.std.specs.Prelude.{◌≡◌, ◌≢◌, ◌⊎◌, ℕ, false, length, take, true, IfErr, IfOk, IsErr, List, MatchResult, None, Ok, OnErr, OnOk, Some};
+ghost use Rattle.std.specs.Prelude.{◌≡◌, ◌≢◌, ◌⊎◌, ℕ, false, length, take, true, IfErr, IfOk, IsErr, List, MatchResult, None, Ok, OnErr, OnOk, Option, Some};
 ghost use Rattle.sqlite.specs.Held.{state};
 ghost use Rattle.sqlite.specs.State.{HasCleanDisk, IsLive, Opens};
 ghost use Rattle.tb_calls.specs.declared.fault.KeepFault.TheVariants.{Store};
@@ -11,7 +11,9 @@ ghost use Rattle.tb_headline.specs.Refusals.{IsFilled, IsRefused, IsUnmade, Says
 ghost use Rattle.tb_headline.specs.Headline.{IsAt, IsCut, IsFileOf, IsPlayed, IsSession, Leaves, StopLeaves, WhileHonest};
 ghost use Rattle.tb_sql.specs.Opening.{has_tables, is_old, is_second, IsAsBefore};
 ghost use Rattle.tb_lookup.specs.Stored.{AreTreesOf};
-ghost use Rattle.tb_serve.specs.Server.{done_at, talk_at};
+ghost use Rattle.tb_serve.specs.Server.{IsStopped, Plays, done_at, talk_at};
+ghost use Rattle.tb_serve.specs.Turns.{Happening, Talk};
+ghost use Rattle.tb_site.specs.declared.site.Site.{Site};
 
 use sqlite::{Alter, Connection};
 use std::alloc::Global;
@@ -110,6 +112,27 @@ pub fn leaves_rows<S: Alter>(desk: &Desk<SqlKeep<S>>)
         → StandsAfter s calls answered (⟦<SqlKeep<S> as Keep>⟧.holds desk.now)
         (⟦<SqlKeep<S> as Keep>⟧.after_stop desk.now)
         → Leaves s calls answered (state S.Store desk.now.conn)) }
+{}
+
+/// A server that was run over a desk, by whatever loop: what was made of all that was done to its connections is a session, to its end
+/// or up to a failure of the store.
+pub fn serves_session<S: Alter>(desk: &Desk<SqlKeep<S>>)
+    ensures played { (site : Site) (s : State) (done : List (ℕ × Happening (Option ℕ)))
+        (talks later : ℕ → Talk)
+        → (⟦<SqlKeep<S> as Keep>⟧.is_honest desk.now ≡ true
+        → Plays site s done talks later (⟦<SqlKeep<S> as Keep>⟧.holds desk.now)
+        (⟦<SqlKeep<S> as Keep>⟧.after_stop desk.now))
+        → WhileHonest (state S.Store desk.now.conn) (IsPlayed site s done talks later
+        (⟦<SqlKeep<S> as Keep>⟧.holds desk.now) (⟦<SqlKeep<S> as Keep>⟧.after_stop desk.now)
+        (state S.Store desk.now.conn)) }
+    ensures cut { (site : Site) (s : State) (done : List (ℕ × Happening (Option ℕ)))
+        (talks later : ℕ → Talk)
+        → (⟦<SqlKeep<S> as Keep>⟧.is_honest desk.now ≡ true
+        → IsStopped site s done talks later (⟦<SqlKeep<S> as Keep>⟧.holds desk.now)
+        (⟦<SqlKeep<S> as Keep>⟧.after_stop desk.now))
+        → WhileHonest (state S.Store desk.now.conn) (IsCut site s done talks later
+        (⟦<SqlKeep<S> as Keep>⟧.holds desk.now) (⟦<SqlKeep<S> as Keep>⟧.after_stop desk.now)
+        (state S.Store desk.now.conn)) }
 {}
 
 /// Serves connections: things are done to them, one after the other, up to a failure of the store.

@@ -1,36 +1,38 @@
-use Rattle.std.proofs.Common.{◌∙◌, ap, refl, subst, sym}
+use Rattle.std.proofs.Common.{ap, refl, subst, sym}
 use Rattle.tb_files.specs.File.{IsSaved}
 use Rattle.tb_program.specs.declared.fault.Fault.TheVariants.{Memory}
-use Rattle.taskboard.specs.Serve.{is_of_serving}
+use Rattle.taskboard.specs.Serve.{is_of_serving, server_at}
 use Rattle.taskboard.proofs.Handed.{of_serving}
+use Rattle.taskboard.proofs.Sessions.{does_of, ended_well}
 use Rattle.taskboard.proofs.serve.serve_file.Goals as goal
 
 pub returns-in-Ok-clause-served : goal.returns-in-Ok-clause-served
 returns-in-Ok-clause-served c =
     let server = c.in_ok-server.server in
-    let end = c.serve.new.service in
-    let done = c.in-Ok.ensures.after in
-    let s = done.1 in
+    let (later, desk, runs, run) = c.in-Ok.ensures.run in
     let files = c.in_ok-close_desk-in-Ok.ensures.saved.0 in (
       refl,
       record {
         old = server.desk;
-        new = end.desk;
+        new = later.desk;
         session = record {
           found = c.in_ok-conn.conn;
           begun = rw c.in_ok-server.ensures.desk c.in_ok-desk.ensures.begun;
           files = files;
-          saved = subst (λ desk. IsSaved desk.conn files) c.into_desk.ensures c.in_ok-close_desk-in-Ok.ensures.saved.1;
+          saved = subst (λ keep. IsSaved keep.conn files) (sym desk) c.in_ok-close_desk-in-Ok.ensures.saved.1;
         };
         site = server.paths.site;
-        kept = end.paths.site;
+        kept = later.paths.site;
         page = rw c.in_ok-server.ensures.page c.in_ok-page.ensures.page;
-        history = done.0;
         talks = server.peers.items;
-        later = end.peers.items;
+        later = later.peers.items;
         begin = c.in_ok-server.ensures.silent;
-        serves = record { page = s.page; places = s.places; calls = s.calls; timed = s.timed; fits = s.fits; asked = tt; honest = s.honest; run = s.run };
-        ended = sym c.in_ok-event_loop.ensures.limit ∙ done.2;
+        deeds = runs.deeds;
+        run = ended_well _ _ _ _ _ _ _ _ _ _ _ _ _ _ c.in_ok-event_loop.ensures.limit run;
+        does = does_of _ runs (λ at. server_at _ at.desk at.paths.site at.peers.items)
+            (λ history a b is.
+            record { page = is.page; places = is.places; calls = is.calls; timed = is.timed; fits = is.fits; asked = tt; honest = is.honest; run = is.run })
+            (λ at place. refl);
       },
     )
 

@@ -1,5 +1,5 @@
-use Rattle.std.proofs.Common.{◌≡◌, ℕ, ◌<◌, ◌≤◌, rules, refl, sym, ap, subst, is_err, true, false, take, length, [], ◌∷◌, inl, inr, arith}
-use Rattle.tb_event_loop.specs.Deeds.{Acts, Begins, Did, IsRead, called}
+use Rattle.std.proofs.Common.{rules, refl, is_err, false, [], arith}
+use Rattle.tb_event_loop.specs.Deeds.{called}
 use Rattle.tb_event_loop.specs.Sockets.{read, unread}
 use Rattle.tb_event_loop.proofs.Acting.{begins_read, did_fail, did_read, reads_nothing, reads_some}
 use Rattle.tb_event_loop.proofs.exchange.read_some.Goals as goal
@@ -30,8 +30,8 @@ returns-in-Ok-clause-reads g c =
 
 pub returns-in-Err-clause-after : goal.returns-in-Err-clause-after
 returns-in-Err-clause-after g c =
-    did_fail g.N.Sockets.follows g.V.Service.follows g.V.Service.owed_at (unread c.args.place _) refl c.args.sockets.now c.read.new.self c.args.service.now c.in-Err.ensures.failed
+    did_fail g.N.Sockets.follows g.V.Service.follows g.V.Service.owed_at c.args.place (unread c.args.place _) refl c.args.sockets.now c.read.new.self c.args.service.now c.in-Err.ensures.failed
 
 pub returns-in-Err-clause-reads : goal.returns-in-Err-clause-reads
 returns-in-Err-clause-reads g c =
-    record { first = called (unread c.args.place _); is = refl; more = []; done = (c.in-Err.ensures.failed, (tt, c.args.service.now, refl, refl)) }
+    record { first = called (unread c.args.place _); is = refl; more = []; done = ((c.in-Err.ensures.failed, (tt, c.args.service.now, refl, refl)), tt); ends = refl }

@@ -1,6 +1,6 @@
-use Rattle.std.proofs.Common.{◌≡◌, ℕ, ◌<◌, ◌≤◌, rules, refl, sym, ap, subst, is_err, true, false, take, length, [], ◌∷◌, inl, inr, arith}
-use Rattle.tb_event_loop.specs.Deeds.{Acts, Begins, Did, IsWrite, called}
-use Rattle.tb_event_loop.specs.Sockets.{unwritten, wrote}
+use Rattle.std.proofs.Common.{rules, refl, is_err, false, [], arith}
+use Rattle.tb_event_loop.specs.Deeds.{called}
+use Rattle.tb_event_loop.specs.Sockets.{unwritten}
 use Rattle.tb_event_loop.proofs.Acting.{begins_write, did_fail, did_write, writes_nothing, writes_some}
 use Rattle.tb_event_loop.proofs.exchange.write_some.Goals as goal
 
@@ -30,8 +30,8 @@ returns-in-Ok-clause-writes g c =
 
 pub returns-in-Err-clause-after : goal.returns-in-Err-clause-after
 returns-in-Err-clause-after g c =
-    did_fail g.N.Sockets.follows g.V.Service.follows g.V.Service.owed_at (unwritten c.args.place _) refl c.args.sockets.now c.write.new.self c.args.service.now c.in-Err.ensures.failed
+    did_fail g.N.Sockets.follows g.V.Service.follows g.V.Service.owed_at c.args.place (unwritten c.args.place _) refl c.args.sockets.now c.write.new.self c.args.service.now c.in-Err.ensures.failed
 
 pub returns-in-Err-clause-writes : goal.returns-in-Err-clause-writes
 returns-in-Err-clause-writes g c =
-    record { first = called (unwritten c.args.place _); is = refl; more = []; done = (c.in-Err.ensures.failed, (tt, c.args.service.now, refl, refl)) }
+    record { first = called (unwritten c.args.place _); is = refl; more = []; done = ((c.in-Err.ensures.failed, (tt, c.args.service.now, refl, refl)), tt); ends = refl }

@@ -4,5 +4,5 @@ use Rattle.tb_files.specs.File.{IsSaved}
 use Rattle.tb_files.proofs.file.close_desk.Goals as goal
 
 pub returns-clause-saved : goal.returns-clause-saved
-returns-clause-saved c =
+returns-clause-saved g c =
     subst (λ keep. OnOk c.close_keep.result ((files : _) × IsSaved keep.conn files)) c.into_keep.ensures c.close_keep.ensures.saved

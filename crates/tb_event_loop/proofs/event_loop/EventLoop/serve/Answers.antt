@@ -1,4 +1,5 @@
-use Rattle.std.proofs.Common.{◌≡◌, ◌∙◌, Bool, Some, Ok, Err, rules, refl, sym, ap, subst, is_err, true, false, [], ◌∷◌, inl, inr, arith}
+use Rattle.std.proofs.Common.{◌≡◌, Bool, rules, refl, subst, is_err, true, false, [], ◌∷◌, inl, inr, arith, add-one}
+use Rattle.std.proofs.lemmas.Bool.{true≢false}
 use Rattle.tb_event_loop.specs.Deeds.{Acts}
 use Rattle.tb_event_loop.specs.History.{Goes}
 use Rattle.tb_event_loop.specs.Sockets.{deaf, waited}
@@ -6,8 +7,8 @@ use Rattle.tb_event_loop.specs.declared.fault.LoopFault.{LoopFault}
 use Rattle.tb_event_loop.specs.declared.fault.LoopFault.TheVariants.{Moved, Sockets, Store}
 use Rattle.tb_event_loop.proofs.Acting.{acts_then, did_nothing, quiet_one}
 use Rattle.tb_event_loop.proofs.Arriving.{quiet_ready}
-use Rattle.tb_event_loop.proofs.Doing.{ends_early, goes_on, goes_then}
-use Rattle.tb_event_loop.proofs.Serving.{asked_more, ends_well, goes_quiet, history_of, runs_last, runs_plain}
+use Rattle.tb_event_loop.proofs.Doing.{goes_on, goes_then}
+use Rattle.tb_event_loop.proofs.Serving.{asked_more, goes_quiet, on_ok, runs_early, runs_failed, runs_last, runs_plain, runs_well}
 use Rattle.tb_event_loop.proofs.event_loop.EventLoop.serve.Goals as goal
 
 pub rounds-init : goal.rounds-init
@@ -15,32 +16,44 @@ rounds-init g c = record {
   goes = goes_on (Acts g.N.Sockets.follows g.V.Service.follows g.V.Service.owed_at) false c.args.self.now.still_to_end (c.args.sockets.now, c.args.service.now) (c.args.sockets.now, c.args.service.now)
       (did_nothing g.N.Sockets.follows g.V.Service.follows g.V.Service.owed_at g.N.Sockets.unchanged c.args.sockets.now c.args.service.now);
   asked = record { calls = []; made = g.N.Sockets.unchanged c.args.sockets.now; size = omega arith };
+  laps = (refl, refl);
 }
 
 pub returns-then-has_ended_all-clause-after : goal.returns-then-has_ended_all-clause-after
 returns-then-has_ended_all-clause-after g c =
-    let goes = c.rounds.invariant.goes in
-    let ends = ends_well c.args.self.now.still_to_end goes.0 c.rounds.self.still_to_end goes.2 (c.has_ended_all.ensures (search rules)) in
-    history_of g.N.Sockets.follows g.V.Service.follows g.V.Service.owed_at g.N.Sockets.joined g.V.Service.unchanged g.V.Service.joined {T = Unit {0}} {E = LoopFault} (Ok tt) false c.args.self.now.still_to_end (c.args.sockets.now, c.args.service.now) (c.rounds.sockets, c.rounds.service)
-    (goes.1.deeds, goes.1.done, ends ∙ sym (ap Some goes.1.ends))
+    runs_well g.N.Sockets.follows g.V.Service.follows g.V.Service.owed_at g.N.Sockets.joined g.V.Service.unchanged g.V.Service.joined LoopFault c.args.self.now.still_to_end c.rounds.self.still_to_end (c.args.sockets.now, c.args.service.now) (c.rounds.sockets, c.rounds.service) c.rounds.invariant.goes (c.has_ended_all.ensures (search rules))
 
-pub returns-then-has_ended_all-clause-deeds : goal.returns-then-has_ended_all-clause-deeds
-returns-then-has_ended_all-clause-deeds g c = runs_plain g.N.Sockets.follows g.V.Service.follows g.V.Service.owed_at g.N.Sockets.joined false c.args.self.now.still_to_end c.rounds.self.still_to_end (c.args.sockets.now, c.args.service.now) (c.rounds.sockets, c.rounds.service) c.rounds.invariant.goes
+pub returns-then-has_ended_all-clause-laps : goal.returns-then-has_ended_all-clause-laps
+returns-then-has_ended_all-clause-laps g c =
+    record {
+      count = c.rounds.counter;
+      last = c.rounds.self;
+      end = (c.rounds.sockets, c.rounds.service);
+      laps = c.rounds.invariant.laps;
+      part = runs_plain g.N.Sockets.follows g.V.Service.follows g.V.Service.owed_at g.N.Sockets.joined g.V.Service.unchanged g.V.Service.joined c.rounds.self.still_to_end c.rounds.self.still_to_end (c.rounds.sockets, c.rounds.service) (c.rounds.sockets, c.rounds.service) (goes_on (Acts g.N.Sockets.follows g.V.Service.follows g.V.Service.owed_at) false c.rounds.self.still_to_end (c.rounds.sockets, c.rounds.service) (c.rounds.sockets, c.rounds.service) (did_nothing g.N.Sockets.follows g.V.Service.follows g.V.Service.owed_at g.N.Sockets.unchanged c.rounds.sockets c.rounds.service));
+      whole = λ isnt. refl;
+    }
 
 pub returns-then-not-wait-clause-after : goal.returns-then-not-wait-clause-after
 returns-then-not-wait-clause-after g c =
-    let goes = (goes_quiet g.N.Sockets.follows g.V.Service.follows g.V.Service.owed_at g.N.Sockets.joined c.args.self.now.still_to_end c.rounds.self.still_to_end c.rounds.self.still_to_end (c.args.sockets.now, c.args.service.now) c.rounds.sockets c.wait.new.sockets c.rounds.service
-    c.rounds.invariant.goes refl
-    (quiet_one g.N.Sockets.follows deaf refl c.rounds.sockets c.wait.new.sockets (c.wait.ensures.deaf (search rules)))) in
-    history_of g.N.Sockets.follows g.V.Service.follows g.V.Service.owed_at g.N.Sockets.joined g.V.Service.unchanged g.V.Service.joined {T = Unit {0}} {E = LoopFault} (Err Sockets) false c.args.self.now.still_to_end (c.args.sockets.now, c.args.service.now) (c.wait.new.sockets, c.rounds.service)
-    (ends_early (Acts g.N.Sockets.follows g.V.Service.follows g.V.Service.owed_at) false Sockets c.args.self.now.still_to_end c.rounds.self.still_to_end (c.args.sockets.now, c.args.service.now) (c.wait.new.sockets, c.rounds.service) goes)
-
-pub returns-then-not-wait-clause-deeds : goal.returns-then-not-wait-clause-deeds
-returns-then-not-wait-clause-deeds g c =
-    runs_plain g.N.Sockets.follows g.V.Service.follows g.V.Service.owed_at g.N.Sockets.joined false c.args.self.now.still_to_end c.rounds.self.still_to_end (c.args.sockets.now, c.args.service.now) (c.wait.new.sockets, c.rounds.service)
+    runs_early g.N.Sockets.follows g.V.Service.follows g.V.Service.owed_at g.N.Sockets.joined g.V.Service.unchanged g.V.Service.joined Sockets c.args.self.now.still_to_end c.rounds.self.still_to_end (c.args.sockets.now, c.args.service.now) (c.wait.new.sockets, c.rounds.service)
     (goes_quiet g.N.Sockets.follows g.V.Service.follows g.V.Service.owed_at g.N.Sockets.joined c.args.self.now.still_to_end c.rounds.self.still_to_end c.rounds.self.still_to_end (c.args.sockets.now, c.args.service.now) c.rounds.sockets c.wait.new.sockets c.rounds.service
-    c.rounds.invariant.goes refl
+    (c.rounds.invariant.goes) refl
     (quiet_one g.N.Sockets.follows deaf refl c.rounds.sockets c.wait.new.sockets (c.wait.ensures.deaf (search rules))))
+
+pub returns-then-not-wait-clause-laps : goal.returns-then-not-wait-clause-laps
+returns-then-not-wait-clause-laps g c =
+    record {
+      count = c.rounds.counter;
+      last = c.rounds.self;
+      end = (c.rounds.sockets, c.rounds.service);
+      laps = c.rounds.invariant.laps;
+      part = runs_plain g.N.Sockets.follows g.V.Service.follows g.V.Service.owed_at g.N.Sockets.joined g.V.Service.unchanged g.V.Service.joined c.rounds.self.still_to_end c.rounds.self.still_to_end (c.rounds.sockets, c.rounds.service) (c.wait.new.sockets, c.rounds.service)
+          (goes_quiet g.N.Sockets.follows g.V.Service.follows g.V.Service.owed_at g.N.Sockets.joined c.rounds.self.still_to_end c.rounds.self.still_to_end c.rounds.self.still_to_end (c.rounds.sockets, c.rounds.service) c.rounds.sockets c.wait.new.sockets c.rounds.service
+          (goes_on (Acts g.N.Sockets.follows g.V.Service.follows g.V.Service.owed_at) false c.rounds.self.still_to_end (c.rounds.sockets, c.rounds.service) (c.rounds.sockets, c.rounds.service) (did_nothing g.N.Sockets.follows g.V.Service.follows g.V.Service.owed_at g.N.Sockets.unchanged c.rounds.sockets c.rounds.service)) refl
+          (quiet_one g.N.Sockets.follows deaf refl c.rounds.sockets c.wait.new.sockets (c.wait.ensures.deaf (search rules))));
+      whole = λ isnt. absurd (true≢false isnt);
+    }
 
 pub returns-then-not-wait-clause-cause : goal.returns-then-not-wait-clause-cause
 returns-then-not-wait-clause-cause g c is =
@@ -49,47 +62,59 @@ returns-then-not-wait-clause-cause g c is =
 
 pub returns-then-has_moved-clause-after : goal.returns-then-has_moved-clause-after
 returns-then-has_moved-clause-after g c =
-    let goes = goes_quiet g.N.Sockets.follows g.V.Service.follows g.V.Service.owed_at g.N.Sockets.joined c.args.self.now.still_to_end c.rounds.self.still_to_end c.prepare.new.self.still_to_end (c.args.sockets.now, c.args.service.now) c.wait.new.sockets c.prepare.new.sockets c.rounds.service
-    (goes_quiet g.N.Sockets.follows g.V.Service.follows g.V.Service.owed_at g.N.Sockets.joined c.args.self.now.still_to_end c.rounds.self.still_to_end c.rounds.self.still_to_end (c.args.sockets.now, c.args.service.now) c.rounds.sockets c.wait.new.sockets c.rounds.service
-    c.rounds.invariant.goes refl
-    (quiet_one g.N.Sockets.follows (waited (c.wait.ensures.heard (search rules)).0 _) refl c.rounds.sockets c.wait.new.sockets (c.wait.ensures.heard (search rules)).2)) c.prepare.ensures.limit (quiet_ready g.N.Sockets.follows _ _ c.wait.new.sockets c.prepare.new.sockets c.prepare.ensures.heard) in
-    history_of g.N.Sockets.follows g.V.Service.follows g.V.Service.owed_at g.N.Sockets.joined g.V.Service.unchanged g.V.Service.joined {T = Unit {0}} {E = LoopFault} (Err Moved) false c.args.self.now.still_to_end (c.args.sockets.now, c.args.service.now) (c.prepare.new.sockets, c.rounds.service)
-    (ends_early (Acts g.N.Sockets.follows g.V.Service.follows g.V.Service.owed_at) false Moved c.args.self.now.still_to_end c.prepare.new.self.still_to_end (c.args.sockets.now, c.args.service.now) (c.prepare.new.sockets, c.rounds.service) goes)
-
-pub returns-then-has_moved-clause-deeds : goal.returns-then-has_moved-clause-deeds
-returns-then-has_moved-clause-deeds g c =
-    runs_plain g.N.Sockets.follows g.V.Service.follows g.V.Service.owed_at g.N.Sockets.joined false c.args.self.now.still_to_end c.prepare.new.self.still_to_end (c.args.sockets.now, c.args.service.now) (c.prepare.new.sockets, c.rounds.service)
+    runs_early g.N.Sockets.follows g.V.Service.follows g.V.Service.owed_at g.N.Sockets.joined g.V.Service.unchanged g.V.Service.joined Moved c.args.self.now.still_to_end c.prepare.new.self.still_to_end (c.args.sockets.now, c.args.service.now) (c.prepare.new.sockets, c.rounds.service)
     (goes_quiet g.N.Sockets.follows g.V.Service.follows g.V.Service.owed_at g.N.Sockets.joined c.args.self.now.still_to_end c.rounds.self.still_to_end c.prepare.new.self.still_to_end (c.args.sockets.now, c.args.service.now) c.wait.new.sockets c.prepare.new.sockets c.rounds.service
     (goes_quiet g.N.Sockets.follows g.V.Service.follows g.V.Service.owed_at g.N.Sockets.joined c.args.self.now.still_to_end c.rounds.self.still_to_end c.rounds.self.still_to_end (c.args.sockets.now, c.args.service.now) c.rounds.sockets c.wait.new.sockets c.rounds.service
-    c.rounds.invariant.goes refl
+    (c.rounds.invariant.goes) refl
     (quiet_one g.N.Sockets.follows (waited (c.wait.ensures.heard (search rules)).0 _) refl c.rounds.sockets c.wait.new.sockets (c.wait.ensures.heard (search rules)).2)) c.prepare.ensures.limit (quiet_ready g.N.Sockets.follows _ _ c.wait.new.sockets c.prepare.new.sockets c.prepare.ensures.heard))
+
+pub returns-then-has_moved-clause-laps : goal.returns-then-has_moved-clause-laps
+returns-then-has_moved-clause-laps g c =
+    record {
+      count = c.rounds.counter;
+      last = c.rounds.self;
+      end = (c.rounds.sockets, c.rounds.service);
+      laps = c.rounds.invariant.laps;
+      part = runs_plain g.N.Sockets.follows g.V.Service.follows g.V.Service.owed_at g.N.Sockets.joined g.V.Service.unchanged g.V.Service.joined c.rounds.self.still_to_end c.prepare.new.self.still_to_end (c.rounds.sockets, c.rounds.service) (c.prepare.new.sockets, c.rounds.service)
+          (goes_quiet g.N.Sockets.follows g.V.Service.follows g.V.Service.owed_at g.N.Sockets.joined c.rounds.self.still_to_end c.rounds.self.still_to_end c.prepare.new.self.still_to_end (c.rounds.sockets, c.rounds.service) c.wait.new.sockets c.prepare.new.sockets c.rounds.service
+          (goes_quiet g.N.Sockets.follows g.V.Service.follows g.V.Service.owed_at g.N.Sockets.joined c.rounds.self.still_to_end c.rounds.self.still_to_end c.rounds.self.still_to_end (c.rounds.sockets, c.rounds.service) c.rounds.sockets c.wait.new.sockets c.rounds.service
+          (goes_on (Acts g.N.Sockets.follows g.V.Service.follows g.V.Service.owed_at) false c.rounds.self.still_to_end (c.rounds.sockets, c.rounds.service) (c.rounds.sockets, c.rounds.service) (did_nothing g.N.Sockets.follows g.V.Service.follows g.V.Service.owed_at g.N.Sockets.unchanged c.rounds.sockets c.rounds.service)) refl
+          (quiet_one g.N.Sockets.follows (waited (c.wait.ensures.heard (search rules)).0 _) refl c.rounds.sockets c.wait.new.sockets (c.wait.ensures.heard (search rules)).2)) c.prepare.ensures.limit (quiet_ready g.N.Sockets.follows _ _ c.wait.new.sockets c.prepare.new.sockets c.prepare.ensures.heard));
+      whole = λ isnt. absurd (true≢false isnt);
+    }
 
 pub returns-then-is_err-clause-after : goal.returns-then-is_err-clause-after
 returns-then-is_err-clause-after g c =
     let is : is_err c.round.result ≡ true = search rules in
-    let goes = goes_then (Acts g.N.Sockets.follows g.V.Service.follows g.V.Service.owed_at) (acts_then g.N.Sockets.follows g.V.Service.follows g.V.Service.owed_at g.N.Sockets.joined) true c.args.self.now.still_to_end c.prepare.new.self.still_to_end c.round.new.self.still_to_end (c.args.sockets.now, c.args.service.now)
+    runs_failed g.N.Sockets.follows g.V.Service.follows g.V.Service.owed_at g.N.Sockets.joined g.V.Service.unchanged g.V.Service.joined Store c.args.self.now.still_to_end c.round.new.self.still_to_end (c.args.sockets.now, c.args.service.now) c.round.new.sockets c.say_farewell.new.sockets c.round.new.service
+    (goes_then (Acts g.N.Sockets.follows g.V.Service.follows g.V.Service.owed_at) (acts_then g.N.Sockets.follows g.V.Service.follows g.V.Service.owed_at g.N.Sockets.joined) true c.args.self.now.still_to_end c.prepare.new.self.still_to_end c.round.new.self.still_to_end (c.args.sockets.now, c.args.service.now)
     (c.prepare.new.sockets, c.rounds.service) (c.round.new.sockets, c.round.new.service)
     (goes_quiet g.N.Sockets.follows g.V.Service.follows g.V.Service.owed_at g.N.Sockets.joined c.args.self.now.still_to_end c.rounds.self.still_to_end c.prepare.new.self.still_to_end (c.args.sockets.now, c.args.service.now) c.wait.new.sockets c.prepare.new.sockets c.rounds.service
     (goes_quiet g.N.Sockets.follows g.V.Service.follows g.V.Service.owed_at g.N.Sockets.joined c.args.self.now.still_to_end c.rounds.self.still_to_end c.rounds.self.still_to_end (c.args.sockets.now, c.args.service.now) c.rounds.sockets c.wait.new.sockets c.rounds.service
-    c.rounds.invariant.goes refl
+    (c.rounds.invariant.goes) refl
     (quiet_one g.N.Sockets.follows (waited (c.wait.ensures.heard (search rules)).0 _) refl c.rounds.sockets c.wait.new.sockets (c.wait.ensures.heard (search rules)).2)) c.prepare.ensures.limit (quiet_ready g.N.Sockets.follows _ _ c.wait.new.sockets c.prepare.new.sockets c.prepare.ensures.heard))
     (subst (λ (s : Bool). Goes (Acts g.N.Sockets.follows g.V.Service.follows g.V.Service.owed_at) s c.prepare.new.self.still_to_end c.round.new.self.still_to_end (c.prepare.new.sockets, c.rounds.service)
-    (c.round.new.sockets, c.round.new.service)) is c.round.ensures.after) in
-    history_of g.N.Sockets.follows g.V.Service.follows g.V.Service.owed_at g.N.Sockets.joined g.V.Service.unchanged g.V.Service.joined {T = Unit {0}} {E = LoopFault} (Err Store) true c.args.self.now.still_to_end (c.args.sockets.now, c.args.service.now) (c.round.new.sockets, c.round.new.service)
-    (ends_early (Acts g.N.Sockets.follows g.V.Service.follows g.V.Service.owed_at) true Store c.args.self.now.still_to_end c.round.new.self.still_to_end (c.args.sockets.now, c.args.service.now) (c.round.new.sockets, c.round.new.service) goes)
+    (c.round.new.sockets, c.round.new.service)) is c.round.ensures.after)) c.say_farewell.ensures
 
-pub returns-then-is_err-clause-deeds : goal.returns-then-is_err-clause-deeds
-returns-then-is_err-clause-deeds g c =
+pub returns-then-is_err-clause-laps : goal.returns-then-is_err-clause-laps
+returns-then-is_err-clause-laps g c =
     let is : is_err c.round.result ≡ true = search rules in
-    let goes = goes_then (Acts g.N.Sockets.follows g.V.Service.follows g.V.Service.owed_at) (acts_then g.N.Sockets.follows g.V.Service.follows g.V.Service.owed_at g.N.Sockets.joined) true c.args.self.now.still_to_end c.prepare.new.self.still_to_end c.round.new.self.still_to_end (c.args.sockets.now, c.args.service.now)
-    (c.prepare.new.sockets, c.rounds.service) (c.round.new.sockets, c.round.new.service)
-    (goes_quiet g.N.Sockets.follows g.V.Service.follows g.V.Service.owed_at g.N.Sockets.joined c.args.self.now.still_to_end c.rounds.self.still_to_end c.prepare.new.self.still_to_end (c.args.sockets.now, c.args.service.now) c.wait.new.sockets c.prepare.new.sockets c.rounds.service
-    (goes_quiet g.N.Sockets.follows g.V.Service.follows g.V.Service.owed_at g.N.Sockets.joined c.args.self.now.still_to_end c.rounds.self.still_to_end c.rounds.self.still_to_end (c.args.sockets.now, c.args.service.now) c.rounds.sockets c.wait.new.sockets c.rounds.service
-    c.rounds.invariant.goes refl
-    (quiet_one g.N.Sockets.follows (waited (c.wait.ensures.heard (search rules)).0 _) refl c.rounds.sockets c.wait.new.sockets (c.wait.ensures.heard (search rules)).2)) c.prepare.ensures.limit (quiet_ready g.N.Sockets.follows _ _ c.wait.new.sockets c.prepare.new.sockets c.prepare.ensures.heard))
-    (subst (λ (s : Bool). Goes (Acts g.N.Sockets.follows g.V.Service.follows g.V.Service.owed_at) s c.prepare.new.self.still_to_end c.round.new.self.still_to_end (c.prepare.new.sockets, c.rounds.service)
-    (c.round.new.sockets, c.round.new.service)) is c.round.ensures.after) in
-    runs_last g.N.Sockets.follows g.V.Service.follows g.V.Service.owed_at g.N.Sockets.joined c.args.self.now.still_to_end c.round.new.self.still_to_end (c.args.sockets.now, c.args.service.now) c.round.new.sockets c.say_farewell.new.sockets c.round.new.service goes c.say_farewell.ensures
+    record {
+      count = c.rounds.counter;
+      last = c.rounds.self;
+      end = (c.rounds.sockets, c.rounds.service);
+      laps = c.rounds.invariant.laps;
+      part = runs_last g.N.Sockets.follows g.V.Service.follows g.V.Service.owed_at g.N.Sockets.joined g.V.Service.unchanged g.V.Service.joined c.rounds.self.still_to_end c.round.new.self.still_to_end (c.rounds.sockets, c.rounds.service) c.round.new.sockets c.say_farewell.new.sockets c.round.new.service
+          (goes_then (Acts g.N.Sockets.follows g.V.Service.follows g.V.Service.owed_at) (acts_then g.N.Sockets.follows g.V.Service.follows g.V.Service.owed_at g.N.Sockets.joined) true c.rounds.self.still_to_end c.prepare.new.self.still_to_end c.round.new.self.still_to_end (c.rounds.sockets, c.rounds.service)
+          (c.prepare.new.sockets, c.rounds.service) (c.round.new.sockets, c.round.new.service)
+          (goes_quiet g.N.Sockets.follows g.V.Service.follows g.V.Service.owed_at g.N.Sockets.joined c.rounds.self.still_to_end c.rounds.self.still_to_end c.prepare.new.self.still_to_end (c.rounds.sockets, c.rounds.service) c.wait.new.sockets c.prepare.new.sockets c.rounds.service
+          (goes_quiet g.N.Sockets.follows g.V.Service.follows g.V.Service.owed_at g.N.Sockets.joined c.rounds.self.still_to_end c.rounds.self.still_to_end c.rounds.self.still_to_end (c.rounds.sockets, c.rounds.service) c.rounds.sockets c.wait.new.sockets c.rounds.service
+          (goes_on (Acts g.N.Sockets.follows g.V.Service.follows g.V.Service.owed_at) false c.rounds.self.still_to_end (c.rounds.sockets, c.rounds.service) (c.rounds.sockets, c.rounds.service) (did_nothing g.N.Sockets.follows g.V.Service.follows g.V.Service.owed_at g.N.Sockets.unchanged c.rounds.sockets c.rounds.service)) refl
+          (quiet_one g.N.Sockets.follows (waited (c.wait.ensures.heard (search rules)).0 _) refl c.rounds.sockets c.wait.new.sockets (c.wait.ensures.heard (search rules)).2)) c.prepare.ensures.limit (quiet_ready g.N.Sockets.follows _ _ c.wait.new.sockets c.prepare.new.sockets c.prepare.ensures.heard))
+          (subst (λ (s : Bool). Goes (Acts g.N.Sockets.follows g.V.Service.follows g.V.Service.owed_at) s c.prepare.new.self.still_to_end c.round.new.self.still_to_end (c.prepare.new.sockets, c.rounds.service)
+          (c.round.new.sockets, c.round.new.service)) is c.round.ensures.after)) c.say_farewell.ensures;
+      whole = λ isnt. absurd (true≢false isnt);
+    }
 
 pub rounds-preserved : goal.rounds-preserved
 rounds-preserved g c =
@@ -99,22 +124,45 @@ rounds-preserved g c =
           (c.prepare.new.sockets, c.rounds.service) (c.round.new.sockets, c.round.new.service)
           (goes_quiet g.N.Sockets.follows g.V.Service.follows g.V.Service.owed_at g.N.Sockets.joined c.args.self.now.still_to_end c.rounds.self.still_to_end c.prepare.new.self.still_to_end (c.args.sockets.now, c.args.service.now) c.wait.new.sockets c.prepare.new.sockets c.rounds.service
           (goes_quiet g.N.Sockets.follows g.V.Service.follows g.V.Service.owed_at g.N.Sockets.joined c.args.self.now.still_to_end c.rounds.self.still_to_end c.rounds.self.still_to_end (c.args.sockets.now, c.args.service.now) c.rounds.sockets c.wait.new.sockets c.rounds.service
-          c.rounds.invariant.goes refl
+          (c.rounds.invariant.goes) refl
           (quiet_one g.N.Sockets.follows (waited (c.wait.ensures.heard (search rules)).0 _) refl c.rounds.sockets c.wait.new.sockets (c.wait.ensures.heard (search rules)).2)) c.prepare.ensures.limit (quiet_ready g.N.Sockets.follows _ _ c.wait.new.sockets c.prepare.new.sockets c.prepare.ensures.heard))
           (subst (λ (s : Bool). Goes (Acts g.N.Sockets.follows g.V.Service.follows g.V.Service.owed_at) s c.prepare.new.self.still_to_end c.round.new.self.still_to_end (c.prepare.new.sockets, c.rounds.service)
           (c.round.new.sockets, c.round.new.service)) is c.round.ensures.after);
       asked = asked_more g.N.Sockets.follows g.V.Service.follows g.V.Service.owed_at g.N.Sockets.joined c.rounds.counter (waited (c.wait.ensures.heard (search rules)).0 _) c.prepare.new.self.still_to_end c.round.new.self.still_to_end (is_err c.round.result)
           c.args.sockets.now c.rounds.sockets c.wait.new.sockets c.prepare.new.sockets c.round.new.sockets c.rounds.service c.round.new.service
           c.rounds.invariant.asked (c.wait.ensures.heard (search rules)).2 (quiet_ready g.N.Sockets.follows _ _ c.wait.new.sockets c.prepare.new.sockets c.prepare.ensures.heard) c.round.ensures.after;
+      laps = rw add-one (
+        c.rounds.self,
+        (c.rounds.sockets, c.rounds.service),
+        c.rounds.invariant.laps,
+        record {
+          millis = (c.wait.ensures.heard (search rules)).0;
+          limit = (c.wait.ensures.heard (search rules)).1;
+          heard = c.wait.new.sockets;
+          waits = (c.wait.ensures.heard (search rules)).2;
+          ready = c.prepare.new.self;
+          taken = c.prepare.new.sockets;
+          hears = c.prepare.ensures.heard;
+          tries = c.prepare.ensures.tried;
+          round = on_ok c.round.result is c.round.ensures.visits;
+        },
+      );
     }
 
 pub returns-clause-after : goal.returns-clause-after
 returns-clause-after g c =
-    history_of g.N.Sockets.follows g.V.Service.follows g.V.Service.owed_at g.N.Sockets.joined g.V.Service.unchanged g.V.Service.joined {T = Unit {0}} {E = LoopFault} (Err Sockets) false c.args.self.now.still_to_end (c.args.sockets.now, c.args.service.now) (c.rounds.sockets, c.rounds.service)
-    (ends_early (Acts g.N.Sockets.follows g.V.Service.follows g.V.Service.owed_at) false Sockets c.args.self.now.still_to_end c.rounds.self.still_to_end (c.args.sockets.now, c.args.service.now) (c.rounds.sockets, c.rounds.service) c.rounds.invariant.goes)
+    runs_early g.N.Sockets.follows g.V.Service.follows g.V.Service.owed_at g.N.Sockets.joined g.V.Service.unchanged g.V.Service.joined Sockets c.args.self.now.still_to_end c.rounds.self.still_to_end (c.args.sockets.now, c.args.service.now) (c.rounds.sockets, c.rounds.service) c.rounds.invariant.goes
 
-pub returns-clause-deeds : goal.returns-clause-deeds
-returns-clause-deeds g c = runs_plain g.N.Sockets.follows g.V.Service.follows g.V.Service.owed_at g.N.Sockets.joined false c.args.self.now.still_to_end c.rounds.self.still_to_end (c.args.sockets.now, c.args.service.now) (c.rounds.sockets, c.rounds.service) c.rounds.invariant.goes
+pub returns-clause-laps : goal.returns-clause-laps
+returns-clause-laps g c =
+    record {
+      count = c.rounds.counter;
+      last = c.rounds.self;
+      end = (c.rounds.sockets, c.rounds.service);
+      laps = c.rounds.invariant.laps;
+      part = runs_plain g.N.Sockets.follows g.V.Service.follows g.V.Service.owed_at g.N.Sockets.joined g.V.Service.unchanged g.V.Service.joined c.rounds.self.still_to_end c.rounds.self.still_to_end (c.rounds.sockets, c.rounds.service) (c.rounds.sockets, c.rounds.service) (goes_on (Acts g.N.Sockets.follows g.V.Service.follows g.V.Service.owed_at) false c.rounds.self.still_to_end (c.rounds.sockets, c.rounds.service) (c.rounds.sockets, c.rounds.service) (did_nothing g.N.Sockets.follows g.V.Service.follows g.V.Service.owed_at g.N.Sockets.unchanged c.rounds.sockets c.rounds.service));
+      whole = λ isnt. absurd (true≢false isnt);
+    }
 
 pub returns-clause-cause : goal.returns-clause-cause
 returns-clause-cause g c is =

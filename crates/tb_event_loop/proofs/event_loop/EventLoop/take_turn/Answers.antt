@@ -1,26 +1,29 @@
-use Rattle.std.proofs.Common.{rules, is_err, true, false}
-use Rattle.tb_event_loop.specs.Deeds.{Acts, IsTurn}
-use Rattle.tb_event_loop.proofs.Acting.{acts_then}
-use Rattle.tb_event_loop.proofs.Doing.{begins_then, goes_on, goes_then}
+use Rattle.std.proofs.Common.{◌≡◌, Bool, rules, refl, sym, subst, is_err, true, false}
+use Rattle.tb_event_loop.specs.Deeds.{ActsAt}
+use Rattle.tb_event_loop.specs.History.{GoesBy}
+use Rattle.tb_event_loop.specs.Rounds.{IsTurnOf}
+use Rattle.tb_event_loop.proofs.Acting.{acts_at_then}
+use Rattle.tb_event_loop.proofs.Doing.{leaves_none}
+use Rattle.tb_event_loop.proofs.Sparing.{spares_then}
+use Rattle.tb_event_loop.proofs.Visiting.{turn_on, turn_then}
 use Rattle.tb_event_loop.proofs.event_loop.EventLoop.take_turn.Goals as goal
 
-pub returns-in_err-act-clause-after : goal.returns-in_err-act-clause-after
-returns-in_err-act-clause-after g c =
-    let t = goes_on (Acts g.N.Sockets.follows g.V.Service.follows g.V.Service.owed_at) true c.args.self.now.still_to_end (c.args.sockets.now, c.args.service.now) (c.act.new.sockets, c.act.new.service) c.in_err-act.ensures.after in
-    search rules
+pub returns-in_err-act-clause-turn : goal.returns-in_err-act-clause-turn
+returns-in_err-act-clause-turn g c =
+    let failed : is_err c.from_residual.result ≡ true = search rules in
+    subst (λ (s : Bool). GoesBy (ActsAt c.args.place g.N.Sockets.follows g.V.Service.follows g.V.Service.owed_at) s (IsTurnOf (g.V.Service.gives_file c.args.service.now) c.args.self.now.places c.args.place c.args.self.now.now (g.V.Service.held_at c.args.service.now c.args.place) (g.V.Service.owed_at c.args.service.now c.args.place)) c.args.self.now.still_to_end c.args.self.now.still_to_end (c.args.sockets.now, c.args.service.now) (c.act.new.sockets, c.act.new.service)) (sym failed)
+    (turn_on (g.V.Service.gives_file c.args.service.now) c.args.self.now.places c.args.place c.args.self.now.now (g.V.Service.held_at c.args.service.now c.args.place) (g.V.Service.owed_at c.args.service.now c.args.place) (ActsAt c.args.place g.N.Sockets.follows g.V.Service.follows g.V.Service.owed_at) true (c.args.sockets.now, c.args.service.now) (c.act.new.sockets, c.act.new.service) c.args.self.now.still_to_end (leaves_none c.args.self.now.still_to_end c.args.self.now.still_to_end refl)
+    c.in_err-act.ensures.after c.in_err-act.ensures.turned c.in_err-act.ensures.written c.in_err-act.ensures.heard)
 
-pub returns-then-not-is_gone-clause-after : goal.returns-then-not-is_gone-clause-after
-returns-then-not-is_gone-clause-after g c =
-    goes_on (Acts g.N.Sockets.follows g.V.Service.follows g.V.Service.owed_at) false c.args.self.now.still_to_end (c.args.sockets.now, c.args.service.now) (c.act.new.sockets, c.act.new.service) c.in_ok-act.ensures.after
+pub returns-then-not-is_gone-clause-turn : goal.returns-then-not-is_gone-clause-turn
+returns-then-not-is_gone-clause-turn g c =
+    turn_on (g.V.Service.gives_file c.args.service.now) c.args.self.now.places c.args.place c.args.self.now.now (g.V.Service.held_at c.args.service.now c.args.place) (g.V.Service.owed_at c.args.service.now c.args.place) (ActsAt c.args.place g.N.Sockets.follows g.V.Service.follows g.V.Service.owed_at) false (c.args.sockets.now, c.args.service.now) (c.act.new.sockets, c.act.new.service) c.args.self.now.still_to_end (leaves_none c.args.self.now.still_to_end c.args.self.now.still_to_end refl)
+    c.in_ok-act.ensures.after c.in_ok-act.ensures.turned c.in_ok-act.ensures.written c.in_ok-act.ensures.heard
 
-pub returns-clause-after : goal.returns-clause-after
-returns-clause-after g c =
-    let limit = c.args.self.now.still_to_end in
-    goes_then (Acts g.N.Sockets.follows g.V.Service.follows g.V.Service.owed_at) (acts_then g.N.Sockets.follows g.V.Service.follows g.V.Service.owed_at g.N.Sockets.joined) (is_err c.leave.result) limit limit c.leave.new.self.still_to_end (c.args.sockets.now, c.args.service.now) (c.act.new.sockets, c.act.new.service)
-    (c.leave.new.sockets, c.leave.new.service)
-    (goes_on (Acts g.N.Sockets.follows g.V.Service.follows g.V.Service.owed_at) false limit (c.args.sockets.now, c.args.service.now) (c.act.new.sockets, c.act.new.service) c.in_ok-act.ensures.after) c.leave.ensures.after
+pub returns-clause-turn : goal.returns-clause-turn
+returns-clause-turn g c =
+    turn_then (g.V.Service.gives_file c.args.service.now) c.args.self.now.places c.args.place c.args.self.now.now (g.V.Service.held_at c.args.service.now c.args.place) (g.V.Service.owed_at c.args.service.now c.args.place) (ActsAt c.args.place g.N.Sockets.follows g.V.Service.follows g.V.Service.owed_at) (acts_at_then g.N.Sockets.follows g.V.Service.follows g.V.Service.owed_at c.args.place g.N.Sockets.joined) (is_err c.leave.result) c.args.self.now.still_to_end c.leave.new.self.still_to_end (c.args.sockets.now, c.args.service.now) (c.act.new.sockets, c.act.new.service) (c.leave.new.sockets, c.leave.new.service)
+    c.in_ok-act.ensures.after c.in_ok-act.ensures.turned c.in_ok-act.ensures.written c.in_ok-act.ensures.heard c.leave.ensures.after
 
-pub returns-clause-turned : goal.returns-clause-turned
-returns-clause-turned g c is =
-    begins_then (Acts g.N.Sockets.follows g.V.Service.follows g.V.Service.owed_at) (acts_then g.N.Sockets.follows g.V.Service.follows g.V.Service.owed_at g.N.Sockets.joined) (is_err c.leave.result) (IsTurn c.args.place) c.leave.ensures.after.0 (c.args.sockets.now, c.args.service.now) (c.act.new.sockets, c.act.new.service)
-    (c.leave.new.sockets, c.leave.new.service) (c.in_ok-act.ensures.turned is) c.leave.ensures.after.1
+pub returns-clause-spares : goal.returns-clause-spares
+returns-clause-spares g c = spares_then c.args.place c.args.self.now.places c.act.new.self c.leave.new.self.places c.in_ok-act.ensures.spares c.leave.ensures.spares

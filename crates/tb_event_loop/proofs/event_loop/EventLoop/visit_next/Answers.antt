@@ -1,10 +1,22 @@
-use Rattle.std.proofs.Common.{false}
-use Rattle.tb_event_loop.specs.Deeds.{Acts}
-use Rattle.tb_event_loop.proofs.Acting.{did_nothing}
-use Rattle.tb_event_loop.proofs.Doing.{goes_on}
+use Rattle.std.proofs.Common.{◌≡◌, ◌∙◌, ap, rules, refl, sym, true, false, is_err}
+use Rattle.std.specs.Prelude.{if◌then◌else◌}
+use Rattle.tb_event_loop.specs.Sharing.{with_cut}
+use Rattle.tb_event_loop.specs.declared.places.Places.{Places}
+use Rattle.tb_event_loop.proofs.Visiting.{next_put_back, next_visited}
 use Rattle.tb_event_loop.proofs.event_loop.EventLoop.visit_next.Goals as goal
 
-pub returns-then-is_put_back-clause-after : goal.returns-then-is_put_back-clause-after
-returns-then-is_put_back-clause-after g c =
-    goes_on (Acts g.N.Sockets.follows g.V.Service.follows g.V.Service.owed_at) false c.args.self.now.still_to_end (c.args.sockets.now, c.args.service.now) (c.args.sockets.now, c.args.service.now)
-    (did_nothing g.N.Sockets.follows g.V.Service.follows g.V.Service.owed_at g.N.Sockets.unchanged c.args.sockets.now c.args.service.now)
+pub returns-then-is_put_back-clause-visits : goal.returns-then-is_put_back-clause-visits
+returns-then-is_put_back-clause-visits g c =
+    let is : c.is_put_back.result ≡ true = search rules in
+    let old = c.args.self.now in
+    let cut = c.is_put_back.ensures.cut ∙ ap (λ b. if b then with_cut old.places c.args.place else old.places) is in
+    next_put_back g.N.Sockets.follows g.V.Service.follows g.V.Service.gives_file g.V.Service.held_at g.V.Service.owed_at false c.args.place old (record old { places = c.is_put_back.new.self }) (c.args.sockets.now, c.args.service.now) (c.args.sockets.now, c.args.service.now)
+    (sym c.is_put_back.ensures.later ∙ is) refl refl (ap (λ (p : Places). record old { places = p }) cut)
+
+pub returns-clause-visits : goal.returns-clause-visits
+returns-clause-visits g c =
+    let isnt : c.is_put_back.result ≡ false = search rules in
+    let old = c.args.self.now in
+    let cut = c.is_put_back.ensures.cut ∙ ap (λ b. if b then with_cut old.places c.args.place else old.places) isnt in
+    next_visited g.N.Sockets.follows g.V.Service.follows g.V.Service.gives_file g.V.Service.held_at g.V.Service.owed_at (is_err c.visit.result) c.args.place old c.visit.new.self (c.args.sockets.now, c.args.service.now) (c.visit.new.sockets, c.visit.new.service)
+    (sym c.is_put_back.ensures.later ∙ isnt) (rw cut at c.visit.ensures.visits)

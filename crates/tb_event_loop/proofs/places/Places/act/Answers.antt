@@ -1,11 +1,11 @@
-use Rattle.tb_event_loop.proofs.Acting.{did_nothing, did_quiet}
+use Rattle.tb_event_loop.proofs.Acting.{at_nothing, at_quiet}
 use Rattle.tb_event_loop.proofs.places.Places.act.Goals as goal
 
 pub returns-then-is_gone-clause-after : goal.returns-then-is_gone-clause-after
-returns-then-is_gone-clause-after g c = did_nothing g.N.Sockets.follows g.V.Service.follows g.V.Service.owed_at g.N.Sockets.unchanged c.args.sockets.now c.args.service.now
+returns-then-is_gone-clause-after g c = at_nothing g.N.Sockets.follows g.V.Service.follows g.V.Service.owed_at c.args.place g.N.Sockets.unchanged c.args.sockets.now c.args.service.now
 
 pub returns-in-Vacant-clause-after : goal.returns-in-Vacant-clause-after
-returns-in-Vacant-clause-after g c = did_nothing g.N.Sockets.follows g.V.Service.follows g.V.Service.owed_at g.N.Sockets.unchanged c.args.sockets.now c.args.service.now
+returns-in-Vacant-clause-after g c = at_nothing g.N.Sockets.follows g.V.Service.follows g.V.Service.owed_at c.args.place g.N.Sockets.unchanged c.args.sockets.now c.args.service.now
 
 pub returns-in-Closing-clause-after : goal.returns-in-Closing-clause-after
-returns-in-Closing-clause-after g c = did_quiet g.N.Sockets.follows g.V.Service.follows g.V.Service.owed_at c.args.sockets.now c.drop_some.new.sockets c.args.service.now c.drop_some.ensures.quiet
+returns-in-Closing-clause-after g c = at_quiet g.N.Sockets.follows g.V.Service.follows g.V.Service.owed_at c.args.place c.args.sockets.now c.drop_some.new.sockets c.args.service.now c.drop_some.ensures.quiet
