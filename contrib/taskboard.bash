@@ -69,7 +69,13 @@ _taskboard_behind_my() {
     case $1 in
     list) _taskboard_words "mine overdue blocked waiting due:today due:week done:week --sort --json" "$2" ;;
     --sort) _taskboard_words "urgency due project" "$2" ;;
-    import) _taskboard_files "$2" ;;
+    import)
+        if [ "${2#-}" != "$2" ]; then
+            _taskboard_words "--check --clean --skip" "$2"
+        else
+            _taskboard_files "$2"
+        fi
+        ;;
     esac
 }
 
@@ -99,7 +105,8 @@ _taskboard() {
     my:2) _taskboard_of_my "$2" ;;
     init:2 | import:2 | list:2 | export:2 | todo:2 | check:2 | key:2) _taskboard_files "$2" ;;
     import:7) _taskboard_words "json todo" "$2" ;;
-    import:8) _taskboard_words "--all" "$2" ;;
+    import:8) _taskboard_words "--all --check --clean --skip" "$2" ;;
+    import:9) _taskboard_words "--check --clean --skip" "$2" ;;
     esac
 }
 

@@ -74,6 +74,7 @@ of_orders() {
     attempt my.sh python3
     attempt kits.py python3
     attempt sync.sh python3
+    attempt own_cleaning.sh python3
     attempt clean.sh python3 task
     attempt remind.sh python3
     attempt documents.sh python3

@@ -1,5 +1,5 @@
 -- What each order comes to, and which faults come of it.
-use Rattle.std.specs.Prelude.{◌≡◌, ℕ, Bool, true, false, List, Option, Some, IfSome}
+use Rattle.std.specs.Prelude.{◌≡◌, ℕ, Bool, true, false, List, Option, Some, IfSome, Ok}
 use Rattle.std.specs.Io.KnownBytes.{Appends}
 use Rattle.sqlite.specs.Held.{Held}
 use Rattle.sqlite_disk.specs.declared.Disk.{Ghosts as DiskGhosts}
@@ -10,8 +10,14 @@ use Rattle.tb_calls.specs.Call.{opening}
 use Rattle.tb_calls.specs.declared.keep.Keep.{Ghosts}
 use Rattle.tb_client.specs.Asking.{Event}
 use Rattle.tb_command_line.specs.Help.{help_text}
+use Rattle.tb_cleaning.specs.Cleaning.{Cleans}
+use Rattle.tb_cleaning.specs.declared.cleaning.Cleaned.{Cleaned}
+use Rattle.tb_command_line.specs.declared.order.CleanMode.{CleanMode}
+use Rattle.tb_command_line.specs.declared.order.CleanMode.TheVariants as mode
+use Rattle.tb_command_line.specs.declared.order.CleanOrder.{CleanOrder}
+use Rattle.tb_command_line.specs.declared.order.ImportOrder.{ImportOrder}
 use Rattle.tb_command_line.specs.declared.order.Order.{Order}
-use Rattle.tb_command_line.specs.declared.order.Order.TheVariants.{Init, Serve, Run, Import, ImportAll, View, Check, Key, Send, My, Help, Version}
+use Rattle.tb_command_line.specs.declared.order.Order.TheVariants.{Init, Serve, Run, Import, ImportAll, Clean, View, Check, Key, Send, My, Help, Version}
 use Rattle.tb_command_line.specs.declared.order.SendOrder.{SendOrder}
 use Rattle.tb_files.specs.Check.{IsChecked}
 use Rattle.tb_files.specs.File.{InSession}
@@ -23,7 +29,7 @@ use Rattle.tb_files.specs.View.{IsShown}
 use Rattle.tb_keeper.specs.declared.sql_keep.SqlKeep.{SqlKeep}
 use Rattle.tb_orders.specs.Faults.{is_of_making, is_of_scripts}
 use Rattle.tb_orders.specs.declared.ending.Ending.{Ending}
-use Rattle.tb_orders.specs.declared.ending.Ending.TheVariants.{Accepted}
+use Rattle.tb_orders.specs.declared.ending.Ending.TheVariants.{Accepted, Refused}
 use Rattle.tb_program.specs.declared.fault.Fault.{Fault}
 use Rattle.tb_program.specs.declared.fault.Fault.TheVariants.{NoClock, WriteFailed}
 use Rattle.tb_script.specs.Answering.{answer, first_state}
@@ -51,6 +57,7 @@ is_of_order (Serve order) fault = is_of_serving fault
 is_of_order Run fault = is_of_scripts fault
 is_of_order (Import order) fault = is_of_imports fault
 is_of_order (ImportAll order) fault = is_of_imports fault
+is_of_order (Clean order) fault = is_of_imports fault
 is_of_order (View order) fault = is_of_views fault
 is_of_order (Check file) fault = is_of_checking fault
 is_of_order (Key order) fault = is_of_keys fault
@@ -66,6 +73,16 @@ abbrev pub IsNamed : Order → Order → Type 0
 IsNamed (Send order) named = (id : Option ℕ) × (named ≡ Send (record order { id = id }))
 IsNamed order named = named ≡ order
 
+-- all tasks of a text can be taken, or not
+abbrev pub ending_if : Bool → Ending
+ending_if true = Accepted
+ending_if false = Refused
+
+abbrev pub is_skip : CleanMode → Bool
+is_skip mode.Check = false
+is_skip mode.Clean = false
+is_skip mode.Skip = true
+
 -- what is printed, if that alone is to be known
 abbrev pub IsTold : Option (List ℕ) → Option (List ℕ) → Ending → List ℕ → Type 0
 IsTold before after ending text = (ending ≡ Accepted) × Appends before after text
@@ -78,6 +95,37 @@ module _ {L W : Type 0} (follows : List Event → L → L → Type 0)
     pub old : L
     pub new : L
     pub comes : Sends follows contents order ready old new before after ending
+
+module _ {D W : Type 0} {d : DiskGhosts D} (g : Ghosts (SqlKeep (FileStore D d)))
+    (contents : W → Option (List ℕ)) where
+  -- an input that is cleaned, by one call or in parts
+  abbrev pub IsBrought : Bool → ImportOrder → List ℕ → W → W → Ending → Type 0
+  IsBrought true order text before after ending =
+      IsImportedInParts g order (Some text) (contents before) (contents after) ending
+  IsBrought false order text before after ending =
+      IsImported g order (Some text) (contents before) (contents after) ending
+
+  -- Nothing is brought where it is only looked at, or where a task can't be taken and isn't to be left out: the order is refused then.
+  abbrev pub IsCleanedBy : CleanMode → Bool → ImportOrder → Cleaned → W → W → Ending → Type 0
+  IsCleanedBy mode.Check is_all order cleaned before after ending =
+      (ending ≡ ending_if cleaned.is_whole)
+      × Appends (contents before) (contents after) cleaned.notes
+  IsCleanedBy mode.Clean is_all order cleaned before after ending = of_whole cleaned.is_whole
+    where
+      of_whole : Bool → Type 0
+      of_whole true = IsBrought is_all order cleaned.text before after ending
+      of_whole false = (ending ≡ Refused) × (after ≡ before)
+  IsCleanedBy mode.Skip is_all order cleaned before after ending =
+      IsBrought is_all order cleaned.text before after ending
+
+  -- the cleaned text of an input is brought in place of it
+  pub record IsCleaned (order : CleanOrder) (input : Option (List ℕ)) (before after : W)
+      (ending : Ending) : Type 0 where
+    pub text : List ℕ
+    pub whole : IfSome input (λ all. text ≡ all)
+    pub cleaned : Cleaned
+    pub cleans : Cleans (is_skip order.mode) text (Ok cleaned)
+    pub brings : IsCleanedBy order.mode order.is_all order.import cleaned before after ending
 
 module _ {D L W : Type 0} {d : DiskGhosts D} (g : Ghosts (SqlKeep (FileStore D d)))
     (follows : List Event → L → L → Type 0) (contents : W → Option (List ℕ)) where
@@ -93,6 +141,8 @@ module _ {D L W : Type 0} {d : DiskGhosts D} (g : Ghosts (SqlKeep (FileStore D d
       IsImported g order input (contents before) (contents after) ending
   IsDone (ImportAll order) input before after ending =
       IsImportedInParts g order input (contents before) (contents after) ending
+  IsDone (Clean order) input before after ending =
+      IsCleaned g contents order input before after ending
   IsDone (View order) input before after ending =
       (found : Held (FileStore D d)) × InSession g found
       (λ old. IsShown g (λ at. Unit {0}) order old (contents before) (contents after) ending)

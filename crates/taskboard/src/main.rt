@@ -11,9 +11,11 @@ ghost use Rattle.tb_program.specs.declared.fault.Fault.TheVariants.{ReadFailed, 
 ghost use Rattle.tb_script.specs.Watching.{IsSpent};
 ghost use Rattle.tb_values.specs.Appends.{AppendsFront};
 
+mod cleaning;
 mod clock;
 mod file_orders;
 mod mine;
+mod my_cleaning;
 mod my_deeds;
 mod my_settings;
 mod my_terminal;
@@ -22,6 +24,7 @@ mod sending;
 mod serve;
 mod served_file;
 
+use crate::cleaning::clean_into_file;
 use crate::file_orders::{check, give_key, init, view};
 use crate::mine::ask_mine;
 use crate::sending::send;
@@ -111,6 +114,7 @@ fn carry_out<R: Read + Drop, W: Write>(
         Order::Run => alone(run_script(rt.alloc(), &mut Watched::new(reader), writer)),
         Order::Import(order) => import_into_file(rt, order, reader, writer),
         Order::ImportAll(order) => import_parts_into_file(rt, order, reader, writer),
+        Order::Clean(order) => clean_into_file(rt, order, reader, writer),
         Order::View(order) => view(rt, order, writer),
         Order::Check(file) => check(rt, file, writer),
         Order::Key(order) => alone(give_key(rt, order, reader, writer)),

@@ -4,6 +4,7 @@
 ghost use Rattle.std.specs.Prelude.{◌≡◌, IfErr, true};
 ghost use Rattle.taskboard.specs.Orders.{is_of_mine};
 
+use crate::my_cleaning::check_file;
 use crate::my_deeds::{import_file, keep_undo, set_up, undo, use_board};
 use crate::my_settings::{key_of, read_asker};
 use crate::my_terminal::{clock_at, style_of};
@@ -14,9 +15,9 @@ use tb_board::Key;
 use tb_command_line::{MyOrder, SendOrder};
 use tb_finding::{found_text, log_text, show_text};
 use tb_my::{
-    Asker, Clock, MyFault, Query, Seen, Sent, board_given, board_named, fault_text, listed_words,
-    looks, needed_board, query_of, read_seen, refusal_text, sent_of, shown_answer,
-    words_after_board,
+    Asker, Clock, ImportMode, MyFault, Query, Seen, Sent, board_given, board_named, fault_text,
+    import_of, listed_words, looks, needed_board, query_of, read_seen, refusal_text, sent_of,
+    shown_answer, words_after_board,
 };
 use tb_orders::Ending;
 use tb_program::{Fault, machine_moment, print_line, print_text};
@@ -58,6 +59,9 @@ pub(crate) fn ask_mine<R: Read + Drop, W: Write>(
     if is_alone(words, "setup") {
         return set_up(rt, reader, writer);
     }
+    if let Some((path, ImportMode::Check)) = import_of(words) {
+        return check_file(rt, path.as_str(), reader, writer);
+    }
     let caller = match read_caller(rt, board_in(order.words.as_slice(), words)) {
         Ok(caller) => caller,
         Err(fault) => return wrong(rt, "", 0, &fault),
@@ -92,8 +96,8 @@ fn ask_board<R: Read + Drop, W: Write>(
         Ok(Named::Ended(ending)) => return Ok(ending),
         Err(fault) => return Err(fault),
     };
-    if let Some(path) = argument_of(words, "import") {
-        return import_file(rt, caller, &board, path.as_str(), reader, writer);
+    if let Some((path, mode)) = import_of(words) {
+        return import_file(rt, caller, &board, path.as_str(), mode, reader, writer);
     }
     match listed_words(words) {
         Some(listed) => ask_list(rt, caller, clock, &board, listed, writer),

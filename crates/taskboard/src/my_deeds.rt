@@ -3,14 +3,16 @@ ghost use Rattle.std.specs.Prelude.{◌≡◌, IfErr, true};
 ghost use Rattle.taskboard.specs.Orders.{is_of_mine};
 
 use crate::mine::{Answer, Caller, Named, ask, number_of, refused, wrong};
+use crate::my_cleaning::{Brought, cleaned_text};
 use crate::my_settings::{CONFIG, config_text};
 use std::io::{BufRead, BufReader, Read, Write};
 use std::{fs, str};
 use tb_board::Key;
 use tb_command_line::ImportKind;
 use tb_my::{
-    Asker, MyFault, Sent, SettingName, asker_of, import_told, import_words, is_json, kept_sent,
-    read_settings, refusal_text, settings_text, undo_head, undone_in, with_board, without_mark,
+    Asker, ImportMode, MyFault, Sent, SettingName, asker_of, import_told, import_words, is_json,
+    kept_sent, read_settings, refusal_text, settings_text, undo_head, undone_in, with_board,
+    without_mark,
 };
 use tb_orders::{Ending, parts_of};
 use tb_program::{Fault, print_line};
@@ -26,7 +28,7 @@ const NOTHING: &str = "There is nothing to take back.";
 
 const NO_HOME: &str = "This machine tells no home, so nothing can be kept in ~/.config/taskboard.";
 
-const UNREAD: &str = "That file can't be read, or isn't UTF-8.";
+pub(crate) const UNREAD: &str = "That file can't be read, or isn't UTF-8.";
 
 const LONG_LINE: &str = "A task is longer than 1,048,576 bytes. Nothing was imported.";
 
@@ -95,7 +97,7 @@ pub(crate) fn undo<W: Write>(
 }
 
 /// Tells why nothing is done, which is a refusal.
-fn told(rt: &HostRuntime, text: &str) -> Result<Ending, Fault>
+pub(crate) fn told(rt: &HostRuntime, text: &str) -> Result<Ending, Fault>
     ensures { IfErr result (λ fault. is_of_mine fault ≡ true) }
 {
     let _ = print_line(&mut rt.stderr(), text);
@@ -239,6 +241,7 @@ pub(crate) fn import_file<R: Read + Drop, W: Write>(
     caller: &Caller,
     board: &Text,
     path: &str,
+    mode: ImportMode,
     reader: R,
     writer: &mut W,
 ) -> Result<Ending, Fault>
@@ -247,13 +250,46 @@ pub(crate) fn import_file<R: Read + Drop, W: Write>(
     let Some(text) = text_of(rt, path, reader) else {
         return told(rt, UNREAD);
     };
-    let kind = if is_json(text.as_str()) {
+    match text_to_bring(rt, text.as_str(), mode)? {
+        Brought::Text(bytes) => {
+            import_text(rt, caller, board, kind_of(text.as_str()), bytes, writer)
+        }
+        Brought::Ended(ending) => Ok(ending),
+    }
+}
+
+/// JSON by its first bracket, or lines of todo.txt.
+pub(crate) fn kind_of(text: &str) -> ImportKind {
+    if is_json(text) {
         ImportKind::Json
     } else {
         ImportKind::Todo
-    };
-    let bytes = without_mark(text.as_str()).as_bytes();
+    }
+}
+
+/// The text as it is, or cleaned.
+fn text_to_bring(rt: &HostRuntime, text: &str, mode: ImportMode) -> Result<Brought, Fault>
+    ensures { IfErr result (λ fault. is_of_mine fault ≡ true) }
+{
+    if mode != ImportMode::AsItIs {
+        return cleaned_text(rt, text, mode == ImportMode::Skip);
+    }
+    let bytes = without_mark(text).as_bytes();
     let bytes = Items::from_vec(Vec::from_slice(rt.alloc(), bytes)?);
+    Ok(Brought::Text(bytes))
+}
+
+/// Imports a text in parts.
+fn import_text<W: Write>(
+    rt: &HostRuntime,
+    caller: &Caller,
+    board: &Text,
+    kind: ImportKind,
+    bytes: Items<u8>,
+    writer: &mut W,
+) -> Result<Ending, Fault>
+    ensures { IfErr result (λ fault. is_of_mine fault ≡ true) }
+{
     let Some(parts) = parts_of(rt.alloc(), kind, bytes)? else {
         return told(rt, LONG_LINE);
     };
@@ -298,7 +334,11 @@ fn import_part(
 }
 
 /// The text of a file, or of standard input where its name is a hyphen.
-fn text_of<R: Read + Drop>(rt: &HostRuntime, path: &str, mut reader: R) -> Option<String> {
+pub(crate) fn text_of<R: Read + Drop>(
+    rt: &HostRuntime,
+    path: &str,
+    mut reader: R,
+) -> Option<String> {
     if path != "-" {
         return fs::read_to_string(rt, path).ok();
     }

@@ -5,7 +5,7 @@ use Rattle.tb_causes.specs.FileCause.{IsFileText}
 use Rattle.tb_causes.specs.Told.{Text}
 use Rattle.tb_causes.specs.Unanswered.{IsUnanswered}
 use Rattle.tb_causes.specs.WrongWord.{wrong_text}
-use Rattle.tb_causes.specs.declared.cause.TheConstants.{BAD, BAD_BODY, BAD_SEND, KEY_FILES, KEY_UNREAD, KEY_UNTOLD, LOW_PORT, MEMORY, NOT_EMPTY, NOT_OURS, NO_ANSWER, NO_CLOCK, NO_KEY, NO_KEY_FILE, NO_LISTEN, NO_NEW_KEY, NO_PAGE, READ_FAILED, STORE, TAKEN_PORT, WRITE_FAILED, WRONG_VERSION}
+use Rattle.tb_causes.specs.declared.cause.TheConstants.{BAD, BAD_BODY, BAD_EXPORT, BAD_SEND, KEY_FILES, KEY_UNREAD, KEY_UNTOLD, LOW_PORT, MEMORY, NOT_EMPTY, NOT_OURS, NO_ANSWER, NO_CLOCK, NO_KEY, NO_KEY_FILE, NO_LISTEN, NO_NEW_KEY, NO_PAGE, READ_FAILED, STORE, TAKEN_PORT, WRITE_FAILED, WRONG_VERSION}
 use Rattle.tb_client.specs.OwnKey.{is_own_key_alone}
 use Rattle.tb_command_line.specs.declared.order.Order.{Order}
 use Rattle.tb_command_line.specs.declared.order.Order.TheVariants as order
@@ -52,6 +52,7 @@ file_of (order.Serve served) = Some served.file
 file_of order.Run = None
 file_of (order.Import taken) = Some taken.file
 file_of (order.ImportAll taken) = Some taken.file
+file_of (order.Clean taken) = Some taken.import.file
 file_of (order.View shown) = Some shown.file
 file_of (order.Check file) = Some file
 file_of (order.Key given) = Some given.file
@@ -89,6 +90,7 @@ IsCauseOfSilence _ text = text ≡ NO_ANSWER.now
 abbrev pub IsCauseOfText : Option BadItem → Order → Text → Type 0
 IsCauseOfText item (order.Import taken) text = IsBodyText item text
 IsCauseOfText item (order.ImportAll taken) text = IsPartText item text
+IsCauseOfText item (order.Clean taken) text = text ≡ BAD_EXPORT.now
 IsCauseOfText item _ text = text ≡ BAD_BODY.now
 
 -- of a fault of an order, and the task at fault where a text is bad

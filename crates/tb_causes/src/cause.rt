@@ -28,6 +28,9 @@ const FIRST_FREE_PORT: u16 = 1024;
 const BAD: &str =
     "The words are no order: `taskboard --help` lists the orders, and `taskboard ORDER --help` what each takes.";
 
+const BAD_EXPORT: &str =
+    "The text is no JSON that an import takes, which is a list, an object, or an object on each line; or it has over 10,000 tasks, or more than one call takes, which --all cuts.";
+
 const BAD_BODY: &str =
     "The text is longer than 1,048,576 bytes, which no server takes. Nothing was sent.";
 
@@ -192,6 +195,7 @@ fn file_of(order: &Order) -> Option<&Text>
         Order::Init(order) => Some(&order.file),
         Order::Serve(order) => Some(&order.file),
         Order::Import(order) | Order::ImportAll(order) => Some(&order.file),
+        Order::Clean(order) => Some(&order.import.file),
         Order::View(order) => Some(&order.file),
         Order::Check(file) => Some(file),
         Order::Key(order) => Some(&order.file),
@@ -214,6 +218,7 @@ fn told_of_text(alloc: Global, item: &Option<BadItem>, order: &Order) -> Told
     match order {
         Order::Import(_) => told_of_body(alloc, item),
         Order::ImportAll(_) => told_of_part(alloc, item),
+        Order::Clean(_) => Told::Fixed(BAD_EXPORT),
         _ => Told::Fixed(BAD_BODY),
     }
 }

@@ -47,7 +47,7 @@ const INIT_USAGE: &str = "`init` takes FILE NAME KEY.";
 const VIEW_USAGE: &str = "`list`, `export` and `todo` each take FILE MEMBER KEY BOARD.";
 
 const IMPORT_USAGE: &str =
-    "`import` takes FILE MEMBER KEY ID BOARD KIND, and --all once for a text of any length.";
+    "`import` takes FILE MEMBER KEY ID BOARD KIND, --all once for a text of any length, and last, for json alone, --check, --clean or --skip.";
 
 const CHECK_USAGE: &str = "`check` takes FILE alone.";
 

@@ -5,7 +5,7 @@ use Rattle.std.specs.Str.{bytes_eq}
 use Rattle.std.proofs.lemmas.Bool.{and_parts}
 use Rattle.std.proofs.lemmas.Slice.Eq.{bytes_eq-Decides}
 use Rattle.tb_command_line.specs.declared.order.Order.{Order}
-use Rattle.tb_command_line.specs.Extra.{without_burst, without_extra, without_growth, without_option, without_page}
+use Rattle.tb_command_line.specs.Extra.{without_burst, without_extra, without_growth, without_mode, without_option, without_page, without_server}
 use Rattle.tb_command_line.specs.declared.order.ViewKind.TheVariants as view
 use Rattle.tb_command_line.specs.Order.{Request, Text, Init, Serve, Run, Import, View, Check, Key, is_plain, texts_of, words_of}
 use Rattle.tb_command_line.specs.Sending.{told_of}
@@ -76,12 +76,29 @@ as_it_is option (word ∷ []) order told other = alone option word (bytes_eq wor
 as_it_is option (name ∷ word ∷ []) order told other = pair_alone option name word (bytes_eq name (codes "serve")) refl other
 as_it_is option (name ∷ word ∷ next ∷ rest) order told other = let none : None ≡ Some order = told in absurd (cc)
 
+lone_mode : (word : Text) (b : Bool) → bytes_eq word (codes "import") ≡ b → without_mode (word ∷ []) ≡ word ∷ []
+lone_mode word false s = rw s refl
+lone_mode word true s = rw s refl
+
+pair_mode : (name word : Text) (b : Bool) → bytes_eq name (codes "import") ≡ b → without_mode (name ∷ word ∷ []) ≡ name ∷ word ∷ []
+pair_mode name word false s = rw s refl
+pair_mode name word true s = rw s refl
+
+mode_as_it_is : (words : List Text) (order : Order) → told_of words ≡ Some order → without_mode words ≡ words
+unfolding told_of
+mode_as_it_is [] order told = refl
+mode_as_it_is (word ∷ []) order told = lone_mode word (bytes_eq word (codes "import")) refl
+mode_as_it_is (name ∷ word ∷ []) order told = pair_mode name word (bytes_eq name (codes "import")) refl
+mode_as_it_is (name ∷ word ∷ next ∷ rest) order told = let none : None ≡ Some order = told in absurd (cc)
+
 all_as_they_are : (words : List Text) (order : Order) → told_of words ≡ Some order → without_extra words ≡ words
 all_as_they_are words order told =
     let page : without_page words ≡ words = as_it_is (codes "--page") words order told refl in
     let growth : without_growth words ≡ words = as_it_is (codes "--growth") words order told refl in
     let burst : without_burst words ≡ words = as_it_is (codes "--burst") words order told refl in
-    ap (λ rest. without_burst (without_growth rest)) page ∙ (ap without_burst growth ∙ burst)
+    let mode : without_mode words ≡ words = mode_as_it_is words order told in
+    ap without_server mode
+    ∙ ap (λ rest. without_burst (without_growth rest)) page ∙ (ap without_burst growth ∙ burst)
 
 -- what is told of the program is no form of the command line, also without these options
 pub told_apart : (words : List Text) (order : Order) (request : Request) → told_of words ≡ Some order → without_extra words ≡ words_of request

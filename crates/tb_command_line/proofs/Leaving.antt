@@ -1,12 +1,13 @@
 -- Words with and without an option.
 use Rattle.std.proofs.Common.{◌≡◌, ◌∙◌, ℕ, zero, suc, ◌+◌, ◌-◌, ◌<◌, true, false, List, [], ◌∷◌, ◌++◌, map, take, drop, length, Option, Some, None, Result, refl, sym, ap, arith}
 use Rattle.std.proofs.lemmas.List.{map-append, take-map, drop-map, take_all, length-drop}
+use Rattle.tb_command_line.specs.declared.order.CleanMode.{CleanMode}
 use Rattle.tb_command_line.specs.declared.order.Order.{Order}
 use Rattle.tb_command_line.specs.declared.order.WordsFault.{WordsFault}
 use Rattle.tb_command_line.specs.declared.order.WordsFault.TheVariants.{Bad, Memory, NoKey}
 use Rattle.tb_command_line.specs.Order.{Text}
 use Rattle.tb_command_line.specs.Outcome.{Fails}
-use Rattle.tb_command_line.specs.Extra.{bursting, grown, growth_of, has_option, is_option_front, option_place, with_burst, with_growth, with_page, without_option}
+use Rattle.tb_command_line.specs.Extra.{bursting, grown, growth_of, has_option, is_option_front, option_place, with_burst, with_growth, with_mode, with_page, without_option}
 
 -- a fault stays with a folder
 pub fails_paged : (page : Option Text) (fault : WordsFault) (expected : Result Order WordsFault) → Fails fault expected → Fails fault (with_page page expected)
@@ -14,6 +15,13 @@ fails_paged None fault expected fails = fails
 fails_paged (Some page) Bad expected fails = ap (with_page (Some page)) fails
 fails_paged (Some page) NoKey expected fails = ap (with_page (Some page)) fails
 fails_paged (Some page) Memory expected fails = tt
+
+-- and with a word that says that an import is cleaned
+pub fails_cleaned : (mode : Option CleanMode) (fault : WordsFault) (expected : Result Order WordsFault) → Fails fault expected → Fails fault (with_mode mode expected)
+fails_cleaned None fault expected fails = fails
+fails_cleaned (Some mode) Bad expected fails = ap (with_mode (Some mode)) fails
+fails_cleaned (Some mode) NoKey expected fails = ap (with_mode (Some mode)) fails
+fails_cleaned (Some mode) Memory expected fails = tt
 
 -- and with a growth, and with a burst
 pub fails_grown : (growth : Option Text) (fault : WordsFault) (expected : Result Order WordsFault) → Fails fault expected → Fails fault (with_growth growth expected)

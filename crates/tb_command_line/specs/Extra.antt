@@ -1,8 +1,14 @@
--- The options `--page FOLDER`, `--growth KIB` and `--burst MIB` of a server, which may stand anywhere behind its order.
-use Rattle.std.specs.Prelude.{ℕ, suc, ◌+◌, ◌&&◌, Bool, false, List, [], ◌∷◌, ◌++◌, codes, take, drop, length, nat_lt, slice_get, Option, Some, None, Result, Ok, Err, if◌then◌else◌}
+-- The options `--page FOLDER`, `--growth KIB` and `--burst MIB` of a server, which may stand anywhere behind its order, and `--check`, `--clean`
+-- and `--skip`, one of which may stand behind all other words of an import.
+use Rattle.std.specs.Prelude.{ℕ, suc, ◌+◌, ◌-◌, ◌&&◌, Bool, true, false, List, [], ◌∷◌, ◌++◌, codes, take, drop, length, nat_lt, slice_get, Option, Some, None, is_some, option_and_then, Result, Ok, Err, if◌then◌else◌}
 use Rattle.std.specs.Str.{bytes_eq}
+use Rattle.tb_command_line.specs.declared.order.CleanMode.{CleanMode}
+use Rattle.tb_command_line.specs.declared.order.CleanMode.TheVariants as mode
+use Rattle.tb_command_line.specs.declared.order.ImportKind.{ImportKind}
+use Rattle.tb_command_line.specs.declared.order.ImportKind.TheVariants as kind
+use Rattle.tb_command_line.specs.declared.order.ImportOrder.{ImportOrder}
 use Rattle.tb_command_line.specs.declared.order.Order.{Order}
-use Rattle.tb_command_line.specs.declared.order.Order.TheVariants.{Init, Serve, Run, Import, ImportAll, View, Check, Key, Send, My, Help, Version}
+use Rattle.tb_command_line.specs.declared.order.Order.TheVariants.{Init, Serve, Run, Import, ImportAll, Clean, View, Check, Key, Send, My, Help, Version}
 use Rattle.tb_command_line.specs.declared.order.WordsFault.{WordsFault}
 use Rattle.tb_command_line.specs.declared.order.WordsFault.TheVariants.{Bad}
 use Rattle.tb_command_line.specs.Order.{Text}
@@ -56,9 +62,69 @@ without_growth words = without_option (codes "--growth") words
 abbrev pub without_burst : List Text → List Text
 without_burst words = without_option (codes "--burst") words
 
--- the words without the three of them
+-- ---- `--check`, `--clean` and `--skip`
+
+unfoldable pub mode_named : Text → Option CleanMode
+mode_named word =
+    if bytes_eq word (codes "--check") then Some mode.Check
+    else if bytes_eq word (codes "--clean") then Some mode.Clean
+    else if bytes_eq word (codes "--skip") then Some mode.Skip
+    else None
+
+abbrev pub imports : List Text → Bool
+imports [] = false
+imports (word ∷ rest) = bytes_eq word (codes "import")
+
+-- the last of three words or more
+abbrev pub last_word : List Text → Option Text
+last_word words = if nat_lt 2 (length words) then slice_get words (length words - 1) else None
+
+-- what the last word of an import says
+abbrev pub mode_in : List Text → Option CleanMode
+mode_in words = if imports words then option_and_then mode_named (last_word words) else None
+
+abbrev pub without_mode : List Text → List Text
+without_mode words = if is_some (mode_in words) then take (length words - 1) words else words
+
+-- of JSON alone
+-- Rule: JSON alone is cleaned. Refused as Bad. Tried by words.
+abbrev pub cleaned : CleanMode → Bool → ImportOrder → Result Order WordsFault
+cleaned mode is_all import = if_json import.kind
+  where
+    if_json : ImportKind → Result Order WordsFault
+    if_json kind.Json = Ok (Clean (record { mode = mode; is_all = is_all; import = import }))
+    if_json kind.Todo = Err Bad
+
+-- an import whose text is cleaned first
+abbrev pub cleaning : CleanMode → Order → Result Order WordsFault
+cleaning mode (Import order) = cleaned mode false order
+cleaning mode (ImportAll order) = cleaned mode true order
+cleaning mode (Init order) = Err Bad
+cleaning mode (Serve order) = Err Bad
+cleaning mode Run = Err Bad
+cleaning mode (Clean order) = Err Bad
+cleaning mode (View order) = Err Bad
+cleaning mode (Check file) = Err Bad
+cleaning mode (Key order) = Err Bad
+cleaning mode (Send order) = Err Bad
+cleaning mode (My order) = Err Bad
+cleaning mode (Help topic) = Err Bad
+cleaning mode Version = Err Bad
+
+abbrev pub with_mode : Option CleanMode → Result Order WordsFault → Result Order WordsFault
+with_mode None order = order
+with_mode (Some mode) (Ok order) = cleaning mode order
+with_mode (Some mode) (Err fault) = Err fault
+
+-- ---- all of them
+
+-- the words without the options of a server
+abbrev pub without_server : List Text → List Text
+without_server words = without_burst (without_growth (without_page words))
+
+-- the words without any of these
 abbrev pub without_extra : List Text → List Text
-without_extra words = without_burst (without_growth (without_page words))
+without_extra words = without_server (without_mode words)
 
 -- a server's order with the folder
 abbrev pub paged : Text → Order → Order
@@ -67,6 +133,7 @@ paged page (Init order) = Init order
 paged page Run = Run
 paged page (Import order) = Import order
 paged page (ImportAll order) = ImportAll order
+paged page (Clean order) = Clean order
 paged page (View order) = View order
 paged page (Check file) = Check file
 paged page (Key order) = Key order
@@ -92,6 +159,7 @@ grown growth (Init order) = Init order
 grown growth Run = Run
 grown growth (Import order) = Import order
 grown growth (ImportAll order) = ImportAll order
+grown growth (Clean order) = Clean order
 grown growth (View order) = View order
 grown growth (Check file) = Check file
 grown growth (Key order) = Key order
@@ -107,6 +175,7 @@ bursting burst (Init order) = Init order
 bursting burst Run = Run
 bursting burst (Import order) = Import order
 bursting burst (ImportAll order) = ImportAll order
+bursting burst (Clean order) = Clean order
 bursting burst (View order) = View order
 bursting burst (Check file) = Check file
 bursting burst (Key order) = Key order
@@ -131,9 +200,13 @@ with_burst None order = order
 with_burst (Some text) (Ok order) = with_number bursting (number_to 1048576 text) order
 with_burst (Some text) (Err fault) = Err fault
 
--- what the three options say, each of the words that are left of those before it
-abbrev pub with_extra : List Text → Result Order WordsFault → Result Order WordsFault
-with_extra words order =
+-- what the options of a server say, each of the words that are left of those before it
+abbrev pub with_server : List Text → Result Order WordsFault → Result Order WordsFault
+with_server words order =
     with_page (page_in words)
     (with_growth (growth_in (without_page words))
     (with_burst (burst_in (without_growth (without_page words))) order))
+
+-- what all of these say
+abbrev pub with_extra : List Text → Result Order WordsFault → Result Order WordsFault
+with_extra words order = with_mode (mode_in words) (with_server (without_mode words) order)

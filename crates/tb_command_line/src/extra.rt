@@ -1,11 +1,12 @@
-//! The options `--page FOLDER`, `--growth KIB` and `--burst MIB` of a server, which may stand anywhere behind its order.
+//! The options `--page FOLDER`, `--growth KIB` and `--burst MIB` of a server, which may stand anywhere behind its order, and `--check`,
+//! `--clean` and `--skip`, one of which may stand behind all other words of an import.
 ghost use Rattle.std.specs.Prelude.{◌≡◌, ◌++◌, ◌+◌, ◌≤◌, ◌<◌, IfOk, Bool, List, codes, drop, false, length, map, option_map, slice_get, take, true, ℕ};
 ghost use Rattle.std.specs.List.{list_all};
 ghost use Rattle.tb_command_line.specs.Order.{Request, is_plain, order_of, texts_of, words_of};
 ghost use Rattle.tb_command_line.specs.Outcome.{Reads};
-ghost use Rattle.tb_command_line.specs.Extra.{burst_in, bursting, growth_in, growth_of, grown, has_option, is_option_front, option_in, option_place, paged, serves, with_burst, with_extra, with_growth, without_burst, without_extra, without_growth, without_option};
+ghost use Rattle.tb_command_line.specs.Extra.{burst_in, bursting, cleaned, cleaning, growth_in, growth_of, grown, has_option, imports, is_option_front, last_word, mode_in, mode_named, option_in, option_place, paged, serves, with_burst, with_extra, with_growth, with_server, without_burst, without_extra, without_growth, without_mode, without_option, without_server};
 
-use crate::order::{Order, WordsFault};
+use crate::order::{CleanMode, CleanOrder, ImportKind, ImportOrder, Order, WordsFault};
 use crate::words::read_listed;
 use std::alloc::{AllocError, Global};
 use tb_board::Key;
@@ -25,6 +26,107 @@ pub(crate) fn read_extra(
         → without_extra (map (λ word. word.now) words.entry.now) ≡ words_of request
         → list_all is_plain (texts_of request) ≡ true
         → Reads result (with_extra (map (λ word. word.now) words.entry.now)
+        (order_of kept.now request)) }
+{
+    let order = match read_server(alloc, without_mode(words), kept) {
+        Ok(order) => order,
+        Err(fault) => return Err(fault),
+    };
+    match mode_in(words) {
+        Some(mode) => cleaning(mode, order),
+        None => Ok(order),
+    }
+}
+
+fn mode_in(words: &[&str]) -> Option<CleanMode>
+    ensures { result ≡ mode_in (map (λ word. word.now) words.entry.now) }
+{
+    if !imports(words) {
+        return None;
+    }
+    match last_word(words) {
+        Some(word) => mode_named(word),
+        None => None,
+    }
+}
+
+fn imports(words: &[&str]) -> bool
+    ensures { result ≡ imports (map (λ word. word.now) words.entry.now) }
+{
+    match words.first() {
+        Some(word) => *word == "import",
+        None => false,
+    }
+}
+
+fn last_word<'t>(words: &[&'t str]) -> Option<&'t str>
+    ensures { option_map (λ text. text.now) result
+        ≡ last_word (map (λ word. word.now) words.entry.now) }
+{
+    if words.len() <= 2 {
+        return None;
+    }
+    match words.get(words.len() - 1) {
+        Some(text) => Some(*text),
+        None => None,
+    }
+}
+
+#[tactic(auto, unfolding(crate::specs::Extra::mode_named))]
+fn mode_named(word: &str) -> Option<CleanMode>
+    ensures { result ≡ mode_named word.now }
+{
+    match word {
+        "--check" => Some(CleanMode::Check),
+        "--clean" => Some(CleanMode::Clean),
+        "--skip" => Some(CleanMode::Skip),
+        _ => None,
+    }
+}
+
+fn without_mode<'w, 't>(words: &'w [&'t str]) -> &'w [&'t str]
+    ensures { map (λ word. word.now) result.now
+        ≡ without_mode (map (λ word. word.now) words.entry.now) }
+{
+    if mode_in(words).is_none() {
+        return words;
+    }
+    match words.split_last() {
+        Some((_, rest)) => rest,
+        None => words,
+    }
+}
+
+/// The import of an order as one whose text is cleaned first.
+fn cleaning(mode: CleanMode, order: Order) -> Result<Order, WordsFault>
+    ensures { Reads result (cleaning mode order) }
+{
+    match order {
+        Order::Import(import) => cleaned(mode, false, import),
+        Order::ImportAll(import) => cleaned(mode, true, import),
+        _ => Err(WordsFault::Bad),
+    }
+}
+
+fn cleaned(mode: CleanMode, is_all: bool, import: ImportOrder) -> Result<Order, WordsFault>
+    ensures { Reads result (cleaned mode is_all import) }
+{
+    match import.kind {
+        ImportKind::Json => Ok(Order::Clean(CleanOrder {
+            mode,
+            is_all,
+            import,
+        })),
+        ImportKind::Todo => Err(WordsFault::Bad),
+    }
+}
+
+/// The order that the words without the options of a server are, with what these say.
+fn read_server(alloc: Global, words: &[&str], kept: &Option<Key>) -> Result<Order, WordsFault>
+    ensures { (request : Request)
+        → without_server (map (λ word. word.now) words.entry.now) ≡ words_of request
+        → list_all is_plain (texts_of request) ≡ true
+        → Reads result (with_server (map (λ word. word.now) words.entry.now)
         (order_of kept.now request)) }
 {
     let rest = without_option(alloc, words, "--page")?;

@@ -12,7 +12,7 @@ taskboard keeps boards of tasks that a team shares, in one file.
                     [--growth KIB] [--burst MIB]
     taskboard send [--id UUID] [--for SECONDS] ADDRESS:PORT MEMBER KEY WORD ARGUMENTS..
     taskboard my [WORD ARGUMENTS..]
-    taskboard import FILE MEMBER KEY ID BOARD json|todo [--all]
+    taskboard import FILE MEMBER KEY ID BOARD json|todo [--all] [--check|--clean|--skip]
     taskboard list|export|todo FILE MEMBER KEY BOARD
     taskboard check FILE
     taskboard key FILE NAME [-]
@@ -60,7 +60,7 @@ tabs: MOMENT MEMBER KEY ID WORD ARGUMENTS..
 ";
 
 const IMPORT: &str = "\
-taskboard import FILE MEMBER KEY ID BOARD KIND [--all]
+taskboard import FILE MEMBER KEY ID BOARD KIND [--all] [--check | --clean | --skip]
 
 Imports standard input into a board of a file that isn't served, and prints the reply's body.
 Sent again under the same ID it acts once.
@@ -74,6 +74,12 @@ Sent again under the same ID it acts once.
                   under an identifier that is made of ID and its number. A reply is printed for each
                   part, up to the first that isn't accepted; the whole may be sent again under the
                   same ID
+    --check       imports nothing: names each task that can't be taken and why, and each member,
+                  link and instance that will be dropped; the status is 0 where all can be taken
+    --clean       makes numbers as 2.000000 whole, respells steps as 2wks, and brings each task
+                  after those that it waits for; where a task can't be taken, imports nothing
+    --skip        the same, but leaves out tasks that can't be taken, and imports the rest. One of
+                  the three stands last, and is for json alone; what they do is told
 ";
 
 const VIEW: &str = "\
@@ -148,7 +154,9 @@ of the board. One look at the board serves all numbers of a command.
     log, log N               who did what on the board, or on one task
     undo                     takes back the last done, delete, start, stop, note or link
     use B                    makes B the board of the settings
-    import FILE              JSON or lines of todo.txt, of any length; - is standard input
+    import FILE              JSON or lines of todo.txt, of any length; - is standard input. After
+                             it --check tells what can't be taken, --clean respells what another
+                             tool exported, and --skip also leaves out what can't be taken
     export, todo             all tasks as JSON; as lines of todo.txt
     setup                    asks for server, name, board and key, and writes them
 

@@ -12,8 +12,8 @@ mod telling;
 mod words;
 
 pub use order::{
-    Connections, ImportKind, ImportOrder, InitOrder, KeyOrder, MyOrder, Order, SendOrder,
-    ServeOrder, Topic, ViewKind, ViewOrder, WordsFault,
+    CleanMode, CleanOrder, Connections, ImportKind, ImportOrder, InitOrder, KeyOrder, MyOrder,
+    Order, SendOrder, ServeOrder, Topic, ViewKind, ViewOrder, WordsFault,
 };
 pub use sending::{MOST_SECONDS, option_value};
 pub use server::is_server;

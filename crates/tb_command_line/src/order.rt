@@ -18,6 +18,8 @@ pub enum Order {
     Import(ImportOrder),
     /// The same of a text of any length, in as many parts as it takes.
     ImportAll(ImportOrder),
+    /// An import whose text is cleaned first.
+    Clean(CleanOrder),
     View(ViewOrder),
     /// Compares what the file stores with what its tasks say.
     Check(Text),
@@ -78,6 +80,26 @@ pub struct ImportOrder {
     pub id: TaskId,
     pub board: u32,
     pub kind: ImportKind,
+}
+
+/// An import of standard input as another tool exported it.
+#[derive(Debug, Drop)]
+pub struct CleanOrder {
+    pub mode: CleanMode,
+    /// In as many parts as it takes.
+    pub is_all: bool,
+    pub import: ImportOrder,
+}
+
+/// What is done with what an import would refuse, or read otherwise than it was meant.
+#[derive(Clone, Copy, Debug, PartialEq, Eq)]
+pub enum CleanMode {
+    /// It is told, and nothing is imported.
+    Check,
+    /// It is mended. Where a task can't be taken, nothing is imported.
+    Clean,
+    /// It is mended, and tasks that can't be taken are left out.
+    Skip,
 }
 
 /// What the text of an import is written in.

@@ -1,5 +1,6 @@
 pub mod Boards
 pub mod Body
+pub mod Bringing
 pub mod Days
 pub mod Importing
 pub mod Look

@@ -5,6 +5,7 @@
 
 mod boards;
 mod body;
+mod bringing;
 mod days;
 mod fault;
 mod importing;
@@ -23,6 +24,7 @@ mod word;
 mod zone;
 
 pub use boards::{board_named, settings_text, with_board};
+pub use bringing::{ImportMode, import_of};
 pub use days::{after_key, before_key, moment_named, weekdays_are_next};
 pub use fault::MyFault;
 pub use importing::{import_told, import_words, is_json, without_mark};

@@ -31,7 +31,7 @@ const LIST_WORDS: &str =
 const ONE_BOARD: &str = "One board belongs behind `use`: its number or its title.";
 
 const ONE_FILE: &str =
-    "One file belongs behind `import`, or - for standard input: JSON, or lines of todo.txt.";
+    "One file belongs behind `import`, or - for standard input: JSON, or lines of todo.txt. After it may stand --check, --clean or --skip.";
 
 const NO_BOARD_HERE: &str = " is no board of yours. `tb boards` lists them.";
 

@@ -34,6 +34,12 @@ returns-in-ImportAll-clause-done g c = rw c.in-ImportAll.is c.import_parts_into_
 pub returns-in-ImportAll-clause-fault : goal.returns-in-ImportAll-clause-fault
 returns-in-ImportAll-clause-fault g c = rw c.in-ImportAll.is c.import_parts_into_file.ensures.fault
 
+pub returns-in-Clean-clause-done : goal.returns-in-Clean-clause-done
+returns-in-Clean-clause-done g c = rw c.in-Clean.is c.clean_into_file.ensures.done
+
+pub returns-in-Clean-clause-fault : goal.returns-in-Clean-clause-fault
+returns-in-Clean-clause-fault g c = rw c.in-Clean.is c.clean_into_file.ensures.fault
+
 pub returns-in-View-clause-done : goal.returns-in-View-clause-done
 returns-in-View-clause-done g c = rw c.in-View.is c.view.ensures.shown
 

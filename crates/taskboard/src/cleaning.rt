@@ -1,0 +1,130 @@
+//! Imports into a file whose text is cleaned first.
+ghost use Rattle.std.specs.Io.KnownBytes.{Appends};
+ghost use Rattle.std.specs.Prelude.{◌≡◌, IfErr, IfOk, IfSome, List, Ok, Some, true, ℕ};
+ghost use Rattle.taskboard.specs.Orders.{IsBrought, IsCleaned, IsCleanedBy, ending_if, is_skip};
+ghost use Rattle.tb_cleaning.specs.Cleaning.{Cleans};
+ghost use Rattle.tb_files.specs.Faults.{is_of_imports};
+
+use std::alloc::Global;
+use std::io::{ErrorKind, Read, Write};
+use tb_calls::Keep;
+use tb_cleaning::{Cleaned, CleaningFault, clean};
+use tb_command_line::{CleanMode, CleanOrder, ImportOrder};
+use tb_files::{RealFile, import_into_file, import_parts_into_file};
+use tb_keeper::SqlKeep;
+use tb_orders::{Ending, OrderFault};
+use tb_program::{Fault, print_line, print_text};
+use tb_values::Items;
+
+const NOTHING_CAME: &str =
+    "Nothing was imported. --skip leaves out what can't be taken, and imports the rest.";
+
+/// Cleans the text of an input and imports it, or tells what cleaning would do.
+pub(crate) fn clean_into_file<R: Read + Drop, W: Write>(
+    rt: &HostRuntime,
+    order: &CleanOrder,
+    reader: R,
+    writer: &mut W,
+) -> Result<Ending, OrderFault>
+    ensures done { IfOk result (IsCleaned ⟦<SqlKeep<RealFile> as Keep>⟧ W.contents
+        order.now (R.remaining reader) writer.old writer.new) }
+    ensures fault { IfErr result (λ failed. is_of_imports failed.fault ≡ true) }
+{
+    let text = read_all(rt.alloc(), reader)?;
+    let cleaned = cleaned(rt.alloc(), &text, is_skip(order.mode))?;
+    bring(rt, order, cleaned, writer)
+}
+
+fn is_skip(mode: CleanMode) -> bool
+    ensures { result ≡ is_skip mode }
+{
+    match mode {
+        CleanMode::Check | CleanMode::Clean => false,
+        CleanMode::Skip => true,
+    }
+}
+
+fn cleaned(alloc: Global, text: &Items<u8>, skips: bool) -> Result<Cleaned, Fault>
+    ensures cleans { IfOk result (λ cleaned. Cleans skips text.now (Ok cleaned)) }
+    ensures fault { IfErr result (λ fault. is_of_imports fault ≡ true) }
+{
+    match clean(alloc, text.as_slice(), skips) {
+        Ok(cleaned) => Ok(cleaned),
+        Err(CleaningFault::NotJson) => Err(Fault::BadBody),
+        Err(CleaningFault::TooMany) => Err(Fault::BadBody),
+        Err(CleaningFault::Memory) => Err(Fault::Memory),
+    }
+}
+
+/// Tells the notes, and brings the cleaned text where that is asked for and nothing prevents it.
+fn bring<W: Write>(
+    rt: &HostRuntime,
+    order: &CleanOrder,
+    cleaned: Cleaned,
+    writer: &mut W,
+) -> Result<Ending, OrderFault>
+    ensures done { IfOk result (IsCleanedBy ⟦<SqlKeep<RealFile> as Keep>⟧ W.contents
+        order.now.mode order.now.is_all order.now.import cleaned writer.old writer.new) }
+    ensures fault { IfErr result (λ failed. is_of_imports failed.fault ≡ true) }
+{
+    match order.mode {
+        CleanMode::Check => Ok(tell_notes(&cleaned, writer)?),
+        CleanMode::Clean => {
+            let _ = print_text(&mut rt.stderr(), cleaned.notes.as_str());
+            if !cleaned.is_whole {
+                let _ = print_line(&mut rt.stderr(), NOTHING_CAME);
+                return Ok(Ending::Refused);
+            }
+            bring_text(rt, order.is_all, &order.import, &cleaned.text, writer)
+        }
+        CleanMode::Skip => {
+            let _ = print_text(&mut rt.stderr(), cleaned.notes.as_str());
+            bring_text(rt, order.is_all, &order.import, &cleaned.text, writer)
+        }
+    }
+}
+
+fn tell_notes<W: Write>(cleaned: &Cleaned, writer: &mut W) -> Result<Ending, Fault>
+    ensures told { IfOk result (λ ending. (ending ≡ ending_if cleaned.now.is_whole)
+        × Appends (W.contents writer.old) (W.contents writer.new) cleaned.now.notes) }
+    ensures fault { IfErr result (λ fault. is_of_imports fault ≡ true) }
+{
+    print_text(writer, cleaned.notes.as_str())?;
+    if cleaned.is_whole {
+        Ok(Ending::Accepted)
+    } else {
+        Ok(Ending::Refused)
+    }
+}
+
+fn bring_text<W: Write>(
+    rt: &HostRuntime,
+    is_all: bool,
+    order: &ImportOrder,
+    text: &Items<u8>,
+    writer: &mut W,
+) -> Result<Ending, OrderFault>
+    ensures done { IfOk result (IsBrought ⟦<SqlKeep<RealFile> as Keep>⟧ W.contents
+        is_all order.now text.now writer.old writer.new) }
+    ensures fault { IfErr result (λ failed. is_of_imports failed.fault ≡ true) }
+{
+    if is_all {
+        import_parts_into_file(rt, order, text.as_slice(), writer)
+    } else {
+        import_into_file(rt, order, text.as_slice(), writer)
+    }
+}
+
+/// The whole text of a reader.
+fn read_all<R: Read + Drop>(alloc: Global, reader: R) -> Result<Items<u8>, Fault>
+    ensures whole { IfSome (R.remaining reader) (λ text. IfOk result (λ read. read ≡ text)) }
+    ensures fault { IfErr result (λ fault. is_of_imports fault ≡ true) }
+{
+    let mut reader = reader;
+    let mut bytes = Vec::new(alloc);
+    match reader.read_to_end(&mut bytes) {
+        Ok(_) => Ok(Items::from_vec(bytes)),
+        Err(error) if error.kind() == ErrorKind::OutOfMemory => Err(Fault::Memory),
+        Err(_) => Err(Fault::ReadFailed),
+    }
+}

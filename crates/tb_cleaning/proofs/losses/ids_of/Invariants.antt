@@ -1,0 +1,6 @@
+use Rattle.std.proofs.Common.{◌≡◌, map, take}
+use Rattle.tb_cleaning.specs.Entries.{id_of, seen}
+use Rattle.tb_cleaning.proofs.losses.ids_of.Given as goal
+
+abbrev pub invariant-loop-entry : goal.invariant-loop-entry
+invariant-loop-entry l = l.ids.items ≡ map id_of (map (λ e. seen e.now) (take l.entry-index l.entries))

@@ -1,0 +1,6 @@
+use Rattle.std.proofs.Common.{◌≡◌, ◌++◌, drop, string_bytes}
+use Rattle.tb_cleaning.specs.Notes.{lines_text}
+use Rattle.tb_cleaning.proofs.notes.push_lines.Given as goal
+
+abbrev pub invariant-loop-line : goal.invariant-loop-line
+invariant-loop-line l = string_bytes l.text ++ lines_text (drop l.line-index l.lines) ≡ string_bytes l.fn.text ++ lines_text l.lines

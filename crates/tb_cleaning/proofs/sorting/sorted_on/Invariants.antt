@@ -1,0 +1,8 @@
+use Rattle.std.proofs.Common.{◌≡◌, [], map}
+use Rattle.std.specs.Vec.Iter.{into_iter_items}
+use Rattle.tb_cleaning.specs.Entries.{seen}
+use Rattle.tb_cleaning.specs.Sorting.{sorted_on}
+use Rattle.tb_cleaning.proofs.sorting.sorted_on.Given as goal
+
+abbrev pub invariant-loop-entry : goal.invariant-loop-entry
+invariant-loop-entry l = sorted_on l.ids l.circles (map seen l.found.items) (map seen (into_iter_items l.entry-iterator)) ≡ sorted_on l.ids l.circles [] (map seen l.fn.entries.items)

@@ -1,0 +1,9 @@
+use Rattle.std.proofs.Common.{◌≡◌, length}
+use Rattle.tb_cleaning.specs.Steps.{after_digits}
+use Rattle.tb_cleaning.proofs.steps.after_digits.Given as goal
+
+abbrev pub invariant-loop-first : goal.invariant-loop-first
+invariant-loop-first l = after_digits l.rest ≡ after_digits l.fn.text
+
+abbrev pub decreases-loop-first : goal.decreases-loop-first
+decreases-loop-first l = length l.rest

@@ -1,0 +1,14 @@
+pub mod Circles
+pub mod Cleaning
+pub mod Entries
+pub mod Judging
+pub mod Losses
+pub mod Mark
+pub mod Notes
+pub mod Numbers
+pub mod Ordering
+pub mod Places
+pub mod Respelling
+pub mod Sorting
+pub mod Steps
+pub mod Telling
