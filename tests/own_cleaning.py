@@ -95,9 +95,11 @@ def board_with(*words, given):
     return ran, exported
 
 
-def without_moments(tasks):
-    """The tasks without what an import makes up of its own moment."""
-    return [{name: value for name, value in task.items() if name not in ("entry", "end", "modified")} for task in tasks]
+def by_identity(tasks):
+    """The tasks without what an import makes up of its own moment, each by its uuid, and an instance that the board made by its template and place."""
+    plain = [{name: value for name, value in task.items() if name not in ("entry", "end", "modified")} for task in tasks]
+    # (a board makes uuids of version 8, of its own number)
+    return {(task.pop("parent"), task["imask"]) if task["uuid"][14] == "8" and task.pop("uuid") else task["uuid"]: task for task in plain}
 
 
 def look_at(what, tasks, layout=json.dumps):
@@ -114,8 +116,7 @@ def look_at(what, tasks, layout=json.dumps):
     expect(f"{what}: --skip: {told[-500:]}", 0, status)
     (status, _, told), theirs = board_with(given=text_of(cleaning.taken).encode())
     expect(f"{what}: the filter's: {told[-500:]}", 0, status)
-    by_uuid = lambda tasks: {task["uuid"]: task for task in without_moments(tasks)}
-    expect(f"{what}: the board", by_uuid(theirs), by_uuid(brought))
+    expect(f"{what}: the board", by_identity(theirs), by_identity(brought))
 
 
 def in_lines(tasks):

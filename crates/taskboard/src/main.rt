@@ -38,10 +38,12 @@ use tb_client::Line;
 use tb_command_line::{Order, Topic};
 use tb_files::{RealFile, import_into_file, import_parts_into_file};
 use tb_keeper::SqlKeep;
-use tb_orders::{Ending, OrderFault, fault_of_script, print_fault, read_order, status_of};
+use tb_orders::{
+    Ending, MachineChance, OrderFault, fault_of_script, print_fault, read_order, status_of,
+};
 use tb_program::{Fault, print_text};
 use tb_script::{Watched, run_lines};
-use tb_sending::{MachineChance, MachineDial, ServerLine, name_call};
+use tb_sending::{MachineDial, ServerLine, name_call};
 
 /// Which program this is.
 const VERSION: &str = "\

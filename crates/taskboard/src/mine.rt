@@ -19,9 +19,9 @@ use tb_my::{
     import_of, listed_words, looks, needed_board, query_of, read_seen, refusal_text, sent_of,
     shown_answer, words_after_board,
 };
-use tb_orders::Ending;
+use tb_orders::{Ending, MachineChance};
 use tb_program::{Fault, machine_moment, print_line, print_text};
-use tb_sending::{MachineChance, MachineDial, name_call, new_id, send_order};
+use tb_sending::{MachineDial, name_call, new_id, send_order};
 use tb_task::TaskId;
 use tb_values::{Duplicate, Items, Text};
 

@@ -34,7 +34,7 @@ enum Tried {
     Ended(Ending),
 }
 
-fn tried(rt: &HostRuntime, text: &str, skips: bool) -> Result<Tried, Fault>
+fn try_cleaning(rt: &HostRuntime, text: &str, skips: bool) -> Result<Tried, Fault>
     ensures { IfErr result (λ fault. is_of_mine fault ≡ true) }
 {
     if kind_of(text) == ImportKind::Todo {
@@ -52,7 +52,7 @@ fn tried(rt: &HostRuntime, text: &str, skips: bool) -> Result<Tried, Fault>
 pub(crate) fn cleaned_text(rt: &HostRuntime, text: &str, skips: bool) -> Result<Brought, Fault>
     ensures { IfErr result (λ fault. is_of_mine fault ≡ true) }
 {
-    match tried(rt, text, skips)? {
+    match try_cleaning(rt, text, skips)? {
         Tried::Ended(ending) => Ok(Brought::Ended(ending)),
         Tried::Cleaned(cleaned) => {
             let _ = print_text(&mut rt.stderr(), cleaned.notes.as_str());
@@ -77,7 +77,7 @@ pub(crate) fn check_file<R: Read + Drop, W: Write>(
     let Some(text) = text_of(rt, path, reader) else {
         return told(rt, UNREAD);
     };
-    match tried(rt, text.as_str(), false)? {
+    match try_cleaning(rt, text.as_str(), false)? {
         Tried::Ended(ending) => Ok(ending),
         Tried::Cleaned(cleaned) => {
             print_text(writer, cleaned.notes.as_str())?;

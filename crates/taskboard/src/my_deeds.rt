@@ -1,6 +1,8 @@
 //! The words of `my` that ask for more than one call, or for none: they read and write files.
-ghost use Rattle.std.specs.Prelude.{◌≡◌, IfErr, true};
+ghost use Rattle.std.specs.Prelude.{◌≡◌, IfErr, true, if◌then◌else◌};
 ghost use Rattle.taskboard.specs.Orders.{is_of_mine};
+ghost use Rattle.tb_command_line.specs.declared.order.ImportKind.TheVariants.{Json, Todo};
+ghost use Rattle.tb_my.specs.Importing.{is_json};
 
 use crate::mine::{Answer, Caller, Named, ask, number_of, refused, wrong};
 use crate::my_cleaning::{Brought, cleaned_text};
@@ -259,7 +261,9 @@ pub(crate) fn import_file<R: Read + Drop, W: Write>(
 }
 
 /// JSON by its first bracket, or lines of todo.txt.
-pub(crate) fn kind_of(text: &str) -> ImportKind {
+pub(crate) fn kind_of(text: &str) -> ImportKind
+    ensures { result ≡ (if is_json text.now then Json else Todo) }
+{
     if is_json(text) {
         ImportKind::Json
     } else {

@@ -2,12 +2,12 @@
 ghost use Rattle.std.specs.Prelude.{◌≡◌, Err, IfErr, IfOk, Ok, false, true};
 ghost use Rattle.sqlite.specs.Held.{state};
 ghost use Rattle.sqlite.specs.State.{HasCleanDisk};
-ghost use Rattle.taskboard.specs.Running.{IsRun};
+ghost use Rattle.taskboard.specs.Running.{HasLaps, IsRun};
 ghost use Rattle.tb_event_loop.specs.Deeds.{done_in};
 ghost use Rattle.tb_event_loop.specs.Ending.{has_stopped};
 ghost use Rattle.tb_event_loop.specs.History.{still_to_end};
 ghost use Rattle.tb_event_loop.specs.Serving.{IsCutOff, Runs};
-ghost use Rattle.tb_event_loop.specs.declared.fault.LoopFault.TheVariants.{Sockets, Store};
+ghost use Rattle.tb_event_loop.specs.declared.fault.LoopFault.TheVariants.{Moved, Sockets, Store};
 ghost use Rattle.tb_headline.specs.Headline.{IsAt};
 
 use sqlite::Alter;
@@ -44,7 +44,9 @@ where
         × IsRun ⟦<SqlKeep<S> as Keep>⟧ {E = Unit {0}} C.gives server.clock
         server.paths.site later.paths.site server.peers.items later.peers.items
         (still_to_end event_loop.old) (Ok tt) (done_in runs.deeds) server.desk later.desk
-        (state S.Store later.desk.conn)) }
+        (state S.Store later.desk.conn)
+        × HasLaps {E = Unit {0}} N.follows N.last_told ⟦<Server<SqlKeep<S>, C> as Service>⟧
+        (Ok tt) event_loop.old (sockets.old, server) (sockets.new, later)) }
     ensures cut { IfErr result (λ e. (later : _) × (later.desk ≡ e.1)
         × (runs : Runs N.follows ⟦<Server<SqlKeep<S>, C> as Service>⟧.follows
         ⟦<Server<SqlKeep<S>, C> as Service>⟧.owed_at (has_stopped {T = Unit {0}} (Err e.0))
@@ -52,9 +54,12 @@ where
         × IsRun ⟦<SqlKeep<S> as Keep>⟧ {E = Unit {0}} C.gives server.clock
         server.paths.site later.paths.site server.peers.items later.peers.items
         (still_to_end event_loop.old) (Err e.0) (done_in runs.deeds) server.desk later.desk
-        (state S.Store later.desk.conn)) }
+        (state S.Store later.desk.conn)
+        × HasLaps {E = Unit {0}} N.follows N.last_told ⟦<Server<SqlKeep<S>, C> as Service>⟧
+        (Err e.0) event_loop.old (sockets.old, server) (sockets.new, later)) }
     ensures cause { IfErr result (λ e. e.0 ≡ Sockets
         → IsCutOff N.follows sockets.old sockets.new) }
+    ensures moved { IfErr result (λ e. e.0 ≡ Moved → P.is_gone watch.now) }
     ensures failed { IfErr result (λ e. e.0 ≡ Store
         → ⟦<SqlKeep<S> as Keep>⟧.has_failed e.1 ≡ true) }
 {

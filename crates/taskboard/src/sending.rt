@@ -6,9 +6,9 @@ ghost use Rattle.tb_sending.specs.Faults.{is_of_sending};
 use std::io::Write;
 use tb_client::Line;
 use tb_command_line::SendOrder;
-use tb_orders::Ending;
+use tb_orders::{Ending, MachineChance};
 use tb_program::Fault;
-use tb_sending::{MachineChance, MachineDial, ServerLine, send_order};
+use tb_sending::{MachineDial, ServerLine, send_order};
 
 /// Sends a call or a view until it is answered, over connections that the machine makes.
 pub(crate) fn send<W: Write>(

@@ -22,6 +22,8 @@ impl<'p> ServedFile<'p> {
 }
 
 impl<'p> Watch for ServedFile<'p> {
+    ghost is_gone = { λ _. Unit {0} };
+
     fn is_there(&self) -> bool {
         file_at(self.rt, self.path) == self.file
     }

@@ -1,5 +1,5 @@
 -- What another tool exported, as an import takes it, and what is told of it.
-use Rattle.std.specs.Prelude.{◌≡◌, ◌≤◌, ℕ, ◌==◌, Bool, true, List, length, map, nat_lt, Option, Some, None, Result, Ok, Err}
+use Rattle.std.specs.Prelude.{◌≡◌, ◌≤◌, ◌==◌, Bool, true, false, List, length, map, nat_lt, Option, Some, None, Result, Ok, Err}
 use Rattle.serde_json.specs.Data.{Data, array, depth}
 use Rattle.serde_json.specs.Read.{max_depth, read}
 use Rattle.serde_json.specs.View.{items_of}
@@ -35,7 +35,8 @@ CleansItems skips items (Err Memory) = Unit {0}
 CleansItems skips None (Ok cleaned) = ⊥
 CleansItems skips None (Err NotJson) = Unit {0}
 CleansItems skips None (Err TooMany) = ⊥
-CleansItems skips (Some ds) (Ok cleaned) = IsCleaned skips ds cleaned
+CleansItems skips (Some ds) (Ok cleaned) =
+    (nat_lt most_tasks (length ds) ≡ false) × IsCleaned skips ds cleaned
 CleansItems skips (Some ds) (Err NotJson) = ⊥
 CleansItems skips (Some ds) (Err TooMany) = nat_lt most_tasks (length ds) ≡ true
 

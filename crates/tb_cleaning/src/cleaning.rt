@@ -1,6 +1,6 @@
 //! What another tool exported, as an import takes it, and what is told of it.
 
-ghost use Rattle.std.specs.Prelude.{◌≡◌, IfOk, map};
+ghost use Rattle.std.specs.Prelude.{IfOk, map};
 ghost use Rattle.serde_json.specs.View.{view};
 ghost use Rattle.tb_cleaning.specs.Cleaning.{Cleans, IsCleaned};
 

@@ -1,13 +1,11 @@
 //! What an import drops of the tasks that it takes.
 
-ghost use Rattle.std.specs.Prelude.{◌≡◌, ◌==◌, [], IfOk, OnOk, Some, is_some, map};
-ghost use Rattle.std.specs.List.{list_any};
-ghost use Rattle.serde_json.specs.Data.{object};
+ghost use Rattle.std.specs.Prelude.{◌≡◌, [], IfOk, OnOk, is_some, map};
 ghost use Rattle.serde_json.specs.View.{members_view, view};
 ghost use Rattle.tb_cleaning.specs.Entries.{id_of, seen, taken_in};
 ghost use Rattle.tb_cleaning.specs.Losses.{all_drops, all_links, all_orphans, drop_of, drop_text, drops_in, drops_of, drops_on, has_extra, id_if, is_dropped, is_kept, is_orphan, is_there, link_at, link_text, links_from, links_on, orphan_of, orphans_on, reason_of, templates_on};
 ghost use Rattle.tb_cleaning.specs.Ordering.{has_instances};
-ghost use Rattle.tb_cleaning.specs.Places.{depends_in, with_place};
+ghost use Rattle.tb_cleaning.specs.Places.{depends_in};
 ghost use Rattle.tb_cleaning.specs.Telling.{line_of};
 ghost use Rattle.tb_json.specs.Attribute.{unless_blank};
 

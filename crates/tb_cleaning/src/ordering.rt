@@ -31,14 +31,21 @@ fn picked<'e>(
 {
     let mut found = Vec::new(alloc);
     for place in places {
-        push_entry(&mut found, entries.get(*place))?;
+        push_entry(&mut found, entry_at(entries, *place))?;
     }
     Ok(found)
 }
 
+fn entry_at(entries: &[Entry], place: usize) -> Option<&Entry>
+    ensures { option_map (λ e. seen e.now) result ≡ slice_get (map seen entries.now) place }
+{
+    entries.get(place)
+}
+
 fn push_entry<'e>(found: &mut Vec<&'e Entry>, entry: Option<&'e Entry>) -> Result<(), AllocError>
     ensures { OnOk result (map (λ e. seen e.now) found.new.items
-        ≡ with_entry (map (λ e. seen e.now) found.old.items) (option_map (λ e. seen e.now) entry)) }
+        ≡ with_entry (map (λ e. seen e.now) found.old.items)
+        (option_map (λ e. seen e.now) entry.entry)) }
 {
     match entry {
         Some(entry) => {

@@ -83,6 +83,11 @@ last_word words = if nat_lt 2 (length words) then slice_get words (length words 
 abbrev pub mode_in : List Text → Option CleanMode
 mode_in words = if imports words then option_and_then mode_named (last_word words) else None
 
+-- how many words are left without the last, where that is an option
+abbrev pub count_without : {A : Type 0} → Bool → List A → ℕ
+count_without true words = length words - 1
+count_without false words = length words
+
 abbrev pub without_mode : List Text → List Text
 without_mode words = if is_some (mode_in words) then take (length words - 1) words else words
 

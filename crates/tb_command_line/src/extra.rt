@@ -1,10 +1,10 @@
 //! The options `--page FOLDER`, `--growth KIB` and `--burst MIB` of a server, which may stand anywhere behind its order, and `--check`,
 //! `--clean` and `--skip`, one of which may stand behind all other words of an import.
-ghost use Rattle.std.specs.Prelude.{◌≡◌, ◌++◌, ◌+◌, ◌≤◌, ◌<◌, IfOk, Bool, List, codes, drop, false, length, map, option_map, slice_get, take, true, ℕ};
+ghost use Rattle.std.specs.Prelude.{◌≡◌, ◌++◌, ◌+◌, ◌≤◌, ◌<◌, IfOk, Bool, List, codes, drop, false, is_some, length, map, option_map, slice_get, take, true, ℕ};
 ghost use Rattle.std.specs.List.{list_all};
 ghost use Rattle.tb_command_line.specs.Order.{Request, is_plain, order_of, texts_of, words_of};
 ghost use Rattle.tb_command_line.specs.Outcome.{Reads};
-ghost use Rattle.tb_command_line.specs.Extra.{burst_in, bursting, cleaned, cleaning, growth_in, growth_of, grown, has_option, imports, is_option_front, last_word, mode_in, mode_named, option_in, option_place, paged, serves, with_burst, with_extra, with_growth, with_server, without_burst, without_extra, without_growth, without_mode, without_option, without_server};
+ghost use Rattle.tb_command_line.specs.Extra.{burst_in, bursting, cleaned, cleaning, count_without, growth_in, growth_of, grown, has_option, imports, is_option_front, last_word, mode_in, mode_named, option_in, option_place, paged, serves, with_burst, with_extra, with_growth, with_server, without_burst, without_extra, without_growth, without_mode, without_option, without_server};
 
 use crate::order::{CleanMode, CleanOrder, ImportKind, ImportOrder, Order, WordsFault};
 use crate::words::read_listed;
@@ -84,17 +84,24 @@ fn mode_named(word: &str) -> Option<CleanMode>
     }
 }
 
+fn count_without_mode(words: &[&str]) -> usize
+    ensures count { result
+        ≡ count_without (is_some (mode_in (map (λ word. word.now) words.entry.now))) words.now }
+    ensures few { result ≤ length words.now }
+{
+    if mode_in(words).is_some() {
+        words.len().saturating_sub(1)
+    } else {
+        words.len()
+    }
+}
+
 fn without_mode<'w, 't>(words: &'w [&'t str]) -> &'w [&'t str]
     ensures { map (λ word. word.now) result.now
         ≡ without_mode (map (λ word. word.now) words.entry.now) }
 {
-    if mode_in(words).is_none() {
-        return words;
-    }
-    match words.split_last() {
-        Some((_, rest)) => rest,
-        None => words,
-    }
+    let end = count_without_mode(words);
+    &words[..end]
 }
 
 /// The import of an order as one whose text is cleaned first.

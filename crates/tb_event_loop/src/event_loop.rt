@@ -1,5 +1,5 @@
 //! The loop over the listener and the connections.
-ghost use Rattle.std.specs.Prelude.{◌≡◌, ◌<◌, ◌⊎◌, ◌||◌, ℕ, if◌then◌else◌, IfErr, IfOk, IsErr, [], ◌∷◌, None, OnOk, Some, false, is_err, take, true};
+ghost use Rattle.std.specs.Prelude.{◌≡◌, ◌≢◌, ◌<◌, ◌⊎◌, ◌||◌, ℕ, if◌then◌else◌, IfErr, IfOk, IsErr, [], ◌∷◌, None, OnOk, Some, false, is_err, take, true};
 ghost use Rattle.tb_event_loop.specs.Arrivals.{StaysReady, TriesToAccept, are_held_up, may_accept, tells_listener, told_of};
 ghost use Rattle.tb_event_loop.specs.Deeds.{Acts, ActsAt, done_in};
 ghost use Rattle.tb_event_loop.specs.Done.{ends_in};
@@ -78,6 +78,7 @@ impl EventLoop {
             (has_stopped result) (is_err result) self.old
             (sockets.old, service.old) (sockets.new, service.new) }
         ensures cause { result ≡ Err Sockets → IsCutOff N.follows sockets.old sockets.new }
+        ensures moved { result ≡ Err Moved → P.is_gone watch.now }
         ensures fault { IfErr result
             (λ fault. (fault ≡ Store) ⊎ (fault ≡ Sockets) ⊎ (fault ≡ Moved)) }
         ensures failed { result ≡ Err Store → V.has_failed service.new ≡ true }
@@ -110,7 +111,10 @@ impl EventLoop {
     }
 
     // Whether a new millisecond has begun, in which what is served isn't there any more.
-    fn has_moved<P: Watch>(&self, before: u64, watch: &P) -> bool {
+    fn has_moved<P: Watch>(&self, before: u64, watch: &P) -> bool
+        ensures gone { result ≡ true → P.is_gone watch.now }
+        ensures new { result ≡ true → self.entry.now.now ≢ before }
+    {
         self.now != before && !watch.is_there()
     }
 

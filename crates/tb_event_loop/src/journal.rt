@@ -33,7 +33,11 @@ pub struct Journal<C: Clock, W: Write> {
 
 impl<C: Clock, W: Write> Journal<C, W> {
     /// A journal that begins now. With the log it tells each message.
-    pub fn new(alloc: Global, clock: C, errors: W, is_logged: bool) -> Journal<C, W> {
+    pub fn new(alloc: Global, clock: C, errors: W, is_logged: bool) -> Journal<C, W>
+        ensures begins { result.errors ≡ errors }
+        ensures logs { result.is_logged ≡ is_logged }
+        ensures empty { result.head.items ≡ [] }
+    {
         let started = Instant::now(&clock).ok();
         Journal {
             alloc,
@@ -61,7 +65,9 @@ impl<C: Clock, W: Write> Journal<C, W> {
         self.millis
     }
 
-    pub(crate) fn tell_not_accepted(&mut self, error: &io::Error) {
+    pub(crate) fn tell_not_accepted(&mut self, error: &io::Error)
+        ensures others { self.new ≡ record self.old { errors = self.new.errors } }
+    {
         let _ = writeln!(
             self.errors,
             "taskboard: a connection can't be accepted: {error}"

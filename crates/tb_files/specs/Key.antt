@@ -12,13 +12,13 @@ use Rattle.tb_orders.specs.declared.ending.Ending.{Ending}
 use Rattle.tb_orders.specs.declared.new_key.NewKey.{NewKey}
 
 module _ {D : Type 0} {d : DiskGhosts D} (g : Ghosts (SqlKeep (FileStore D d))) where
-  -- the key that the order asks for, at a moment that was given, is given or refused by the one call in a session
+  -- the key that the order asks for, by whatever bytes the machine drew, at a moment that was given, is given or refused by the one call in a session
   pub record IsKeyGiven (given : ℕ → Type 0) (order : KeyOrder) (input : Option (List ℕ))
       (before after : Option (List ℕ)) (ending : Ending) : Type 0 where
     pub old : SqlKeep (FileStore D d)
     pub new : SqlKeep (FileStore D d)
     pub session : IsFileSession g old new
     pub asked : NewKey
-    pub is_asked : IsAsked given order input asked
+    pub is_asked : IsAsked (λ key id. Unit {0}) given order input asked
     pub does : g.is_honest new ≡ true → (s : State) → g.holds old s
         → IsGiven asked s (g.holds new) before after ending

@@ -9,7 +9,7 @@ use std::io::{Read, Write};
 use tb_calls::Keep;
 use tb_command_line::KeyOrder;
 use tb_keeper::SqlKeep;
-use tb_orders::{Ending, give_key, new_key_of};
+use tb_orders::{Ending, MachineChance, give_key, new_key_of};
 use tb_program::{Clock, Fault};
 
 /// Gives somebody a new key, which is read, or made and printed. The file isn't opened where there is no key to give.
@@ -26,7 +26,8 @@ pub fn give_key_in_file<R: Read + Drop, C: Clock, W: Write>(
         (W.contents writer.old) (W.contents writer.new)) }
     ensures fault { IfErr result (λ fault. is_of_keys fault ≡ true) }
 {
-    let asked = new_key_of(rt.alloc(), order, reader, rt, clock)?;
+    let mut chance = MachineChance::new(rt);
+    let asked = new_key_of(rt.alloc(), order, reader, &mut chance, clock)?;
     let desk = begin(rt, order.file.as_str())?;
     let (desk, end) = give_key(rt.alloc(), desk.into_keep(), &asked, writer);
     match end {

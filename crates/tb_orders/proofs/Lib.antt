@@ -7,3 +7,4 @@ pub mod Items
 pub mod NewKeys
 pub mod Runs
 pub mod Standing
+pub mod Unasked

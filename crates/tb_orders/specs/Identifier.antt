@@ -1,5 +1,5 @@
 -- Identifiers of version 4 (RFC 9562, section 5.4).
-use Rattle.std.specs.Prelude.{◌≡◌, ℕ, List, length, bit_and, bit_or, slice_index, slice_set}
+use Rattle.std.specs.Prelude.{ℕ, List, bit_and, bit_or, slice_index, slice_set}
 use Rattle.std.specs.Int.{from_be_bytes, w128}
 
 -- four bits of byte 6 are the version
@@ -12,7 +12,3 @@ with_variant bytes = slice_set bytes 8 (bit_or (bit_and (slice_index bytes 8) 0x
 
 abbrev pub random_id : List ℕ → ℕ
 random_id bytes = from_be_bytes w128 (with_variant (with_version bytes))
-
--- 16 bytes make the identifier, whatever they are
-abbrev pub IsRandom : ℕ → Type 0
-IsRandom id = (bytes : List ℕ) × (length bytes ≡ 16) × (id ≡ random_id bytes)

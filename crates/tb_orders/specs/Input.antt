@@ -1,5 +1,5 @@
 -- What an import of an input comes to.
-use Rattle.std.specs.Prelude.{◌≡◌, ℕ, Bool, true, List, [], ◌∷◌, Option, IfSome}
+use Rattle.std.specs.Prelude.{◌≡◌, ◌⊎◌, ◌<◌, ℕ, Bool, true, List, [], ◌∷◌, length, Option, IfSome}
 use Rattle.std.specs.Io.KnownBytes.{Appends}
 use Rattle.tb_calls.specs.Call.{State, once, plain, reply}
 use Rattle.tb_calls.specs.declared.call.Call.{Call}
@@ -7,6 +7,7 @@ use Rattle.tb_command_line.specs.declared.order.ImportOrder.{ImportOrder}
 use Rattle.tb_orders.specs.Message.{message_of}
 use Rattle.tb_orders.specs.Orders.{AsksFor, ending_of, line_text}
 use Rattle.tb_orders.specs.declared.ending.Ending.{Ending}
+use Rattle.tb_task.specs.Limits.{longest_body}
 
 -- the call is the one that an order asks for by the text of an input, at some moment
 pub record IsAskedBy (order : ImportOrder) (input : Option (List ℕ)) (call : Call) : Type 0 where
@@ -14,6 +15,11 @@ pub record IsAskedBy (order : ImportOrder) (input : Option (List ℕ)) (call : C
   pub at : ℕ
   pub whole : IfSome input (λ all. text ≡ all)
   pub asked : AsksFor (message_of order text) at call
+
+-- a text is longer than one call takes, or no call is asked for by it
+abbrev pub IsBadText : ImportOrder → List ℕ → Type 0
+IsBadText order text = (longest_body < length text)
+    ⊎ ((at : ℕ) × ((call : Call) → AsksFor (message_of order text) at call → ⊥))
 
 -- the call that an order asks for by an input was made, and its reply, which is true of an honest store, is told and decides how the order ended
 pub record IsMade (order : ImportOrder) (input : Option (List ℕ)) (s : State) (honest : Bool)

@@ -13,7 +13,7 @@ use Rattle.tb_calls.specs.declared.call.Call.{Call}
 use Rattle.tb_command_line.specs.declared.order.KeyOrder.{KeyOrder}
 use Rattle.tb_core.specs.declared.command.Command.{Command}
 use Rattle.tb_core.specs.declared.command.Command.TheVariants.{OwnKey, SetKey}
-use Rattle.tb_orders.specs.Identifier.{IsRandom, random_id}
+use Rattle.tb_orders.specs.Identifier.{random_id}
 use Rattle.tb_orders.specs.Orders.{ending_of, line_text}
 use Rattle.tb_orders.specs.declared.ending.Ending.{Ending}
 use Rattle.tb_orders.specs.declared.new_key.NewKey.{NewKey}
@@ -36,17 +36,29 @@ key_in input = option_and_then (λ text. read_key (trim_end (first_line text))) 
 abbrev pub made_key : List ℕ → Option (List ℕ)
 made_key drawn = read_key (id_text (random_id drawn))
 
--- 16 bytes make the key, whatever they are
-pub record IsMadeKey (key : List ℕ) : Type 0 where
+-- these 16 bytes make the key
+pub record IsMadeKey (drawn key : List ℕ) : Type 0 where
   pub form : is_key key ≡ true
-  pub drawn : List ℕ
   pub long : length drawn ≡ 16
   pub is : made_key drawn ≡ Some key
 
--- the key is the one of an input, where it is read
-abbrev pub IsKeyFor : Bool → Option (List ℕ) → List ℕ → Type 0
-IsKeyFor true input key = IfSome input (λ text. key_in text ≡ Some key)
-IsKeyFor false input key = IsMadeKey key
+-- the key is the one of an input, where it is read, and else that of bytes that were drawn
+abbrev pub IsKeyFor : Bool → Option (List ℕ) → Option (List ℕ) → List ℕ → Type 0
+IsKeyFor true None input key = IfSome input (λ text. key_in text ≡ Some key)
+IsKeyFor false (Some drawn) input key = IsMadeKey drawn key
+IsKeyFor _ drawn input key = ⊥
+
+-- bytes were drawn, or nothing was
+abbrev pub HasDrawn : {G : Type 0} → (Option (List ℕ) → G → G → Type 0) → Option (List ℕ) → G → G
+    → Type 0
+HasDrawn gives None before after = after ≡ before
+HasDrawn gives (Some bytes) before after = gives (Some bytes) before after
+
+-- bytes were drawn for a key, if it is made, and then those of an identifier
+abbrev pub HasDrawnBoth : {G : Type 0} → (Option (List ℕ) → G → G → Type 0) → G → G
+    → Option (List ℕ) → List ℕ → Type 0
+HasDrawnBoth gives before after key id =
+    (between : _) × HasDrawn gives key before between × gives (Some id) between after
 
 -- NoKey says of a key that is to be read that an input has none, or is too long
 abbrev pub IsUnkeyed : Fault → Bool → Option (List ℕ) → Type 0
@@ -65,13 +77,17 @@ new_key order key drawn at = record {
   at = at;
 }
 
--- what an order asks for with an input, at a moment that was given
-pub record IsAsked (given : ℕ → Type 0) (order : KeyOrder) (input : Option (List ℕ))
-    (asked : NewKey) : Type 0 where
+-- what an order asks for with an input, by bytes that were drawn, at a moment that was given
+pub record IsAsked (drew : Option (List ℕ) → List ℕ → Type 0) (given : ℕ → Type 0)
+    (order : KeyOrder) (input : Option (List ℕ)) (asked : NewKey) : Type 0 where
   pub name_is : asked.name ≡ order.name
   pub made_is : asked.is_made ≡ not order.is_read
-  pub key_is : IsKeyFor order.is_read input asked.key
-  pub id_is : IsRandom asked.id
+  pub for_key : Option (List ℕ)
+  pub for_id : List ℕ
+  pub drawn : drew for_key for_id
+  pub key_is : IsKeyFor order.is_read for_key input asked.key
+  pub long : length for_id ≡ 16
+  pub id_is : asked.id ≡ random_id for_id
   pub at_is : given asked.at
 
 -- ---- the call that gives it

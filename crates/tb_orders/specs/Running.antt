@@ -1,5 +1,5 @@
 -- What an import in parts comes to.
-use Rattle.std.specs.Prelude.{◌≡◌, ◌⊎◌, ◌≤◌, ℕ, ◌+◌, ◌==◌, Bool, true, false, List, [], ◌∷◌, ◌++◌, length, take, Option, Some, IfSome, Result, Ok, Err, IfOk, OnOk, OnErr, IsErr, decimal, if◌then◌else◌}
+use Rattle.std.specs.Prelude.{◌≡◌, ◌⊎◌, ◌≤◌, ℕ, ◌+◌, ◌==◌, Bool, true, false, List, [], ◌∷◌, ◌++◌, length, take, Option, Some, None, IfSome, Result, Ok, Err, IfOk, OnOk, OnErr, IsErr, decimal, if◌then◌else◌}
 use Rattle.std.specs.Io.KnownBytes.{Appends}
 use Rattle.tb_calls.specs.Call.{State, replies_to}
 use Rattle.tb_calls.specs.Leaving.{StandsAfter}
@@ -37,6 +37,18 @@ AreFirst messages at [] = Unit {0}
 AreFirst [] at (call ∷ calls) = ⊥
 AreFirst (message ∷ messages) at (call ∷ calls) = AsksFor message at call
     × AreFirst messages at calls
+
+-- one of some messages asks for no call
+abbrev pub HasUnasked : List Message → ℕ → Type 0
+HasUnasked [] at = ⊥
+HasUnasked (message ∷ messages) at =
+    ((call : Call) → AsksFor message at call → ⊥) ⊎ HasUnasked messages at
+
+-- a text isn't cut into parts, or one of them asks for no call
+abbrev pub IsBadWhole : ImportOrder → List ℕ → Type 0
+IsBadWhole order text = IsCut order.kind text None
+    ⊎ ((parts : List (List ℕ)) × (at : ℕ) × IsCut order.kind text (Some parts)
+    × HasUnasked (messages_behind order 0 parts) at)
 
 -- the replies' bodies, a line each
 abbrev pub lines_text : List Reply → List ℕ

@@ -1,5 +1,5 @@
 //! New keys that the machine's owner gives, in the first person's name.
-ghost use Rattle.std.specs.Prelude.{◌≡◌, ◌⊎◌, ◌∷◌, [], Err, IfErr, IfOk, OnOk, Some, true};
+ghost use Rattle.std.specs.Prelude.{◌≡◌, ◌≢◌, ◌⊎◌, ◌∷◌, [], Err, IfErr, IfOk, IsErrOf, None, OnErr, OnOk, Some, true};
 ghost use Rattle.std.specs.Io.KnownBytes.{Appends};
 ghost use Rattle.tb_calls.specs.Call.{State, once, plain, reply};
 ghost use Rattle.tb_calls.specs.Keep.{IsStill, is_store};
@@ -8,7 +8,8 @@ ghost use Rattle.tb_calls.specs.Roles.{person_at};
 ghost use Rattle.tb_calls.specs.declared.call.Call.{Call};
 ghost use Rattle.tb_orders.specs.NewKey.{HoldsGiven, IsGiven, call_by, call_in, command_by, content_by, given_text, is_of_giving};
 ghost use Rattle.tb_orders.specs.Orders.{calls_made, ending_of};
-ghost use Rattle.tb_program.specs.declared.fault.Fault.TheVariants.{WriteFailed};
+ghost use Rattle.tb_program.specs.declared.fault.Fault.TheVariants.{NotOurs, Store, WriteFailed};
+ghost use Rattle.tb_values.specs.Appends.{AppendsFront};
 
 use crate::ending::{Ending, ending_of};
 use crate::new_key::NewKey;
@@ -59,8 +60,16 @@ pub fn give_key<K: FirstPerson, W: Write>(
         → Only s (K.after_stop keep) → (call : Call) → call_in s asked.now ≡ Some call
         → StandsAfter s (call ∷ []) (calls_made result.1) (K.holds result.0)
         (K.after_stop result.0) }
+    ensures front { K.is_honest result.0 ≡ true → (s : State) → K.holds keep s → (call : Call)
+        → call_in s asked.now ≡ Some call
+        → OnErr result.1 (AppendsFront (W.contents writer.old) (W.contents writer.new)
+        (given_text asked.now (reply s [] call))) }
+    ensures silent { IfErr result.1 (λ fault. fault ≢ WriteFailed → writer.new ≡ writer.old) }
+    ensures ours { IsErrOf result.1 NotOurs → K.is_honest result.0 ≡ true → (s : State)
+        → K.holds keep s → call_in s asked.now ≡ None }
     ensures honest { K.is_honest result.0 ≡ true → K.is_honest keep ≡ true }
     ensures fault { IfErr result.1 (λ fault. is_of_giving fault ≡ true) }
+    ensures store { IsErrOf result.1 Store → K.has_failed result.0 ≡ true }
 {
     let mut keep = keep;
     let made = call_for(alloc, &mut keep, asked);
@@ -82,7 +91,10 @@ fn call_for<K: FirstPerson>(alloc: Global, keep: &mut K, asked: &NewKey) -> Resu
         (K.after_stop keep.new) }
     ensures honest { K.is_honest keep.new ≡ true → K.is_honest keep.old ≡ true }
     ensures unmade { IfErr result (λ fault. calls_made (Err fault) ≡ 0) }
+    ensures ours { IsErrOf result NotOurs → K.is_honest keep.new ≡ true → (s : State)
+        → K.holds keep.old s → call_in s asked.now ≡ None }
     ensures fault { IfErr result (λ fault. is_of_giving fault ≡ true) }
+    ensures store { IsErrOf result Store → K.has_failed keep.new ≡ true }
 {
     match keep.first(alloc) {
         Ok(first) => call_of(alloc, first, asked),
@@ -95,7 +107,10 @@ fn call_of(alloc: Global, first: Person, asked: &NewKey) -> Result<Call, Fault>
     ensures call { (s : State) → person_at s.world 1 ≡ Some first
         → IfOk result (λ call. call_in s asked.now ≡ Some call) }
     ensures unmade { IfErr result (λ fault. calls_made (Err fault) ≡ 0) }
+    ensures ours { (s : State) → person_at s.world 1 ≡ Some first → IsErrOf result NotOurs
+        → call_in s asked.now ≡ None }
     ensures fault { IfErr result (λ fault. is_of_giving fault ≡ true) }
+    ensures store { result ≢ Err Store }
 {
     let Person { name, key } = first;
     match key {
@@ -174,8 +189,14 @@ fn make_call<K: Keep, W: Write>(
     ensures stands { (s : State) → K.holds desk.old s → Only s (K.after_stop desk.old)
         → StandsAfter s (call.now ∷ []) (calls_made result) (K.holds desk.new)
         (K.after_stop desk.new) }
+    ensures front { K.is_honest desk.new ≡ true → (s : State) → K.holds desk.old s
+        → OnErr result (AppendsFront (W.contents writer.old) (W.contents writer.new)
+        (given_text asked.now (reply s [] call.now))) }
+    ensures silent { IfErr result (λ fault. fault ≢ WriteFailed → writer.new ≡ writer.old) }
+    ensures ours { result ≢ Err NotOurs }
     ensures honest { K.is_honest desk.new ≡ true → K.is_honest desk.old ≡ true }
     ensures fault { IfErr result (λ fault. is_of_giving fault ≡ true) }
+    ensures store { IsErrOf result Store → K.has_failed desk.new ≡ true }
 {
     match desk.handle(alloc, call) {
         Ok(reply) => print_given(writer, asked, &reply),
@@ -187,6 +208,8 @@ fn make_call<K: Keep, W: Write>(
 fn print_given<W: Write>(writer: &mut W, asked: &NewKey, reply: &Reply) -> Result<Ending, Fault>
     ensures told { OnOk result
         (Appends (W.contents writer.old) (W.contents writer.new) (given_text asked.now reply.now)) }
+    ensures front { OnErr result (AppendsFront (W.contents writer.old) (W.contents writer.new)
+        (given_text asked.now reply.now)) }
     ensures ending { IfOk result (λ ending. ending ≡ ending_of reply.now) }
     ensures fault { IfErr result (λ fault. fault ≡ WriteFailed) }
 {

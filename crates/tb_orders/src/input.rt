@@ -3,11 +3,11 @@ ghost use Rattle.std.specs.Prelude.{◌≡◌, ◌≢◌, ℕ, List, IfErr, IfOk
 ghost use Rattle.tb_calls.specs.Call.{State};
 ghost use Rattle.tb_calls.specs.Leaving.{Only};
 ghost use Rattle.tb_orders.specs.Doing.{Does};
-ghost use Rattle.tb_orders.specs.Input.{IsMade};
+ghost use Rattle.tb_orders.specs.Input.{IsBadText, IsMade};
 ghost use Rattle.tb_orders.specs.Items.{IsBadIn, end_of};
 ghost use Rattle.tb_orders.specs.Message.{message_of};
 ghost use Rattle.tb_orders.specs.Telling.{is_of_inputs, is_of_messages};
-ghost use Rattle.tb_program.specs.declared.fault.Fault.TheVariants.{Memory, Store, WriteFailed};
+ghost use Rattle.tb_program.specs.declared.fault.Fault.TheVariants.{BadBody, Memory, Store, WriteFailed};
 
 use crate::ending::Ending;
 use crate::importing::import_text;
@@ -51,6 +51,8 @@ pub fn import_input<K: Keep, R: Read + Drop, W: Write>(
         (λ fault. fault ≢ WriteFailed → writer.new ≡ writer.old) }
     ensures item { IfErr result
         (λ failed. IfSome failed.item (IsBadIn order.now (R.remaining reader))) }
+    ensures bad { IsErrOf (end_of result) BadBody
+        → IfSome (R.remaining reader) (IsBadText order.now) }
     ensures fault { IfErr (end_of result) (λ fault. is_of_inputs fault ≡ true) }
     ensures store { IsErrOf (end_of result) Store → K.has_failed desk.new ≡ true }
 {
@@ -72,6 +74,7 @@ fn read_message<R: Read + Drop>(
     ensures read { IfOk result
         (λ arrived. (text : List ℕ) × IfSome (R.remaining reader) (λ all. text ≡ all)
         × (arrived.message ≡ message_of order.now text)) }
+    ensures bad { IsErrOf result BadBody → IfSome (R.remaining reader) (IsBadText order.now) }
     ensures fault { IfErr result (λ fault. is_of_messages fault ≡ true) }
 {
     let text = read_text(alloc, reader)?;

@@ -5,6 +5,7 @@
 #![tactic(auto)]
 
 mod auditing;
+mod chance;
 mod cutting;
 mod elsewhere;
 mod ending;
@@ -25,6 +26,7 @@ mod whole;
 mod words;
 
 pub use auditing::print_audit;
+pub use chance::{Chance, MachineChance};
 pub use elsewhere::kept_key;
 pub use ending::{Ending, fault_of_keep};
 pub use exporting::{Export, print_stored_view};

@@ -1,13 +1,13 @@
 //! The new key that an order is about: read, or made of random bytes.
-ghost use Rattle.std.specs.Prelude.{◌≡◌, ◌∷◌, [], ℕ, IfErr, IfOk, IfSome, IsErrOf, List, None, Option, false, length, true};
+ghost use Rattle.std.specs.Prelude.{◌≡◌, ◌∷◌, [], ℕ, IfErr, IfOk, IsErrOf, List, None, Option, Some, false, true};
 ghost use Rattle.tb_orders.specs.Moments.{GaveOne};
-ghost use Rattle.tb_orders.specs.NewKey.{IsAsked, IsKeyFor, IsMadeKey, IsUnkeyed, first_line, is_of_new_keys, key_in, made_key, new_key};
+ghost use Rattle.tb_orders.specs.NewKey.{HasDrawn, HasDrawnBoth, IsAsked, IsKeyFor, IsMadeKey, IsUnkeyed, first_line, is_of_new_keys, key_in, made_key, new_key};
 ghost use Rattle.tb_program.specs.declared.fault.Fault.TheVariants.{NoClock};
 
+use crate::chance::Chance;
 use crate::identifier::random_id;
 use std::alloc::{AllocError, Global};
 use std::io::Read;
-use std::random::RandomSource;
 use tb_asking::read_text as text_of;
 use tb_board::{Key, Name};
 use tb_command_line::KeyOrder;
@@ -26,26 +26,25 @@ pub struct NewKey {
     pub at: Moment,
 }
 
-/// What an order asks for. A key that isn't read is made of random bytes, and others make the identifier of its call, whose moment is the
-/// clock's. Errors: `NoKey` where the first line of the reader is no key, `ReadFailed` where the reader fails or there are no random
-/// bytes, `NoClock` and `Memory`.
-#[tactic(auto, using(crate::proofs::NewKeys::asked_of))]
-pub fn new_key_of<R: Read + Drop, C: Clock>(
+/// What an order asks for. A key that isn't read is made of bytes that are drawn, and others make the identifier of its call, whose
+/// moment is the clock's. Errors: `NoKey` where the first line of the reader is no key, `ReadFailed` where the reader fails or there are
+/// no random bytes, `NoClock` and `Memory`.
+pub fn new_key_of<R: Read + Drop, G: Chance, C: Clock>(
     alloc: Global,
     order: &KeyOrder,
     reader: R,
-    source: &impl RandomSource,
+    chance: &mut G,
     clock: &mut C,
 ) -> Result<NewKey, Fault>
-    ensures asked { IfOk result
-        (IsAsked (GaveOne C.gives clock.old clock.new) order.now (R.remaining reader)) }
+    ensures asked { IfOk result (IsAsked (HasDrawnBoth G.gives chance.old chance.new)
+        (GaveOne C.gives clock.old clock.new) order.now (R.remaining reader)) }
     ensures timeless { IsErrOf result NoClock → C.gives (None ∷ []) clock.old clock.new }
     ensures unkeyed { IfErr result
         (λ fault. IsUnkeyed fault order.now.is_read (R.remaining reader)) }
     ensures fault { IfErr result (λ fault. is_of_new_keys fault ≡ true) }
 {
-    let key = key_for(alloc, order.is_read, reader, source)?;
-    let Some(drawn) = drawn_from(source) else {
+    let key = key_for(alloc, order.is_read, reader, chance)?;
+    let Some(drawn) = chance.draw() else {
         return Err(Fault::ReadFailed);
     };
     let Some(at) = clock.now() else {
@@ -74,13 +73,15 @@ fn new_key(
     })
 }
 
-fn key_for<R: Read + Drop>(
+fn key_for<R: Read + Drop, G: Chance>(
     alloc: Global,
     is_read: bool,
     reader: R,
-    source: &impl RandomSource,
+    chance: &mut G,
 ) -> Result<Key, Fault>
-    ensures key { IfOk result (IsKeyFor is_read (R.remaining reader)) }
+    ensures key { IfOk result (λ key. (drawn : Option (List ℕ))
+        × HasDrawn G.gives drawn chance.old chance.new
+        × IsKeyFor is_read drawn (R.remaining reader) key) }
     ensures unkeyed { IfErr result (λ fault. IsUnkeyed fault is_read (R.remaining reader)) }
     ensures timeless { IsErrOf result NoClock → ⊥ }
     ensures fault { IfErr result (λ fault. is_of_new_keys fault ≡ true) }
@@ -88,13 +89,13 @@ fn key_for<R: Read + Drop>(
     if is_read {
         read_key(alloc, reader)
     } else {
-        make_key(alloc, source)
+        make_key(alloc, chance)
     }
 }
 
 /// The key that the first line of a reader is.
 fn read_key<R: Read + Drop>(alloc: Global, reader: R) -> Result<Key, Fault>
-    ensures key { IfOk result (IsKeyFor true (R.remaining reader)) }
+    ensures key { IfOk result (IsKeyFor true None (R.remaining reader)) }
     ensures unkeyed { IfErr result (λ fault. IsUnkeyed fault true (R.remaining reader)) }
     ensures timeless { IsErrOf result NoClock → ⊥ }
     ensures fault { IfErr result (λ fault. is_of_new_keys fault ≡ true) }
@@ -128,15 +129,16 @@ fn first_line(text: &str) -> &str
     }
 }
 
-/// A key of the characters of a random identifier.
-fn make_key(alloc: Global, source: &impl RandomSource) -> Result<Key, Fault>
-    ensures key { IfOk result IsMadeKey }
+/// A key of the characters of the identifier that drawn bytes make.
+fn make_key<G: Chance>(alloc: Global, chance: &mut G) -> Result<Key, Fault>
+    ensures key { IfOk result (λ key. (drawn : List ℕ)
+        × G.gives (Some drawn) chance.old chance.new × IsMadeKey drawn key) }
     ensures unkeyed { (input : Option (List ℕ))
         → IfErr result (λ fault. IsUnkeyed fault false input) }
     ensures timeless { IsErrOf result NoClock → ⊥ }
     ensures fault { IfErr result (λ fault. is_of_new_keys fault ≡ true) }
 {
-    let Some(drawn) = drawn_from(source) else {
+    let Some(drawn) = chance.draw() else {
         return Err(Fault::ReadFailed);
     };
     match made_key(alloc, drawn)? {
@@ -151,16 +153,4 @@ fn made_key(alloc: Global, drawn: [u8; 16]) -> Result<Option<Key>, AllocError>
 {
     let text = random_id(drawn).text(alloc)?;
     Key::read(alloc, text.as_str())
-}
-
-/// 16 random bytes, where the source gives them.
-fn drawn_from(source: &impl RandomSource) -> Option<[u8; 16]>
-    ensures { IfSome result (λ drawn. length drawn ≡ 16) }
-{
-    let mut bytes = [0u8; 16];
-    if source.fill_bytes(&mut bytes).is_ok() {
-        Some(bytes)
-    } else {
-        None
-    }
 }

@@ -3,10 +3,12 @@ ghost use Rattle.std.specs.Prelude.{◌≡◌, ◌+◌, ◌∷◌, ◌<◌, ◌^
 ghost use Rattle.tb_asking.specs.Asking.{asked_of};
 ghost use Rattle.tb_calls.specs.Call.{State};
 ghost use Rattle.tb_calls.specs.Leaving.{Only};
+ghost use Rattle.tb_calls.specs.declared.call.Call.{Call};
 ghost use Rattle.tb_orders.specs.Items.{IsBadBehind, end_of, item_in};
-ghost use Rattle.tb_orders.specs.Running.{IsRun, messages_behind, part_id, part_message};
+ghost use Rattle.tb_orders.specs.Orders.{AsksFor};
+ghost use Rattle.tb_orders.specs.Running.{HasUnasked, IsRun, messages_behind, part_id, part_message};
 ghost use Rattle.tb_orders.specs.Telling.{is_of_imports};
-ghost use Rattle.tb_program.specs.declared.fault.Fault.TheVariants.{Store};
+ghost use Rattle.tb_program.specs.declared.fault.Fault.TheVariants.{BadBody, Store};
 
 use crate::ending::Ending;
 use crate::importing::import_text;
@@ -56,6 +58,8 @@ pub(crate) fn import_parts<K: Keep, W: Write, P: Progress>(
     ensures item { IfErr result
         (λ failed. IfSome failed.item
         (IsBadBehind run.now.order.now before parts.entry.now run.now.at)) }
+    ensures bad { IsErrOf (end_of result) BadBody
+        → HasUnasked (messages_behind run.now.order.now before parts.entry.now) run.now.at }
     ensures honest { K.is_honest desk.new ≡ true → K.is_honest desk.old ≡ true }
     ensures fault { IfErr (end_of result) (λ fault. is_of_imports fault ≡ true) }
     ensures store { IsErrOf (end_of result) Store → K.has_failed desk.new ≡ true }
@@ -87,6 +91,8 @@ fn import_part<K: Keep, W: Write>(
     ensures item { IfErr result (λ failed. IfSome failed.item
         (λ item. item_in number
         (asked_of (part_message run.now.order.now number part.now) run.now.at) ≡ Some item)) }
+    ensures bad { IsErrOf (end_of result) BadBody → (call : Call)
+        → AsksFor (part_message run.now.order.now number part.now) run.now.at call → ⊥ }
     ensures honest { K.is_honest desk.new ≡ true → K.is_honest desk.old ≡ true }
     ensures fault { IfErr (end_of result) (λ fault. is_of_imports fault ≡ true) }
     ensures store { IsErrOf (end_of result) Store → K.has_failed desk.new ≡ true }

@@ -1,13 +1,13 @@
 //! The import of an input that is longer than one call takes.
-ghost use Rattle.std.specs.Prelude.{◌≡◌, ℕ, List, Some, IfErr, IfOk, IfSome, IsErrOf, true};
+ghost use Rattle.std.specs.Prelude.{◌≡◌, ◌≢◌, ℕ, List, None, Some, Err, IfErr, IfOk, IfSome, IsErrOf, true};
 ghost use Rattle.tb_calls.specs.Call.{State};
 ghost use Rattle.tb_calls.specs.Leaving.{Only};
 ghost use Rattle.tb_orders.specs.Doing.{is_unread};
 ghost use Rattle.tb_orders.specs.Items.{IsBadAmong, end_of};
 ghost use Rattle.tb_orders.specs.Lists.{IsCut};
-ghost use Rattle.tb_orders.specs.Running.{IsRunOf};
+ghost use Rattle.tb_orders.specs.Running.{IsBadWhole, IsRunOf};
 ghost use Rattle.tb_orders.specs.Telling.{is_of_inputs, is_of_messages};
-ghost use Rattle.tb_program.specs.declared.fault.Fault.TheVariants.{Store};
+ghost use Rattle.tb_program.specs.declared.fault.Fault.TheVariants.{BadBody, Store};
 
 use crate::ending::Ending;
 use crate::lists::parts_of;
@@ -48,6 +48,8 @@ pub fn import_all<K: Keep, R: Read + Drop, W: Write>(
         → (desk.new ≡ desk.old) × (writer.new ≡ writer.old)) }
     ensures item { IfErr result
         (λ failed. IfSome failed.item (IsBadAmong order.now (R.remaining reader))) }
+    ensures bad { IsErrOf (end_of result) BadBody
+        → IfSome (R.remaining reader) (IsBadWhole order.now) }
     ensures fault { IfErr (end_of result) (λ fault. is_of_inputs fault ≡ true) }
     ensures store { IsErrOf (end_of result) Store → K.has_failed desk.new ≡ true }
 {
@@ -74,6 +76,8 @@ fn read_parts<R: Read + Drop>(
     ensures read { IfOk result
         (λ arrived. (text : List ℕ) × IfSome (R.remaining reader) (λ all. text ≡ all)
         × IsCut order.now.kind text (Some arrived.parts.items)) }
+    ensures bad { IsErrOf result BadBody
+        → IfSome (R.remaining reader) (λ text. IsCut order.now.kind text None) }
     ensures fault { IfErr result (λ fault. is_of_messages fault ≡ true) }
 {
     let text = read_all(alloc, reader)?;
@@ -87,6 +91,7 @@ fn read_parts<R: Read + Drop>(
 /// The whole text of a reader.
 fn read_all<R: Read + Drop>(alloc: Global, reader: R) -> Result<Items<u8>, Fault>
     ensures whole { IfSome (R.remaining reader) (λ text. IfOk result (λ read. read ≡ text)) }
+    ensures long { result ≢ Err BadBody }
     ensures fault { IfErr result (λ fault. is_of_messages fault ≡ true) }
 {
     let mut reader = reader;

@@ -5,7 +5,7 @@ ghost use Rattle.std.specs.String.{string_bytes};
 ghost use Rattle.std.specs.Vec.Iter.{into_iter_items};
 ghost use Rattle.tb_command_line.specs.Order.{Request, is_plain, order_of, texts_of, words_of};
 ghost use Rattle.tb_command_line.specs.Extra.{with_extra, without_extra};
-ghost use Rattle.tb_command_line.specs.Sending.{send_of, told_of};
+ghost use Rattle.tb_command_line.specs.Sending.{my_of, send_of, told_of};
 ghost use Rattle.tb_command_line.specs.declared.order.Order.{Order};
 ghost use Rattle.tb_orders.specs.Telling.{ReadsAs, is_of_words};
 
@@ -65,6 +65,9 @@ fn order_after_name(alloc: Global, words: Args, kept: &Option<Key>) -> Result<Or
     ensures sent { (rest : List (List ℕ))
         → map string_bytes (drop 1 (into_iter_items words)) ≡ codes "send" ∷ rest
         → told_of (codes "send" ∷ rest) ≡ None → ReadsAs result (send_of rest) }
+    ensures mine { (rest : List (List ℕ))
+        → map string_bytes (drop 1 (into_iter_items words)) ≡ codes "my" ∷ rest
+        → told_of (codes "my" ∷ rest) ≡ None → ReadsAs result (my_of rest) }
     ensures fault { IfErr result (λ fault. is_of_words fault ≡ true) }
 {
     let words = after_first(alloc, words)?;
@@ -85,6 +88,9 @@ pub fn order_of(alloc: Global, words: &[&str], kept: &Option<Key>) -> Result<Ord
     ensures sent { (rest : List (List ℕ))
         → map (λ word. word.now) words.entry.now ≡ codes "send" ∷ rest
         → told_of (codes "send" ∷ rest) ≡ None → ReadsAs result (send_of rest) }
+    ensures mine { (rest : List (List ℕ))
+        → map (λ word. word.now) words.entry.now ≡ codes "my" ∷ rest
+        → told_of (codes "my" ∷ rest) ≡ None → ReadsAs result (my_of rest) }
     ensures fault { IfErr result (λ fault. is_of_words fault ≡ true) }
 {
     match command_of(alloc, words, kept) {

@@ -4,7 +4,6 @@ ghost use Rattle.tb_sending.specs.Changing.{IsAsked, IsEnded, change_order, chan
 ghost use Rattle.tb_sending.specs.Faults.{is_of_sending};
 
 use crate::beside::Begun;
-use crate::chance::Chance;
 use crate::identifier::new_id;
 use crate::printing::ACCEPTED;
 use crate::sending::ask_words;
@@ -12,6 +11,7 @@ use std::alloc::{AllocError, Global};
 use tb_board::{Key, Name};
 use tb_client::{Line, Reply, own_key_words};
 use tb_command_line::SendOrder;
+use tb_orders::Chance;
 use tb_program::Fault;
 use tb_task::TaskId;
 use tb_values::{Duplicate, Text};

@@ -2,9 +2,8 @@
 ghost use Rattle.std.specs.Prelude.{◌≡◌, IsNone, IsSome};
 ghost use Rattle.tb_sending.specs.Drawing.{IsDrawn};
 
-use crate::chance::Chance;
 use tb_command_line::SendOrder;
-use tb_orders::random_id;
+use tb_orders::{Chance, random_id};
 use tb_task::TaskId;
 
 /// Gives the call an identifier, if it has none: a random one of version 4. Where there are no random bytes, it still has none.

@@ -4,7 +4,6 @@
 #![tactic(auto)]
 
 mod beside;
-mod chance;
 mod changing;
 mod dial;
 mod identifier;
@@ -16,7 +15,6 @@ mod sending;
 mod server_line;
 mod settling;
 
-pub use chance::{Chance, MachineChance};
 pub use dial::{Dial, MachineDial};
 pub use identifier::{name_call, new_id};
 pub use key_folder::{KeyFolder, key_in_file, path_at_home, private_text};

@@ -7,7 +7,6 @@ ghost use Rattle.tb_sending.specs.Faults.{is_of_sending};
 ghost use Rattle.tb_sending.specs.Lines.{IsLineTo};
 ghost use Rattle.tb_sending.specs.Sending.{AreNamed, AreRefused, AreReplied, AreUnnamed, ComesTo, Fails, IsMessage, IsNoMessage, IsReplied, IsSent, IsUnsent, Lacks, is_too_long};
 
-use crate::chance::Chance;
 use crate::dial::Dial;
 use crate::key::key_of;
 use crate::places::take_reply;
@@ -20,7 +19,7 @@ use tb_client::{
     request_of,
 };
 use tb_command_line::SendOrder;
-use tb_orders::Ending;
+use tb_orders::{Chance, Ending};
 use tb_program::Fault;
 use tb_task::LONGEST_BODY;
 use tb_values::{Duplicate, Text};

@@ -7,7 +7,6 @@ ghost use Rattle.tb_sending.specs.Changing.{EndsBefore, IsSettled, IsUnsettled, 
 ghost use Rattle.tb_sending.specs.Faults.{is_of_sending};
 
 use crate::beside::{Begun, Step, step_of};
-use crate::chance::Chance;
 use crate::changing::{change_key, changed_body, is_changed, is_unknown};
 use crate::identifier::new_id;
 use crate::key::folder_of;
@@ -18,7 +17,7 @@ use std::io::Write;
 use tb_board::Key;
 use tb_client::{Line, Reply, is_own_key_alone};
 use tb_command_line::SendOrder;
-use tb_orders::Ending;
+use tb_orders::{Chance, Ending};
 use tb_program::{Fault, print_line};
 use tb_task::TaskId;
 

@@ -9,7 +9,7 @@ use Rattle.taskboard.proofs.serve.serve_file.Goals as goal
 pub returns-in-Ok-clause-served : goal.returns-in-Ok-clause-served
 returns-in-Ok-clause-served c =
     let server = c.in_ok-server.server in
-    let (later, desk, runs, run) = c.in-Ok.ensures.run in
+    let (later, desk, runs, run, laps) = c.in-Ok.ensures.run in
     let files = c.in_ok-close_desk-in-Ok.ensures.saved.0 in (
       refl,
       record {

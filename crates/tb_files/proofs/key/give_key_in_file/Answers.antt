@@ -1,5 +1,6 @@
 use Rattle.std.proofs.lemmas.Result.{IfOk-at_ok}
 use Rattle.tb_files.proofs.Begun.{begun_as}
+use Rattle.tb_orders.proofs.NewKeys.{asked_anyhow}
 use Rattle.tb_files.proofs.key.give_key_in_file.Goals as goal
 
 pub returns-in-Ok-clause-given : goal.returns-in-Ok-clause-given
@@ -13,6 +14,6 @@ returns-in-Ok-clause-given g c = record {
     saved = c.in_ok-close_desk-in-Ok.ensures.saved.1;
   };
   asked = c.in_ok-asked.asked;
-  is_asked = c.in_ok-asked.ensures.asked;
+  is_asked = asked_anyhow _ _ _ _ _ c.in_ok-asked.ensures.asked;
   does = λ honest s held. IfOk-at_ok _ c.in-Ok.is (c.give_key-desk.ensures.given honest s held);
 }

@@ -5,8 +5,9 @@ use Rattle.tb_orders.specs.Items.{item_in}
 use Rattle.tb_orders.proofs.Doing.{done_by, none_done, unread_acts_not}
 use Rattle.tb_orders.proofs.Inputs.{made_by, of_import}
 use Rattle.tb_orders.proofs.Items.{bad_in}
+use Rattle.tb_orders.proofs.Unasked.{unasked_bad}
 use Rattle.tb_orders.proofs.input.import_input.Goals as goal
-use Rattle.tb_program.specs.declared.fault.Fault.TheVariants.{Memory, Store}
+use Rattle.tb_program.specs.declared.fault.Fault.TheVariants.{BadBody, Memory, Store}
 
 pub returns-in-Ok-clause-made : goal.returns-in-Ok-clause-made
 returns-in-Ok-clause-made g c s held =
@@ -47,3 +48,9 @@ pub returns-in-Err-clause-does : goal.returns-in-Err-clause-does
 returns-in-Err-clause-does g c s held only =
     let acts_not = unread_acts_not c.in-Err.fault c.in-Err.ensures.fault in
     none_done c.args.order.now _ s c.in-Err.fault _ _ _ (g.W.Write.contents c.args.writer.now) acts_not.0 acts_not.1 held only
+
+pub returns-in-Ok-clause-bad : goal.returns-in-Ok-clause-bad
+returns-in-Ok-clause-bad g c e =
+    let read = c.in-Ok.ensures.read in
+    unasked_bad c.args.order.now _ read.0 c.in-Ok.arrived.message c.in-Ok.arrived.at read.1 read.2
+    (c.import_text-end.ensures.unread (subst (λ r. IsErrOf r BadBody) c.with_item.ensures.end e))

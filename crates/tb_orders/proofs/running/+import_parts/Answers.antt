@@ -3,6 +3,7 @@ use Rattle.tb_orders.specs.Running.{IsRun, part_message}
 use Rattle.tb_orders.specs.declared.ending.Ending.TheVariants.{Accepted, Refused}
 use Rattle.tb_orders.proofs.Items.{bad_behind, bad_first}
 use Rattle.tb_orders.proofs.Runs.{cut_parts, then_parts}
+use Rattle.tb_orders.proofs.Unasked.{unasked_behind, unasked_first}
 use Rattle.tb_orders.proofs.running.+import_parts.Goals as goal
 
 pub returns-in-Ok-Accepted-clause-run : goal.returns-in-Ok-Accepted-clause-run
@@ -38,3 +39,11 @@ returns-in-Err-clause-run g t c s held only =
 pub returns-in-Err-clause-item : goal.returns-in-Err-clause-item
 returns-in-Err-clause-item g t c =
     bad_first c.args.run.now.order.now c.args.before c.args.parts.now _ _ c.args.run.now.at c.in-Err.fault.item c.in-Some.ensures.cases.0 c.in-Err.ensures.item
+
+pub returns-in-Ok-Accepted-clause-bad : goal.returns-in-Ok-Accepted-clause-bad
+returns-in-Ok-Accepted-clause-bad g t c is =
+    unasked_behind c.args.run.now.order.now c.args.before c.args.parts.now _ _ c.args.run.now.at c.in-Some.ensures.cases.0 (c.import_parts.ensures.bad is)
+
+pub returns-in-Err-clause-bad : goal.returns-in-Err-clause-bad
+returns-in-Err-clause-bad g t c is =
+    unasked_first c.args.run.now.order.now c.args.before c.args.parts.now _ _ c.args.run.now.at c.in-Some.ensures.cases.0 (c.in-Err.ensures.bad is)

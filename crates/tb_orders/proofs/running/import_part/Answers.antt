@@ -1,10 +1,11 @@
-use Rattle.std.proofs.Common.{◌≡◌, [], ◌∷◌, IfErr, IfSome, IsErrOf, Some, subst}
+use Rattle.std.proofs.Common.{◌≡◌, [], ◌∷◌, IfErr, IfSome, IsErrOf, Some, subst, sym}
 use Rattle.tb_asking.specs.Asking.{asked_of}
 use Rattle.tb_orders.specs.Items.{item_in}
+use Rattle.tb_orders.specs.Orders.{AsksFor}
 use Rattle.tb_orders.specs.Running.{IsRun}
 use Rattle.tb_orders.proofs.Runs.{none_run, one_run}
 use Rattle.tb_orders.proofs.running.import_part.Goals as goal
-use Rattle.tb_program.specs.declared.fault.Fault.TheVariants.{Store}
+use Rattle.tb_program.specs.declared.fault.Fault.TheVariants.{BadBody, Store}
 
 pub returns-in-Ok-clause-run : goal.returns-in-Ok-clause-run
 returns-in-Ok-clause-run g c s held only =
@@ -30,3 +31,8 @@ returns-in-Ok-clause-store g c e = c.import_text-end.ensures.store (subst (λ r.
 
 pub returns-in-Err-clause-run : goal.returns-in-Err-clause-run
 returns-in-Err-clause-run g c s held only = none_run _ _ s _ _ _ _ _ held only
+
+pub returns-in-Ok-clause-bad : goal.returns-in-Ok-clause-bad
+returns-in-Ok-clause-bad g c e call asks =
+    c.import_text-end.ensures.unread (subst (λ r. IsErrOf r BadBody) c.with_item.ensures.end e) call
+    (subst (λ m. AsksFor m c.args.run.now.at call) (sym c.in-Ok.ensures) asks)

@@ -6,6 +6,7 @@ use Rattle.tb_orders.proofs.Doing.{read_by_then}
 use Rattle.tb_orders.proofs.Inputs.{of_import}
 use Rattle.tb_orders.proofs.Items.{bad_among}
 use Rattle.tb_orders.proofs.Runs.{unread_run}
+use Rattle.tb_orders.proofs.Unasked.{part_bad, uncut_bad}
 use Rattle.tb_orders.proofs.whole.import_all.Goals as goal
 
 pub returns-in-Ok-clause-run : goal.returns-in-Ok-clause-run
@@ -35,3 +36,12 @@ returns-in-Ok-clause-unread g c =
 
 pub returns-in-Err-clause-run : goal.returns-in-Err-clause-run
 returns-in-Err-clause-run g c s held only = unread_run _ _ s _ _ _ _ _ held only
+
+pub returns-in-Ok-clause-bad : goal.returns-in-Ok-clause-bad
+returns-in-Ok-clause-bad g c is =
+    let read = c.in-Ok.ensures.read in
+    part_bad c.args.order.now _ read.0 c.as_slice-parts.result.now c.in-Ok.arrived.at read.1
+    (subst (λ ps. IsCut c.args.order.now.kind read.0 (Some ps)) (sym c.as_slice-parts.ensures.value) read.2) (c.import_parts.ensures.bad is)
+
+pub returns-in-Err-clause-bad : goal.returns-in-Err-clause-bad
+returns-in-Err-clause-bad g c is = uncut_bad c.args.order.now _ (c.in-Err.ensures.bad (cc))
