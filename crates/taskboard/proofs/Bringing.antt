@@ -11,14 +11,14 @@ use Rattle.tb_orders.specs.declared.ending.Ending.{Ending}
 
 pub brought_in_parts : {D W E : Type 0} {d : DiskGhosts D} (g : Ghosts (SqlKeep (FileStore D d))) (contents : W → Option (List ℕ)) (is_all : Bool) (order : ImportOrder)
     (text read : List ℕ) (before after : W) (r : Result Ending E) → is_all ≡ true → read ≡ text
-    → IfOk r (IsImportedInParts g (λ at. Unit {0}) order (Some read) (contents before) (contents after)) → IfOk r (IsBrought g contents is_all order text before after)
+    → IfOk r (IsImportedInParts g order (Some read) (contents before) (contents after)) → IfOk r (IsBrought g contents is_all order text before after)
 brought_in_parts g contents is_all order text read before after r is same done =
     subst (λ b. IfOk r (IsBrought g contents b order text before after)) (sym is)
-    (subst (λ t. IfOk r (IsImportedInParts g (λ at. Unit {0}) order (Some t) (contents before) (contents after))) same done)
+    (subst (λ t. IfOk r (IsImportedInParts g order (Some t) (contents before) (contents after))) same done)
 
 pub brought_whole : {D W E : Type 0} {d : DiskGhosts D} (g : Ghosts (SqlKeep (FileStore D d))) (contents : W → Option (List ℕ)) (is_all : Bool) (order : ImportOrder)
     (text read : List ℕ) (before after : W) (r : Result Ending E) → is_all ≡ false → read ≡ text
-    → IfOk r (IsImported g (λ at. Unit {0}) order (Some read) (contents before) (contents after)) → IfOk r (IsBrought g contents is_all order text before after)
+    → IfOk r (IsImported g order (Some read) (contents before) (contents after)) → IfOk r (IsBrought g contents is_all order text before after)
 brought_whole g contents is_all order text read before after r is same done =
     subst (λ b. IfOk r (IsBrought g contents b order text before after)) (sym is)
-    (subst (λ t. IfOk r (IsImported g (λ at. Unit {0}) order (Some t) (contents before) (contents after))) same done)
+    (subst (λ t. IfOk r (IsImported g order (Some t) (contents before) (contents after))) same done)

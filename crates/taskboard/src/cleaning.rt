@@ -5,7 +5,6 @@ ghost use Rattle.taskboard.specs.Orders.{IsBrought, IsCleaned, IsCleanedBy, endi
 ghost use Rattle.tb_cleaning.specs.Cleaning.{Cleans};
 ghost use Rattle.tb_files.specs.Faults.{is_of_imports};
 
-use crate::clock::MachineClock;
 use std::alloc::Global;
 use std::io::{ErrorKind, Read, Write};
 use tb_calls::Keep;
@@ -109,11 +108,10 @@ fn bring_text<W: Write>(
         is_all order.now text.now writer.old writer.new) }
     ensures fault { IfErr result (λ failed. is_of_imports failed.fault ≡ true) }
 {
-    let mut clock = MachineClock { rt };
     if is_all {
-        import_parts_into_file(rt, order, text.as_slice(), &mut clock, writer)
+        import_parts_into_file(rt, order, text.as_slice(), writer)
     } else {
-        import_into_file(rt, order, text.as_slice(), &mut clock, writer)
+        import_into_file(rt, order, text.as_slice(), writer)
     }
 }
 

@@ -25,7 +25,6 @@ mod serve;
 mod served_file;
 
 use crate::cleaning::clean_into_file;
-use crate::clock::MachineClock;
 use crate::file_orders::{check, give_key, init, view};
 use crate::mine::ask_mine;
 use crate::sending::send;
@@ -115,12 +114,8 @@ fn carry_out<R: Read + Drop, W: Write>(
         Order::Init(order) => init(rt, order),
         Order::Serve(order) => alone(serve_file(rt, order)),
         Order::Run => alone(run_script(rt.alloc(), &mut Watched::new(reader), writer)),
-        Order::Import(order) => {
-            import_into_file(rt, order, reader, &mut MachineClock { rt }, writer)
-        }
-        Order::ImportAll(order) => {
-            import_parts_into_file(rt, order, reader, &mut MachineClock { rt }, writer)
-        }
+        Order::Import(order) => import_into_file(rt, order, reader, writer),
+        Order::ImportAll(order) => import_parts_into_file(rt, order, reader, writer),
         Order::Clean(order) => clean_into_file(rt, order, reader, writer),
         Order::View(order) => view(rt, order, writer),
         Order::Check(file) => check(rt, file, writer),

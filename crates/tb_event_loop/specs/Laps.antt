@@ -3,7 +3,6 @@ use Rattle.std.specs.Prelude.{◌≡◌, ◌||◌, ℕ, zero, suc, Bool, true, f
 use Rattle.tb_event_loop.specs.Arrivals.{StaysReady, TriesToAccept, may_accept, tells_listener, told_of}
 use Rattle.tb_event_loop.specs.Done.{Done}
 use Rattle.tb_event_loop.specs.EventLoop.{IsWaitOf}
-use Rattle.tb_event_loop.specs.Hearing.{Hears}
 use Rattle.tb_event_loop.specs.Rounds.{IsRound}
 use Rattle.tb_event_loop.specs.Serving.{Runs}
 use Rattle.tb_event_loop.specs.Sockets.{Called, waited}
@@ -13,7 +12,7 @@ use Rattle.tb_event_loop.specs.declared.sockets.Told.{Told}
 module _ {N V : Type 0} (asks : List Called → N → N → Type 0) (last_told : N → List Told)
     (happens : Bool → List (ℕ × Done) → V → V → Type 0)
     (files : V → List ℕ → Bool) (held owed : V → ℕ → List ℕ) where
-  -- It waits no longer than it may, hears what is told, accepts who is there, and each place that is taken has its turn.
+  -- It waits no longer than it may, accepts who is there, and each place that is taken has its turn.
   pub record IsLap (before after : EventLoop) (old new : N × V) : Type 0 where
     pub millis : ℕ
     pub limit : IsWaitOf before millis
@@ -26,7 +25,6 @@ module _ {N V : Type 0} (asks : List Called → N → N → Type 0) (last_told :
     pub tries : before.arrivals.is_waiting ≡ false
         → may_accept (told_of (last_told heard) before.arrivals) ready.now ≡ true
         → TriesToAccept asks heard taken
-    pub marks : Hears (last_told heard) before.places ready.places
     pub round : IsRound asks happens files held owed ready after (taken, old.1) new
 
   abbrev pub AreLaps : ℕ → EventLoop → EventLoop → N × V → N × V → Type 0

@@ -7,7 +7,6 @@ pub mod EventLoop
 pub mod Farewell
 pub mod Guesses
 pub mod Head
-pub mod Hearing
 pub mod History
 pub mod Journal
 pub mod Laps

@@ -4,8 +4,7 @@ ghost use Rattle.tb_event_loop.specs.Arrivals.{StaysReady, TriesToAccept, are_he
 ghost use Rattle.tb_event_loop.specs.Deeds.{Acts, ActsAt, done_in};
 ghost use Rattle.tb_event_loop.specs.Done.{ends_in};
 ghost use Rattle.tb_event_loop.specs.Ending.{has_stopped};
-ghost use Rattle.tb_event_loop.specs.EventLoop.{IsBusy, IsNew, IsWaitOf};
-ghost use Rattle.tb_event_loop.specs.Hearing.{Hears};
+ghost use Rattle.tb_event_loop.specs.EventLoop.{IsBusy, IsWaitOf};
 ghost use Rattle.tb_event_loop.specs.History.{EndsAll, Goes, GoesBy, Leaves, still_to_end};
 ghost use Rattle.tb_event_loop.specs.Laps.{IsMadeOfLaps};
 ghost use Rattle.tb_event_loop.specs.Places.{IsUntilDue, Spares, connection_in, is_leaving};
@@ -51,8 +50,7 @@ impl EventLoop {
         limits: Limits,
         rate: Rate,
     ) -> Result<EventLoop, AllocError>
-        ensures end { IfOk result (λ event_loop. still_to_end event_loop ≡ connections) }
-        ensures new { IfOk result (IsNew connections limits rate) }
+        ensures { IfOk result (λ event_loop. still_to_end event_loop ≡ connections) }
     {
         Ok(EventLoop {
             arrivals: Arrivals::new(connections),
@@ -163,7 +161,6 @@ impl EventLoop {
         ensures tried { self.old.arrivals.is_waiting ≡ false
             → may_accept (told_of (N.last_told sockets.old) self.old.arrivals) self.new.now ≡ true
             → TriesToAccept N.follows sockets.old sockets.new }
-        ensures marks { Hears (N.last_told sockets.old) self.old.places self.new.places }
     {
         self.now = journal.now();
         self.arrivals.hear(sockets.told());

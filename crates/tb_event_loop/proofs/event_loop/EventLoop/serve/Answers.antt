@@ -144,7 +144,6 @@ rounds-preserved g c =
           taken = c.prepare.new.sockets;
           hears = c.prepare.ensures.heard;
           tries = c.prepare.ensures.tried;
-          marks = c.prepare.ensures.marks;
           round = on_ok c.round.result is c.round.ensures.visits;
         },
       );
