@@ -78,10 +78,11 @@ def expect_alike(what, text, notes):
     theirs = collections.Counter()
     for (name, _), count in cleaning.dropped.items():
         theirs[name] += count
-    # (a place that is no number is told by the program too)
-    odd = sum(1 for entry in cleaning.taken if "imask" in entry.task and entry.task["imask"] not in (None, "") and not isinstance(entry.task["imask"], int) and not str(entry.task["imask"]).isdigit())
+    # (the program also tells of a place that is no number, so places aren't compared)
     expect(f"{what}: dropped", theirs - collections.Counter({"imask": 10**9}), dropped - collections.Counter({"imask": 10**9}))
     expect(f"{what}: counts", [len(cleaning.taken), len(cleaning.refused), sum(len(entry.changes) for entry in cleaning.taken), len(cleaning.doubles)], counts[:4])
+    lines = [sum(kinds[label].values()) for label in ("orphan", "link dropped", "can't be ordered", "will be dropped")]
+    expect(f"{what}: counts of losses", [lines[0], lines[1] + lines[2], lines[3]], counts[4:])
     return cleaning
 
 
