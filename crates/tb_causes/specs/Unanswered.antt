@@ -1,9 +1,12 @@
 -- What is told where no answer came.
-use Rattle.std.specs.Prelude.{ℕ, ◌==◌, Bool, true, false, not, ◌&&◌, ◌||◌, List, [], ◌∷◌, ◌++◌, codes, is_some, length, Option, Some, None, if◌then◌else◌}
+use Rattle.std.specs.Prelude.{ℕ, ◌==◌, Bool, true, false, ◌&&◌, List, [], ◌∷◌, ◌++◌, codes, is_some, length, Option, Some, None, if◌then◌else◌}
 use Rattle.std.specs.List.{flat_map}
 use Rattle.std.specs.Str.{bytes_eq}
 use Rattle.tb_causes.specs.Told.{IsEither, Text}
 use Rattle.tb_causes.specs.declared.unanswered.TheConstants.{GO_ON, GO_ON_KEY, UNCHANGED}
+use Rattle.tb_calls.specs.Word.{word_named}
+use Rattle.tb_calls.specs.declared.word.Word.{Word}
+use Rattle.tb_calls.specs.declared.word.Word.TheVariants as word
 use Rattle.tb_client.specs.OwnKey.{is_own_key_alone}
 use Rattle.tb_client.specs.Request.{request_of}
 use Rattle.tb_client.specs.Places.{places_of}
@@ -37,15 +40,34 @@ quoted_word word = codes " '" ++ escaped word ++ codes "'"
 abbrev pub quoted_words : List Text → Text
 quoted_words words = flat_map quoted_word words
 
--- what is shown in place of the words of a call that may be keys; `none` is no key
+-- what is shown in place of the words of a call that may be keys
+abbrev pub first_of : Word → Text → Text
+first_of word.OwnKey first = codes "OLD"
+first_of other first = first
+
+-- `none` is no key
+abbrev pub unless_none : Text → Text
+unless_none second = if bytes_eq second (codes "none") then second else codes "KEY"
+
+abbrev pub second_of : Word → Text → Text
+second_of word.OwnKey second = codes "NEW"
+second_of word.Key second = unless_none second
+second_of word.Person second = unless_none second
+second_of other second = second
+
+abbrev pub first_if : Option Word → Text → Text
+first_if None first = first
+first_if (Some named) first = first_of named first
+
+abbrev pub second_if : Option Word → Text → Text
+second_if None second = second
+second_if (Some named) second = second_of named second
+
 abbrev pub shown_first : Text → Text → Text
-shown_first word first = if bytes_eq word (codes "own-key") then codes "OLD" else first
+shown_first name first = first_if (word_named name) first
 
 abbrev pub shown_second : Text → Text → Text
-shown_second word second =
-    if bytes_eq word (codes "own-key") then codes "NEW"
-    else if (bytes_eq word (codes "key") || bytes_eq word (codes "person"))
-    && not (bytes_eq second (codes "none")) then codes "KEY" else second
+shown_second name second = second_if (word_named name) second
 
 -- calls with keys have three words
 -- Rule: no key is printed with the words for resuming. Tried by client.sh.

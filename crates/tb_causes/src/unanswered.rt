@@ -2,10 +2,11 @@
 ghost use Rattle.std.specs.Prelude.{◌≡◌, ◌++◌, IfOk, OnOk};
 ghost use Rattle.std.specs.String.{string_bytes};
 ghost use Rattle.tb_causes.specs.Told.{told_text};
-ghost use Rattle.tb_causes.specs.Unanswered.{change_going_on, IsUnanswered, escaped, going_on, has_body, id_words, may_have_acted, quoted_word, quoted_words, shown_first, shown_second, shown_words, unanswered_text, words_again};
+ghost use Rattle.tb_causes.specs.Unanswered.{change_going_on, IsUnanswered, escaped, first_of, going_on, has_body, id_words, may_have_acted, quoted_word, quoted_words, second_of, shown_first, shown_second, shown_words, unanswered_text, unless_none, words_again};
 
 use crate::told::Told;
 use std::alloc::{AllocError, Global};
+use tb_calls::Word;
 use tb_client::{Request, is_own_key_alone, places_of, request_of};
 use tb_command_line::SendOrder;
 use tb_task::TaskId;
@@ -133,21 +134,99 @@ fn shown_words(alloc: Global, words: &Items<Text>) -> Result<Items<Text>, AllocE
 fn shown_first<'t>(word: &str, first: &'t str) -> &'t str
     ensures { result.now ≡ shown_first word.now first.now }
 {
+    match Word::read(word) {
+        Some(word) => first_of(word, first),
+        None => first,
+    }
+}
+
+fn first_of(word: Word, first: &str) -> &str
+    ensures { result.now ≡ first_of word first.now }
+{
     match word {
-        "own-key" => "OLD",
-        _ => first,
+        Word::OwnKey => "OLD",
+        Word::List
+        | Word::Export
+        | Word::Todo
+        | Word::Task
+        | Word::Add
+        | Word::Import
+        | Word::ImportTodo
+        | Word::Done
+        | Word::Delete
+        | Word::Reopen
+        | Word::Start
+        | Word::Stop
+        | Word::Annotate
+        | Word::Denotate
+        | Word::Modify
+        | Word::Depend
+        | Word::Undepend
+        | Word::Sweep
+        | Word::Ahead
+        | Word::Person
+        | Word::Board
+        | Word::Role
+        | Word::Key
+        | Word::Take
+        | Word::Title
+        | Word::People
+        | Word::History
+        | Word::HistoryOf
+        | Word::Me => first,
+    }
+}
+
+fn shown_second<'t>(word: &str, second: &'t str) -> &'t str
+    ensures { result.now ≡ shown_second word.now second.now }
+{
+    match Word::read(word) {
+        Some(word) => second_of(word, second),
+        None => second,
+    }
+}
+
+fn second_of(word: Word, second: &str) -> &str
+    ensures { result.now ≡ second_of word second.now }
+{
+    match word {
+        Word::OwnKey => "NEW",
+        Word::Key | Word::Person => unless_none(second),
+        Word::List
+        | Word::Export
+        | Word::Todo
+        | Word::Task
+        | Word::Add
+        | Word::Import
+        | Word::ImportTodo
+        | Word::Done
+        | Word::Delete
+        | Word::Reopen
+        | Word::Start
+        | Word::Stop
+        | Word::Annotate
+        | Word::Denotate
+        | Word::Modify
+        | Word::Depend
+        | Word::Undepend
+        | Word::Sweep
+        | Word::Ahead
+        | Word::Board
+        | Word::Role
+        | Word::Take
+        | Word::Title
+        | Word::People
+        | Word::History
+        | Word::HistoryOf
+        | Word::Me => second,
     }
 }
 
 /// A key that is taken away is no key.
-fn shown_second<'t>(word: &str, second: &'t str) -> &'t str
-    ensures { result.now ≡ shown_second word.now second.now }
+fn unless_none(second: &str) -> &str
+    ensures { result.now ≡ unless_none second.now }
 {
-    match word {
-        "own-key" => "NEW",
-        "key" | "person" if second != "none" => "KEY",
-        _ => second,
-    }
+    if second == "none" { second } else { "KEY" }
 }
 
 fn quoted_words(alloc: Global, words: &Items<Text>) -> Result<Text, AllocError>

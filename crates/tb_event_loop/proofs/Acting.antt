@@ -204,11 +204,6 @@ module _ {N V : Type 0} (asks : List Called → N → N → Type 0) (happens : B
   begins_turn unchanged stopped place n v w is =
       record { first = gave_turn place; is = refl; more = []; done = (acts_turn unchanged stopped place n v w is, (refl, tt)); ends = refl }
 
-  pub did_closed : (stopped : Bool) (place : ℕ) (n m : N) (v w : V) → asks (closed place ∷ []) n m → happens stopped ((place, opened) ∷ []) v w
-      → Did (ActsAt place asks happens owed) stopped 1 (n, v) (m, w)
-  did_closed stopped place n m v w asked happened =
-      record { deeds = called (closed place) ∷ []; done = (acts_closed stopped place n m v w asked happened, (refl, tt)); ends = refl }
-
   -- ---- one read
 
   pub reads_nothing : (place count : ℕ) (piece : List ℕ) (n m : N) (v : V) → count ≡ 0 → asks (read place (take count piece) ∷ []) n m

@@ -1,10 +1,10 @@
 -- Who is accepted, one call after the other.
-use Rattle.std.proofs.Common.{◌≡◌, ℕ, Bool, true, false, List, [], ◌∷◌, ◌++◌, refl, sym, ap, ◌∙◌, subst}
+use Rattle.std.proofs.Common.{◌≡◌, ℕ, Bool, List, [], ◌∷◌, ◌++◌, refl, sym, ap, ◌∙◌}
 use Rattle.std.proofs.Math.Bool.{and-true}
 use Rattle.std.specs.Prelude.{◌&&◌, not}
 use Rattle.std.specs.declared.io.ErrorKind.{ErrorKind}
 use Rattle.tb_event_loop.specs.Arrivals.{StaysReady, TriesToAccept, finds_none, ready_after}
-use Rattle.tb_event_loop.specs.Sockets.{Called, Quietly, accepted, are_quiet, is_quiet, seated, unaccepted}
+use Rattle.tb_event_loop.specs.Sockets.{Called, Quietly, accepted, seated, unaccepted}
 use Rattle.tb_event_loop.proofs.Acting.{quiet_append}
 
 after_append : (ready : Bool) (xs ys : List Called) → ready_after ready (xs ++ ys) ≡ ready_after (ready_after ready xs) ys

@@ -2,6 +2,7 @@ pub mod Acting
 pub mod Arriving
 pub mod Changing
 pub mod Doing
+pub mod Hearing
 pub mod Parting
 pub mod Rounding
 pub mod Seeing

@@ -1,8 +1,10 @@
 -- What is sent where the store failed, one call after the other.
-use Rattle.std.proofs.Common.{◌≡◌, ℕ, Bool, true, false, List, [], ◌∷◌, ◌++◌, length, take, drop, refl, sym, ap, ◌∙◌, subst}
-use Rattle.std.proofs.lemmas.Bool.{and_parts, false≢true}
+use Rattle.std.proofs.Common.{◌≡◌, ℕ, suc, true, false, List, [], ◌∷◌, ◌++◌, length, take, drop, refl, sym, ◌∙◌, subst}
+use Rattle.std.specs.Prelude.{◌==◌}
+use Rattle.std.proofs.lemmas.Bool.{and_parts, eqb-true, false≢true, true≢false}
 use Rattle.std.proofs.lemmas.List.{take-append-drop}
-use Rattle.tb_event_loop.specs.Farewell.{AreFarewells, IsFarewell, SaysFarewell}
+use Rattle.std.specs.declared.io.ErrorKind.{ErrorKind}
+use Rattle.tb_event_loop.specs.Farewell.{AreFarewells, IsFarewell, SaysFarewell, WritesOnce}
 use Rattle.tb_event_loop.specs.Sockets.{Called, Quietly, accepted, are_quiet, closed, deaf, dropped, is_quiet, read, seated, shut, unaccepted, unread, unwritten, waited, wrote}
 
 farewells_append : (owed : ℕ → List ℕ) (xs ys : List Called) → AreFarewells owed xs → AreFarewells owed ys → AreFarewells owed (xs ++ ys)
@@ -49,3 +51,24 @@ module _ {N : Type 0} (asks : List Called → N → N → Type 0) (owed : ℕ �
     made = asked;
     are = ((drop count bytes, sym is ∙ sym (take-append-drop count bytes)), tt);
   }
+
+-- ---- what is owed is written once
+
+module _ {N : Type 0} (asks : List Called → N → N → Type 0) (place : ℕ) where
+  pub writes_none : (n : N) (bytes owed : List ℕ) → bytes ≡ owed → (length bytes == 0) ≡ true → WritesOnce asks owed place n n
+  writes_none n [] owed is empty = subst (λ (o : List ℕ). WritesOnce asks o place n n) is refl
+  writes_none n (byte ∷ bytes) owed is empty =
+      let none : suc (length bytes) ≡ 0 = eqb-true (suc (length bytes)) 0 empty in absurd (cc)
+
+  pub writes_some : (count : ℕ) (n m : N) (bytes owed : List ℕ) → bytes ≡ owed → (length bytes == 0) ≡ false → asks (wrote place (take count bytes) ∷ []) n m
+      → WritesOnce asks owed place n m
+  writes_some count n m [] owed is some asked = absurd (true≢false some)
+  writes_some count n m (byte ∷ bytes) owed is some asked =
+      subst (λ (o : List ℕ). WritesOnce asks o place n m) is
+      (wrote place (take count (byte ∷ bytes)), (refl, drop count (byte ∷ bytes), sym (take-append-drop count (byte ∷ bytes))), asked)
+
+  pub writes_failed : (kind : ErrorKind) (n m : N) (bytes owed : List ℕ) → bytes ≡ owed → (length bytes == 0) ≡ false → asks (unwritten place kind ∷ []) n m
+      → WritesOnce asks owed place n m
+  writes_failed kind n m [] owed is some asked = absurd (true≢false some)
+  writes_failed kind n m (byte ∷ bytes) owed is some asked =
+      subst (λ (o : List ℕ). WritesOnce asks o place n m) is (unwritten place kind, refl, asked)

@@ -1,6 +1,6 @@
 -- A run of the loop, one round after the other.
 use Rattle.std.proofs.Common.{◌≡◌, ℕ, ◌+◌, ◌≤◌, Bool, true, false, List, [], ◌∷◌, ◌++◌, length, Option, Some, None, unwrap_or, Result, Ok, Err, is_err, refl, sym, ap, ◌∙◌, subst, append-nil, length-append, arith}
-use Rattle.std.specs.Prelude.{OnOk}
+use Rattle.std.specs.Prelude.{OnErr, OnOk}
 use Rattle.std.proofs.lemmas.Bool.{false≢true, true≢false}
 use Rattle.std.proofs.lemmas.Option.{none-some}
 use Rattle.tb_event_loop.specs.Deeds.{Acts, calls_in, done_in}
@@ -22,6 +22,16 @@ ends_well (Some limit) ended now leaves none =
 pub on_ok : {T E : Type 0} (result : Result T E) {P : Type 0} → is_err result ≡ false → OnOk result P → P
 on_ok (Ok x) isnt holds = holds
 on_ok (Err e) isnt holds = absurd (true≢false isnt)
+
+-- what holds, where it is an error
+pub on_err : {T E : Type 0} (result : Result T E) {P : Type 0} → is_err result ≡ true → P → OnErr result P
+on_err (Ok x) is holds = tt
+on_err (Err e) is holds = holds
+
+-- and what holds of an error
+pub by_err : {T E : Type 0} (result : Result T E) {P : Type 0} → is_err result ≡ true → OnErr result P → P
+by_err (Ok x) is holds = absurd (true≢false (sym is))
+by_err (Err e) is holds = holds
 
 -- calls, and at least so many of them
 pub record Asked {N : Type 0} (asks : List Called → N → N → Type 0) (count : ℕ) (old new : N) : Type 0 where

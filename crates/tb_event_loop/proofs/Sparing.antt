@@ -19,7 +19,7 @@ get_other (y ∷ xs) zero (suc c) x other = refl
 get_other (y ∷ xs) (suc i) zero x other = refl
 get_other (y ∷ xs) (suc i) (suc c) x other = get_other xs i c x (ne_eqb i c (λ same. eqb-false (suc i) (suc c) other (ap suc same)))
 
-read_other : {X : Type 0} (xs ys : List X) (i c : ℕ) (x none : X) → ys ≡ slice_set xs i x → (i == c) ≡ false
+pub read_other : {X : Type 0} (xs ys : List X) (i c : ℕ) (x none : X) → ys ≡ slice_set xs i x → (i == c) ≡ false
     → unwrap_or (slice_get ys c) none ≡ unwrap_or (slice_get xs c) none
 read_other xs ys i c x none are other = ap (λ zs. unwrap_or (slice_get zs c) none) are ∙ ap (λ found. unwrap_or found none) (get_other xs i c x other)
 

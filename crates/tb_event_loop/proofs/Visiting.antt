@@ -1,15 +1,15 @@
 -- The turn of one place, whichever kind it is of.
-use Rattle.std.proofs.Common.{◌≡◌, ℕ, ◌+◌, Bool, true, false, not, ◌&&◌, ◌||◌, List, [], ◌∷◌, ◌++◌, Option, Some, None, refl, sym, ap, subst, inl, inr, arith}
-use Rattle.std.specs.Prelude.{◌⊎◌, ◌==◌, IsTrue, nat_le}
+use Rattle.std.proofs.Common.{◌≡◌, ℕ, Bool, true, false, not, ◌&&◌, ◌||◌, List, [], ◌∷◌, ◌++◌, Option, Some, None, refl, sym, ap, subst, inl, inr, arith}
+use Rattle.std.specs.Prelude.{◌≢◌, ◌⊎◌, ◌==◌, IsTrue, nat_le}
 use Rattle.std.proofs.lemmas.Bool.{and_from, and_parts, both_ways, cases_Bool, false≢true, not-true, or_left, or_right}
 use Rattle.tb_event_loop.specs.Connection.{needs_bytes}
-use Rattle.tb_event_loop.specs.Deeds.{Acts, ActsAt, Begins, Deed, Did, Has, IsRead, IsTurn, IsWrite, OwesBytes, done_in}
+use Rattle.tb_event_loop.specs.Deeds.{Acts, ActsAt, Begins, Deed, Did, Has, IsClose, IsRead, IsTurn, IsWrite, OwesBytes, done_in}
 use Rattle.tb_event_loop.specs.Done.{Done, ends_in}
 use Rattle.tb_event_loop.specs.Guesses.{debt_of, is_due, is_due_again, looked_at}
 use Rattle.tb_event_loop.specs.Head.{begun}
 use Rattle.tb_event_loop.specs.History.{Goes, GoesBy, Leaves}
 use Rattle.tb_event_loop.specs.Places.{Ends, HasTurn, IsAnswered, IsHeard, IsWritten, Spares, awaits, can_act, can_write_at, connection_in, has_room_at, has_turn_as, is_answering, is_leaving, is_over_at, is_read, is_turned_at, is_turned_in, may_answer_at, may_turn_of, stage_in}
-use Rattle.tb_event_loop.specs.Rounds.{IsTurnOf, Visits, VisitsNext, VisitsNextIf}
+use Rattle.tb_event_loop.specs.Rounds.{IsTurnOf, IsTurnOrEnd, Visits, VisitsNext, VisitsNextIf}
 use Rattle.tb_event_loop.specs.Sharing.{is_put_back, with_cut}
 use Rattle.tb_event_loop.specs.Sockets.{Called, Quietly}
 use Rattle.tb_event_loop.specs.declared.connection.Connection.{Connection}
@@ -30,6 +30,10 @@ pub has_append : (kind : Deed → Type 0) (xs ys : List Deed) → Has kind xs �
 has_append kind [] ys is = absurd is
 has_append kind (x ∷ xs) ys (inl is) = inl is
 has_append kind (x ∷ xs) ys (inr is) = inr (has_append kind xs ys is)
+
+has_behind : (kind : Deed → Type 0) (xs ys : List Deed) → Has kind ys → Has kind (xs ++ ys)
+has_behind kind [] ys is = is
+has_behind kind (x ∷ xs) ys is = inr (has_behind kind xs ys is)
 
 -- what holds behind what changed nothing holds before it
 pub from_still : {N V : Type 0} (holds : Places → N → V → Type 0) (p q : Places) (n m : N) (v w : V) → q ≡ p → m ≡ n → w ≡ v → holds q m w → holds p n v
@@ -155,15 +159,15 @@ module _ (files : List ℕ → Bool) (places : Places) (place now : ℕ) (held o
         → (IsHeard places place → Begins acts stopped (IsRead place) a b) → TurnOf
     turn_of did turn write read = turn_by did turn write read is_answered_or_not is_written_or_not is_heard_or_not
 
-    -- no connection ended
-    pub turn_on : (limit : Option ℕ) → Leaves limit 0 limit → Did acts stopped 0 a b
+    -- no connection ended, and this one doesn't leave
+    pub turn_on : (limit : Option ℕ) → Leaves limit 0 limit → (is_leaving (connection_in places place) ≡ true → ⊥) → Did acts stopped 0 a b
         → (IsAnswered files places place now held → Begins acts stopped (IsTurn place) a b)
         → (IsWritten places place owed → Begins acts stopped (IsWrite place) a b)
         → (IsHeard places place → Begins acts stopped (IsRead place) a b)
-        → GoesBy acts stopped (IsTurnOf files places place now held owed) limit limit a b
-    turn_on limit leaves did turn write read =
+        → GoesBy acts stopped (IsTurnOrEnd files places place now held owed limit) limit limit a b
+    turn_on limit leaves stays did turn write read =
         let is = turn_of did turn write read in
-        record { deeds = is.0; done = is.1; says = is.3; left = subst (λ (n : ℕ). Leaves limit n limit) (sym is.2) leaves }
+        record { deeds = is.0; done = is.1; says = (is.3, λ leaving limited. absurd (stays leaving)); left = subst (λ (n : ℕ). Leaves limit n limit) (sym is.2) leaves }
 
   turn_longer : (xs ys : List Deed) → IsTurnOf files places place now held owed xs → IsTurnOf files places place now held owed (xs ++ ys)
   turn_longer xs ys is = record {
@@ -180,24 +184,19 @@ module _ (files : List ℕ → Bool) (places : Places) (place now : ℕ) (held o
       → (IsAnswered files places place now held → Begins acts false (IsTurn place) a b)
       → (IsWritten places place owed → Begins acts false (IsWrite place) a b)
       → (IsHeard places place → Begins acts false (IsRead place) a b)
-      → Goes acts stopped before later b c
-      → GoesBy acts stopped (IsTurnOf files places place now held owed) before later a c
+      → GoesBy acts stopped (λ deeds. before ≢ Some 0 → Has (IsClose place) deeds) before later b c
+      → GoesBy acts stopped (IsTurnOrEnd files places place now held owed before) before later a c
   turn_then acts joined stopped before later a b c did turn write read more =
       let is = turn_of acts false a b did turn write read in
-      let rest = more.1 in
-      let size : more.0 ≡ ends_in (done_in (is.0 ++ rest.deeds)) = omega (arith, ends_among is.0 rest.deeds, is.2, rest.ends) in
+      let size : ends_in (done_in more.deeds) ≡ ends_in (done_in (is.0 ++ more.deeds)) = omega (arith, ends_among is.0 more.deeds, is.2) in
       record {
-        deeds = is.0 ++ rest.deeds;
-        done = joined stopped is.0 rest.deeds a b c is.1 rest.done;
-        says = turn_longer is.0 rest.deeds is.3;
-        left = subst (λ (n : ℕ). Leaves before n later) size more.2;
+        deeds = is.0 ++ more.deeds;
+        done = joined stopped is.0 more.deeds a b c is.1 more.done;
+        says = (turn_longer is.0 more.deeds is.3, λ leaving limited. has_behind (IsClose place) is.0 more.deeds (more.says limited));
+        left = subst (λ (n : ℕ). Leaves before n later) size more.left;
       }
 
 -- ---- what a visit comes to
-
-has_behind : (kind : Deed → Type 0) (xs ys : List Deed) → Has kind ys → Has kind (xs ++ ys)
-has_behind kind [] ys is = is
-has_behind kind (x ∷ xs) ys is = inr (has_behind kind xs ys is)
 
 turn_behind : (files : List ℕ → Bool) (places : Places) (place now : ℕ) (held owed : List ℕ) (xs ys : List Deed)
     → IsTurnOf files places place now held owed ys → IsTurnOf files places place now held owed (xs ++ ys)
@@ -278,6 +277,11 @@ no_turn files places place now held owed deeds none = record {
   heard = λ is. absurd (none (heard_has places place now (connection_in places place) (heard_takes files places place now held owed is) is.1));
 }
 
+-- one that leaves has a turn
+leaving_has : (places : Places) (place now : ℕ) (found : Option Connection) → is_leaving found ≡ true → has_turn_as places place now (stage_in places place) found ≡ true
+leaving_has places place now None leaves = absurd (false≢true leaves)
+leaving_has places place now (Some connection) leaves = or_left connection.is_gone (can_act places place now connection (stage_in places place)) leaves
+
 module _ {N V : Type 0} (asks : List Called → N → N → Type 0) (happens : Bool → List (ℕ × Done) → V → V → Type 0)
     (files : V → List ℕ → Bool) (held owed : V → ℕ → List ℕ) where
   pub unvisited : ((n : N) → asks [] n n) → (place : ℕ) (before : EventLoop) (placed : Places) (n m : N) (v : V)
@@ -293,7 +297,10 @@ module _ {N V : Type 0} (asks : List Called → N → N → Type 0) (happens : B
         deeds = [];
         done = ((unchanged n, refl), tt);
         left = leaves_none before.still_to_end before.still_to_end refl;
-        turned = λ isnt. no_turn (files v) before.places place before.now (held v place) (owed v place) [] (λ is. none (inr is));
+        turned = λ isnt. (
+          no_turn (files v) before.places place before.now (held v place) (owed v place) [] (λ is. none (inr is)),
+          λ leaves limited. absurd (none (inr (leaving_has before.places place before.now (connection_in before.places place) leaves))),
+        );
         passed = λ isnt nothing. (refl, refl);
         others = spares_same place before.places before.places refl;
         moment = refl;
@@ -318,7 +325,7 @@ module _ {N V : Type 0} (asks : List Called → N → N → Type 0) (happens : B
       → (is_over_at before.places place before.now ≡ true → Ends before.places placed place before.now)
       → (is_over_at before.places place before.now ≡ false → placed ≡ before.places)
       → Quietly asks n m
-      → GoesBy (ActsAt place asks happens owed) stopped (IsTurnOf (files v) placed place before.now (held v place) (owed v place)) before.still_to_end still (m, v) end
+      → GoesBy (ActsAt place asks happens owed) stopped (IsTurnOrEnd (files v) placed place before.now (held v place) (owed v place) before.still_to_end) before.still_to_end still (m, v) end
       → after.still_to_end ≡ still → Spares place placed turned → Spares place turned after.places → after.now ≡ before.now
       → Visits asks happens files held owed stopped place before after (n, v) end
   visited joined stopped place before after placed turned n m v end still has ends same quiet turn left spares more moment =
@@ -329,8 +336,11 @@ module _ {N V : Type 0} (asks : List Called → N → N → Type 0) (happens : B
         done = acts_at_then asks happens owed place joined stopped first.deeds turn.deeds (n, v) (m, v) end first.done turn.done;
         left = subst (λ (o : Option ℕ). Leaves before.still_to_end (ends_in (done_in (first.deeds ++ turn.deeds))) o) (sym left)
             (subst (λ (count : ℕ). Leaves before.still_to_end count still) size turn.left);
-        turned = λ isnt. turn_behind (files v) before.places place before.now (held v place) (owed v place) first.deeds turn.deeds
-            (subst (λ (p : Places). IsTurnOf (files v) p place before.now (held v place) (owed v place) turn.deeds) (same isnt) turn.says);
+        turned = λ isnt.
+            let says = subst (λ (p : Places). IsTurnOrEnd (files v) p place before.now (held v place) (owed v place) before.still_to_end turn.deeds) (same isnt) turn.says in (
+              turn_behind (files v) before.places place before.now (held v place) (owed v place) first.deeds turn.deeds says.0,
+              λ leaves limited. has_behind (IsClose place) first.deeds turn.deeds (says.1 leaves limited),
+            );
         passed = λ isnt nothing. no_way ((after ≡ before) × (end ≡ (n, v))) has (λ over. both_ways (is_over_at before.places place before.now) isnt over) nothing;
         others = spares_then place before.places placed after.places
             (begun_spares place before.places placed before.now ends same (cases_Bool (is_over_at before.places place before.now)))

@@ -1,7 +1,7 @@
 -- What a loop does, as one list: the calls of its sockets, and the turns that it gives.
 use Rattle.std.specs.Prelude.{◌≡◌, ◌⊎◌, ℕ, ◌==◌, Bool, true, false, List, [], ◌∷◌, ◌++◌, length}
 use Rattle.tb_event_loop.specs.Done.{Done, ends_in, opened, came, turned, went}
-use Rattle.tb_event_loop.specs.Sockets.{Called, read, wrote, closed, unread, unwritten, dropped}
+use Rattle.tb_event_loop.specs.Sockets.{Called, read, wrote, closed, unread, unwritten}
 
 pub data Deed : Type 0 where
   called : Called → Deed
@@ -118,6 +118,10 @@ abbrev pub IsRead : ℕ → Deed → Type 0
 IsRead place (called (read at bytes)) = at ≡ place
 IsRead place (called (unread at kind)) = at ≡ place
 IsRead place deed = ⊥
+
+-- its connection was let go of
+abbrev pub IsClose : ℕ → Deed → Type 0
+IsClose place deed = deed ≡ called (closed place)
 
 -- The connection of a place was given its turn alone, or nothing was done to the service.
 abbrev pub TurnsOrNot : {V : Type 0} → (Bool → List (ℕ × Done) → V → V → Type 0) → Bool → ℕ → V → V

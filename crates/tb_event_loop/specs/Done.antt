@@ -1,5 +1,5 @@
 -- What was done to the connections of a service.
-use Rattle.std.specs.Prelude.{◌≡◌, ℕ, ◌+◌, Bool, List, [], ◌∷◌}
+use Rattle.std.specs.Prelude.{ℕ, ◌+◌, List, [], ◌∷◌}
 
 -- what was done to the connection of a place
 pub data Done : Type 0 where

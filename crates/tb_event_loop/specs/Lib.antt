@@ -7,6 +7,7 @@ pub mod EventLoop
 pub mod Farewell
 pub mod Guesses
 pub mod Head
+pub mod Hearing
 pub mod History
 pub mod Journal
 pub mod Laps
@@ -17,3 +18,4 @@ pub mod Rounds
 pub mod Serving
 pub mod Sharing
 pub mod Sockets
+pub mod Watching

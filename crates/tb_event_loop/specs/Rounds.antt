@@ -1,11 +1,12 @@
 -- A round of the loop: each place that is taken is visited once, and has its turn then.
-use Rattle.std.specs.Prelude.{◌≡◌, ℕ, zero, suc, Bool, true, false, List, min}
-use Rattle.tb_event_loop.specs.Deeds.{Acts, ActsAt, AreElsewhere, Deed, Has, IsRead, IsTurn, IsWrite, done_in}
+use Rattle.std.specs.Prelude.{◌≡◌, ◌≢◌, ◌<◌, ℕ, zero, suc, Bool, true, false, List, Option, Some, min}
+use Rattle.tb_event_loop.specs.Deeds.{Acts, ActsAt, AreElsewhere, Deed, Has, IsClose, IsRead, IsTurn, IsWrite, done_in}
 use Rattle.tb_event_loop.specs.Done.{Done, ends_in}
 use Rattle.tb_event_loop.specs.History.{Leaves}
-use Rattle.tb_event_loop.specs.Places.{HasTurn, IsAnswered, IsHeard, IsWritten, Spares, connection_in, hold_in, is_over_at, stage_in}
+use Rattle.tb_event_loop.specs.Places.{HasTurn, IsAnswered, IsHeard, IsWritten, Spares, connection_in, hold_in, is_leaving, is_over_at, stage_in}
 use Rattle.tb_event_loop.specs.Sharing.{Shares, is_put_back, place_from, with_cut, with_first, with_round}
 use Rattle.tb_event_loop.specs.Sockets.{Called}
+use Rattle.tb_event_loop.specs.declared.connection.Connection.{Connection}
 use Rattle.tb_event_loop.specs.declared.event_loop.EventLoop.{EventLoop}
 use Rattle.tb_event_loop.specs.declared.places.Places.{Places}
 
@@ -14,6 +15,17 @@ pub record IsTurnOf (files : List ℕ → Bool) (places : Places) (place now : �
   pub answered : IsAnswered files places place now held → Has (IsTurn place) deeds
   pub written : IsWritten places place owed → Has (IsWrite place) deeds
   pub heard : IsHeard places place → Has (IsRead place) deeds
+
+-- One that leaves is let go of, unless all that were to end have ended.
+abbrev pub Closes : ℕ → Option ℕ → Option Connection → List Deed → Type 0
+Closes place limit found deeds =
+    is_leaving found ≡ true → limit ≢ Some 0 → Has (IsClose place) deeds
+
+abbrev pub IsTurnOrEnd : (List ℕ → Bool) → Places → ℕ → ℕ → List ℕ → List ℕ → Option ℕ
+    → List Deed → Type 0
+IsTurnOrEnd files places place now held owed limit deeds =
+    IsTurnOf files places place now held owed deeds
+    × Closes place limit (connection_in places place) deeds
 
 -- as it is when a round begins
 abbrev pub begun : EventLoop → EventLoop
@@ -40,8 +52,8 @@ module _ {N V : Type 0} (asks : List Called → N → N → Type 0)
     pub done : ActsAt place asks happens owed stopped deeds old new
     pub left : Leaves before.still_to_end (ends_in (done_in deeds)) after.still_to_end
     pub turned : is_over_at before.places place before.now ≡ false
-        → IsTurnOf (files old.1) before.places place before.now (held old.1 place)
-        (owed old.1 place) deeds
+        → IsTurnOrEnd (files old.1) before.places place before.now (held old.1 place)
+        (owed old.1 place) before.still_to_end deeds
     -- where it has none, nothing is another
     pub passed : is_over_at before.places place before.now ≡ false
         → ¬ HasTurn before.places place before.now → (after ≡ before) × (new ≡ old)
@@ -90,3 +102,15 @@ module _ {N V : Type 0} (asks : List Called → N → N → Type 0)
         before.places.end (begun before) last old new
     pub shared : Shares (with_first last.places) after.places last.now
     pub rest : after ≡ record last { places = after.places }
+
+  -- The store fails at the place of one step, and those of the steps before are visited.
+  pub record IsCutRound (before after : EventLoop) (old new : N × V) : Type 0 where
+    pub step : ℕ
+    pub within : step < before.places.end
+    pub between : EventLoop
+    pub middle : N × V
+    pub each : VisitsEach (min before.places.first before.places.end) before.places.end step
+        (begun before) between old middle
+    pub failed : VisitsNext true
+        (place_from (min before.places.first before.places.end) step before.places.end)
+        between after middle new

@@ -1,7 +1,10 @@
 //! The listener, and the connections that come.
 ghost use Rattle.std.specs.Prelude.{◌≡◌, [], ◌∷◌, false, true};
 ghost use Rattle.tb_event_loop.specs.Arrivals.{CountsOne, StaysReady, TriesToAccept, accept_failed, are_held_up, can_go_on, may_accept, listens, ready_after, tells_listener, told_of};
+ghost use Rattle.tb_event_loop.specs.Hearing.{Remain};
+ghost use Rattle.tb_event_loop.specs.Places.{stage_in};
 ghost use Rattle.tb_event_loop.specs.Sockets.{unaccepted};
+ghost use Rattle.tb_timeouts.specs.Stage.{is_vacant};
 ghost use Rattle.std.specs.IoError.{error_kind};
 
 use crate::journal::Journal;
@@ -83,6 +86,7 @@ impl Arrivals {
             sockets.old sockets.new }
         ensures tried { self.old.is_waiting ≡ false → may_accept self.old now ≡ true
             → TriesToAccept N.follows sockets.old sockets.new }
+        ensures remain { Remain places.old places.new }
     {
         if !self.accept_next(sockets, journal, now) {
             return;
@@ -98,8 +102,9 @@ impl Arrivals {
         journal: &mut Journal<C, W>,
         now: u64,
     )
-        ensures { StaysReady N.follows self.old.is_ready self.new.is_ready
+        ensures heard { StaysReady N.follows self.old.is_ready self.new.is_ready
             sockets.old sockets.new }
+        ensures remain { Remain places.old places.new }
     {
         'seats: for _ in 0..CONNECTIONS {
             let Some(place) = places.first_vacant() else {
@@ -118,6 +123,8 @@ impl Arrivals {
         ensures seated { self.new ≡ record self.old { is_waiting = false } }
         ensures heard { StaysReady N.follows self.old.is_ready self.new.is_ready
             sockets.old sockets.new }
+        ensures remain { is_vacant (stage_in places.old place) ≡ true
+            → Remain places.old places.new }
     {
         self.is_waiting = false;
         let is_told_of = sockets.seat(place);

@@ -1,16 +1,18 @@
 //! The loop over the listener and the connections.
-ghost use Rattle.std.specs.Prelude.{◌≡◌, ◌≢◌, ◌<◌, ◌⊎◌, ◌||◌, ℕ, if◌then◌else◌, IfErr, IfOk, IsErr, [], ◌∷◌, None, OnOk, Some, false, is_err, take, true};
+ghost use Rattle.std.specs.Prelude.{◌≡◌, ◌≢◌, ◌<◌, ◌⊎◌, ◌||◌, ℕ, if◌then◌else◌, IfErr, IfOk, IsErr, [], ◌∷◌, None, OnErr, OnOk, Some, false, is_err, take, true};
 ghost use Rattle.tb_event_loop.specs.Arrivals.{StaysReady, TriesToAccept, are_held_up, may_accept, tells_listener, told_of};
-ghost use Rattle.tb_event_loop.specs.Deeds.{Acts, ActsAt, done_in};
+ghost use Rattle.tb_event_loop.specs.Deeds.{Acts, ActsAt, Has, IsClose, done_in};
 ghost use Rattle.tb_event_loop.specs.Done.{ends_in};
 ghost use Rattle.tb_event_loop.specs.Ending.{has_stopped};
-ghost use Rattle.tb_event_loop.specs.EventLoop.{IsBusy, IsWaitOf};
+ghost use Rattle.tb_event_loop.specs.EventLoop.{IsBusy, IsNew, IsWaitOf};
+ghost use Rattle.tb_event_loop.specs.Hearing.{Hears};
 ghost use Rattle.tb_event_loop.specs.History.{EndsAll, Goes, GoesBy, Leaves, still_to_end};
 ghost use Rattle.tb_event_loop.specs.Laps.{IsMadeOfLaps};
 ghost use Rattle.tb_event_loop.specs.Places.{IsUntilDue, Spares, connection_in, is_leaving};
-ghost use Rattle.tb_event_loop.specs.Rounds.{IsRound, IsTurnOf, IsVisited, Visits, VisitsNext, begun};
+ghost use Rattle.tb_event_loop.specs.Rounds.{IsCutRound, IsRound, IsTurnOrEnd, IsVisited, Visits, VisitsNext, begun};
 ghost use Rattle.tb_event_loop.specs.Serving.{IsCutOff, Runs};
 ghost use Rattle.tb_event_loop.specs.Sockets.{deaf, waited};
+ghost use Rattle.tb_event_loop.specs.Watching.{FindsGone, FindsThere};
 ghost use Rattle.tb_event_loop.specs.declared.fault.LoopFault.TheVariants.{Moved, Sockets, Store};
 ghost use Rattle.tb_timeouts.specs.Deciding.{IsLongestWait};
 
@@ -50,7 +52,8 @@ impl EventLoop {
         limits: Limits,
         rate: Rate,
     ) -> Result<EventLoop, AllocError>
-        ensures { IfOk result (λ event_loop. still_to_end event_loop ≡ connections) }
+        ensures end { IfOk result (λ event_loop. still_to_end event_loop ≡ connections) }
+        ensures new { IfOk result (IsNew connections limits rate) }
     {
         Ok(EventLoop {
             arrivals: Arrivals::new(connections),
@@ -69,16 +72,16 @@ impl EventLoop {
         sockets: &mut N,
         service: &mut V,
         journal: &mut Journal<C, W>,
-        watch: &P,
+        watch: &mut P,
     ) -> Result<(), LoopFault>
         ensures after { (runs : Runs N.follows V.follows V.owed_at (has_stopped result)
             (sockets.old, service.old) (sockets.new, service.new))
             × EndsAll result (still_to_end self.old) (ends_in (done_in runs.deeds)) }
-        ensures laps { IsMadeOfLaps N.follows N.last_told V.follows V.gives_file V.held_at V.owed_at
-            (has_stopped result) (is_err result) self.old
-            (sockets.old, service.old) (sockets.new, service.new) }
+        ensures laps { IsMadeOfLaps N.follows N.last_told P.looks V.follows V.gives_file V.held_at
+            V.owed_at result self.old
+            (sockets.old, service.old, watch.old) (sockets.new, service.new, watch.new) }
         ensures cause { result ≡ Err Sockets → IsCutOff N.follows sockets.old sockets.new }
-        ensures moved { result ≡ Err Moved → P.is_gone watch.now }
+        ensures moved { result ≡ Err Moved → P.is_gone watch.new }
         ensures fault { IfErr result
             (λ fault. (fault ≡ Store) ⊎ (fault ≡ Sockets) ⊎ (fault ≡ Moved)) }
         ensures failed { result ≡ Err Store → V.has_failed service.new ≡ true }
@@ -111,9 +114,12 @@ impl EventLoop {
     }
 
     // Whether a new millisecond has begun, in which what is served isn't there any more.
-    fn has_moved<P: Watch>(&self, before: u64, watch: &P) -> bool
-        ensures gone { result ≡ true → P.is_gone watch.now }
-        ensures new { result ≡ true → self.entry.now.now ≢ before }
+    fn has_moved<P: Watch>(&self, before: u64, watch: &mut P) -> bool
+        ensures moved { result ≡ true
+            → FindsGone P.looks before self.entry.now.now watch.old watch.new }
+        ensures gone { result ≡ true → P.is_gone watch.new }
+        ensures there { result ≡ false
+            → FindsThere P.looks before self.entry.now.now watch.old watch.new }
     {
         self.now != before && !watch.is_there()
     }
@@ -161,6 +167,7 @@ impl EventLoop {
         ensures tried { self.old.arrivals.is_waiting ≡ false
             → may_accept (told_of (N.last_told sockets.old) self.old.arrivals) self.new.now ≡ true
             → TriesToAccept N.follows sockets.old sockets.new }
+        ensures marks { Hears (N.last_told sockets.old) self.old.places self.new.places }
     {
         self.now = journal.now();
         self.arrivals.hear(sockets.told());
@@ -181,6 +188,8 @@ impl EventLoop {
         ensures failed { IsErr result → V.has_failed service.new ≡ true }
         ensures visits { OnOk result (IsRound N.follows V.follows V.gives_file V.held_at V.owed_at
             self.old self.new (sockets.old, service.old) (sockets.new, service.new)) }
+        ensures cut { OnErr result (IsCutRound N.follows V.follows V.gives_file V.held_at
+            V.owed_at self.old self.new (sockets.old, service.old) (sockets.new, service.new)) }
         ensures each { OnOk result ((place : ℕ) → place < self.old.places.end
             → IsVisited N.follows V.follows V.gives_file V.held_at V.owed_at
             place (begun self.old) (sockets.old, service.old) (sockets.new, service.new)) }
@@ -260,8 +269,8 @@ impl EventLoop {
         place: usize,
     ) -> Result<(), StoreFailed>
         ensures turn { GoesBy (ActsAt place N.follows V.follows V.owed_at) (is_err result)
-            (IsTurnOf (V.gives_file service.old) self.old.places place self.old.now
-            (V.held_at service.old place) (V.owed_at service.old place))
+            (IsTurnOrEnd (V.gives_file service.old) self.old.places place self.old.now
+            (V.held_at service.old place) (V.owed_at service.old place) self.old.still_to_end)
             self.old.still_to_end self.new.still_to_end
             (sockets.old, service.old) (sockets.new, service.new) }
         ensures spares { Spares place self.old.places self.new.places }
@@ -283,7 +292,8 @@ impl EventLoop {
         service: &mut V,
         place: usize,
     ) -> Result<(), StoreFailed>
-        ensures after { Goes (ActsAt place N.follows V.follows V.owed_at) (is_err result)
+        ensures after { GoesBy (ActsAt place N.follows V.follows V.owed_at) (is_err result)
+            (λ deeds. self.old.still_to_end ≢ Some 0 → Has (IsClose place) deeds)
             self.old.still_to_end self.new.still_to_end
             (sockets.old, service.old) (sockets.new, service.new) }
         ensures spares { Spares place self.old.places self.new.places }

@@ -1,5 +1,7 @@
 //! The end of all connections where the store failed.
-ghost use Rattle.tb_event_loop.specs.Farewell.{SaysFarewell};
+ghost use Rattle.tb_event_loop.specs.Farewell.{SaysFarewell, SendsAll, SendsBelow, SendsTo, WritesLast, WritesOnce};
+ghost use Rattle.tb_event_loop.specs.Places.{connection_in};
+ghost use Rattle.tb_timeouts.specs.declared.limits.TheConstants.{CONNECTIONS};
 ghost use Rattle.tb_event_loop.specs.Sockets.{Quietly};
 
 use crate::connection::Connection;
@@ -17,7 +19,9 @@ const LOOK_MILLIS: u64 = 100;
 impl EventLoop {
     /// Sends what is there to be sent, and lets the clients read it.
     pub(crate) fn say_farewell<N: Sockets, V: Service>(&mut self, sockets: &mut N, service: &V)
-        ensures { SaysFarewell N.follows (V.owed_at service.now) sockets.old sockets.new }
+        ensures says { SaysFarewell N.follows (V.owed_at service.now) sockets.old sockets.new }
+        ensures sends { SendsAll N.follows (V.owed_at service.now) self.old.places
+            sockets.old sockets.new }
     {
         self.send_all(sockets, service);
         self.let_read(sockets);
@@ -25,7 +29,9 @@ impl EventLoop {
 
     // Sends to each connection what is there to be sent, and nothing more.
     fn send_all<N: Sockets, V: Service>(&self, sockets: &mut N, service: &V)
-        ensures { SaysFarewell N.follows (V.owed_at service.now) sockets.old sockets.new }
+        ensures says { SaysFarewell N.follows (V.owed_at service.now) sockets.old sockets.new }
+        ensures sends { SendsBelow N.follows (V.owed_at service.now) CONNECTIONS
+            self.entry.now.places sockets.old sockets.new }
     {
         'places: for place in 0..CONNECTIONS {
             self.send_to(sockets, service, place);
@@ -34,7 +40,9 @@ impl EventLoop {
 
     // Sends to the connection of a place, if there is one.
     fn send_to<N: Sockets, V: Service>(&self, sockets: &mut N, service: &V, place: usize)
-        ensures { SaysFarewell N.follows (V.owed_at service.now) sockets.old sockets.new }
+        ensures says { SaysFarewell N.follows (V.owed_at service.now) sockets.old sockets.new }
+        ensures sends { SendsTo N.follows (V.owed_at service.now)
+            (connection_in self.entry.now.places place) place sockets.old sockets.new }
     {
         match self.places.connections.get(place) {
             Some(Some(_)) => send_last(sockets, service, place),
@@ -95,7 +103,9 @@ fn drop_rest<N: Sockets>(connection: &mut Connection, sockets: &mut N, place: us
 }
 
 fn send_last<N: Sockets, V: Service>(sockets: &mut N, service: &V, place: usize)
-    ensures { SaysFarewell N.follows (V.owed_at service.now) sockets.old sockets.new }
+    ensures says { SaysFarewell N.follows (V.owed_at service.now) sockets.old sockets.new }
+    ensures sends { WritesLast N.follows (V.owed_at service.now place) place
+        sockets.old sockets.new }
 {
     send_bytes(sockets, service, place);
     sockets.stop_sending(place);
@@ -103,7 +113,9 @@ fn send_last<N: Sockets, V: Service>(sockets: &mut N, service: &V, place: usize)
 
 // Writes once of what is there to be sent.
 fn send_bytes<N: Sockets, V: Service>(sockets: &mut N, service: &V, place: usize)
-    ensures { SaysFarewell N.follows (V.owed_at service.now) sockets.old sockets.new }
+    ensures says { SaysFarewell N.follows (V.owed_at service.now) sockets.old sockets.new }
+    ensures writes { WritesOnce N.follows (V.owed_at service.now place) place
+        sockets.old sockets.new }
 {
     let bytes = service.unsent(place);
     if bytes.is_empty() {

@@ -1,9 +1,10 @@
 //! The places of connections: who is in each, and what each is doing.
-ghost use Rattle.std.specs.Prelude.{◌≡◌, ◌↔◌, IsTrue, IfOk, position, slice_set, take, true};
+ghost use Rattle.std.specs.Prelude.{◌≡◌, ◌↔◌, ℕ, IsTrue, IfOk, position, slice_set, take, true};
 ghost use Rattle.tb_event_loop.specs.Places.{Changes, Enters, HasTurn, HaveTurns, IsEmpty, IsEndWithin, IsNeed, LendsConnection, LetsGoOne, NeedsBytes, Seats, SetsHold, SetsStage, Spares, Vacates, connection_in, hold_in, is_leaving, is_read, may_answer_at, may_turn_of, stage_in};
 ghost use Rattle.std.specs.Borrow.{sem};
 ghost use Rattle.std.specs.Option.{option_copied_mut, option_map};
 ghost use Rattle.tb_event_loop.specs.Connection.{leaving, marked, short_of_bytes};
+ghost use Rattle.tb_event_loop.specs.Hearing.{marked_by, marked_if};
 ghost use Rattle.tb_event_loop.specs.Sockets.{Quietly};
 ghost use Rattle.tb_rooms.specs.Yielding.{gives_way};
 ghost use Rattle.tb_timeouts.specs.Deciding.{IsLongestWait};
@@ -208,7 +209,9 @@ impl Places {
 
     /// What the sockets are ready for.
     pub(crate) fn mark_ready(&mut self, told: &[Told])
-        ensures { self.new ≡ record self.old { connections = self.new.connections } }
+        ensures same { self.new ≡ record self.old { connections = self.new.connections } }
+        ensures marks { (place : ℕ) → connection_in self.new place
+            ≡ option_map (marked_by told.now place) (connection_in self.old place) }
     {
         'news: for event in told {
             self.mark_one(event);
@@ -216,7 +219,9 @@ impl Places {
     }
 
     fn mark_one(&mut self, told: &Told)
-        ensures { self.new ≡ record self.old { connections = self.new.connections } }
+        ensures same { self.new ≡ record self.old { connections = self.new.connections } }
+        ensures marks { (place : ℕ) → connection_in self.new place
+            ≡ option_map (marked_if told.now place) (connection_in self.old place) }
     {
         match told.place {
             Some(place) => self.mark_at(place, told),
@@ -225,7 +230,10 @@ impl Places {
     }
 
     fn mark_at(&mut self, place: usize, told: &Told)
-        ensures { self.new ≡ record self.old { connections = self.new.connections } }
+        ensures same { self.new ≡ record self.old { connections = self.new.connections } }
+        ensures marks { connection_in self.new place
+            ≡ option_map (marked told.now) (connection_in self.old place) }
+        ensures spares { Spares place self.old self.new }
     {
         if let Some(connection) = self.connection(place) {
             mark(connection, told);

@@ -2,7 +2,7 @@
 ghost use Rattle.std.specs.Prelude.{◌≡◌, ◌↔◌, ◌⊎◌, [], ◌∷◌, IsErr, IsOk, IsTrue, false, is_err, slice_set, true};
 ghost use Rattle.tb_event_loop.specs.Deeds.{ActsAt, Begins, Did, GivesTurn, IsRead, IsWrite, OwesBytes, TurnsOrNot};
 ghost use Rattle.tb_event_loop.specs.Done.{turned};
-ghost use Rattle.tb_event_loop.specs.Places.{Ends, GoesOn, HasTurn, IsAnswered, IsHeard, IsWritten, LacksAll, NeedsBytes, SetsStage, Settles, Spares, can_write_at, connection_in, is_over_at, is_turned_in, is_waiting, may_answer_at, stage_in};
+ghost use Rattle.tb_event_loop.specs.Places.{Ends, GoesOn, HasTurn, IsAnswered, IsHeard, IsWritten, LacksAll, NeedsBytes, SetsStage, Settles, Spares, can_write_at, connection_in, is_leaving, is_over_at, is_turned_in, is_waiting, may_answer_at, stage_in};
 ghost use Rattle.tb_event_loop.specs.Sockets.{Quietly};
 ghost use Rattle.tb_timeouts.specs.Stage.{next_stage, read_stage, waiting_stage};
 ghost use Rattle.tb_timeouts.specs.declared.stage.Need.TheVariants.{End};
@@ -89,6 +89,8 @@ impl Places {
         ensures heard { IsHeard self.old place
             → Begins (ActsAt place N.follows V.follows V.owed_at) (is_err result) (IsRead place)
             (sockets.old, service.old) (sockets.new, service.new) }
+        ensures gone { is_leaving (connection_in self.old place) ≡ true
+            → (self.new ≡ self.old) × IsOk result }
         ensures spares { Spares place self.old self.new }
     {
         if self.is_gone(place) {

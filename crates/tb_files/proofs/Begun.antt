@@ -14,10 +14,10 @@ module _ {D : Type 0} {d : DiskGhosts D} (g : Ghosts (SqlKeep (FileStore D d))) 
   pub begun_as : (found : Held (FileStore D d)) (keep other : SqlKeep (FileStore D d)) → keep ≡ other → IsBegun g found other → IsBegun g found keep
   begun_as found keep other same begun = subst (λ (x : SqlKeep (FileStore D d)). IsBegun g found x) (sym same) begun
 
-  pub imported_as : (order : ImportOrder) (input before after : Option (List ℕ)) (told ending : Ending) (old : SqlKeep (FileStore D d)) → told ≡ ending
-      → IsImportedOver g order input before after ending old → IsImportedOver g order input before after told old
-  imported_as order input before after told ending old same is = subst (λ (x : Ending). IsImportedOver g order input before after x old) (sym same) is
+  pub imported_as : (given : ℕ → Type 0) (order : ImportOrder) (input before after : Option (List ℕ)) (told ending : Ending) (old : SqlKeep (FileStore D d)) → told ≡ ending
+      → IsImportedOver g given order input before after ending old → IsImportedOver g given order input before after told old
+  imported_as given order input before after told ending old same is = subst (λ (x : Ending). IsImportedOver g given order input before after x old) (sym same) is
 
-  pub imported_in_parts_as : (order : ImportOrder) (input before after : Option (List ℕ)) (told ending : Ending) (old : SqlKeep (FileStore D d)) → told ≡ ending
-      → IsImportedInPartsOver g order input before after ending old → IsImportedInPartsOver g order input before after told old
-  imported_in_parts_as order input before after told ending old same is = subst (λ (x : Ending). IsImportedInPartsOver g order input before after x old) (sym same) is
+  pub imported_in_parts_as : (given : ℕ → Type 0) (order : ImportOrder) (input before after : Option (List ℕ)) (told ending : Ending) (old : SqlKeep (FileStore D d)) → told ≡ ending
+      → IsImportedInPartsOver g given order input before after ending old → IsImportedInPartsOver g given order input before after told old
+  imported_in_parts_as given order input before after told ending old same is = subst (λ (x : Ending). IsImportedInPartsOver g given order input before after x old) (sym same) is

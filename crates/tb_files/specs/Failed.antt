@@ -52,29 +52,29 @@ module _ {D W : Type 0} {d : DiskGhosts D} (g : Ghosts (SqlKeep (FileStore D d))
   IsUnbegun before after told = IsUnopened g told × (after ≡ before)
 
   -- an import in a session
-  pub record IsImportCut (order : ImportOrder) (input : Option (List ℕ)) (before after : W)
-      (told : Fault) (old : SqlKeep (FileStore D d)) : Type 0 where
+  pub record IsImportCut (given : ℕ → Type 0) (order : ImportOrder) (input : Option (List ℕ))
+      (before after : W) (told : Fault) (old : SqlKeep (FileStore D d)) : Type 0 where
     pub new : SqlKeep (FileStore D d)
     pub end : Result Ending Fault
     pub ends : EndsIn end told
     pub does : (s : State) → g.holds old s → Only s (g.after_stop old)
-        → Does order input s end (g.is_honest new) (g.holds new) (g.after_stop new)
+        → Does given order input s end (g.is_honest new) (g.holds new) (g.after_stop new)
         (contents before) (contents after)
 
   -- an import in parts in a session
-  pub record IsRunCut (order : ImportOrder) (input : Option (List ℕ)) (before after : W)
-      (told : Fault) (old : SqlKeep (FileStore D d)) : Type 0 where
+  pub record IsRunCut (given : ℕ → Type 0) (order : ImportOrder) (input : Option (List ℕ))
+      (before after : W) (told : Fault) (old : SqlKeep (FileStore D d)) : Type 0 where
     pub new : SqlKeep (FileStore D d)
     pub end : Result Ending Fault
     pub ends : EndsIn end told
     pub run : (s : State) → g.holds old s → Only s (g.after_stop old)
-        → IsRunOf order input s end (g.is_honest new) (g.holds new) (g.after_stop new)
+        → IsRunOf given order input s end (g.is_honest new) (g.holds new) (g.after_stop new)
         (contents before) (contents after)
 
-  abbrev pub IsImportFailed : ImportOrder → Option (List ℕ) → W → W → Fault → Type 0
-  IsImportFailed order input before after told = IsUnbegun before after told
-      ⊎ BeginsSession g (IsImportCut order input before after told)
+  abbrev pub IsImportFailed : (ℕ → Type 0) → ImportOrder → Option (List ℕ) → W → W → Fault → Type 0
+  IsImportFailed given order input before after told = IsUnbegun before after told
+      ⊎ BeginsSession g (IsImportCut given order input before after told)
 
-  abbrev pub IsRunFailed : ImportOrder → Option (List ℕ) → W → W → Fault → Type 0
-  IsRunFailed order input before after told = IsUnbegun before after told
-      ⊎ BeginsSession g (IsRunCut order input before after told)
+  abbrev pub IsRunFailed : (ℕ → Type 0) → ImportOrder → Option (List ℕ) → W → W → Fault → Type 0
+  IsRunFailed given order input before after told = IsUnbegun before after told
+      ⊎ BeginsSession g (IsRunCut given order input before after told)

@@ -15,31 +15,31 @@ use Rattle.tb_orders.specs.declared.ending.Ending.{Ending}
 
 module _ {D : Type 0} {d : DiskGhosts D} (g : Ghosts (SqlKeep (FileStore D d))) where
   -- the call of an import is made in a session, which is saved then
-  pub record IsImportedOver (order : ImportOrder) (input : Option (List ℕ))
+  pub record IsImportedOver (given : ℕ → Type 0) (order : ImportOrder) (input : Option (List ℕ))
       (before after : Option (List ℕ)) (ending : Ending) (old : SqlKeep (FileStore D d)) : Type 0 where
     pub new : SqlKeep (FileStore D d)
     pub files : Files D
     pub saved : IsSaved new.conn files
     pub made : (s : State) → g.holds old s
-        → IsMade order input s (g.is_honest new) (g.holds new) before after ending
+        → IsMade given order input s (g.is_honest new) (g.holds new) before after ending
 
   -- the calls of an import in parts are
-  pub record IsImportedInPartsOver (order : ImportOrder) (input : Option (List ℕ))
-      (before after : Option (List ℕ)) (ending : Ending) (old : SqlKeep (FileStore D d)) : Type 0 where
+  pub record IsImportedInPartsOver (given : ℕ → Type 0) (order : ImportOrder)
+      (input : Option (List ℕ)) (before after : Option (List ℕ)) (ending : Ending) (old : SqlKeep (FileStore D d)) : Type 0 where
     pub new : SqlKeep (FileStore D d)
     pub files : Files D
     pub saved : IsSaved new.conn files
     pub run : (s : State) → g.holds old s → Only s (g.after_stop old)
-        → IsRunOf order input s (Ok ending) (g.is_honest new) (g.holds new) (g.after_stop new)
+        → IsRunOf given order input s (Ok ending) (g.is_honest new) (g.holds new) (g.after_stop new)
         before after
 
-  -- in a session over what a connection found
-  abbrev pub IsImported : ImportOrder → Option (List ℕ) → Option (List ℕ) → Option (List ℕ) → Ending
-      → Type 0
-  IsImported order input before after ending =
-      BeginsSession g (IsImportedOver order input before after ending)
+  -- in a session over what a connection found, at a moment that was given
+  abbrev pub IsImported : (ℕ → Type 0) → ImportOrder → Option (List ℕ) → Option (List ℕ)
+      → Option (List ℕ) → Ending → Type 0
+  IsImported given order input before after ending =
+      BeginsSession g (IsImportedOver given order input before after ending)
 
-  abbrev pub IsImportedInParts : ImportOrder → Option (List ℕ) → Option (List ℕ) → Option (List ℕ)
-      → Ending → Type 0
-  IsImportedInParts order input before after ending =
-      BeginsSession g (IsImportedInPartsOver order input before after ending)
+  abbrev pub IsImportedInParts : (ℕ → Type 0) → ImportOrder → Option (List ℕ) → Option (List ℕ)
+      → Option (List ℕ) → Ending → Type 0
+  IsImportedInParts given order input before after ending =
+      BeginsSession g (IsImportedInPartsOver given order input before after ending)

@@ -1,9 +1,11 @@
 //! Imports of an input into the boards of a file.
-ghost use Rattle.std.specs.Prelude.{◌≡◌, IfErr, IfOk, IfSome, false, true};
+ghost use Rattle.std.specs.Prelude.{◌≡◌, ◌∷◌, [], IfErr, IfOk, IfSome, None, false, true};
 ghost use Rattle.tb_files.specs.Failed.{IsImportCut, IsImportFailed, IsRunCut, IsRunFailed, may_print, may_print_parts};
 ghost use Rattle.tb_files.specs.Faults.{is_of_imports};
 ghost use Rattle.tb_files.specs.Import.{IsImported, IsImportedInParts, IsImportedInPartsOver, IsImportedOver};
 ghost use Rattle.tb_orders.specs.Items.{IsBadAmong, IsBadIn};
+ghost use Rattle.tb_orders.specs.Moments.{GaveOne};
+ghost use Rattle.tb_program.specs.declared.fault.Fault.TheVariants.{NoClock};
 
 use crate::file::{RealFile, begin, close_after};
 use sqlite::FileStore;
@@ -14,54 +16,65 @@ use tb_command_line::ImportOrder;
 use tb_desk::Desk;
 use tb_keeper::SqlKeep;
 use tb_orders::{Ending, OrderFault, Progress, import_all, import_input};
+use tb_program::Clock;
 
 /// Imports an input by one call.
 #[tactic(auto, using(crate::proofs::Faults::of_opening))]
-pub fn import_into_file<R: Read + Drop, W: Write>(
+pub fn import_into_file<R: Read + Drop, C: Clock, W: Write>(
     rt: &HostRuntime,
     order: &ImportOrder,
     reader: R,
+    clock: &mut C,
     writer: &mut W,
 ) -> Result<Ending, OrderFault>
     ensures imported { IfOk result (IsImported ⟦<SqlKeep<RealFile> as Keep>⟧
+        (GaveOne C.gives clock.old clock.new)
         order.now (R.remaining reader) (W.contents writer.old) (W.contents writer.new)) }
     ensures failed { IfErr result (λ failed. IsImportFailed ⟦<SqlKeep<RealFile> as Keep>⟧ W.contents
-        order.now (R.remaining reader) writer.old writer.new failed.fault) }
+        (GaveOne C.gives clock.old clock.new) order.now (R.remaining reader)
+        writer.old writer.new failed.fault) }
     ensures silent { IfErr result
         (λ failed. may_print failed.fault ≡ false → writer.new ≡ writer.old) }
+    ensures timeless { IfErr result
+        (λ failed. failed.fault ≡ NoClock → C.gives (None ∷ []) clock.old clock.new) }
     ensures item { IfErr result
         (λ failed. IfSome failed.item (IsBadIn order.now (R.remaining reader))) }
     ensures fault { IfErr result (λ failed. is_of_imports failed.fault ≡ true) }
 {
     match begin(rt, order.file.as_str()) {
-        Ok(desk) => import_over(rt, desk, order, reader, writer),
+        Ok(desk) => import_over(rt, desk, order, reader, clock, writer),
         Err(fault) => Err(OrderFault { fault, item: None }),
     }
 }
 
 /// Imports an input by one call in a session, and ends the session.
 #[tactic(auto, using(crate::proofs::Faults::of_input))]
-fn import_over<D: Disk + Drop, R: Read + Drop, W: Write>(
+fn import_over<D: Disk + Drop, R: Read + Drop, C: Clock, W: Write>(
     rt: &HostRuntime,
     desk: Desk<SqlKeep<FileStore<D>>>,
     order: &ImportOrder,
     reader: R,
+    clock: &mut C,
     writer: &mut W,
 ) -> Result<Ending, OrderFault>
     ensures imported { IfOk result
-        (λ ending. IsImportedOver ⟦<SqlKeep<FileStore<D>> as Keep>⟧ order.now (R.remaining reader)
+        (λ ending. IsImportedOver ⟦<SqlKeep<FileStore<D>> as Keep>⟧
+        (GaveOne C.gives clock.old clock.new) order.now (R.remaining reader)
         (W.contents writer.old) (W.contents writer.new) ending desk) }
     ensures failed { IfErr result
-        (λ failed. IsImportCut ⟦<SqlKeep<FileStore<D>> as Keep>⟧ W.contents order.now
+        (λ failed. IsImportCut ⟦<SqlKeep<FileStore<D>> as Keep>⟧ W.contents
+        (GaveOne C.gives clock.old clock.new) order.now
         (R.remaining reader) writer.old writer.new failed.fault desk) }
     ensures silent { IfErr result
         (λ failed. may_print failed.fault ≡ false → writer.new ≡ writer.old) }
+    ensures timeless { IfErr result
+        (λ failed. failed.fault ≡ NoClock → C.gives (None ∷ []) clock.old clock.new) }
     ensures item { IfErr result
         (λ failed. IfSome failed.item (IsBadIn order.now (R.remaining reader))) }
     ensures fault { IfErr result (λ failed. is_of_imports failed.fault ≡ true) }
 {
     let mut desk = desk;
-    match import_input(rt.alloc(), &mut desk, order, reader, rt, writer) {
+    match import_input(rt.alloc(), &mut desk, order, reader, clock, writer) {
         Ok(ending) => close_after(desk, ending),
         Err(failed) => Err(failed),
     }
@@ -69,52 +82,63 @@ fn import_over<D: Disk + Drop, R: Read + Drop, W: Write>(
 
 /// Imports an input in as many parts as its text takes.
 #[tactic(auto, using(crate::proofs::Faults::of_opening))]
-pub fn import_parts_into_file<R: Read + Drop, W: Write>(
+pub fn import_parts_into_file<R: Read + Drop, C: Clock, W: Write>(
     rt: &HostRuntime,
     order: &ImportOrder,
     reader: R,
+    clock: &mut C,
     writer: &mut W,
 ) -> Result<Ending, OrderFault>
     ensures imported { IfOk result (IsImportedInParts ⟦<SqlKeep<RealFile> as Keep>⟧
+        (GaveOne C.gives clock.old clock.new)
         order.now (R.remaining reader) (W.contents writer.old) (W.contents writer.new)) }
     ensures failed { IfErr result (λ failed. IsRunFailed ⟦<SqlKeep<RealFile> as Keep>⟧ W.contents
-        order.now (R.remaining reader) writer.old writer.new failed.fault) }
+        (GaveOne C.gives clock.old clock.new) order.now (R.remaining reader)
+        writer.old writer.new failed.fault) }
     ensures silent { IfErr result
         (λ failed. may_print_parts failed.fault ≡ false → writer.new ≡ writer.old) }
+    ensures timeless { IfErr result
+        (λ failed. failed.fault ≡ NoClock → C.gives (None ∷ []) clock.old clock.new) }
     ensures item { IfErr result
         (λ failed. IfSome failed.item (IsBadAmong order.now (R.remaining reader))) }
     ensures fault { IfErr result (λ failed. is_of_imports failed.fault ≡ true) }
 {
     match begin(rt, order.file.as_str()) {
-        Ok(desk) => import_parts_over(rt, desk, order, reader, writer),
+        Ok(desk) => import_parts_over(rt, desk, order, reader, clock, writer),
         Err(fault) => Err(OrderFault { fault, item: None }),
     }
 }
 
 /// Imports an input in parts in a session, and ends the session.
 #[tactic(auto, using(crate::proofs::Faults::of_input))]
-fn import_parts_over<D: Disk + Drop, R: Read + Drop, W: Write>(
+fn import_parts_over<D: Disk + Drop, R: Read + Drop, C: Clock, W: Write>(
     rt: &HostRuntime,
     desk: Desk<SqlKeep<FileStore<D>>>,
     order: &ImportOrder,
     reader: R,
+    clock: &mut C,
     writer: &mut W,
 ) -> Result<Ending, OrderFault>
     ensures imported { IfOk result
-        (λ ending. IsImportedInPartsOver ⟦<SqlKeep<FileStore<D>> as Keep>⟧ order.now
+        (λ ending. IsImportedInPartsOver ⟦<SqlKeep<FileStore<D>> as Keep>⟧
+        (GaveOne C.gives clock.old clock.new) order.now
         (R.remaining reader) (W.contents writer.old) (W.contents writer.new) ending desk) }
     ensures failed { IfErr result
-        (λ failed. IsRunCut ⟦<SqlKeep<FileStore<D>> as Keep>⟧ W.contents order.now
+        (λ failed. IsRunCut ⟦<SqlKeep<FileStore<D>> as Keep>⟧ W.contents
+        (GaveOne C.gives clock.old clock.new) order.now
         (R.remaining reader) writer.old writer.new failed.fault desk) }
     ensures silent { IfErr result
         (λ failed. may_print_parts failed.fault ≡ false → writer.new ≡ writer.old) }
+    ensures timeless { IfErr result
+        (λ failed. failed.fault ≡ NoClock → C.gives (None ∷ []) clock.old clock.new) }
     ensures item { IfErr result
         (λ failed. IfSome failed.item (IsBadAmong order.now (R.remaining reader))) }
     ensures fault { IfErr result (λ failed. is_of_imports failed.fault ≡ true) }
 {
     let mut desk = desk;
     let progress = Counter { rt };
-    match import_all(rt.alloc(), &mut desk, order, reader, rt, writer, &progress) {
+    let alloc = rt.alloc();
+    match import_all(alloc, &mut desk, order, reader, clock, writer, &progress) {
         Ok(ending) => close_after(desk, ending),
         Err(failed) => Err(failed),
     }

@@ -1,9 +1,11 @@
 -- Who did what on a board, in lines.
-use Rattle.std.specs.Prelude.{ℕ, ◌||◌, List, [], ◌∷◌, ◌++◌, codes, Option, Some, None, option_and_then, option_map, if◌then◌else◌}
-use Rattle.std.specs.Str.{bytes_eq}
+use Rattle.std.specs.Prelude.{ℕ, List, [], ◌∷◌, ◌++◌, codes, Option, Some, None, option_and_then, option_map}
 use Rattle.serde_json.specs.Data.{Data}
 use Rattle.serde_json.specs.Find.{as_array, get}
 use Rattle.serde_json.specs.Read.{read}
+use Rattle.tb_calls.specs.Word.{word_named}
+use Rattle.tb_calls.specs.declared.word.Word.{Word}
+use Rattle.tb_calls.specs.declared.word.Word.TheVariants as word
 use Rattle.tb_finding.specs.Board.{Text}
 use Rattle.tb_finding.specs.Showing.{named_from}
 use Rattle.tb_finding.specs.Words.{moment_word}
@@ -15,27 +17,33 @@ use Rattle.tb_task.specs.MomentText.{moment_of}
 use Rattle.tb_task.specs.TaskId.{read_id}
 
 -- what a word of a history says of who did it
-unfoldable pub named_verb : Text → Option Text
-named_verb what =
-    if bytes_eq what (codes "add") then Some (codes "added")
-    else if bytes_eq what (codes "done") then Some (codes "completed")
-    else if bytes_eq what (codes "delete") then Some (codes "deleted")
-    else if bytes_eq what (codes "reopen") then Some (codes "reopened")
-    else if bytes_eq what (codes "start") then Some (codes "started")
-    else if bytes_eq what (codes "stop") then Some (codes "stopped")
-    else if bytes_eq what (codes "modify") then Some (codes "changed")
-    else if bytes_eq what (codes "annotate") then Some (codes "added a note to")
-    else if bytes_eq what (codes "denotate") then Some (codes "removed a note from")
-    else if bytes_eq what (codes "depend") then Some (codes "added a dependency to")
-    else if bytes_eq what (codes "undepend") then Some (codes "removed a dependency from")
-    else if bytes_eq what (codes "import") || bytes_eq what (codes "import-todo")
-    then Some (codes "imported tasks")
-    else if bytes_eq what (codes "role") then Some (codes "changed a role")
-    else if bytes_eq what (codes "ahead") then Some (codes "changed how far the board looks ahead")
-    else if bytes_eq what (codes "sweep") then Some (codes "had due tasks made")
-    else if bytes_eq what (codes "take") then Some (codes "took over the board")
-    else if bytes_eq what (codes "title") then Some (codes "renamed the board")
-    else None
+abbrev pub verb_of_word : Word → Option Text
+verb_of_word word.Add = Some (codes "added")
+verb_of_word word.Import = Some (codes "imported tasks")
+verb_of_word word.ImportTodo = Some (codes "imported tasks")
+verb_of_word word.Done = Some (codes "completed")
+verb_of_word word.Delete = Some (codes "deleted")
+verb_of_word word.Reopen = Some (codes "reopened")
+verb_of_word word.Start = Some (codes "started")
+verb_of_word word.Stop = Some (codes "stopped")
+verb_of_word word.Annotate = Some (codes "added a note to")
+verb_of_word word.Denotate = Some (codes "removed a note from")
+verb_of_word word.Modify = Some (codes "changed")
+verb_of_word word.Depend = Some (codes "added a dependency to")
+verb_of_word word.Undepend = Some (codes "removed a dependency from")
+verb_of_word word.Sweep = Some (codes "had due tasks made")
+verb_of_word word.Ahead = Some (codes "changed how far the board looks ahead")
+verb_of_word word.Role = Some (codes "changed a role")
+verb_of_word word.Take = Some (codes "took over the board")
+verb_of_word word.Title = Some (codes "renamed the board")
+verb_of_word other = None
+
+abbrev pub verb_if : Option Word → Option Text
+verb_if None = None
+verb_if (Some named) = verb_of_word named
+
+abbrev pub named_verb : Text → Option Text
+named_verb what = verb_if (word_named what)
 
 -- a word that isn't known stands as it is
 abbrev pub verb_of : Text → Text

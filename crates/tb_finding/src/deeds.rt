@@ -2,13 +2,14 @@
 ghost use Rattle.std.specs.Prelude.{◌≡◌, ◌++◌, [], IfOk, OnOk, option_map, string_bytes};
 ghost use Rattle.serde_json.specs.Read.{read};
 ghost use Rattle.serde_json.specs.View.{items_view, view};
-ghost use Rattle.tb_finding.specs.Deeds.{entry_line, line_of, log_of, log_text, moment_at, named_verb, of_task, task_in, verb_of};
+ghost use Rattle.tb_finding.specs.Deeds.{entry_line, line_of, log_of, log_text, moment_at, named_verb, of_task, task_in, verb_of, verb_of_word};
 ghost use Rattle.tb_my.specs.Shown.{with_lines};
 
 use crate::showing::named_from;
 use crate::words::push_moment;
 use serde_json::Value;
 use std::alloc::{AllocError, Global};
+use tb_calls::Word;
 use tb_json::parse;
 use tb_my::{Clock, Seen, push_shown, text_at};
 use tb_task::{Moment, TaskId};
@@ -129,29 +130,49 @@ fn push_verb(line: &mut String, what: &str) -> Result<(), AllocError>
     }
 }
 
-#[tactic(auto, unfolding(crate::specs::Deeds::named_verb))]
 fn named_verb(what: &str) -> Option<&'static str>
     ensures { option_map (λ verb. verb.now) result ≡ named_verb what.now }
 {
-    match what {
-        "add" => Some("added"),
-        "done" => Some("completed"),
-        "delete" => Some("deleted"),
-        "reopen" => Some("reopened"),
-        "start" => Some("started"),
-        "stop" => Some("stopped"),
-        "modify" => Some("changed"),
-        "annotate" => Some("added a note to"),
-        "denotate" => Some("removed a note from"),
-        "depend" => Some("added a dependency to"),
-        "undepend" => Some("removed a dependency from"),
-        "import" | "import-todo" => Some("imported tasks"),
-        "role" => Some("changed a role"),
-        "ahead" => Some("changed how far the board looks ahead"),
-        "sweep" => Some("had due tasks made"),
-        "take" => Some("took over the board"),
-        "title" => Some("renamed the board"),
-        _ => None,
+    match Word::read(what) {
+        Some(word) => verb_of_word(word),
+        None => None,
+    }
+}
+
+/// What a history says of who did it, of the words that stand there.
+fn verb_of_word(word: Word) -> Option<&'static str>
+    ensures { option_map (λ verb. verb.now) result ≡ verb_of_word word }
+{
+    match word {
+        Word::Add => Some("added"),
+        Word::Import | Word::ImportTodo => Some("imported tasks"),
+        Word::Done => Some("completed"),
+        Word::Delete => Some("deleted"),
+        Word::Reopen => Some("reopened"),
+        Word::Start => Some("started"),
+        Word::Stop => Some("stopped"),
+        Word::Annotate => Some("added a note to"),
+        Word::Denotate => Some("removed a note from"),
+        Word::Modify => Some("changed"),
+        Word::Depend => Some("added a dependency to"),
+        Word::Undepend => Some("removed a dependency from"),
+        Word::Sweep => Some("had due tasks made"),
+        Word::Ahead => Some("changed how far the board looks ahead"),
+        Word::Role => Some("changed a role"),
+        Word::Take => Some("took over the board"),
+        Word::Title => Some("renamed the board"),
+        Word::List
+        | Word::Export
+        | Word::Todo
+        | Word::Task
+        | Word::Person
+        | Word::Board
+        | Word::OwnKey
+        | Word::Key
+        | Word::People
+        | Word::History
+        | Word::HistoryOf
+        | Word::Me => None,
     }
 }
 

@@ -65,9 +65,9 @@ pub made_first : (b : Bool) (m : Message) (at : ℕ) (c : Call) → AsksFor m at
 made_first true m at c asks = (asks, tt)
 made_first false m at c asks = tt
 
-are_made : (b : Bool) (order : ImportOrder) (input : Option (List ℕ)) (c : Call) → IsAskedBy order input c → AreMade b order input (if b then c ∷ [] else [])
-are_made true order input c asked = (c, asked, refl)
-are_made false order input c asked = refl
+are_made : (given : ℕ → Type 0) (b : Bool) (order : ImportOrder) (input : Option (List ℕ)) (c : Call) → IsAskedBy given order input c → AreMade given b order input (if b then c ∷ [] else [])
+are_made given true order input c asked = (c, asked, refl)
+are_made given false order input c asked = refl
 
 -- a call that was answered, whether its reply could be written or not
 pub answered_one : (r : Result Ending Fault) (s : State) (c : Call) (now stops : State → Type 0) → IfErr r (λ fault. fault ≡ WriteFailed)
@@ -119,33 +119,33 @@ front_of contents (Err fault) s c before after silent front =
 -- ---- of an input
 
 -- an input that came to no call
-pub none_done : (order : ImportOrder) (input : Option (List ℕ)) (s : State) (fault : Fault) (honest : Bool) (now stops : State → Type 0) (before : Option (List ℕ))
-    → may_act (Err fault) ≡ false → calls_made (Err fault) ≡ 0 → now s → Only s stops → Does order input s (Err fault) honest now stops before before
-none_done order input s fault honest now stops before not none held only = record {
+pub none_done : (given : ℕ → Type 0) (order : ImportOrder) (input : Option (List ℕ)) (s : State) (fault : Fault) (honest : Bool) (now stops : State → Type 0) (before : Option (List ℕ))
+    → may_act (Err fault) ≡ false → calls_made (Err fault) ≡ 0 → now s → Only s stops → Does given order input s (Err fault) honest now stops before before
+none_done given order input s fault honest now stops before not none held only = record {
   calls = [];
-  made = subst (λ b. AreMade b order input []) (sym not) refl;
+  made = subst (λ b. AreMade given b order input []) (sym not) refl;
   stands = subst (λ n. StandsAfter s [] n now stops) (sym none) (none_made s now stops held only);
   told = λ so. tt;
   front = λ so. silent_front s [] (calls_made (Err fault)) before before none (Keeps-refl before);
 }
 
 -- what the import of an input has done, by what that of its text promises
-pub done_by : {D W : Type 0} (contents : W → Option (List ℕ)) (r : Result Ending Fault) (order : ImportOrder) (text : List ℕ) (m : Message) (at : ℕ)
+pub done_by : {D W : Type 0} (contents : W → Option (List ℕ)) (given : ℕ → Type 0) (r : Result Ending Fault) (order : ImportOrder) (text : List ℕ) (m : Message) (at : ℕ)
     (input : Option (List ℕ)) (s : State) (honest : Bool) (holds stops : D → State → Type 0) (old new : D) (before after : W)
-    → m ≡ message_of order text → IfSome input (λ all. text ≡ all)
+    → given at → m ≡ message_of order text → IfSome input (λ all. text ≡ all)
     → (honest ≡ true → (call : Call) → AsksFor m at call → OnOk r (Appends (contents before) (contents after) (line_text (reply s [] call))))
     → (honest ≡ true → (call : Call) → AsksFor m at call → OnErr r (AppendsFront (contents before) (contents after) (line_text (reply s [] call))))
     → IfErr r (λ fault. fault ≢ WriteFailed → after ≡ before)
     → ((call : Call) → AsksFor m at call → StandsAfter s (made_of r call) (calls_made r) (holds new) (stops new))
     → (((call : Call) → AsksFor m at call → ⊥) → ((r ≡ Err BadBody) ⊎ (r ≡ Err Memory)) × (new ≡ old) × (after ≡ before))
-    → holds old s → Only s (stops old) → Does order input s r honest (holds new) (stops new) (contents before) (contents after)
-done_by contents r order text m at input s honest holds stops old new before after is whole told front silent stands unasked held only =
+    → holds old s → Only s (stops old) → Does given order input s r honest (holds new) (stops new) (contents before) (contents after)
+done_by contents given r order text m at input s honest holds stops old new before after gave is whole told front silent stands unasked held only =
     elim (asks_or_not m at) [
       | inl made ↦
-          let asked : IsAskedBy order input made.0 = record { text = text; at = at; whole = whole; asked = subst (λ x. AsksFor x at made.0) is made.1 } in
+          let asked : IsAskedBy given order input made.0 = record { text = text; at = at; gave = gave; whole = whole; asked = subst (λ x. AsksFor x at made.0) is made.1 } in
           record {
             calls = made_of r made.0;
-            made = are_made (may_act r) order input made.0 asked;
+            made = are_made given (may_act r) order input made.0 asked;
             stands = stands made.0 made.1;
             told = λ so. told_one r s made.0 (contents before) (contents after) (told so made.0 made.1);
             front = λ so. front_of contents r s made.0 before after silent (front so made.0 made.1);
@@ -154,14 +154,14 @@ done_by contents r order text m at input s honest holds stops old new before aft
     ]
   where
     at_fault : (fault : Fault) → r ≡ Err fault → may_act (Err fault) ≡ false → calls_made (Err fault) ≡ 0 → new ≡ old → after ≡ before
-        → Does order input s r honest (holds new) (stops new) (contents before) (contents after)
+        → Does given order input s r honest (holds new) (stops new) (contents before) (contents after)
     at_fault fault e not none same kept =
-        subst (λ x. Does order input s x honest (holds new) (stops new) (contents before) (contents after)) (sym e)
-        (subst (λ d. Does order input s (Err fault) honest (holds d) (stops d) (contents before) (contents after)) (sym same)
-        (subst (λ w. Does order input s (Err fault) honest (holds old) (stops old) (contents before) (contents w)) (sym kept)
-        (none_done order input s fault honest (holds old) (stops old) (contents before) not none held only)))
+        subst (λ x. Does given order input s x honest (holds new) (stops new) (contents before) (contents after)) (sym e)
+        (subst (λ d. Does given order input s (Err fault) honest (holds d) (stops d) (contents before) (contents after)) (sym same)
+        (subst (λ w. Does given order input s (Err fault) honest (holds old) (stops old) (contents before) (contents w)) (sym kept)
+        (none_done given order input s fault honest (holds old) (stops old) (contents before) not none held only)))
 
-    unmade : ((r ≡ Err BadBody) ⊎ (r ≡ Err Memory)) × (new ≡ old) × (after ≡ before) → Does order input s r honest (holds new) (stops new) (contents before) (contents after)
+    unmade : ((r ≡ Err BadBody) ⊎ (r ≡ Err Memory)) × (new ≡ old) × (after ≡ before) → Does given order input s r honest (holds new) (stops new) (contents before) (contents after)
     unmade why = elim why.0 [
       | inl e ↦ at_fault BadBody e refl refl why.1 why.2
       | inr e ↦ at_fault Memory e refl refl why.1 why.2

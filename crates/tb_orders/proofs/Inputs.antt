@@ -28,19 +28,19 @@ pub asks_or_not : (m : Message) (at : ℕ) → ((call : Call) × AsksFor m at ca
 asks_or_not m at = is_call_or_not (asked_of m at)
 
 -- an accepted import made the call that was asked for
-pub made_by : (r : Result Ending Fault) (order : ImportOrder) (text : List ℕ) (m : Message) (at : ℕ) (input : Option (List ℕ)) (s : State)
-    (honest : Bool) (now : State → Type 0) (before after : Option (List ℕ)) → m ≡ message_of order text → IfSome input (λ all. text ≡ all)
+pub made_by : (given : ℕ → Type 0) (r : Result Ending Fault) (order : ImportOrder) (text : List ℕ) (m : Message) (at : ℕ) (input : Option (List ℕ)) (s : State)
+    (honest : Bool) (now : State → Type 0) (before after : Option (List ℕ)) → given at → m ≡ message_of order text → IfSome input (λ all. text ≡ all)
     → (honest ≡ true → (call : Call) → AsksFor m at call → OnOk r (Appends before after (line_text (reply s [] call))))
     → ((call : Call) → AsksFor m at call → OnOk r (now (plain s (once s (call ∷ [])))))
     → (honest ≡ true → (call : Call) → AsksFor m at call → IfOk r (λ ending. ending ≡ ending_of (reply s [] call)))
     → (((call : Call) → AsksFor m at call → ⊥) → (r ≡ Err BadBody) ⊎ (r ≡ Err Memory))
-    → IfOk r (IsMade order input s honest now before after)
-made_by (Err fault) order text m at input s honest now before after is whole told left ends unasked = tt
-made_by (Ok ending) order text m at input s honest now before after is whole told left ends unasked =
+    → IfOk r (IsMade given order input s honest now before after)
+made_by given (Err fault) order text m at input s honest now before after gave is whole told left ends unasked = tt
+made_by given (Ok ending) order text m at input s honest now before after gave is whole told left ends unasked =
     elim (asks_or_not m at) [
       | inl made ↦ record {
         call = made.0;
-        asked = record { text = text; at = at; whole = whole; asked = subst (λ x. AsksFor x at made.0) is made.1 };
+        asked = record { text = text; at = at; gave = gave; whole = whole; asked = subst (λ x. AsksFor x at made.0) is made.1 };
         held = left made.0 made.1;
         told = λ so. told so made.0 made.1;
         ends = λ so. ends so made.0 made.1;

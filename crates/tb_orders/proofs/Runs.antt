@@ -249,9 +249,9 @@ is_text_in None = tt
 is_text_in (Some text) = refl
 
 -- an input that came to no parts
-pub unread_run : (order : ImportOrder) (input : Option (List ℕ)) (s : State) (fault : Fault) (honest : Bool) (now stops : State → Type 0) (before : Option (List ℕ))
-    → now s → Only s stops → IsRunOf order input s (Err fault) honest now stops before before
-unread_run order input s fault honest now stops before held only = record {
+pub unread_run : (given : ℕ → Type 0) (order : ImportOrder) (input : Option (List ℕ)) (s : State) (fault : Fault) (honest : Bool) (now stops : State → Type 0) (before : Option (List ℕ))
+    → now s → Only s stops → IsRunOf given order input s (Err fault) honest now stops before before
+unread_run given order input s fault honest now stops before held only = record {
   text = text_in input;
   parts = [];
   at = 0;

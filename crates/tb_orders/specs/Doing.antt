@@ -25,16 +25,17 @@ abbrev pub made_of : Result Ending Fault → Call → List Call
 made_of result call = if may_act result then call ∷ [] else []
 
 -- the one that an order asks for by an input, where it may have acted, and else none
-abbrev pub AreMade : Bool → ImportOrder → Option (List ℕ) → List Call → Type 0
-AreMade true order input calls = (call : Call) × IsAskedBy order input call × (calls ≡ call ∷ [])
-AreMade false order input calls = calls ≡ []
+abbrev pub AreMade : (ℕ → Type 0) → Bool → ImportOrder → Option (List ℕ) → List Call → Type 0
+AreMade given true order input calls = (call : Call) × IsAskedBy given order input call
+    × (calls ≡ call ∷ [])
+AreMade given false order input calls = calls ≡ []
 
 -- The calls that an import of an input made stand. What is printed is their reply, a line, and a front of it where the import failed.
-pub record Does (order : ImportOrder) (input : Option (List ℕ)) (s : State)
+pub record Does (given : ℕ → Type 0) (order : ImportOrder) (input : Option (List ℕ)) (s : State)
     (result : Result Ending Fault) (honest : Bool) (now may_leave : State → Type 0)
     (before after : Option (List ℕ)) : Type 0 where
   pub calls : List Call
-  pub made : AreMade (may_act result) order input calls
+  pub made : AreMade given (may_act result) order input calls
   pub stands : StandsAfter s calls (calls_made result) now may_leave
   pub told : honest ≡ true → OnOk result
       (Appends before after (lines_text (replies_to s calls)))

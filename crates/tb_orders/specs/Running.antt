@@ -90,13 +90,13 @@ pub record IsRun (messages : List Message) (at : ℕ) (s : State) (result : Resu
   pub front : honest ≡ true → OnErr result
       (AppendsFront before after (lines_text (replies_to s (take answered calls))))
 
--- of an input in parts: of those of its text, or of none, and then it failed
-pub record IsRunOf (order : ImportOrder) (input : Option (List ℕ)) (s : State)
+-- of an input in parts: of those of its text, at a moment that was given, or of none, and then it failed
+pub record IsRunOf (given : ℕ → Type 0) (order : ImportOrder) (input : Option (List ℕ)) (s : State)
     (result : Result Ending Fault) (honest : Bool)
     (now may_leave : State → Type 0) (before after : Option (List ℕ)) : Type 0 where
   pub text : List ℕ
   pub parts : List (List ℕ)
   pub at : ℕ
   pub whole : IfSome input (λ all. text ≡ all)
-  pub cut : IsCut order.kind text (Some parts) ⊎ ((parts ≡ []) × IsErr result)
+  pub cut : (IsCut order.kind text (Some parts) × given at) ⊎ ((parts ≡ []) × IsErr result)
   pub run : IsRun (messages_behind order 0 parts) at s result honest now may_leave before after

@@ -1,13 +1,14 @@
 //! The import of an input, whole.
-ghost use Rattle.std.specs.Prelude.{◌≡◌, ◌≢◌, ℕ, List, IfErr, IfOk, IfSome, IsErrOf, true};
+ghost use Rattle.std.specs.Prelude.{◌≡◌, ◌≢◌, ◌∷◌, [], ℕ, List, IfErr, IfOk, IfSome, IsErrOf, None, Some, true};
 ghost use Rattle.tb_calls.specs.Call.{State};
 ghost use Rattle.tb_calls.specs.Leaving.{Only};
 ghost use Rattle.tb_orders.specs.Doing.{Does};
 ghost use Rattle.tb_orders.specs.Input.{IsBadText, IsMade};
 ghost use Rattle.tb_orders.specs.Items.{IsBadIn, end_of};
 ghost use Rattle.tb_orders.specs.Message.{message_of};
+ghost use Rattle.tb_orders.specs.Moments.{GaveOne};
 ghost use Rattle.tb_orders.specs.Telling.{is_of_inputs, is_of_messages};
-ghost use Rattle.tb_program.specs.declared.fault.Fault.TheVariants.{BadBody, Memory, Store, WriteFailed};
+ghost use Rattle.tb_program.specs.declared.fault.Fault.TheVariants.{BadBody, Memory, NoClock, Store, WriteFailed};
 
 use crate::ending::Ending;
 use crate::importing::import_text;
@@ -15,12 +16,11 @@ use crate::message::import_message;
 use crate::order_fault::{OrderFault, with_item};
 use std::alloc::Global;
 use std::io::{Read, Write};
-use std::time::Clock;
 use tb_calls::Keep;
 use tb_command_line::ImportOrder;
 use tb_desk::Desk;
 use tb_http::Message;
-use tb_program::{Fault, machine_moment, read_text};
+use tb_program::{Clock, Fault, read_text};
 use tb_task::Moment;
 
 /// The message of an import, and the moment after its text was read.
@@ -31,24 +31,26 @@ struct Arrived {
 }
 
 /// Reads the text of an import, makes the call that the same import makes over HTTP, and prints the body of its reply on a line.
-pub fn import_input<K: Keep, R: Read + Drop, W: Write>(
+pub fn import_input<K: Keep, R: Read + Drop, C: Clock, W: Write>(
     alloc: Global,
     desk: &mut Desk<K>,
     order: &ImportOrder,
     reader: R,
-    clock: &impl Clock,
+    clock: &mut C,
     writer: &mut W,
 ) -> Result<Ending, OrderFault>
     ensures made { (s : State) → K.holds desk.old s
-        → IfOk (end_of result) (IsMade order.now (R.remaining reader) s
+        → IfOk (end_of result) (IsMade (GaveOne C.gives clock.old clock.new)
+        order.now (R.remaining reader) s
         (K.is_honest desk.new) (K.holds desk.new) (W.contents writer.old) (W.contents writer.new)) }
     ensures memory { (s : State) → K.holds desk.old s → IsErrOf (end_of result) Memory
         → K.holds desk.new s }
     ensures does { (s : State) → K.holds desk.old s → Only s (K.after_stop desk.old)
-        → Does order.now (R.remaining reader) s (end_of result) (K.is_honest desk.new)
-        (K.holds desk.new) (K.after_stop desk.new) (W.contents writer.old) (W.contents writer.new) }
+        → Does (GaveOne C.gives clock.old clock.new) order.now (R.remaining reader) s
+        (end_of result) (K.is_honest desk.new) (K.holds desk.new) (K.after_stop desk.new) (W.contents writer.old) (W.contents writer.new) }
     ensures silent { IfErr (end_of result)
         (λ fault. fault ≢ WriteFailed → writer.new ≡ writer.old) }
+    ensures timeless { IsErrOf (end_of result) NoClock → C.gives (None ∷ []) clock.old clock.new }
     ensures item { IfErr result
         (λ failed. IfSome failed.item (IsBadIn order.now (R.remaining reader))) }
     ensures bad { IsErrOf (end_of result) BadBody
@@ -65,20 +67,24 @@ pub fn import_input<K: Keep, R: Read + Drop, W: Write>(
     }
 }
 
-fn read_message<R: Read + Drop>(
+fn read_message<R: Read + Drop, C: Clock>(
     alloc: Global,
     order: &ImportOrder,
     reader: R,
-    clock: &impl Clock,
+    clock: &mut C,
 ) -> Result<Arrived, Fault>
     ensures read { IfOk result
         (λ arrived. (text : List ℕ) × IfSome (R.remaining reader) (λ all. text ≡ all)
-        × (arrived.message ≡ message_of order.now text)) }
+        × (arrived.message ≡ message_of order.now text)
+        × C.gives (Some arrived.at ∷ []) clock.old clock.new) }
+    ensures timeless { IsErrOf result NoClock → C.gives (None ∷ []) clock.old clock.new }
     ensures bad { IsErrOf result BadBody → IfSome (R.remaining reader) (IsBadText order.now) }
     ensures fault { IfErr result (λ fault. is_of_messages fault ≡ true) }
 {
     let text = read_text(alloc, reader)?;
-    let at = machine_moment(clock).ok_or(Fault::NoClock)?;
+    let Some(at) = clock.now() else {
+        return Err(Fault::NoClock);
+    };
     let message = import_message(alloc, order, text)?;
     Ok(Arrived { message, at })
 }

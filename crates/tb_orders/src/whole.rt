@@ -1,13 +1,14 @@
 //! The import of an input that is longer than one call takes.
-ghost use Rattle.std.specs.Prelude.{◌≡◌, ◌≢◌, ℕ, List, None, Some, Err, IfErr, IfOk, IfSome, IsErrOf, true};
+ghost use Rattle.std.specs.Prelude.{◌≡◌, ◌≢◌, ◌∷◌, [], ℕ, List, None, Some, Err, IfErr, IfOk, IfSome, IsErrOf, true};
 ghost use Rattle.tb_calls.specs.Call.{State};
 ghost use Rattle.tb_calls.specs.Leaving.{Only};
 ghost use Rattle.tb_orders.specs.Doing.{is_unread};
 ghost use Rattle.tb_orders.specs.Items.{IsBadAmong, end_of};
 ghost use Rattle.tb_orders.specs.Lists.{IsCut};
+ghost use Rattle.tb_orders.specs.Moments.{GaveOne};
 ghost use Rattle.tb_orders.specs.Running.{IsBadWhole, IsRunOf};
 ghost use Rattle.tb_orders.specs.Telling.{is_of_inputs, is_of_messages};
-ghost use Rattle.tb_program.specs.declared.fault.Fault.TheVariants.{BadBody, Store};
+ghost use Rattle.tb_program.specs.declared.fault.Fault.TheVariants.{BadBody, NoClock, Store};
 
 use crate::ending::Ending;
 use crate::lists::parts_of;
@@ -15,11 +16,10 @@ use crate::order_fault::OrderFault;
 use crate::running::{Progress, Run, import_parts};
 use std::alloc::Global;
 use std::io::{ErrorKind, Read, Write};
-use std::time::Clock;
 use tb_calls::Keep;
 use tb_command_line::ImportOrder;
 use tb_desk::Desk;
-use tb_program::{Fault, machine_moment};
+use tb_program::{Clock, Fault};
 use tb_task::Moment;
 use tb_values::Items;
 
@@ -32,20 +32,21 @@ struct Arrived {
 
 /// Reads the text of an import, cuts it into parts, and makes the call of each, up to the first that isn't accepted; prints the body of
 /// each reply on a line.
-pub fn import_all<K: Keep, R: Read + Drop, W: Write>(
+pub fn import_all<K: Keep, R: Read + Drop, C: Clock, W: Write>(
     alloc: Global,
     desk: &mut Desk<K>,
     order: &ImportOrder,
     reader: R,
-    clock: &impl Clock,
+    clock: &mut C,
     writer: &mut W,
     progress: &impl Progress,
 ) -> Result<Ending, OrderFault>
     ensures run { (s : State) → K.holds desk.old s → Only s (K.after_stop desk.old)
-        → IsRunOf order.now (R.remaining reader) s (end_of result) (K.is_honest desk.new)
-        (K.holds desk.new) (K.after_stop desk.new) (W.contents writer.old) (W.contents writer.new) }
+        → IsRunOf (GaveOne C.gives clock.old clock.new) order.now (R.remaining reader) s
+        (end_of result) (K.is_honest desk.new) (K.holds desk.new) (K.after_stop desk.new) (W.contents writer.old) (W.contents writer.new) }
     ensures unread { IfErr (end_of result) (λ fault. is_unread fault ≡ true
         → (desk.new ≡ desk.old) × (writer.new ≡ writer.old)) }
+    ensures timeless { IsErrOf (end_of result) NoClock → C.gives (None ∷ []) clock.old clock.new }
     ensures item { IfErr result
         (λ failed. IfSome failed.item (IsBadAmong order.now (R.remaining reader))) }
     ensures bad { IsErrOf (end_of result) BadBody
@@ -67,21 +68,25 @@ pub fn import_all<K: Keep, R: Read + Drop, W: Write>(
     }
 }
 
-fn read_parts<R: Read + Drop>(
+fn read_parts<R: Read + Drop, C: Clock>(
     alloc: Global,
     order: &ImportOrder,
     reader: R,
-    clock: &impl Clock,
+    clock: &mut C,
 ) -> Result<Arrived, Fault>
     ensures read { IfOk result
         (λ arrived. (text : List ℕ) × IfSome (R.remaining reader) (λ all. text ≡ all)
-        × IsCut order.now.kind text (Some arrived.parts.items)) }
+        × IsCut order.now.kind text (Some arrived.parts.items)
+        × C.gives (Some arrived.at ∷ []) clock.old clock.new) }
+    ensures timeless { IsErrOf result NoClock → C.gives (None ∷ []) clock.old clock.new }
     ensures bad { IsErrOf result BadBody
         → IfSome (R.remaining reader) (λ text. IsCut order.now.kind text None) }
     ensures fault { IfErr result (λ fault. is_of_messages fault ≡ true) }
 {
     let text = read_all(alloc, reader)?;
-    let at = machine_moment(clock).ok_or(Fault::NoClock)?;
+    let Some(at) = clock.now() else {
+        return Err(Fault::NoClock);
+    };
     match parts_of(alloc, order.kind, text)? {
         Some(parts) => Ok(Arrived { parts, at }),
         None => Err(Fault::BadBody),
@@ -92,6 +97,7 @@ fn read_parts<R: Read + Drop>(
 fn read_all<R: Read + Drop>(alloc: Global, reader: R) -> Result<Items<u8>, Fault>
     ensures whole { IfSome (R.remaining reader) (λ text. IfOk result (λ read. read ≡ text)) }
     ensures long { result ≢ Err BadBody }
+    ensures timeless { result ≢ Err NoClock }
     ensures fault { IfErr result (λ fault. is_of_messages fault ≡ true) }
 {
     let mut reader = reader;

@@ -1,5 +1,5 @@
 //! The connections of a server over a desk.
-ghost use Rattle.std.specs.Prelude.{◌≡◌, ℕ, IfOk};
+ghost use Rattle.std.specs.Prelude.{◌≡◌, ℕ, IfOk, length};
 ghost use Rattle.tb_event_loop.specs.History.{done_of as done_to};
 ghost use Rattle.tb_serve.specs.Server.{done_of, talk_at};
 ghost use Rattle.tb_http.specs.Inbox.{Wants};
@@ -42,6 +42,7 @@ impl<K: Keep + Drop, C: Clock + Drop> Server<K, C> {
         ensures desk { IfOk result (λ server. server.desk ≡ desk) }
         ensures page { IfOk result (λ server. server.paths.site ≡ site) }
         ensures silent { IfOk result (λ server. (c : ℕ) → talk_at server.peers.items c ≡ silent) }
+        ensures places { IfOk result (λ server. length server.peers.items ≡ CONNECTIONS) }
     {
         Ok(Server {
             alloc,
@@ -71,7 +72,8 @@ impl<K: Keep + Drop, C: Clock + Drop> Server<K, C> {
 
 // The connections of all places, to which nothing came yet.
 fn silent_peers(alloc: Global) -> Result<Vec<Peer>, AllocError>
-    ensures { IfOk result (λ peers. (c : ℕ) → talk_at peers.items c ≡ silent) }
+    ensures silent { IfOk result (λ peers. (c : ℕ) → talk_at peers.items c ≡ silent) }
+    ensures places { IfOk result (λ peers. length peers.items ≡ CONNECTIONS) }
 {
     let mut peers = Vec::with_capacity(alloc, CONNECTIONS)?;
     'places: for _ in 0..CONNECTIONS {

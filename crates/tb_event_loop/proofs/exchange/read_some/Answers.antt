@@ -1,6 +1,6 @@
 use Rattle.std.proofs.Common.{rules, refl, is_err, false, [], arith}
 use Rattle.tb_event_loop.specs.Deeds.{called}
-use Rattle.tb_event_loop.specs.Sockets.{read, unread}
+use Rattle.tb_event_loop.specs.Sockets.{unread}
 use Rattle.tb_event_loop.proofs.Acting.{begins_read, did_fail, did_read, reads_nothing, reads_some}
 use Rattle.tb_event_loop.proofs.exchange.read_some.Goals as goal
 

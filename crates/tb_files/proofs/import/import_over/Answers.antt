@@ -7,7 +7,7 @@ use Rattle.tb_files.proofs.import.import_over.Goals as goal
 
 pub returns-in-Ok-clause-imported : goal.returns-in-Ok-clause-imported
 returns-in-Ok-clause-imported g c =
-    IfOk-weaker c.close_after.result _ _ (λ told closed. imported_as _ _ _ _ _ told c.in-Ok.ending _ closed.0 (record {
+    IfOk-weaker c.close_after.result _ _ (λ told closed. imported_as _ _ _ _ _ _ told c.in-Ok.ending _ closed.0 (record {
       new = c.import_input.new.desk;
       files = closed.1.0;
       saved = closed.1.1;

@@ -1,5 +1,6 @@
-use Rattle.std.proofs.lemmas.Result.{IfOk-at_ok}
+use Rattle.std.proofs.lemmas.Result.{IfErr-at_err, IfOk-at_ok}
 use Rattle.tb_files.proofs.Begun.{begun_as}
+use Rattle.tb_files.proofs.Quiet.{unwritten}
 use Rattle.tb_orders.proofs.NewKeys.{asked_anyhow}
 use Rattle.tb_files.proofs.key.give_key_in_file.Goals as goal
 
@@ -17,3 +18,6 @@ returns-in-Ok-clause-given g c = record {
   is_asked = asked_anyhow _ _ _ _ _ c.in_ok-asked.ensures.asked;
   does = λ honest s held. IfOk-at_ok _ c.in-Ok.is (c.give_key-desk.ensures.given honest s held);
 }
+
+pub returns-clause-silent : goal.returns-clause-silent
+returns-clause-silent g c quiet = IfErr-at_err _ c.in-Err.is c.give_key-desk.ensures.silent (unwritten c.in-Err.fault quiet)

@@ -14,7 +14,7 @@ returns-in-Ok-clause-made g c s held =
     let read = c.in-Ok.ensures.read in
     let did = c.import_text-end.ensures in
     rw c.with_item.ensures.end
-    (made_by c.import_text-end.result c.args.order.now read.0 _ _ _ s _ _ _ _ read.2 read.1
+    (made_by _ c.import_text-end.result c.args.order.now read.0 _ _ _ s _ _ _ _ read.3 read.2 read.1
     (λ honest. did.told honest s held) (did.left s held) (λ honest. did.ending honest s held) (λ none. (did.unasked none).0))
 
 pub returns-in-Ok-clause-memory : goal.returns-in-Ok-clause-memory
@@ -25,9 +25,9 @@ returns-in-Ok-clause-does g c s held only =
     let read = c.in-Ok.ensures.read in
     let did = c.import_text-end.ensures in
     rw c.with_item.ensures.end
-    (done_by g.W.Write.contents c.import_text-end.result c.args.order.now read.0 c.in-Ok.arrived.message c.in-Ok.arrived.at _ s
+    (done_by g.W.Write.contents _ c.import_text-end.result c.args.order.now read.0 c.in-Ok.arrived.message c.in-Ok.arrived.at _ s
     (g.K.Keep.is_honest c.import_text-end.new.desk) g.K.Keep.holds g.K.Keep.after_stop c.args.desk.now c.import_text-end.new.desk
-    c.args.writer.now c.import_text-end.new.writer read.2 read.1 (λ so. did.told so s held) (λ so. did.front so s held) did.silent (did.stands s held only) did.unasked held only)
+    c.args.writer.now c.import_text-end.new.writer read.3 read.2 read.1 (λ so. did.told so s held) (λ so. did.front so s held) did.silent (did.stands s held only) did.unasked held only)
 
 pub returns-in-Ok-clause-silent : goal.returns-in-Ok-clause-silent
 returns-in-Ok-clause-silent g c = rw c.with_item.ensures.end c.import_text-end.ensures.silent
@@ -47,7 +47,7 @@ returns-in-Ok-clause-store g c e = c.import_text-end.ensures.store (subst (λ r.
 pub returns-in-Err-clause-does : goal.returns-in-Err-clause-does
 returns-in-Err-clause-does g c s held only =
     let acts_not = unread_acts_not c.in-Err.fault c.in-Err.ensures.fault in
-    none_done c.args.order.now _ s c.in-Err.fault _ _ _ (g.W.Write.contents c.args.writer.now) acts_not.0 acts_not.1 held only
+    none_done _ c.args.order.now _ s c.in-Err.fault _ _ _ (g.W.Write.contents c.args.writer.now) acts_not.0 acts_not.1 held only
 
 pub returns-in-Ok-clause-bad : goal.returns-in-Ok-clause-bad
 returns-in-Ok-clause-bad g c e =

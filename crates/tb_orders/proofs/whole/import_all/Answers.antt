@@ -17,7 +17,7 @@ returns-in-Ok-clause-run g c s held only =
       parts = c.as_slice-parts.result.now;
       at = _;
       whole = read.1;
-      cut = inl (subst (λ ps. IsCut c.args.order.now.kind read.0 (Some ps)) (sym c.as_slice-parts.ensures.value) read.2);
+      cut = inl (subst (λ ps. IsCut c.args.order.now.kind read.0 (Some ps)) (sym c.as_slice-parts.ensures.value) read.2, read.3);
       run = c.import_parts.ensures.run s held only;
     }
 
@@ -35,7 +35,7 @@ returns-in-Ok-clause-unread g c =
     IfErr-weaker (end_of c.import_parts.result) _ _ (λ fault of is. absurd (true≢false (sym is ∙ read_by_then fault of))) c.import_parts.ensures.fault
 
 pub returns-in-Err-clause-run : goal.returns-in-Err-clause-run
-returns-in-Err-clause-run g c s held only = unread_run _ _ s _ _ _ _ _ held only
+returns-in-Err-clause-run g c s held only = unread_run _ _ _ s _ _ _ _ _ held only
 
 pub returns-in-Ok-clause-bad : goal.returns-in-Ok-clause-bad
 returns-in-Ok-clause-bad g c is =

@@ -1,6 +1,6 @@
 use Rattle.std.proofs.Common.{refl, []}
 use Rattle.tb_event_loop.specs.Sockets.{accepted, unaccepted}
-use Rattle.tb_event_loop.proofs.Arriving.{ready_accepted, ready_failed, ready_none}
+use Rattle.tb_event_loop.proofs.Arriving.{ready_accepted, ready_failed}
 use Rattle.tb_event_loop.proofs.arrivals.Arrivals.accept_one.Goals as goal
 
 pub returns-in-Ok-clause-heard : goal.returns-in-Ok-clause-heard

@@ -2,6 +2,8 @@ use Rattle.std.proofs.Common.{◌∙◌, Bool, ap, subst, List}
 use Rattle.tb_event_loop.specs.Arrivals.{StaysReady, may_accept, told_of}
 use Rattle.tb_event_loop.specs.declared.arrivals.Arrivals.{Arrivals}
 use Rattle.tb_event_loop.specs.declared.sockets.Told.{Told}
+use Rattle.tb_event_loop.specs.Hearing.{Hears}
+use Rattle.tb_event_loop.proofs.Hearing.{hears}
 use Rattle.tb_event_loop.proofs.event_loop.EventLoop.prepare.Goals as goal
 
 pub returns-clause-heard : goal.returns-clause-heard
@@ -16,3 +18,8 @@ returns-clause-tried g c none may =
     let old = c.args.self.now.arrivals in
     let heard = c.hear.ensures ∙ ap (λ (told : List Told). told_of told old) c.told.ensures in
     c.seat_all.ensures.tried (ap (λ (a : Arrivals). a.is_waiting) heard ∙ none) (ap (λ (a : Arrivals). may_accept a c.now-self.result) heard ∙ may)
+
+pub returns-clause-marks : goal.returns-clause-marks
+returns-clause-marks g c =
+    subst (λ (told : List Told). Hears told c.args.self.now.places c.seat_all.new.places) c.told-2.ensures
+    (hears c.told-2.result.now c.args.self.now.places c.mark_ready.new.self c.seat_all.new.places c.mark_ready.ensures.marks c.mark_ready.ensures.same c.seat_all.ensures.remain)

@@ -7,6 +7,7 @@ use Rattle.tb_event_loop.specs.declared.places.Places.{Places}
 use Rattle.tb_event_loop.proofs.Acting.{acts_then, did_nothing}
 use Rattle.tb_event_loop.proofs.Doing.{goes_on, goes_then}
 use Rattle.tb_event_loop.proofs.Rounding.{visits_all}
+use Rattle.tb_event_loop.proofs.Serving.{on_err}
 use Rattle.tb_event_loop.proofs.Visiting.{next_first, next_goes}
 use Rattle.tb_event_loop.proofs.event_loop.EventLoop.round.Goals as goal
 
@@ -25,6 +26,22 @@ returns-in_err-visit_next-clause-after g c =
     let t = goes_then (Acts g.N.Sockets.follows g.V.Service.follows g.V.Service.owed_at) (acts_then g.N.Sockets.follows g.V.Service.follows g.V.Service.owed_at g.N.Sockets.joined) true c.args.self.now.still_to_end c.places.self.still_to_end c.visit_next.new.self.still_to_end
     (c.args.sockets.now, c.args.service.now) (c.places.sockets, c.places.service) (c.visit_next.new.sockets, c.visit_next.new.service) c.places.invariant.goes went in
     search rules
+
+pub returns-in_err-visit_next-clause-cut : goal.returns-in_err-visit_next-clause-cut
+returns-in_err-visit_next-clause-cut g c =
+    let old = c.args.self.now in
+    let end : c.begin_round.new.self.end ≡ old.places.end = ap (λ (p : Places). p.end) c.begin_round.ensures in
+    let at : c.place_at-place.result ≡ place_from (min old.places.first old.places.end) c.places.step old.places.end =
+    c.place_at-place.ensures ∙ ap (λ (f : ℕ). place_from f c.places.step c.begin_round.new.self.end) c.places.invariant.first
+    ∙ ap (λ (e : ℕ). place_from (min old.places.first old.places.end) c.places.step e) end in
+    on_err c.from_residual.result (search rules) (record {
+      step = c.places.step;
+      within = omega (arith, end);
+      between = c.places.self;
+      middle = (c.places.sockets, c.places.service);
+      each = c.places.invariant.each;
+      failed = subst (λ (place : ℕ). VisitsNext g.N.Sockets.follows g.V.Service.follows g.V.Service.gives_file g.V.Service.held_at g.V.Service.owed_at true place c.places.self c.visit_next.new.self (c.places.sockets, c.places.service) (c.visit_next.new.sockets, c.visit_next.new.service)) at c.in_err-visit_next.ensures.visits;
+    })
 
 pub places-preserved : goal.places-preserved
 places-preserved g c =

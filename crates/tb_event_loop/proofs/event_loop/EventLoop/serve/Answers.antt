@@ -1,5 +1,4 @@
 use Rattle.std.proofs.Common.{◌≡◌, Bool, rules, refl, subst, is_err, true, false, [], ◌∷◌, inl, inr, arith, add-one}
-use Rattle.std.proofs.lemmas.Bool.{true≢false}
 use Rattle.tb_event_loop.specs.Deeds.{Acts}
 use Rattle.tb_event_loop.specs.History.{Goes}
 use Rattle.tb_event_loop.specs.Sockets.{deaf, waited}
@@ -8,7 +7,7 @@ use Rattle.tb_event_loop.specs.declared.fault.LoopFault.TheVariants.{Moved, Sock
 use Rattle.tb_event_loop.proofs.Acting.{acts_then, did_nothing, quiet_one}
 use Rattle.tb_event_loop.proofs.Arriving.{quiet_ready}
 use Rattle.tb_event_loop.proofs.Doing.{goes_on, goes_then}
-use Rattle.tb_event_loop.proofs.Serving.{asked_more, goes_quiet, on_ok, runs_early, runs_failed, runs_last, runs_plain, runs_well}
+use Rattle.tb_event_loop.proofs.Serving.{asked_more, by_err, goes_quiet, on_ok, runs_early, runs_failed, runs_well}
 use Rattle.tb_event_loop.proofs.event_loop.EventLoop.serve.Goals as goal
 
 pub rounds-init : goal.rounds-init
@@ -28,10 +27,9 @@ returns-then-has_ended_all-clause-laps g c =
     record {
       count = c.rounds.counter;
       last = c.rounds.self;
-      end = (c.rounds.sockets, c.rounds.service);
+      end = (c.rounds.sockets, c.rounds.service, c.rounds.watch);
       laps = c.rounds.invariant.laps;
-      part = runs_plain g.N.Sockets.follows g.V.Service.follows g.V.Service.owed_at g.N.Sockets.joined g.V.Service.unchanged g.V.Service.joined c.rounds.self.still_to_end c.rounds.self.still_to_end (c.rounds.sockets, c.rounds.service) (c.rounds.sockets, c.rounds.service) (goes_on (Acts g.N.Sockets.follows g.V.Service.follows g.V.Service.owed_at) false c.rounds.self.still_to_end (c.rounds.sockets, c.rounds.service) (c.rounds.sockets, c.rounds.service) (did_nothing g.N.Sockets.follows g.V.Service.follows g.V.Service.owed_at g.N.Sockets.unchanged c.rounds.sockets c.rounds.service));
-      whole = λ isnt. refl;
+      ended = refl;
     }
 
 pub returns-then-not-wait-clause-after : goal.returns-then-not-wait-clause-after
@@ -46,13 +44,9 @@ returns-then-not-wait-clause-laps g c =
     record {
       count = c.rounds.counter;
       last = c.rounds.self;
-      end = (c.rounds.sockets, c.rounds.service);
+      end = (c.rounds.sockets, c.rounds.service, c.rounds.watch);
       laps = c.rounds.invariant.laps;
-      part = runs_plain g.N.Sockets.follows g.V.Service.follows g.V.Service.owed_at g.N.Sockets.joined g.V.Service.unchanged g.V.Service.joined c.rounds.self.still_to_end c.rounds.self.still_to_end (c.rounds.sockets, c.rounds.service) (c.wait.new.sockets, c.rounds.service)
-          (goes_quiet g.N.Sockets.follows g.V.Service.follows g.V.Service.owed_at g.N.Sockets.joined c.rounds.self.still_to_end c.rounds.self.still_to_end c.rounds.self.still_to_end (c.rounds.sockets, c.rounds.service) c.rounds.sockets c.wait.new.sockets c.rounds.service
-          (goes_on (Acts g.N.Sockets.follows g.V.Service.follows g.V.Service.owed_at) false c.rounds.self.still_to_end (c.rounds.sockets, c.rounds.service) (c.rounds.sockets, c.rounds.service) (did_nothing g.N.Sockets.follows g.V.Service.follows g.V.Service.owed_at g.N.Sockets.unchanged c.rounds.sockets c.rounds.service)) refl
-          (quiet_one g.N.Sockets.follows deaf refl c.rounds.sockets c.wait.new.sockets (c.wait.ensures.deaf (search rules))));
-      whole = λ isnt. absurd (true≢false isnt);
+      ended = (inl (c.wait.ensures.deaf (search rules)), refl, refl);
     }
 
 pub returns-then-not-wait-clause-cause : goal.returns-then-not-wait-clause-cause
@@ -73,14 +67,22 @@ returns-then-has_moved-clause-laps g c =
     record {
       count = c.rounds.counter;
       last = c.rounds.self;
-      end = (c.rounds.sockets, c.rounds.service);
+      end = (c.rounds.sockets, c.rounds.service, c.rounds.watch);
       laps = c.rounds.invariant.laps;
-      part = runs_plain g.N.Sockets.follows g.V.Service.follows g.V.Service.owed_at g.N.Sockets.joined g.V.Service.unchanged g.V.Service.joined c.rounds.self.still_to_end c.prepare.new.self.still_to_end (c.rounds.sockets, c.rounds.service) (c.prepare.new.sockets, c.rounds.service)
-          (goes_quiet g.N.Sockets.follows g.V.Service.follows g.V.Service.owed_at g.N.Sockets.joined c.rounds.self.still_to_end c.rounds.self.still_to_end c.prepare.new.self.still_to_end (c.rounds.sockets, c.rounds.service) c.wait.new.sockets c.prepare.new.sockets c.rounds.service
-          (goes_quiet g.N.Sockets.follows g.V.Service.follows g.V.Service.owed_at g.N.Sockets.joined c.rounds.self.still_to_end c.rounds.self.still_to_end c.rounds.self.still_to_end (c.rounds.sockets, c.rounds.service) c.rounds.sockets c.wait.new.sockets c.rounds.service
-          (goes_on (Acts g.N.Sockets.follows g.V.Service.follows g.V.Service.owed_at) false c.rounds.self.still_to_end (c.rounds.sockets, c.rounds.service) (c.rounds.sockets, c.rounds.service) (did_nothing g.N.Sockets.follows g.V.Service.follows g.V.Service.owed_at g.N.Sockets.unchanged c.rounds.sockets c.rounds.service)) refl
-          (quiet_one g.N.Sockets.follows (waited (c.wait.ensures.heard (search rules)).0 _) refl c.rounds.sockets c.wait.new.sockets (c.wait.ensures.heard (search rules)).2)) c.prepare.ensures.limit (quiet_ready g.N.Sockets.follows _ _ c.wait.new.sockets c.prepare.new.sockets c.prepare.ensures.heard));
-      whole = λ isnt. absurd (true≢false isnt);
+      ended = (
+        c.prepare.new.self,
+        record {
+          millis = (c.wait.ensures.heard (search rules)).0;
+          limit = (c.wait.ensures.heard (search rules)).1;
+          heard = c.wait.new.sockets;
+          waits = (c.wait.ensures.heard (search rules)).2;
+          hears = c.prepare.ensures.heard;
+          tries = c.prepare.ensures.tried;
+          marks = c.prepare.ensures.marks;
+        },
+        c.has_moved.ensures.moved (search rules),
+        refl,
+      );
     }
 
 pub returns-then-is_err-clause-after : goal.returns-then-is_err-clause-after
@@ -94,7 +96,7 @@ returns-then-is_err-clause-after g c =
     (c.rounds.invariant.goes) refl
     (quiet_one g.N.Sockets.follows (waited (c.wait.ensures.heard (search rules)).0 _) refl c.rounds.sockets c.wait.new.sockets (c.wait.ensures.heard (search rules)).2)) c.prepare.ensures.limit (quiet_ready g.N.Sockets.follows _ _ c.wait.new.sockets c.prepare.new.sockets c.prepare.ensures.heard))
     (subst (λ (s : Bool). Goes (Acts g.N.Sockets.follows g.V.Service.follows g.V.Service.owed_at) s c.prepare.new.self.still_to_end c.round.new.self.still_to_end (c.prepare.new.sockets, c.rounds.service)
-    (c.round.new.sockets, c.round.new.service)) is c.round.ensures.after)) c.say_farewell.ensures
+    (c.round.new.sockets, c.round.new.service)) is c.round.ensures.after)) c.say_farewell.ensures.says
 
 pub returns-then-is_err-clause-laps : goal.returns-then-is_err-clause-laps
 returns-then-is_err-clause-laps g c =
@@ -102,18 +104,26 @@ returns-then-is_err-clause-laps g c =
     record {
       count = c.rounds.counter;
       last = c.rounds.self;
-      end = (c.rounds.sockets, c.rounds.service);
+      end = (c.rounds.sockets, c.rounds.service, c.rounds.watch);
       laps = c.rounds.invariant.laps;
-      part = runs_last g.N.Sockets.follows g.V.Service.follows g.V.Service.owed_at g.N.Sockets.joined g.V.Service.unchanged g.V.Service.joined c.rounds.self.still_to_end c.round.new.self.still_to_end (c.rounds.sockets, c.rounds.service) c.round.new.sockets c.say_farewell.new.sockets c.round.new.service
-          (goes_then (Acts g.N.Sockets.follows g.V.Service.follows g.V.Service.owed_at) (acts_then g.N.Sockets.follows g.V.Service.follows g.V.Service.owed_at g.N.Sockets.joined) true c.rounds.self.still_to_end c.prepare.new.self.still_to_end c.round.new.self.still_to_end (c.rounds.sockets, c.rounds.service)
-          (c.prepare.new.sockets, c.rounds.service) (c.round.new.sockets, c.round.new.service)
-          (goes_quiet g.N.Sockets.follows g.V.Service.follows g.V.Service.owed_at g.N.Sockets.joined c.rounds.self.still_to_end c.rounds.self.still_to_end c.prepare.new.self.still_to_end (c.rounds.sockets, c.rounds.service) c.wait.new.sockets c.prepare.new.sockets c.rounds.service
-          (goes_quiet g.N.Sockets.follows g.V.Service.follows g.V.Service.owed_at g.N.Sockets.joined c.rounds.self.still_to_end c.rounds.self.still_to_end c.rounds.self.still_to_end (c.rounds.sockets, c.rounds.service) c.rounds.sockets c.wait.new.sockets c.rounds.service
-          (goes_on (Acts g.N.Sockets.follows g.V.Service.follows g.V.Service.owed_at) false c.rounds.self.still_to_end (c.rounds.sockets, c.rounds.service) (c.rounds.sockets, c.rounds.service) (did_nothing g.N.Sockets.follows g.V.Service.follows g.V.Service.owed_at g.N.Sockets.unchanged c.rounds.sockets c.rounds.service)) refl
-          (quiet_one g.N.Sockets.follows (waited (c.wait.ensures.heard (search rules)).0 _) refl c.rounds.sockets c.wait.new.sockets (c.wait.ensures.heard (search rules)).2)) c.prepare.ensures.limit (quiet_ready g.N.Sockets.follows _ _ c.wait.new.sockets c.prepare.new.sockets c.prepare.ensures.heard))
-          (subst (λ (s : Bool). Goes (Acts g.N.Sockets.follows g.V.Service.follows g.V.Service.owed_at) s c.prepare.new.self.still_to_end c.round.new.self.still_to_end (c.prepare.new.sockets, c.rounds.service)
-          (c.round.new.sockets, c.round.new.service)) is c.round.ensures.after)) c.say_farewell.ensures;
-      whole = λ isnt. absurd (true≢false isnt);
+      ended = record {
+        ready = c.prepare.new.self;
+        taken = c.prepare.new.sockets;
+        readies = record {
+          millis = (c.wait.ensures.heard (search rules)).0;
+          limit = (c.wait.ensures.heard (search rules)).1;
+          heard = c.wait.new.sockets;
+          waits = (c.wait.ensures.heard (search rules)).2;
+          hears = c.prepare.ensures.heard;
+          tries = c.prepare.ensures.tried;
+          marks = c.prepare.ensures.marks;
+        };
+        there = c.has_moved.ensures.there (search rules);
+        after = c.round.new.self;
+        cut = c.round.new.sockets;
+        round = by_err c.round.result is c.round.ensures.cut;
+        farewell = c.say_farewell.ensures.sends;
+      };
     }
 
 pub rounds-preserved : goal.rounds-preserved
@@ -133,17 +143,21 @@ rounds-preserved g c =
           c.rounds.invariant.asked (c.wait.ensures.heard (search rules)).2 (quiet_ready g.N.Sockets.follows _ _ c.wait.new.sockets c.prepare.new.sockets c.prepare.ensures.heard) c.round.ensures.after;
       laps = rw add-one (
         c.rounds.self,
-        (c.rounds.sockets, c.rounds.service),
+        (c.rounds.sockets, c.rounds.service, c.rounds.watch),
         c.rounds.invariant.laps,
         record {
-          millis = (c.wait.ensures.heard (search rules)).0;
-          limit = (c.wait.ensures.heard (search rules)).1;
-          heard = c.wait.new.sockets;
-          waits = (c.wait.ensures.heard (search rules)).2;
           ready = c.prepare.new.self;
           taken = c.prepare.new.sockets;
-          hears = c.prepare.ensures.heard;
-          tries = c.prepare.ensures.tried;
+          readies = record {
+            millis = (c.wait.ensures.heard (search rules)).0;
+            limit = (c.wait.ensures.heard (search rules)).1;
+            heard = c.wait.new.sockets;
+            waits = (c.wait.ensures.heard (search rules)).2;
+            hears = c.prepare.ensures.heard;
+            tries = c.prepare.ensures.tried;
+            marks = c.prepare.ensures.marks;
+          };
+          there = c.has_moved.ensures.there (search rules);
           round = on_ok c.round.result is c.round.ensures.visits;
         },
       );
@@ -158,10 +172,9 @@ returns-clause-laps g c =
     record {
       count = c.rounds.counter;
       last = c.rounds.self;
-      end = (c.rounds.sockets, c.rounds.service);
+      end = (c.rounds.sockets, c.rounds.service, c.rounds.watch);
       laps = c.rounds.invariant.laps;
-      part = runs_plain g.N.Sockets.follows g.V.Service.follows g.V.Service.owed_at g.N.Sockets.joined g.V.Service.unchanged g.V.Service.joined c.rounds.self.still_to_end c.rounds.self.still_to_end (c.rounds.sockets, c.rounds.service) (c.rounds.sockets, c.rounds.service) (goes_on (Acts g.N.Sockets.follows g.V.Service.follows g.V.Service.owed_at) false c.rounds.self.still_to_end (c.rounds.sockets, c.rounds.service) (c.rounds.sockets, c.rounds.service) (did_nothing g.N.Sockets.follows g.V.Service.follows g.V.Service.owed_at g.N.Sockets.unchanged c.rounds.sockets c.rounds.service));
-      whole = λ isnt. absurd (true≢false isnt);
+      ended = (inr (omega arith, refl), refl, refl);
     }
 
 pub returns-clause-cause : goal.returns-clause-cause

@@ -2,7 +2,6 @@ use Rattle.std.proofs.Common.{is_err}
 use Rattle.std.specs.Prelude.{IsTrue}
 use Rattle.tb_event_loop.specs.Deeds.{ActsAt, Begins, IsRead, IsTurn}
 use Rattle.tb_event_loop.specs.Places.{NeedsBytes, connection_in, is_read, is_turned_in, may_answer_at}
-use Rattle.tb_event_loop.specs.declared.places.Places.{Places}
 use Rattle.tb_event_loop.proofs.Acting.{acts_at_then}
 use Rattle.tb_event_loop.proofs.Doing.{begins_then, did_then}
 use Rattle.tb_event_loop.proofs.Visiting.{answers_or_awaits, from_still}

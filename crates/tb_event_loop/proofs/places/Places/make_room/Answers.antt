@@ -1,4 +1,4 @@
-use Rattle.std.proofs.Common.{◌≡◌, Some, None, sym, ap, subst, refl, ◌∙◌}
+use Rattle.std.proofs.Common.{sym, ap, subst, refl, ◌∙◌}
 use Rattle.tb_event_loop.specs.Places.{LetsGoOne}
 use Rattle.tb_rooms.specs.Yielding.{gives_way}
 use Rattle.tb_event_loop.proofs.places.Places.make_room.Goals as goal
