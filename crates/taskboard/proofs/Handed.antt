@@ -1,8 +1,11 @@
--- What `?` hands on where a server isn't begun or closed, and the end of an order of whose fault nothing more is told.
-use Rattle.std.proofs.Common.{◌∙◌, ◌≡◌, Bool, Result, Ok, Err, IfErr, IfOk, ap, true}
+-- What `?` hands on, what is said of a fault in several clauses, and the end of an order of whose fault nothing more is told.
+use Rattle.std.proofs.Common.{◌∙◌, ◌≡◌, Bool, Result, Ok, Err, IfErr, IfOk, ap, inl, inr, refl, subst, sym, true}
 use Rattle.std.proofs.lemmas.Result.{IfErr-at_err, IfOk-at_ok}
-use Rattle.std.specs.Prelude.{IsErrAnd}
+use Rattle.std.specs.Prelude.{◌⊎◌, IsErrAnd, OnErr}
+use Rattle.taskboard.specs.Orders.{IsNamed}
 use Rattle.taskboard.specs.Serve.{is_of_serving}
+use Rattle.tb_command_line.specs.declared.order.Order.{Order}
+use Rattle.tb_command_line.specs.declared.order.Order.TheVariants.{Init, Serve, Run, Import, ImportAll, Clean, View, Check, Key, Send, My, Help, Version}
 use Rattle.tb_orders.specs.declared.ending.Ending.{Ending}
 use Rattle.tb_orders.specs.declared.order_fault.OrderFault.{OrderFault}
 use Rattle.tb_program.specs.declared.fault.Fault.{Fault}
@@ -20,3 +23,44 @@ pub failed_alone : (r : Result Ending OrderFault) (ended : Result Ending Fault) 
     → IfErr ended (λ fault. kind fault ≡ true) → IfErr r (λ failed. kind failed.fault ≡ true)
 failed_alone (Ok ending) ended kind same is = tt
 failed_alone (Err failed) ended kind same is = IfErr-at_err (λ fault. kind fault ≡ true) same is
+
+pub left_by : {A E : Type 0} (r : Result A E) (told : E) (P : E → Type 0) → IsErrAnd r (λ e. e ≡ told) → P told → IfErr r P
+left_by (Ok x) told P is left = tt
+left_by (Err e) told P is left = subst P (sym is) left
+
+pub left_alone : (r : Result Ending OrderFault) (ended : Result Ending Fault) (P : Fault → Type 0) → IfErr r (λ failed. ended ≡ Err failed.fault)
+    → IfErr ended P → IfErr r (λ failed. P failed.fault)
+left_alone (Ok ending) ended P same is = tt
+left_alone (Err failed) ended P same is = IfErr-at_err P same is
+
+-- whatever the fault is
+pub always : {A E : Type 0} (r : Result A E) (P : E → Type 0) → ((e : E) → P e) → IfErr r P
+always (Ok x) P is = tt
+always (Err e) P is = is e
+
+pub of_any : {A E : Type 0} (r : Result A E) (P : Type 0) → OnErr r P → IfErr r (λ e. P)
+of_any (Ok x) P is = tt
+of_any (Err e) P is = is
+
+pub all_three : {A E : Type 0} (r : Result A E) (P Q R : E → Type 0) → IfErr r P → IfErr r Q → IfErr r R → IfErr r (λ e. P e × Q e × R e)
+all_three (Ok x) P Q R first second third = tt
+all_three (Err e) P Q R first second third = (first, second, third)
+
+pub cut_over : {P Q R : Type 0} → P ⊎ Q → (P → R) → R ⊎ Q
+cut_over (inl is) more = inl (more is)
+cut_over (inr is) more = inr is
+
+pub named_same : (order : Order) → IsNamed order order
+named_same (Init order) = refl
+named_same (Serve order) = refl
+named_same Run = refl
+named_same (Import order) = refl
+named_same (ImportAll order) = refl
+named_same (Clean order) = refl
+named_same (View order) = refl
+named_same (Check file) = refl
+named_same (Key order) = refl
+named_same (Send order) = (order.id, refl)
+named_same (My order) = refl
+named_same (Help topic) = refl
+named_same Version = refl

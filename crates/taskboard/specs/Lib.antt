@@ -1,3 +1,4 @@
+pub mod Failing
 pub mod Orders
 pub mod Page
 pub mod Running

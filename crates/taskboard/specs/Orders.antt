@@ -101,9 +101,9 @@ module _ {D W : Type 0} {d : DiskGhosts D} (g : Ghosts (SqlKeep (FileStore D d))
   -- an input that is cleaned, by one call or in parts
   abbrev pub IsBrought : Bool → ImportOrder → List ℕ → W → W → Ending → Type 0
   IsBrought true order text before after ending =
-      IsImportedInParts g order (Some text) (contents before) (contents after) ending
+      IsImportedInParts g (λ at. Unit {0}) order (Some text) (contents before) (contents after) ending
   IsBrought false order text before after ending =
-      IsImported g order (Some text) (contents before) (contents after) ending
+      IsImported g (λ at. Unit {0}) order (Some text) (contents before) (contents after) ending
 
   -- Nothing is brought where it is only looked at, or where a task can't be taken and isn't to be left out: the order is refused then.
   abbrev pub IsCleanedBy : CleanMode → Bool → ImportOrder → Cleaned → W → W → Ending → Type 0
@@ -138,9 +138,9 @@ module _ {D L W : Type 0} {d : DiskGhosts D} (g : Ghosts (SqlKeep (FileStore D d
   IsDone Run input before after ending = (ending ≡ Accepted)
       × IfSome input (λ script. Appends (contents before) (contents after) (script_text script))
   IsDone (Import order) input before after ending =
-      IsImported g order input (contents before) (contents after) ending
+      IsImported g (λ at. Unit {0}) order input (contents before) (contents after) ending
   IsDone (ImportAll order) input before after ending =
-      IsImportedInParts g order input (contents before) (contents after) ending
+      IsImportedInParts g (λ at. Unit {0}) order input (contents before) (contents after) ending
   IsDone (Clean order) input before after ending =
       IsCleaned g contents order input before after ending
   IsDone (View order) input before after ending =

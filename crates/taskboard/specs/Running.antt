@@ -1,5 +1,5 @@
 -- What a loop makes of a server over a desk, however it ends.
-use Rattle.std.specs.Prelude.{ℕ, Bool, true, false, List, length, Option, Result, is_err}
+use Rattle.std.specs.Prelude.{ℕ, Bool, true, false, List, length, Option, Result}
 use Rattle.sqlite.specs.State.{State as Database}
 use Rattle.tb_calls.specs.Call.{State}
 use Rattle.tb_calls.specs.declared.keep.Keep.{Ghosts}
@@ -25,11 +25,12 @@ abbrev pub IsServed : Bool → Site → State → List (ℕ × Happening (Option
 IsServed false site s done talks later now may_leave d = IsPlayed site s done talks later now may_leave d
 IsServed true site s done talks later now may_leave d = IsCut site s done talks later now may_leave d
 
--- The loop went round by round, with a turn for each place, and then, where it ended by a fault, through a part of one.
-abbrev pub HasLaps : {N V E : Type 0} → (List Called → N → N → Type 0) → (N → List Told) → Service V
-    → Result E LoopFault → EventLoop → N × V → N × V → Type 0
-HasLaps asks last_told g result before old new = IsMadeOfLaps asks last_told g.follows g.gives_file
-    g.held_at g.owed_at (has_stopped result) (is_err result) before old new
+-- The loop went round by round, with a turn for each place, and then it ended so.
+abbrev pub HasLaps : {N V P E : Type 0} → (List Called → N → N → Type 0) → (N → List Told)
+    → (List Bool → P → P → Type 0) → Service V
+    → Result E LoopFault → EventLoop → N × V × P → N × V × P → Type 0
+HasLaps asks last_told looks g result before old new =
+    IsMadeOfLaps asks last_told looks g.follows g.gives_file g.held_at g.owed_at result before old new
 
 module _ {S : Type 0} (g : Ghosts (SqlKeep S)) where
   -- This was done to the connections of a server, each turn at the moment that the clock gave for it. From the state at which the desk

@@ -1,10 +1,14 @@
 //! Imports into a file whose text is cleaned first.
 ghost use Rattle.std.specs.Io.KnownBytes.{Appends};
 ghost use Rattle.std.specs.Prelude.{◌≡◌, IfErr, IfOk, IfSome, List, Ok, Some, true, ℕ};
+ghost use Rattle.taskboard.specs.Failing.{IsCutAfter, IsUnbrought, IsUnclean, IsUncleaned, IsUnread};
 ghost use Rattle.taskboard.specs.Orders.{IsBrought, IsCleaned, IsCleanedBy, ending_if, is_skip};
 ghost use Rattle.tb_cleaning.specs.Cleaning.{Cleans};
 ghost use Rattle.tb_files.specs.Faults.{is_of_imports};
+ghost use Rattle.tb_program.specs.declared.fault.Fault.TheVariants.{WriteFailed};
+ghost use Rattle.tb_values.specs.Appends.{AppendsFront};
 
+use crate::clock::MachineClock;
 use std::alloc::Global;
 use std::io::{ErrorKind, Read, Write};
 use tb_calls::Keep;
@@ -28,6 +32,8 @@ pub(crate) fn clean_into_file<R: Read + Drop, W: Write>(
 ) -> Result<Ending, OrderFault>
     ensures done { IfOk result (IsCleaned ⟦<SqlKeep<RealFile> as Keep>⟧ W.contents
         order.now (R.remaining reader) writer.old writer.new) }
+    ensures left { IfErr result (IsUncleaned ⟦<SqlKeep<RealFile> as Keep>⟧ W.contents
+        order.now (R.remaining reader) writer.old writer.new) }
     ensures fault { IfErr result (λ failed. is_of_imports failed.fault ≡ true) }
 {
     let text = read_all(rt.alloc(), reader)?;
@@ -46,6 +52,7 @@ fn is_skip(mode: CleanMode) -> bool
 
 fn cleaned(alloc: Global, text: &Items<u8>, skips: bool) -> Result<Cleaned, Fault>
     ensures cleans { IfOk result (λ cleaned. Cleans skips text.now (Ok cleaned)) }
+    ensures unclean { IfErr result (IsUnclean skips text.now) }
     ensures fault { IfErr result (λ fault. is_of_imports fault ≡ true) }
 {
     match clean(alloc, text.as_slice(), skips) {
@@ -64,6 +71,8 @@ fn bring<W: Write>(
     writer: &mut W,
 ) -> Result<Ending, OrderFault>
     ensures done { IfOk result (IsCleanedBy ⟦<SqlKeep<RealFile> as Keep>⟧ W.contents
+        order.now.mode order.now.is_all order.now.import cleaned writer.old writer.new) }
+    ensures left { IfErr result (IsCutAfter ⟦<SqlKeep<RealFile> as Keep>⟧ W.contents
         order.now.mode order.now.is_all order.now.import cleaned writer.old writer.new) }
     ensures fault { IfErr result (λ failed. is_of_imports failed.fault ≡ true) }
 {
@@ -87,6 +96,8 @@ fn bring<W: Write>(
 fn tell_notes<W: Write>(cleaned: &Cleaned, writer: &mut W) -> Result<Ending, Fault>
     ensures told { IfOk result (λ ending. (ending ≡ ending_if cleaned.now.is_whole)
         × Appends (W.contents writer.old) (W.contents writer.new) cleaned.now.notes) }
+    ensures cut { IfErr result (λ fault. (fault ≡ WriteFailed)
+        × AppendsFront (W.contents writer.old) (W.contents writer.new) cleaned.now.notes) }
     ensures fault { IfErr result (λ fault. is_of_imports fault ≡ true) }
 {
     print_text(writer, cleaned.notes.as_str())?;
@@ -106,18 +117,22 @@ fn bring_text<W: Write>(
 ) -> Result<Ending, OrderFault>
     ensures done { IfOk result (IsBrought ⟦<SqlKeep<RealFile> as Keep>⟧ W.contents
         is_all order.now text.now writer.old writer.new) }
+    ensures left { IfErr result (IsUnbrought ⟦<SqlKeep<RealFile> as Keep>⟧ W.contents
+        is_all order.now text.now writer.old writer.new) }
     ensures fault { IfErr result (λ failed. is_of_imports failed.fault ≡ true) }
 {
+    let mut clock = MachineClock { rt };
     if is_all {
-        import_parts_into_file(rt, order, text.as_slice(), writer)
+        import_parts_into_file(rt, order, text.as_slice(), &mut clock, writer)
     } else {
-        import_into_file(rt, order, text.as_slice(), writer)
+        import_into_file(rt, order, text.as_slice(), &mut clock, writer)
     }
 }
 
 /// The whole text of a reader.
 fn read_all<R: Read + Drop>(alloc: Global, reader: R) -> Result<Items<u8>, Fault>
     ensures whole { IfSome (R.remaining reader) (λ text. IfOk result (λ read. read ≡ text)) }
+    ensures unread { IfErr result IsUnread }
     ensures fault { IfErr result (λ fault. is_of_imports fault ≡ true) }
 {
     let mut reader = reader;

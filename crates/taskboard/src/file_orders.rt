@@ -1,7 +1,9 @@
 //! The orders over a file, but serving it and imports: the file is opened, and the order carried out over what is found.
-ghost use Rattle.std.specs.Prelude.{◌≡◌, IfErr, IfOk, true};
+ghost use Rattle.std.specs.Prelude.{◌≡◌, IfErr, IfOk, false, true};
+ghost use Rattle.taskboard.specs.Failing.{IsUnchecked, IsUnmade, IsUnshown};
 ghost use Rattle.tb_calls.specs.Call.{opening};
 ghost use Rattle.tb_files.specs.Check.{IsChecked};
+ghost use Rattle.tb_files.specs.Failed.{may_print};
 ghost use Rattle.tb_files.specs.Faults.{is_of_checking, is_of_keys, is_of_views};
 ghost use Rattle.tb_files.specs.File.{BeginsSession};
 ghost use Rattle.tb_files.specs.Init.{IsMade};
@@ -25,6 +27,8 @@ use tb_values::Text;
 pub(crate) fn init(rt: &HostRuntime, order: &InitOrder) -> Result<Ending, OrderFault>
     ensures made { IfOk result (λ ending. (found : _) × ((ending ≡ Ending.Accepted)
         × IsMade ⟦<SqlKeep<RealFile> as Keep>⟧ found (opening order.now.name order.now.key))) }
+    ensures unmade { IfErr result (IsUnmade ⟦<SqlKeep<RealFile> as Keep>⟧
+        (opening order.now.name order.now.key)) }
     ensures fault { IfErr result (λ failed. is_of_making failed.fault ≡ true) }
 {
     let conn = open_new_file(rt, order.file.as_str())?;
@@ -40,6 +44,8 @@ pub(crate) fn view<W: Write>(
     ensures shown { IfOk result (λ ending. BeginsSession ⟦<SqlKeep<RealFile> as Keep>⟧
         (λ old. IsShown ⟦<SqlKeep<RealFile> as Keep>⟧ (λ at. Unit {0}) order.now old
         (W.contents writer.old) (W.contents writer.new) ending)) }
+    ensures unshown { IfErr result (IsUnshown ⟦<SqlKeep<RealFile> as Keep>⟧ W.contents
+        order.now writer.old writer.new) }
     ensures fault { IfErr result (λ failed. is_of_views failed.fault ≡ true) }
 {
     let conn = open_file(rt, order.file.as_str())?;
@@ -55,6 +61,8 @@ pub(crate) fn check<W: Write>(
 ) -> Result<Ending, OrderFault>
     ensures checked { IfOk result (λ ending. BeginsSession ⟦<SqlKeep<RealFile> as Keep>⟧
         (λ old. IsChecked old (W.contents writer.old) (W.contents writer.new) ending)) }
+    ensures unchecked { IfErr result (IsUnchecked ⟦<SqlKeep<RealFile> as Keep>⟧
+        writer.old writer.new) }
     ensures fault { IfErr result (λ failed. is_of_checking failed.fault ≡ true) }
 {
     let conn = open_file(rt, file.as_str())?;
@@ -70,6 +78,7 @@ pub(crate) fn give_key<R: Read + Drop, W: Write>(
 ) -> Result<Ending, Fault>
     ensures given { IfOk result (IsKeyGiven ⟦<SqlKeep<RealFile> as Keep>⟧ (λ at. Unit {0})
         order.now (R.remaining reader) (W.contents writer.old) (W.contents writer.new)) }
+    ensures silent { IfErr result (λ fault. may_print fault ≡ false → writer.new ≡ writer.old) }
     ensures fault { IfErr result (λ fault. is_of_keys fault ≡ true) }
 {
     let mut clock = MachineClock { rt };

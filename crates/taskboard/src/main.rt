@@ -5,6 +5,7 @@
 
 ghost use Rattle.std.specs.Io.KnownBytes.{Appends};
 ghost use Rattle.std.specs.Prelude.{◌≡◌, ◌≢◌, Err, IfErr, IfOk, IfSome, Ok, OnErr, true};
+ghost use Rattle.taskboard.specs.Failing.{IsLeft};
 ghost use Rattle.taskboard.specs.Orders.{IsDone, IsNamed, is_of_order, is_of_telling, script_text};
 ghost use Rattle.tb_orders.specs.Faults.{is_of_scripts};
 ghost use Rattle.tb_program.specs.declared.fault.Fault.TheVariants.{ReadFailed, Store};
@@ -25,6 +26,7 @@ mod serve;
 mod served_file;
 
 use crate::cleaning::clean_into_file;
+use crate::clock::MachineClock;
 use crate::file_orders::{check, give_key, init, view};
 use crate::mine::ask_mine;
 use crate::sending::send;
@@ -75,6 +77,11 @@ fn end_of<R: Read + Drop, W: Write>(
         × IsDone ⟦<SqlKeep<RealFile> as Keep>⟧
         ⟦<ServerLine<MachineDial<'static>> as Line>⟧.follows W.contents
         named (R.remaining reader) writer.old writer.new ending) }
+    ensures left { IfErr result (λ fault. (named : _) × IsNamed order named
+        × (failed : _) × (failed.fault ≡ fault)
+        × IsLeft ⟦<SqlKeep<RealFile> as Keep>⟧
+        ⟦<ServerLine<MachineDial<'static>> as Line>⟧.follows W.contents
+        named (R.remaining reader) writer.old writer.new failed) }
     ensures fault { IfErr result (λ fault. is_of_order order fault ≡ true) }
 {
     if let Order::Send(order) = &mut order {
@@ -108,14 +115,21 @@ fn carry_out<R: Read + Drop, W: Write>(
         (IsDone ⟦<SqlKeep<RealFile> as Keep>⟧
         ⟦<ServerLine<MachineDial<'static>> as Line>⟧.follows W.contents
         order.old (R.remaining reader) writer.old writer.new) }
+    ensures left { IfErr result (IsLeft ⟦<SqlKeep<RealFile> as Keep>⟧
+        ⟦<ServerLine<MachineDial<'static>> as Line>⟧.follows W.contents
+        order.old (R.remaining reader) writer.old writer.new) }
     ensures fault { IfErr result (λ failed. is_of_order order.old failed.fault ≡ true) }
 {
     match order {
         Order::Init(order) => init(rt, order),
         Order::Serve(order) => alone(serve_file(rt, order)),
         Order::Run => alone(run_script(rt.alloc(), &mut Watched::new(reader), writer)),
-        Order::Import(order) => import_into_file(rt, order, reader, writer),
-        Order::ImportAll(order) => import_parts_into_file(rt, order, reader, writer),
+        Order::Import(order) => {
+            import_into_file(rt, order, reader, &mut MachineClock { rt }, writer)
+        }
+        Order::ImportAll(order) => {
+            import_parts_into_file(rt, order, reader, &mut MachineClock { rt }, writer)
+        }
         Order::Clean(order) => clean_into_file(rt, order, reader, writer),
         Order::View(order) => view(rt, order, writer),
         Order::Check(file) => check(rt, file, writer),

@@ -28,7 +28,7 @@ pub(crate) fn run_server<S, C, N, T, W, P>(
     sockets: &mut N,
     server: Server<SqlKeep<S>, C>,
     journal: &mut Journal<T, W>,
-    watch: &P,
+    watch: &mut P,
 ) -> Result<Desk<SqlKeep<S>>, (LoopFault, Desk<SqlKeep<S>>)>
 where
     S: Alter + Drop,
@@ -45,8 +45,9 @@ where
         server.paths.site later.paths.site server.peers.items later.peers.items
         (still_to_end event_loop.old) (Ok tt) (done_in runs.deeds) server.desk later.desk
         (state S.Store later.desk.conn)
-        × HasLaps {E = Unit {0}} N.follows N.last_told ⟦<Server<SqlKeep<S>, C> as Service>⟧
-        (Ok tt) event_loop.old (sockets.old, server) (sockets.new, later)) }
+        × HasLaps {E = Unit {0}} N.follows N.last_told P.looks
+        ⟦<Server<SqlKeep<S>, C> as Service>⟧ (Ok tt) event_loop.old
+        (sockets.old, server, watch.old) (sockets.new, later, watch.new)) }
     ensures cut { IfErr result (λ e. (later : _) × (later.desk ≡ e.1)
         × (runs : Runs N.follows ⟦<Server<SqlKeep<S>, C> as Service>⟧.follows
         ⟦<Server<SqlKeep<S>, C> as Service>⟧.owed_at (has_stopped {T = Unit {0}} (Err e.0))
@@ -55,11 +56,12 @@ where
         server.paths.site later.paths.site server.peers.items later.peers.items
         (still_to_end event_loop.old) (Err e.0) (done_in runs.deeds) server.desk later.desk
         (state S.Store later.desk.conn)
-        × HasLaps {E = Unit {0}} N.follows N.last_told ⟦<Server<SqlKeep<S>, C> as Service>⟧
-        (Err e.0) event_loop.old (sockets.old, server) (sockets.new, later)) }
+        × HasLaps {E = Unit {0}} N.follows N.last_told P.looks
+        ⟦<Server<SqlKeep<S>, C> as Service>⟧ (Err e.0) event_loop.old
+        (sockets.old, server, watch.old) (sockets.new, later, watch.new)) }
     ensures cause { IfErr result (λ e. e.0 ≡ Sockets
         → IsCutOff N.follows sockets.old sockets.new) }
-    ensures moved { IfErr result (λ e. e.0 ≡ Moved → P.is_gone watch.now) }
+    ensures moved { IfErr result (λ e. e.0 ≡ Moved → P.is_gone watch.new) }
     ensures failed { IfErr result (λ e. e.0 ≡ Store
         → ⟦<SqlKeep<S> as Keep>⟧.has_failed e.1 ≡ true) }
 {

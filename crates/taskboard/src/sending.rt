@@ -1,5 +1,6 @@
 //! Calls and views that are sent to a server.
 ghost use Rattle.std.specs.Prelude.{◌≡◌, IfErr, IfOk, true};
+ghost use Rattle.taskboard.specs.Failing.{IsUnsentOver};
 ghost use Rattle.taskboard.specs.Orders.{IsSentOver};
 ghost use Rattle.tb_sending.specs.Faults.{is_of_sending};
 
@@ -18,6 +19,9 @@ pub(crate) fn send<W: Write>(
 ) -> Result<Ending, Fault>
     ensures sent { IfOk result
         (IsSentOver ⟦<ServerLine<MachineDial<'static>> as Line>⟧.follows W.contents
+        order.old writer.old writer.new) }
+    ensures unsent { IfErr result
+        (IsUnsentOver ⟦<ServerLine<MachineDial<'static>> as Line>⟧.follows W.contents
         order.old writer.old writer.new) }
     ensures fault { IfErr result (λ fault. is_of_sending fault ≡ true) }
 {

@@ -2,8 +2,10 @@
 ghost use Rattle.std.specs.Prelude.{◌≡◌, IfErr, IfOk, IsErrOf, IsSome, true};
 ghost use Rattle.taskboard.specs.Page.{IsPageOf};
 ghost use Rattle.taskboard.specs.Serve.{IsServerRun, fault_of_loop, is_of_serving, limit_of, rate_of};
+ghost use Rattle.tb_event_loop.specs.EventLoop.{IsNew};
 ghost use Rattle.tb_event_loop.specs.History.{still_to_end};
 ghost use Rattle.tb_program.specs.declared.fault.Fault.TheVariants.{NoPage};
+ghost use Rattle.tb_timeouts.specs.declared.limits.TheConstants.{LIMITS};
 
 use crate::clock::MachineClock;
 use crate::running::run_server;
@@ -41,13 +43,19 @@ pub(crate) fn serve_file(rt: &HostRuntime, order: &ServeOrder) -> Result<Ending,
     let page = page_of(rt, order)?;
     let conn = open_file(rt, order.file.as_str())?;
     let desk = open_desk(rt, order.file.as_str(), conn)?;
-    let watch = ServedFile::of(rt, order.file.as_str());
+    let mut watch = ServedFile::of(rt, order.file.as_str());
     let mut sockets = listen(rt, order)?;
     let mut event_loop = loop_for(rt, order)?;
     let server = Server::new(rt.alloc(), desk, MachineClock { rt }, page)?;
     tell_start(rt, order);
     let mut journal = Journal::new(rt.alloc(), rt, rt.stderr(), order.log);
-    match run_server(&mut event_loop, &mut sockets, server, &mut journal, &watch) {
+    match run_server(
+        &mut event_loop,
+        &mut sockets,
+        server,
+        &mut journal,
+        &mut watch,
+    ) {
         Ok(desk) => {
             close_desk(desk)?;
             Ok(Ending::Accepted)
@@ -71,6 +79,8 @@ fn listen(rt: &HostRuntime, order: &ServeOrder) -> Result<MioSockets, Fault>
 fn loop_for(rt: &HostRuntime, order: &ServeOrder) -> Result<EventLoop, AllocError>
     ensures limit { IfOk result (λ event_loop. still_to_end event_loop
         ≡ limit_of order.now.connections) }
+    ensures new { IfOk result (IsNew (limit_of order.now.connections) LIMITS
+        (rate_of order.now.burst order.now.growth)) }
 {
     EventLoop::new(
         rt.alloc(),

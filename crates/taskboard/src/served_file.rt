@@ -24,7 +24,9 @@ impl<'p> ServedFile<'p> {
 impl<'p> Watch for ServedFile<'p> {
     ghost is_gone = { λ _. Unit {0} };
 
-    fn is_there(&self) -> bool {
+    ghost looks = { λ _ _ _. Unit {0} };
+
+    fn is_there(&mut self) -> bool {
         file_at(self.rt, self.path) == self.file
     }
 }

@@ -1,7 +1,8 @@
-use Rattle.std.proofs.Common.{subst}
-use Rattle.std.proofs.lemmas.Result.{IfOk-weaker}
+use Rattle.std.proofs.Common.{refl, subst}
+use Rattle.std.proofs.lemmas.Result.{IfErr-weaker, IfOk-weaker}
 use Rattle.std.specs.Io.KnownBytes.{Appends}
-use Rattle.taskboard.proofs.Handed.{done_alone, failed_alone}
+use Rattle.tb_values.specs.Appends.{AppendsFront}
+use Rattle.taskboard.proofs.Handed.{all_three, always, done_alone, failed_alone, left_alone, of_any}
 use Rattle.taskboard.proofs.carry_out.Goals as goal
 
 pub returns-in-Init-clause-done : goal.returns-in-Init-clause-done
@@ -91,3 +92,51 @@ returns-in-Version-clause-done g c =
 pub returns-in-Version-clause-fault : goal.returns-in-Version-clause-fault
 returns-in-Version-clause-fault g c =
     rw c.in-Version.is (failed_alone c.alone-in-Version.result c.tell-in-Version.result _ c.alone-in-Version.ensures.fault c.tell-in-Version.ensures.fault)
+
+pub returns-in-Init-clause-left : goal.returns-in-Init-clause-left
+returns-in-Init-clause-left g c = rw c.in-Init.is (IfErr-weaker c.init.result _ _ (λ failed unmade. (refl, unmade)) c.init.ensures.unmade)
+
+pub returns-in-Serve-clause-left : goal.returns-in-Serve-clause-left
+returns-in-Serve-clause-left g c = rw c.in-Serve.is (always c.alone.result _ (λ failed. refl))
+
+pub returns-in-Import-clause-left : goal.returns-in-Import-clause-left
+returns-in-Import-clause-left g c =
+    let ensures = c.import_into_file.ensures in
+    rw c.in-Import.is (all_three c.import_into_file.result _ _ _ ensures.failed ensures.silent ensures.item)
+
+pub returns-in-ImportAll-clause-left : goal.returns-in-ImportAll-clause-left
+returns-in-ImportAll-clause-left g c =
+    let ensures = c.import_parts_into_file.ensures in
+    rw c.in-ImportAll.is (all_three c.import_parts_into_file.result _ _ _ ensures.failed ensures.silent ensures.item)
+
+pub returns-in-Clean-clause-left : goal.returns-in-Clean-clause-left
+returns-in-Clean-clause-left g c = rw c.in-Clean.is c.clean_into_file.ensures.left
+
+pub returns-in-View-clause-left : goal.returns-in-View-clause-left
+returns-in-View-clause-left g c = rw c.in-View.is c.view.ensures.unshown
+
+pub returns-in-Check-clause-left : goal.returns-in-Check-clause-left
+returns-in-Check-clause-left g c = rw c.in-Check.is c.check.ensures.unchecked
+
+pub returns-in-Key-clause-left : goal.returns-in-Key-clause-left
+returns-in-Key-clause-left g c =
+    rw c.in-Key.is (left_alone c.alone-in-Key.result c.give_key.result _ c.alone-in-Key.ensures.fault c.give_key.ensures.silent)
+
+pub returns-in-Send-clause-left : goal.returns-in-Send-clause-left
+returns-in-Send-clause-left g c =
+    rw c.in-Send.is (left_alone c.alone-in-Send.result c.send.result _ c.alone-in-Send.ensures.fault c.send.ensures.unsent)
+
+pub returns-in-My-clause-left : goal.returns-in-My-clause-left
+returns-in-My-clause-left g c = rw c.in-My.is (always c.alone-in-My.result _ (λ failed. tt))
+
+pub returns-in-Help-clause-left : goal.returns-in-Help-clause-left
+returns-in-Help-clause-left g c =
+    let contents = g.W.Write.contents in
+    let told = IfErr-weaker c.tell.result _ _
+    (λ fault is. subst (λ text. AppendsFront (contents c.args.writer.now) (contents c.tell.new.writer) text) c.text.ensures is)
+    (of_any c.tell.result _ c.tell.ensures.front) in
+    rw c.in-Help.is (left_alone c.alone-in-Help.result c.tell.result _ c.alone-in-Help.ensures.fault told)
+
+pub returns-in-Version-clause-left : goal.returns-in-Version-clause-left
+returns-in-Version-clause-left g c =
+    rw c.in-Version.is (left_alone c.alone-in-Version.result c.tell-in-Version.result _ c.alone-in-Version.ensures.fault (of_any c.tell-in-Version.result _ c.tell-in-Version.ensures.front))

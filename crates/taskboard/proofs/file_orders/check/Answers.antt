@@ -1,0 +1,14 @@
+use Rattle.std.proofs.Common.{inl, inr, refl}
+use Rattle.taskboard.proofs.Handed.{left_by}
+use Rattle.tb_files.specs.NotDone.{failure_of}
+use Rattle.tb_orders.specs.Items.{fault_alone}
+use Rattle.taskboard.proofs.file_orders.check.Goals as goal
+
+pub returns-in_err-conn-clause-unchecked : goal.returns-in_err-conn-clause-unchecked
+returns-in_err-conn-clause-unchecked g c =
+    left_by c.from_residual.result (fault_alone c.in_err-conn.field-0.0) _ c.from_residual.ensures.1 (inl (refl, (refl, c.in_err-conn.ensures.fault)))
+
+pub returns-in_err-check_file-clause-unchecked : goal.returns-in_err-check_file-clause-unchecked
+returns-in_err-check_file-clause-unchecked g c =
+    left_by c.from_residual-in_err-check_file.result (failure_of c.in_err-check_file.field-0.0) _ c.from_residual-in_err-check_file.ensures.1
+    (inr (record { found = c.in_ok-conn.conn; undone = c.in_err-check_file.field-0.0; done = c.in_err-check_file.ensures.undone; told = refl }))
