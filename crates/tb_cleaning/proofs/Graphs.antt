@@ -1,12 +1,13 @@
 -- Graphs that are made of lists of places.
-use Rattle.std.proofs.Common.{◌≡◌, ◌↔◌, IsTrue, ℕ, zero, suc, ◌+◌, ◌-◌, ◌<◌, ◌≤◌, nat_lt, Bool, true, false, List, [], ◌∷◌, ◌++◌, length, get_or, set, map, take, replicate, filter, refl, sym, ◌∙◌, ap, arith}
-use Rattle.std.proofs.lemmas.List.{get_or-set_same, map-append, length-map, append_assoc, append-nil, length-take-le}
+use Rattle.std.proofs.Common.{◌≡◌, ◌↔◌, IsTrue, ℕ, zero, suc, ◌+◌, ◌-◌, ◌<◌, ◌≤◌, nat_lt, Bool, true, false, List, [], ◌∷◌, ◌++◌, length, get_or, set, map, take, replicate, filter, refl, sym, ◌∙◌, ap, arith, inl, inr}
+use Rattle.std.proofs.lemmas.Bool.{cases_Bool}
+use Rattle.std.proofs.lemmas.List.{replicate-append-replicate, get_or-set_same, map-append, length-map, append_assoc, append-nil, length-take-le}
 use Rattle.std.proofs.lemmas.List.Elements.{filter-append}
 use Rattle.std.proofs.Math.Seq.{take-suc, take-length, set-append_seam, get_or-append_seam}
 use Rattle.tb_graph.specs.Leads.{leads}
-use Rattle.tb_graph.specs.Walk.{Graph, Reaches}
+use Rattle.tb_graph.specs.Walk.{Graph, IsAcyclic, Reaches}
 use Rattle.tb_graph.proofs.Leading.{leads_decides}
-use Rattle.tb_cleaning.specs.Circles.{within, graph_of}
+use Rattle.tb_cleaning.specs.Circles.{circles_to, within, graph_of}
 
 no_places : List ℕ
 no_places = []
@@ -79,3 +80,18 @@ same false false to back = refl
 -- a search answers the test for walks
 pub led : (g : Graph) (from to : ℕ) (answer : Bool) → IsTrue answer ↔ Reaches g from to → answer ≡ leads g from to
 led g from to answer exact = same answer (leads g from to) (λ h. (leads_decides g from to).1 (exact.0 h)) (λ h. exact.1 ((leads_decides g from to).0 h))
+
+not_led : (g : Graph) (a : ℕ) → IsAcyclic g → leads g a a ≡ false
+not_led g a none =
+    elim (cases_Bool (leads g a a)) [
+      | inl led ↦ absurd (none a ((leads_decides g a a).0 led))
+      | inr free ↦ free
+    ]
+
+-- where no walk leads back, no node is marked
+pub none_marked : (g : Graph) (n : ℕ) → IsAcyclic g → circles_to g n ≡ replicate n false
+none_marked g zero none = refl
+none_marked g (suc n) none =
+    let one : n + 1 ≡ suc n = omega arith in
+    ap (λ marks. marks ++ leads g n n ∷ []) (none_marked g n none) ∙ ap (λ b. replicate n false ++ b ∷ []) (not_led g n none)
+    ∙ replicate-append-replicate n 1 false ∙ ap (λ m. replicate m false) one

@@ -1,6 +1,7 @@
 -- Where the tasks are to which others are linked.
-use Rattle.std.specs.Prelude.{ℕ, ◌+◌, ◌==◌, Bool, false, List, [], ◌∷◌, ◌++◌, Option, Some, None, if◌then◌else◌}
-use Rattle.tb_graph.specs.Walk.{Graph}
+use Rattle.std.specs.Prelude.{◌≡◌, ℕ, ◌+◌, ◌==◌, Bool, false, List, [], ◌∷◌, ◌++◌, Option, Some, None, if◌then◌else◌}
+use Rattle.std.specs.BTreeMap.{BTreeMap, get}
+use Rattle.std.specs.Ordering.{nat_cmp}
 use Rattle.tb_task.specs.declared.incoming.Incoming.{Incoming}
 use Rattle.tb_cleaning.specs.Entries.{Judged, taken_in}
 
@@ -15,6 +16,14 @@ place_from k id (other ∷ ids) = if is_id other id then Some k else place_from 
 
 abbrev pub place_of : List (Option ℕ) → ℕ → Option ℕ
 place_of ids id = place_from 0 id ids
+
+-- what is noted of an identifier q once the place of id is noted, where this was noted of q before
+abbrev pub put_place : Option ℕ → ℕ → ℕ → Option ℕ → Option ℕ
+put_place id place q before = if is_id id q then Some place else before
+
+-- the first place of each identifier is noted, of places from k on
+abbrev pub AreFirsts : ℕ → List (Option ℕ) → BTreeMap ℕ ℕ → Type 0
+AreFirsts k ids firsts = (id : ℕ) → get nat_cmp firsts id ≡ place_from k id ids
 
 abbrev pub with_place : List ℕ → Option ℕ → List ℕ
 with_place found None = found

@@ -1,6 +1,6 @@
 //! Tasks that depend on themselves over others.
 
-ghost use Rattle.std.specs.Prelude.{◌≡◌, ◌<◌, ◌++◌, ◌∷◌, [], IfOk, OnOk, length, slice_index_or, slice_set};
+ghost use Rattle.std.specs.Prelude.{◌≡◌, ◌<◌, ◌++◌, ◌∷◌, [], IfOk, OnOk, false, length, replicate, slice_index_or, slice_set};
 ghost use Rattle.tb_cleaning.specs.Circles.{circles_of, circles_to, graph_of, within};
 ghost use Rattle.tb_graph.specs.Leads.{leads};
 
@@ -8,12 +8,22 @@ use std::alloc::{AllocError, Global};
 use tb_graph::Links;
 use tb_values::Items;
 
-/// For each task whether it depends on itself, of the places of those on which each depends.
+/// For each task whether it depends on itself, of the places of those on which each depends. Tasks are looked at one by one only where
+/// there is a circle.
 pub(crate) fn circles_of(alloc: Global, links: &[Items<usize>]) -> Result<Vec<bool>, AllocError>
     ensures { IfOk result (λ marks. marks.items ≡ circles_of links.now) }
 {
     let graph = graph_of(alloc, links)?;
+    if graph.acyclic()? {
+        return no_marks(alloc, graph.nodes());
+    }
     marks_of(alloc, &graph)
+}
+
+fn no_marks(alloc: Global, nodes: usize) -> Result<Vec<bool>, AllocError>
+    ensures { IfOk result (λ marks. marks.items ≡ replicate nodes false) }
+{
+    vec![in alloc; false; nodes]
 }
 
 fn graph_of(alloc: Global, links: &[Items<usize>]) -> Result<Links, AllocError>

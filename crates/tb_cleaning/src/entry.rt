@@ -4,6 +4,7 @@ ghost use Rattle.std.specs.Prelude.{◌≡◌, ◌++◌, IfOk, map, option_map};
 ghost use Rattle.serde_json.specs.View.{view};
 ghost use Rattle.tb_cleaning.specs.Entries.{entry_of, id_of, seen, taken_in};
 
+use crate::ids::Ids;
 use crate::judging::judged;
 use crate::respelling::{changes_of, item_of};
 use crate::verdict::Verdict;
@@ -68,12 +69,12 @@ pub(crate) fn entries_of(alloc: Global, items: &[Value]) -> Result<Vec<Entry>, A
 }
 
 /// The identifiers of those that are taken.
-pub(crate) fn ids_of(alloc: Global, entries: &[Entry]) -> Result<Vec<Option<TaskId>>, AllocError>
-    ensures { IfOk result (λ ids. ids.items ≡ map id_of (map seen entries.now)) }
+pub(crate) fn ids_of(alloc: Global, entries: &[Entry]) -> Result<Ids, AllocError>
+    ensures { IfOk result (λ ids. ids ≡ map id_of (map seen entries.now)) }
 {
     let mut ids = Vec::with_capacity(alloc, entries.len())?;
     for entry in entries {
         ids.push(entry.id())?;
     }
-    Ok(ids)
+    Ids::of(alloc, ids)
 }

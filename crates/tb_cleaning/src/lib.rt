@@ -7,6 +7,7 @@ mod circles;
 mod cleaning;
 mod entry;
 mod fault;
+mod ids;
 mod items;
 mod judging;
 mod losses;

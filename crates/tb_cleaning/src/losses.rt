@@ -10,8 +10,8 @@ ghost use Rattle.tb_cleaning.specs.Telling.{line_of};
 ghost use Rattle.tb_json.specs.Attribute.{unless_blank};
 
 use crate::entry::Entry;
+use crate::ids::Ids;
 use crate::ordering::has_instances;
-use crate::places::place_of;
 use crate::respelling::push_text;
 use crate::sorting::{has_id, push_id};
 use crate::telling::{line_of, push_line};
@@ -307,7 +307,7 @@ fn link_at(
 fn push_links(
     alloc: Global,
     found: &mut Items<Text>,
-    ids: &[Option<TaskId>],
+    ids: &Ids,
     task: &Value,
     place: usize,
     depends: &[TaskId],
@@ -316,7 +316,7 @@ fn push_links(
         (found.new ≡ links_on ids.now (view task.now) place found.old depends.now) }
 {
     for id in depends {
-        let other = place_of(ids, *id);
+        let other = ids.place_of(*id);
         push_text(found, link_at(alloc, task, place, *id, other)?)?;
     }
     Ok(())
@@ -325,7 +325,7 @@ fn push_links(
 fn push_links_of(
     alloc: Global,
     found: &mut Items<Text>,
-    ids: &[Option<TaskId>],
+    ids: &Ids,
     place: usize,
     entry: &Entry,
 ) -> Result<(), AllocError>
@@ -341,11 +341,7 @@ fn push_links_of(
     }
 }
 
-fn links_from(
-    alloc: Global,
-    ids: &[Option<TaskId>],
-    entries: &[&Entry],
-) -> Result<Items<Text>, AllocError>
+fn links_from(alloc: Global, ids: &Ids, entries: &[&Entry]) -> Result<Items<Text>, AllocError>
     ensures { IfOk result
         (λ lines. lines ≡ links_from ids.now 0 [] (map (λ e. seen e.now) entries.entry.now)) }
 {
@@ -356,15 +352,15 @@ fn links_from(
     Ok(found)
 }
 
-fn ids_of(alloc: Global, entries: &[&Entry]) -> Result<Vec<Option<TaskId>>, AllocError>
+fn ids_of(alloc: Global, entries: &[&Entry]) -> Result<Ids, AllocError>
     ensures { IfOk result
-        (λ ids. ids.items ≡ map id_of (map (λ e. seen e.now) entries.entry.now)) }
+        (λ ids. ids ≡ map id_of (map (λ e. seen e.now) entries.entry.now)) }
 {
     let mut ids = Vec::with_capacity(alloc, entries.len())?;
     for entry in entries {
         ids.push(entry.id())?;
     }
-    Ok(ids)
+    Ids::of(alloc, ids)
 }
 
 /// A line for each link to a task that isn't brought, or later.
@@ -372,5 +368,5 @@ pub(crate) fn all_links(alloc: Global, entries: &[&Entry]) -> Result<Items<Text>
     ensures { IfOk result (λ lines. lines ≡ all_links (map (λ e. seen e.now) entries.entry.now)) }
 {
     let ids = ids_of(alloc, entries)?;
-    links_from(alloc, ids.as_slice(), entries)
+    links_from(alloc, &ids, entries)
 }

@@ -60,7 +60,7 @@ fn order_of(alloc: Global, entries: &[Entry]) -> Result<Items<usize>, AllocError
     ensures { IfOk result (λ order. order ≡ order_of (map seen entries.now)) }
 {
     let ids = ids_of(alloc, entries)?;
-    let waits = all_waits(alloc, ids.as_slice(), entries)?;
+    let waits = all_waits(alloc, &ids, entries)?;
     let templates = templates_of(alloc, entries)?;
     let mut done = left_out(alloc, entries)?;
     order_on(alloc, waits.as_slice(), templates.as_slice(), &mut done)

@@ -2,33 +2,13 @@
 
 ghost use Rattle.std.specs.Prelude.{◌≡◌, [], IfOk, OnOk, map};
 ghost use Rattle.tb_cleaning.specs.Entries.{seen, taken_in};
-ghost use Rattle.tb_cleaning.specs.Places.{depends_of, is_id, parent_in, place_of, place_of_some, places_on, waits_of, with_place};
+ghost use Rattle.tb_cleaning.specs.Places.{depends_of, parent_in, place_of_some, places_on, waits_of, with_place};
 
 use crate::entry::Entry;
+use crate::ids::Ids;
 use std::alloc::{AllocError, Global};
 use tb_task::TaskId;
 use tb_values::Items;
-
-/// The first place of an identifier.
-pub(crate) fn place_of(ids: &[Option<TaskId>], id: TaskId) -> Option<usize>
-    ensures { result ≡ place_of ids.now id }
-{
-    for (place, other) in ids.iter().enumerate() {
-        if is_id(other, id) {
-            return Some(place);
-        }
-    }
-    None
-}
-
-fn is_id(other: &Option<TaskId>, id: TaskId) -> bool
-    ensures { result ≡ is_id other.now id }
-{
-    match other {
-        Some(other) => *other == id,
-        None => false,
-    }
-}
 
 pub(crate) fn push_place(found: &mut Items<usize>, place: Option<usize>) -> Result<(), AllocError>
     ensures { OnOk result (found.new ≡ with_place found.old place) }
@@ -39,16 +19,12 @@ pub(crate) fn push_place(found: &mut Items<usize>, place: Option<usize>) -> Resu
     }
 }
 
-fn places_of(
-    alloc: Global,
-    ids: &[Option<TaskId>],
-    wanted: &[TaskId],
-) -> Result<Items<usize>, AllocError>
+fn places_of(alloc: Global, ids: &Ids, wanted: &[TaskId]) -> Result<Items<usize>, AllocError>
     ensures { IfOk result (λ places. places ≡ places_on ids.now [] wanted.now) }
 {
     let mut found = Items::new(alloc);
     for id in wanted {
-        push_place(&mut found, place_of(ids, *id))?;
+        push_place(&mut found, ids.place_of(*id))?;
     }
     Ok(found)
 }
@@ -56,7 +32,7 @@ fn places_of(
 /// The tasks on which one depends.
 pub(crate) fn depends_of(
     alloc: Global,
-    ids: &[Option<TaskId>],
+    ids: &Ids,
     entry: &Entry,
 ) -> Result<Items<usize>, AllocError>
     ensures { IfOk result (λ places. places ≡ depends_of ids.now (seen entry.now)) }
@@ -67,10 +43,10 @@ pub(crate) fn depends_of(
     }
 }
 
-fn place_of_some(ids: &[Option<TaskId>], id: Option<TaskId>) -> Option<usize>
+fn place_of_some(ids: &Ids, id: Option<TaskId>) -> Option<usize>
     ensures { result ≡ place_of_some ids.now id }
 {
-    place_of(ids, id?)
+    ids.place_of(id?)
 }
 
 pub(crate) fn parent_of(entry: &Entry) -> Option<TaskId>
@@ -83,11 +59,7 @@ pub(crate) fn parent_of(entry: &Entry) -> Option<TaskId>
 }
 
 /// These and the template of an instance.
-fn waits_of(
-    alloc: Global,
-    ids: &[Option<TaskId>],
-    entry: &Entry,
-) -> Result<Items<usize>, AllocError>
+fn waits_of(alloc: Global, ids: &Ids, entry: &Entry) -> Result<Items<usize>, AllocError>
     ensures { IfOk result (λ places. places ≡ waits_of ids.now (seen entry.now)) }
 {
     let mut places = depends_of(alloc, ids, entry)?;
@@ -98,7 +70,7 @@ fn waits_of(
 /// For each task those on which it depends.
 pub(crate) fn all_depends(
     alloc: Global,
-    ids: &[Option<TaskId>],
+    ids: &Ids,
     entries: &[Entry],
 ) -> Result<Vec<Items<usize>>, AllocError>
     ensures { IfOk result (λ links. links.items ≡ map (depends_of ids.now) (map seen entries.now)) }
@@ -113,7 +85,7 @@ pub(crate) fn all_depends(
 /// For each task those for which it waits.
 pub(crate) fn all_waits(
     alloc: Global,
-    ids: &[Option<TaskId>],
+    ids: &Ids,
     entries: &[Entry],
 ) -> Result<Vec<Items<usize>>, AllocError>
     ensures { IfOk result (λ links. links.items ≡ map (waits_of ids.now) (map seen entries.now)) }

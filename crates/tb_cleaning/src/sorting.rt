@@ -10,7 +10,8 @@ ghost use Rattle.tb_graph.specs.Marks.{is_marked};
 
 use crate::circles::circles_of;
 use crate::entry::{Entry, entries_of, ids_of};
-use crate::places::{all_depends, parent_of, place_of};
+use crate::ids::Ids;
+use crate::places::{all_depends, parent_of};
 use crate::verdict::Verdict;
 use serde_json::Value;
 use std::alloc::{AllocError, Global};
@@ -33,14 +34,10 @@ fn sorted_of(alloc: Global, entries: Vec<Entry>) -> Result<Vec<Entry>, AllocErro
         (λ sorted. map seen sorted.items ≡ sorted_of (map seen entries.items)) }
 {
     let ids = ids_of(alloc, entries.as_slice())?;
-    sorted_by(alloc, ids.as_slice(), entries)
+    sorted_by(alloc, &ids, entries)
 }
 
-fn sorted_by(
-    alloc: Global,
-    ids: &[Option<TaskId>],
-    entries: Vec<Entry>,
-) -> Result<Vec<Entry>, AllocError>
+fn sorted_by(alloc: Global, ids: &Ids, entries: Vec<Entry>) -> Result<Vec<Entry>, AllocError>
     ensures { IfOk result (λ sorted. map seen sorted.items
         ≡ sorted_by ids.now (map seen entries.items)) }
 {
@@ -51,7 +48,7 @@ fn sorted_by(
 
 fn sorted_on(
     alloc: Global,
-    ids: &[Option<TaskId>],
+    ids: &Ids,
     circles: &[bool],
     entries: Vec<Entry>,
 ) -> Result<Vec<Entry>, AllocError>
@@ -88,7 +85,7 @@ fn with_verdict(entry: Entry, verdict: Verdict) -> Entry
 
 fn change_at(
     alloc: Global,
-    ids: &[Option<TaskId>],
+    ids: &Ids,
     circles: &[bool],
     place: usize,
     id: Option<TaskId>,
@@ -98,7 +95,7 @@ fn change_at(
     let Some(id) = id else {
         return Ok(None);
     };
-    if !is_place(place, place_of(ids, id)) {
+    if !is_place(place, ids.place_of(id)) {
         return Ok(Some(Verdict::Double));
     }
     if is_marked(circles, place) {
@@ -162,10 +159,10 @@ fn lost_reason(alloc: Global, id: TaskId) -> Result<Text, AllocError>
     Ok(reason)
 }
 
-fn is_lost(ids: &[Option<TaskId>], refused: &[TaskId], id: TaskId) -> bool
+fn is_lost(ids: &Ids, refused: &[TaskId], id: TaskId) -> bool
     ensures { result ≡ is_lost ids.now refused.now id }
 {
-    has_id(refused, id) && place_of(ids, id).is_none()
+    has_id(refused, id) && ids.place_of(id).is_none()
 }
 
 pub(crate) fn has_id(list: &[TaskId], id: TaskId) -> bool
@@ -176,7 +173,7 @@ pub(crate) fn has_id(list: &[TaskId], id: TaskId) -> bool
 
 fn loss_of(
     alloc: Global,
-    ids: &[Option<TaskId>],
+    ids: &Ids,
     refused: &[TaskId],
     parent: Option<TaskId>,
 ) -> Result<Option<Verdict>, AllocError>
@@ -193,7 +190,7 @@ fn loss_of(
 
 fn kept_on(
     alloc: Global,
-    ids: &[Option<TaskId>],
+    ids: &Ids,
     refused: &[TaskId],
     entries: Vec<Entry>,
 ) -> Result<Vec<Entry>, AllocError>
@@ -213,5 +210,5 @@ fn kept_of(alloc: Global, entries: Vec<Entry>) -> Result<Vec<Entry>, AllocError>
 {
     let ids = ids_of(alloc, entries.as_slice())?;
     let refused = refused_on(alloc, entries.as_slice())?;
-    kept_on(alloc, ids.as_slice(), refused.as_slice(), entries)
+    kept_on(alloc, &ids, refused.as_slice(), entries)
 }
