@@ -3,15 +3,15 @@ import { PRIORITIES } from "./board.js";
 import { changes } from "./changes.js";
 import { check, isWhole } from "./checking.js";
 import { names } from "./crew.js";
-import { button, fill, find, make, said, span, whenSent } from "./dom.js";
-import { keepDraft, readDraft } from "./drafts.js";
+import { button, counted, fill, find, make, said, span, whenSent } from "./dom.js";
+import { keepDraft, readDraft, whenTypedElsewhere } from "./drafts.js";
 import { Fields } from "./fields.js";
 import { shown } from "./filters.js";
 import { inFull, seconds } from "./moments.js";
 import { tellFault, toast } from "./notices.js";
 import { isMeant } from "./repeatpreview.js";
 import { faultInText } from "./rules.js";
-import { keep } from "./sending.js";
+import { keep, keepEach } from "./sending.js";
 import { go, listen, state } from "./state.js";
 import { readLine } from "./todotxt.js";
 
@@ -20,11 +20,11 @@ let [fields, asked] = [null, ""];
 
 const chip = (...children) => span("chip", ...children);
 
-const readNow = () => readLine(find("add-line").value, names(), state.who?.name);
+const read = (line) => readLine(line, names(), state.who?.name);
+const readNow = () => read(find("add-line").value);
 
-// What the line and the fields say together; the fields go first.
-function newTask() {
-    const line = readNow().task;
+// What a line and the fields say together; the fields go first.
+function newTask({ task: line } = readNow()) {
     const given = fields.read();
     const both = { ...line, ...Object.fromEntries(Object.entries(given).filter(([, value]) => value)) };
     both.tags = [...new Set([...line.tags, ...(given.tags ?? [])])];
@@ -72,11 +72,15 @@ function keepTyped() {
     keepDraft("add", "", isEmpty(draft) ? null : draft);
 }
 
-// Fills the form as it was left.
-function fillAdding(draft) {
+// Fills the form as it was left, here or in another tab.
+function showTyped(draft) {
     find("add-line").value = draft?.line ?? "";
     showFields(draft?.isShown ?? false, draft?.typed);
     drawUnderstood();
+}
+
+function fillAdding(draft) {
+    showTyped(draft);
     keepTyped();
 }
 
@@ -104,6 +108,32 @@ async function add() {
     tellHidden(made, task);
 }
 
+// The lines of a list, without the marks of its points.
+const linesOf = (text) => text.split(/[\r\n]+/).map((line) => line.trim().replace(/^[-*•]\s+(\[ \]\s+)?/, "")).filter(Boolean);
+
+// Adds a task for each line of a list, with a way back.
+async function addLines(lines) {
+    const [{ number }, form] = [state, typed()];
+    const made = lines.map((line) => ({ ...changes.add(number, newTask(read(line))), form: { ...form, line } }));
+    fillAdding({ isShown: isShown() });
+    await keepEach(made).catch((fault) => {
+        fillAdding({ ...form, line: lines.join(" ") });
+        throw fault;
+    });
+    const back = made.map(({ task: uuid, subject: description }) => ({ ...changes.act(number, { uuid, description }, "delete"), isOneOfMany: true }));
+    toast(`Added ${counted(made.length)} tasks.`, button("Undo", () => keepEach(back).catch(tellFault)));
+}
+
+// A browser makes one line of a list that is pasted. Where nothing else stands there its person may want a task for each of its lines.
+function takeList(event) {
+    const lines = linesOf(event.clipboardData?.getData("text/plain") ?? "");
+    if (lines.length < 2 || find("add-line").value.trim() || fields.read().recur) return;
+    if (lines.some((line) => faultInText(newTask(read(line)).description))) return;
+    if (!confirm(`Add ${counted(lines.length)} tasks, one for each line? Otherwise all of it becomes one line.`)) return;
+    event.preventDefault();
+    addLines(lines).catch(tellFault);
+}
+
 function showFields(isShown, typed) {
     fields = new Fields(state.board);
     fields.dueElsewhere = () => readNow().task.due;
@@ -124,6 +154,7 @@ function drawBoard() {
 
 export function beginAdding() {
     find("add-line").addEventListener("input", drawUnderstood);
+    find("add-line").addEventListener("paste", takeList);
     find("add-more").addEventListener("click", () => {
         showFields(!isShown(), fields.typed());
         keepTyped();
@@ -132,6 +163,7 @@ export function beginAdding() {
     find("add-line").addEventListener("input", () => fields.drawPreview());
     check(find("add-line"), (line) => (line.trim() ? faultInText(readNow().task.description) : ""));
     whenSent("add-form", () => add().catch(tellFault));
+    whenTypedElsewhere("add", (draft) => showTyped(draft ?? { isShown: isShown() }));
     listen("signed", () => (number = 0));
     listen("people", drawUnderstood);
     listen("route", drawBoard);

@@ -121,6 +121,8 @@ export function beginDay() {
         for (const board of boards.values()) board.relay();
         draw();
     });
-    listen("answered", ({ change }) => isShown() && change.board > 0 && ask(change.board).catch(console.warn));
+    // (of many changes of a board the last one has it asked for)
+    const isLast = ({ board }) => board > 0 && !waiting().some((one) => one.board === board);
+    listen("answered", ({ change }) => isShown() && isLast(change) && ask(change.board).catch(console.warn));
     listen("left", () => ([boards, heard, seenAt, askedAt] = [new Map(), new Map(), new Map(), -Infinity]));
 }

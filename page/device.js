@@ -49,5 +49,8 @@ export const remove = (changes) => within("readwrite", (store) => changes.forEac
 // The changes of all who use this device.
 export const everyones = () => within("readonly", (store) => store.getAll());
 
+// A change as it stands here; nothing where it was taken away.
+export const one = (order) => within("readonly", (store) => store.get(order));
+
 // A person's changes, in their order.
 export const all = (member) => within("readonly", (store) => store.index("member").getAll(member));

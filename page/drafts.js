@@ -1,5 +1,6 @@
 // What was typed and isn't sent yet, on this device: a text for each person and place, as the line that is added or a note. It stays over
-// reloads and closed tabs until it is sent or taken back.
+// reloads and closed tabs until it is sent or taken back. Tabs of one person share it: each shows what is typed in another one, so that none
+// writes over it, and what one of them sends stands in no other.
 import { state } from "./state.js";
 
 const FRONT = "taskboard.draft";
@@ -22,6 +23,13 @@ export function keepDraft(kind, task, content, board = state.number) {
         console.warn(fault);
         return false;
     }
+}
+
+// Acts with a draft of this kind once another tab has typed it, sent it or taken it back; `taskOf` gives the task that is shown, where it is of one.
+export function whenTypedElsewhere(kind, act, taskOf = () => "") {
+    addEventListener("storage", ({ key, newValue }) => {
+        if (state.who && key === keyOf(kind, taskOf(), state.number)) act(JSON.parse(newValue));
+    });
 }
 
 const keysOf = (name) => Object.keys(localStorage).filter((key) => key.startsWith(named(name)));

@@ -4,7 +4,7 @@ import { Task } from "./board.js";
 import { changes } from "./changes.js";
 import { isWhole } from "./checking.js";
 import { labelOf, lookAtDeedsOf, sets, worded } from "./deeds.js";
-import { keepDraft, readDraft } from "./drafts.js";
+import { keepDraft, readDraft, whenTypedElsewhere } from "./drafts.js";
 import { fill, find, make, whenSent } from "./dom.js";
 import { Fields } from "./fields.js";
 import { lookAgain } from "./fresh.js";
@@ -14,9 +14,9 @@ import { here, listen, state } from "./state.js";
 
 // How long Save waits for the freshest copy of the task, in milliseconds; without one it takes the copy that is shown.
 const PATIENCE = 5000;
-// The task in the form, its fields, what they said when the form was opened, and whether the task is to be reopened first; and the fields
-// that are being saved.
-let [edited, fields, before, reopens, saved] = [null, null, null, false, null];
+// The task in the form, its fields, what they said when the form was opened, how that is typed, and whether the task is to be reopened first; and
+// the fields that are being saved.
+let [edited, fields, before, opened, reopens, saved] = [null, null, null, null, false, null];
 
 const isSame = (one, other) => JSON.stringify(one) === JSON.stringify(other);
 const tell = (text) => (find("edit-told").textContent = text);
@@ -36,6 +36,7 @@ export function openEdit(task) {
     const draft = readDraft("edit", task.uuid);
     [edited, fields] = [task, new Fields(state.board, task)];
     before = draft?.before ?? fields.read();
+    opened = fields.typed();
     if (draft) fields.retype(draft.typed);
     show(true);
     fill(find("edit-fields"), fields.elements);
@@ -62,7 +63,16 @@ function keepEdit() {
     keepDraft("edit", edited.uuid, isChanged ? { before, typed: fields.typed() } : null);
 }
 
+// What another tab types into the form of this task stands here too; once it was saved or taken back there, nothing is left to do here.
+function follow(draft) {
+    if (draft?.isLeft) return closeEdit();
+    before = draft?.before ?? before;
+    fields.retype(draft?.typed ?? opened);
+}
+
 function drop() {
+    // (other tabs hear that the form was left, and not that it says by chance what it said before)
+    if (readDraft("edit", edited.uuid)) keepDraft("edit", edited.uuid, { isLeft: true });
     keepDraft("edit", edited.uuid, null);
     closeEdit();
     (find("edit") ?? find("task-text")).focus();
@@ -175,5 +185,6 @@ export function beginEditing() {
         if (event.key === "Enter" && (event.ctrlKey || event.metaKey) && event.target.matches("textarea")) find("edit-form").requestSubmit();
     });
     whenSent("edit-form", () => saveOnce().catch(tellFault));
+    whenTypedElsewhere("edit", (draft) => isEditing() && follow(draft), () => edited?.uuid);
     listen("left", closeEdit);
 }

@@ -10,7 +10,7 @@ import { find } from "./dom.js";
 import { readDraft } from "./drafts.js";
 import { agoInWords, now } from "./moments.js";
 import { forgetSeen, keepSeen, lastSeen } from "./seen.js";
-import { doubtKey } from "./sending.js";
+import { doubtKey, waiting } from "./sending.js";
 import { announce, here, listen, state } from "./state.js";
 
 // How often the history is asked in sight and the server else, after how long someone counts as idle, how long a pause in typing is, and how
@@ -223,6 +223,14 @@ function loadByClock() {
 
 const changesBoards = ({ path }) => ["roles", "take", "title"].includes(path.split("/").at(-1));
 
+// Looks at what an answer has changed. While others wait that is done now and then: each look loads the whole board, and thousands may wait. (A
+// refusal may mean that one's role is another by now.)
+function lookAfter({ change, status }) {
+    const withBoards = status !== 200 || change.board === 0 || changesBoards(change);
+    if (document.hidden || (!withBoards && waiting().length > 0 && performance.now() - lastLook < NEWS)) return;
+    lookAgain(withBoards);
+}
+
 export function beginLooking() {
     setInterval(lookByClock, LEAST);
     addEventListener("focus", lookIfSeen);
@@ -237,6 +245,5 @@ export function beginLooking() {
     listen("route", drawAge);
     listen("kept", () => state.board?.relay() && announce("board", true));
     listen("rekeyed", () => lookAgain(true));
-    // (a refusal may mean that one's role is another by now)
-    listen("answered", ({ change, status }) => document.hidden || lookAgain(status !== 200 || change.board === 0 || changesBoards(change)));
+    listen("answered", lookAfter);
 }

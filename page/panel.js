@@ -5,7 +5,7 @@ import { changes } from "./changes.js";
 import { check, isWhole } from "./checking.js";
 import { button, fill, find, make, oneLine, said, span, whenSent } from "./dom.js";
 import { isGone } from "./crew.js";
-import { keepDraft, readDraft } from "./drafts.js";
+import { keepDraft, readDraft, whenTypedElsewhere } from "./drafts.js";
 import { beginTask, closeEdit, isEditing, openEdit } from "./editing.js";
 import { shown as select } from "./filters.js";
 import { authorOf, lastBy } from "./history.js";
@@ -178,6 +178,7 @@ export function beginPanel() {
     whenSent("depend-form", () => find("depend-choices").querySelector("button")?.click());
     check(find("note-text"), (text) => faultInText(text.trim()));
     find("note-text").addEventListener("input", () => keepDraft("note", shown, find("note-text").value));
+    whenTypedElsewhere("note", (text) => (find("note-text").value = text ?? ""), () => shown);
     whenSent("note-form", (form) => {
         if (isWhole(form)) addNote(form).catch(tellFault);
     });

@@ -43,14 +43,23 @@ async function readDevice(then = () => {}) {
     announce("kept");
 }
 
+// Takes into what is held here what was just edited on the device, and what was taken away there. With thousands of changes it would take minutes
+// to read all of them anew after each answer.
+function takeEdited({ edits, gone }) {
+    const [edited, orders] = [new Map(edits.map((members) => [members.order, members])), new Set(gone)];
+    held = held.filter(({ order }) => !orders.has(order)).map((change) => (edited.has(change.order) ? { ...change, ...edited.get(change.order) } : change));
+}
+
 const inKnowing = (work) => (knowing = knowing.then(work).catch(console.error));
 
 tabs.onmessage = async ({ data }) => {
     if (data.change && data.change.member === state.who?.name) {
         if (isOwnKey(data.change) && data.status === 200) await inKnowing(() => takeKeyOf(data.change));
+        if (data.done) takeEdited(data.done);
         announce("answered", data);
     }
-    await readDevice();
+    if (data.done) announce("kept");
+    else await readDevice();
     send();
 };
 
@@ -137,6 +146,7 @@ export const bodyOf = async (change) => (change.sealed ? unseal(change.sealed, s
 // Sends on what its person was asked about.
 export async function sendAllTheSame(change, members = {}) {
     await device.update([change], { ...members, state: "waiting", isSure: true });
+    tabs.postMessage({});
     await readDevice();
     sendNow();
 }
@@ -183,11 +193,23 @@ async function send() {
     isSending = false;
 }
 
+// The first change that waits, as it stands on the device; nothing where none waits there. All are read anew where another tab took that one away.
+async function firstOf(who) {
+    while (state.who === who) {
+        if (onDevice().length === 0) await readDevice();
+        if (onDevice().length === 0) return null;
+        const change = await device.one(onDevice()[0].order);
+        if (change?.state === "waiting") return change;
+        await readDevice();
+    }
+    return null;
+}
+
 // Sends the first change of the device that waits, and then the next; gives whether all were answered.
 async function sendInOrder(who) {
     try {
-        for (await readDevice(); state.who === who && onDevice().length > 0; await readDevice()) {
-            const [change] = onDevice();
+        await readDevice();
+        for (let change = await firstOf(who); change; change = await firstOf(who)) {
             const isKnown = await (isOwnKey(change) ? sendOwnKey(who, change) : sendOne(who, change));
             tries = 0;
             announce("reach", true);
@@ -208,6 +230,7 @@ async function sendOne(who, change) {
     const doubt = body === null ? { name: "key" } : isDoubtful(change) ? await doubtAbout(who, change) : null;
     if (doubt) {
         await device.update([change], { state: "asks", doubt });
+        await readDevice();
         return true;
     }
     const { key } = who;
@@ -274,13 +297,15 @@ async function settle(who, change, answer) {
     if (body.more) await device.put([toKeep(making.sweep(change.board), "", change.member)]);
     const behind = status === 200 ? [] : held.filter((other) => change.group && other.group === change.group && other.order > change.order);
     const left = await afterAnswer(who, change, answer, behind);
-    if (left?.state === "refused") await device.remove(behind);
-    if (left) await device.update([change], left);
-    else await device.remove([change]);
-    const news = { change, status, body };
+    const gone = left ? (left.state === "refused" ? behind : []) : [change];
+    const done = { edits: left ? [{ order: change.order, ...left }] : [], gone: gone.map(({ order }) => order) };
+    await device.edit(done.edits, gone);
+    if (body.more) await readDevice();
+    const news = { change, status, body, done };
     tabs.postMessage(news);
+    takeEdited(done);
     if (state.who?.name === change.member) announce("answered", news);
-    await readDevice();
+    announce("kept");
 }
 
 const inTurn = (name, work) => (navigator.locks ? navigator.locks.request(name, work) : underLease(name, work));

@@ -1,5 +1,6 @@
 """Scenes of the page: several tasks changed at once, and moved to another board over a line that breaks."""
 import json
+import time
 
 from office import ALL_ANSWERED, DOWN, ENTER, IS_TOLD, add, ask, expect, new_board, tasks
 from page_views import ARE_LISTED, moment
@@ -111,6 +112,34 @@ def back_unheard(office):
     expect("sent", ["add", "add", "modify", "modify", "modify", "modify"], changed)
 
 
+def many_wait(office):
+    """Hundreds of tasks are completed at once: what waits isn't read anew for each answer, nor is the board asked for."""
+    browser, board, count = office.browser, new_board("Many"), 200
+    for number in range(count):
+        add(board, description=f"Task {number}")
+    office.begin(board)
+    browser.wait("return document.getElementById('count').textContent === arguments[0]", f"{count} of {count} tasks")
+    browser.run("""window.read = 0;
+        const getAll = IDBIndex.prototype.getAll;
+        IDBIndex.prototype.getAll = function (...words) {
+            const request = getAll.apply(this, words);
+            request.addEventListener("success", () => (window.read += request.result.length));
+            return request;
+        };""")
+    asked = lambda: sum(path == f"/boards/{board}/export" for _, path in office.relay.asked)
+    before, begun = asked(), time.monotonic()
+    browser.run("document.querySelector('#list .open').focus()")
+    press(browser, "a", held=CONTROL)
+    browser.wait(IS_PICKED, f"{count} chosen")
+    browser.click("#bulk-done")
+    browser.wait(IS_TOLD, f"Completed {count} tasks.")
+    while not browser.run(ALL_ANSWERED) and time.monotonic() < begun + 12 * browser.patience:
+        time.sleep(0.2)
+    expect("completed", {"completed"}, set(of_all(board, "status")))
+    expect("changes that were read for each of them", True, browser.run("return read") < 10 * count)
+    expect("looks at the board, at most", True, asked() - before < 5 + (time.monotonic() - begun) / 2)
+
+
 def move(browser, board, accepts=True):
     """Moves the chosen tasks, or asks for it alone: what the page says before."""
     browser.run(f"const words = arguments; setTimeout(() => ((...arguments) => {{ {CHANGE} }})(...words))", "bulk-move", str(board))
@@ -180,4 +209,4 @@ def left_behind(office):
     expect("of what is closed", True, told.startswith("Move 1 task to Beyond?") and told.endswith("What is closed stays: 1 task."))
 
 
-SCENES = (several, back_unheard, moves, left_behind)
+SCENES = (several, back_unheard, many_wait, moves, left_behind)

@@ -89,6 +89,35 @@ def added_aside(office):
     browser.click("#close-panel")
 
 
+def pasted_list(office):
+    """A list that is pasted becomes a task a line, with one way back, or one line, as its person says."""
+    browser, board = office.browser, new_board("Pasted")
+    office.begin(board)
+    paste = """const [line, clipboardData] = [document.getElementById("add-line"), new DataTransfer()];
+        clipboardData.setData("text/plain", arguments[0]);
+        line.focus();
+        setTimeout(() => line.dispatchEvent(new ClipboardEvent("paste", { clipboardData, bubbles: true, cancelable: true })) && document.execCommand("insertText", false, arguments[0]));"""
+    listed = "- Buy milk +Shop\r\n\r\n* [ ] Buy bread due:2026-12-01\nCall Bob\n"
+    browser.run(paste, listed)
+    expect("asked", "Add 3 tasks, one for each line? Otherwise all of it becomes one line.", browser.answer_question())
+    browser.wait(IS_TOLD, "Added 3 tasks.")
+    browser.wait(ALL_ANSWERED)
+    told = [[task.get(name) for name in ("description", "project", "due")] for task in tasks(board)]
+    expect("a task a line", [["Buy milk", "Shop", None], ["Buy bread", None, "20261201T000000Z"], ["Call Bob", None, None]], told)
+    browser.run("document.querySelector('#toast button').click()")
+    browser.wait("return document.querySelectorAll('#list .row').length === 0")
+    browser.wait(ALL_ANSWERED)
+    expect("taken back", ["deleted"] * 3, [task["status"] for task in tasks(board)])
+    browser.run(paste, "Buy tea\nand cups")
+    browser.answer_question(False)
+    browser.wait("return document.getElementById('add-line').value === 'Buy tea and cups'")
+    browser.run(paste, "of glass\nor clay")
+    browser.wait("return document.getElementById('add-line').value === 'Buy tea and cupsof glass or clay'")
+    browser.type("#add-line", ENTER)
+    browser.wait(ALL_ANSWERED)
+    expect("one line", "Buy tea and cupsof glass or clay", tasks(board)[-1]["description"])
+
+
 def assign(office):
     """A task's assignee in its row and its form, filters by person, and one who has no role any more."""
     browser = office.browser
@@ -226,4 +255,4 @@ def addresses(office):
     browser.wait(ARE_LISTED, both)
 
 
-SCENES = (add_words, added_aside, assign, when, addresses)
+SCENES = (add_words, added_aside, pasted_list, assign, when, addresses)

@@ -316,6 +316,35 @@ def drafts_stay(office):
     expect("sent", ["First", "Half a line", "Second"], sorted(one["description"] for one in tasks(board)))
 
 
+def in_two_tabs(office):
+    """Two tabs of one person share what is typed: each shows it, and what one of them sends stands in the other no more."""
+    browser, board = office.browser, new_board("In two tabs")
+    task = add_task(board, description="Here")
+    office.begin(board)
+    [first] = browser.tabs()
+    open_edit(office, board, task, "Here")
+    browser.new_tab()
+    office.enter("ann")
+    open_edit(office, board, task, "Here")
+    second = browser.call("GET", "/window")
+    typed = (("#add-line", "Half a line"), ("#note-text", "Half a note"), ("#edit-fields textarea", "Here, and more"))
+    for field, text in typed:
+        type_into(browser, field, text)
+    browser.to_tab(first)
+    for field, text in typed:
+        browser.wait(HAS_VALUE, field, text)
+    browser.type("#add-line", " more" + ENTER)
+    browser.type("#note-text", ENTER)
+    save(browser)
+    browser.to_tab(second)
+    for field in ("#add-line", "#note-text"):
+        browser.wait(HAS_VALUE, field, "")
+    browser.wait("return !document.getElementById('edit-form').offsetParent")
+    browser.call("DELETE", "/window")
+    browser.to_tab(first)
+    expect("sent", [["Here, and more", ["Half a note"]], ["Half a line more", []]], [[one["description"], [note["description"] for note in one.get("annotations", [])]] for one in tasks(board)])
+
+
 def device_is_full(office):
     """What the device has no room for isn't sent, and stands in its form again: a line, a note, a new board, someone who is let in."""
     browser, board = office.browser, new_board("No room")
@@ -560,4 +589,4 @@ def unsent_looks_done(office):
     expect("the first", task, stored["Slow one"]["uuid"])
 
 
-SCENES = (refused_keep_text, refused_person, refused_board, board_made_late, told_before, drafts_stay, device_is_full, two_edit_one_task, two_complete_one_task, changed_while_waiting, edited_before_sending, new_key_without_tls, signing_out, unsent_stands_once, unsent_looks_done)
+SCENES = (refused_keep_text, refused_person, refused_board, board_made_late, told_before, drafts_stay, in_two_tabs, device_is_full, two_edit_one_task, two_complete_one_task, changed_while_waiting, edited_before_sending, new_key_without_tls, signing_out, unsent_stands_once, unsent_looks_done)
