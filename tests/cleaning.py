@@ -1,4 +1,5 @@
 """What taskwarrior-clean does, with a real Taskwarrior: cleaning.py PROGRAM, in a folder of its own."""
+import datetime
 import json
 import os
 import pathlib
@@ -243,6 +244,30 @@ def look_at_way_back():
         ran = subprocess.run(["task", "rc.hooks=off", "import", "-"], input=exported, stdout=subprocess.PIPE, stderr=subprocess.PIPE, timeout=60)
         expect(f"the last that Taskwarrior names before {more}", (True, True, False), (ran.returncode != 0, b"One" in ran.stdout, b"Two" in ran.stdout))
         expect("nothing is imported", {}, by_id(task(*AS_IT_IS, "export")))
+    exported, _ = board_of(json.dumps([{"uuid": ID.format(1), "description": "One"}, {"uuid": ID.format(2), "description": "Two", "tags": ["when:status"]}]).encode())
+    expect("the tags with a colon that are found", [1], [at - 1 for at, line in enumerate(exported.splitlines()) if re.search(rb'"tags":\[[^]]*:', line)])
+    new_taskwarrior()
+    task("rc.hooks=off", "import", "-", given=exported)
+    task(*AS_IT_IS, "export", status=2)
+    notes = [{"entry": "20260101T000000Z", "description": it} for it in ("a", "&open;b&close;")]
+    exported, _ = board_of(json.dumps([{"uuid": ID.format(1), "description": "One", "annotations": notes}]).encode())
+    new_taskwarrior()
+    task("rc.hooks=off", "import", "-", given=exported)
+    expect("notes of one second, and brackets", [("20260101T000000Z", "a"), ("20260101T000001Z", "[b]")], [(it["entry"], it["description"]) for it in by_id(task(*AS_IT_IS, "export"))[ID.format(1)]["annotations"]])
+
+
+def day_of(moment):
+    return datetime.datetime.strptime(moment[:8], "%Y%m%d")
+
+
+def look_at_units():
+    """How Taskwarrior counts units where a board takes months and years, as USING.md tells it."""
+    for step, days in (("month", 30), ("2mo", 60), ("quarter", 91), ("year", 365), ("2y", 730), ("monthly", 31), ("yearly", 365)):
+        new_taskwarrior()
+        task("rc.recurrence.limit=2", "add", f"recur:{step}", "due:2099-01-01", step)
+        task("rc.recurrence.limit=2", "list")
+        first, second = sorted(it["due"] for it in by_id(task(*AS_IT_IS, "export")).values() if "imask" in it)
+        expect(f"the days of {step}", days, (day_of(second) - day_of(first)).days)
 
 
 # What can't be taken.
@@ -442,6 +467,7 @@ def main():
     count = there_and_back()
     look_at_documents()
     look_at_way_back()
+    look_at_units()
     print(f"{count} tasks went to a board and back, {len(FAULTS)} kinds of faults and {drawn} drawn tasks were told as they are")
 
 

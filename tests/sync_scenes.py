@@ -37,12 +37,12 @@ class Scenes(Week):
 
     def unfit(self):
         """What one side can't hold stays on the other, is told once, and is neither lost nor brought again and again."""
-        odd = {"uuid": C, "description": "Odd", "due": "19750101T000000Z", "tags": ["a,b", "plain"], "weird name": "x", "annotation_1": "y", "flag": True, "pages": 24,
+        odd = {"uuid": C, "description": "Odd", "due": "19750101T000000Z", "tags": ["a,b", "plain", "when:status"], "weird name": "x", "annotation_1": "y", "flag": True, "pages": 24,
                "until": "20200101T000000Z", "annotations": [{"entry": "20260101T000000Z", "description": ""}], "review": "soon"}
         self.editor.call("tasks", odd)
         before = self.editor.tasks()[C]
         told = self.runs.complete()
-        expect("what is told", True, told.count("one side can't hold it") == 5 and " due stays" in told and "tag a,b" in told)
+        expect("what is told", True, told.count("one side can't hold it") == 6 and all(what in told for what in (" due stays", "tag a,b", "tag when:status")))
         there = self.user.tasks()[C]
         expect("what came", (["plain"], "true", "24", "pending"), (there["tags"], there["flag"], there["pages"], there["status"]))
         expect("what isn't there", set(), {"due", "until", "review", "weird name", "annotations"} & set(there))

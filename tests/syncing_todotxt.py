@@ -276,6 +276,7 @@ class Week:
             self.remove()
         self.saved_meanwhile()
         self.same_identifier()
+        self.mentioned_identifier()
         self.opened_again()
         left = self.expect_alike("the end")
         self.delete_missing()
@@ -317,6 +318,16 @@ class Week:
         expect("both lines", (1, 1), (sum("The first of two" in line for line in lines), lines.count(f"A copy uuid:{uuid}")))
         lines.remove(f"A copy uuid:{uuid}")
         self.file.write(lines)
+
+    def mentioned_identifier(self):
+        """A task whose text names an identifier has a line of its own, and no other task is made of that name."""
+        name = "aaaaaaaa-aaaa-4aaa-8aaa-aaaaaaaaaaaa"
+        self.editor.call("tasks", {"description": f"Look at uuid:{name} again"})
+        self.runs.complete()
+        expect("a further run", "", self.runs.complete())
+        tasks = self.editor.tasks()
+        found = [it for it, task in tasks.items() if name in task["description"]]
+        expect("which tasks there are", (False, 1, f"Look at uuid:{name} again"), (name in tasks, len(found), tasks[found[0]]["description"]))
 
     def opened_again(self):
         """A deleted task loses its line, and gets one again once it is opened, whether a run came between or not."""

@@ -95,11 +95,14 @@ def spell(task, view, entry, end, letter=None):
     words = ["x"] if done else []
     words += [f"({letter})"] if letter else []
     words += [date_of(end or entry)] if done else []
-    words += [date_of(entry), replaced(view["=description"], " ")]
+    description = replaced(view["=description"], " ")
+    # The first uuid: counts, so a text with that of another task stands behind it.
+    is_first = Line(description).uuid not in (None, task)
+    words += [date_of(entry), *([f"uuid:{task}"] if is_first else []), description]
     words += ["+" + replaced(view["=project"], "_").replace(" ", "_")] if "=project" in view else []
     words += ["@" + key[1:] for key in sorted(view, key=str.encode) if key[0] == TAG]
     words += [f"due:{date_of(view['=due'])}"] if "=due" in view else []
-    return " ".join([*words, f"uuid:{task}"])
+    return " ".join(words if is_first else [*words, f"uuid:{task}"])
 
 
 def made_by_import(board, line, before):

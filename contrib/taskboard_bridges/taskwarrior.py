@@ -103,7 +103,8 @@ class Taskwarrior:
         if value is None or key in (STATUS, STARTED) or key[0] == LINK:
             return value
         if key[0] == TAG:
-            return UNFIT if "," in key or respelled(key) != key else value
+            # (it reads a tag a:status back as a status, and then none of its tasks)
+            return UNFIT if re.search("[,:]", key[1:]) or respelled(key) != key else value
         if key[0] == NOTE:
             return UNFIT if key == NOTE or respelled(key) != key else value
         name, kind = key[1:], self.types.get(key[1:])
