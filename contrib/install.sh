@@ -39,15 +39,13 @@ parts() {
 644 share/bash-completion/completions/tb contrib/taskboard.bash
 644 share/doc/taskboard/nginx.conf contrib/nginx.conf
 644 share/doc/taskboard/README.md README.md
-644 share/doc/taskboard/docs/HTTP.md docs/HTTP.md
-644 share/doc/taskboard/docs/OPERATING.md docs/OPERATING.md
-644 share/doc/taskboard/docs/USING.md docs/USING.md
 PARTS
-    for path in "$contrib"/* "$contrib"/taskboard_*/*.py "$top"/page/*; do
+    for path in "$contrib"/* "$contrib"/taskboard_*/*.py "$top"/page/* "$top"/docs/*; do
         [ -f "$path" ] || continue
         name=${path##*/}
         case $path in
         "$top"/page/*) echo "644 share/taskboard/page/$name page/$name" ;;
+        "$top"/docs/*) echo "644 share/doc/taskboard/docs/$name docs/$name" ;;
         *.py) echo "644 lib/taskboard/${path#"$contrib"/} contrib/${path#"$contrib"/}" ;;
         *.1) echo "644 share/man/man1/$name contrib/$name" ;;
         *.service | *.timer) echo "644 $units/$name contrib/$name" ;;
