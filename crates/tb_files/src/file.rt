@@ -1,6 +1,7 @@
 //! The file of boards.
 ghost use Rattle.sqlite.specs.Files.{file_state};
 ghost use Rattle.sqlite.specs.State.{HasCleanDisk, Opens};
+ghost use Rattle.tb_sql_tables.specs.Failing.{IsAtRest};
 ghost use Rattle.std.specs.Io.KnownBytes.{Appends};
 ghost use Rattle.std.specs.Prelude.{◌≡◌, false, IfErr, IfOk, Ok, OnErr, OnOk, true};
 ghost use Rattle.tb_files.specs.Failed.{IsUnopened};
@@ -45,6 +46,8 @@ pub fn open_file(rt: &HostRuntime, path: &str) -> Result<Connection<RealFile>, F
     ensures fault { IfErr result (λ fault. is_of_files fault ≡ true) }
     ensures idle { IfOk result (λ conn. conn.in_transaction ≡ false) }
     ensures opens { IfOk result (λ conn. HasCleanDisk (file_state conn) → Opens (file_state conn)) }
+    ensures rests { IfOk result
+        (λ conn. HasCleanDisk (file_state conn) → IsAtRest (file_state conn)) }
 {
     if fs::metadata(rt, path).is_err() {
         return Err(Fault::Store);
@@ -58,6 +61,8 @@ pub fn open_new_file(rt: &HostRuntime, path: &str) -> Result<Connection<RealFile
     ensures fault { IfErr result (λ fault. is_of_files fault ≡ true) }
     ensures idle { IfOk result (λ conn. conn.in_transaction ≡ false) }
     ensures opens { IfOk result (λ conn. HasCleanDisk (file_state conn) → Opens (file_state conn)) }
+    ensures rests { IfOk result
+        (λ conn. HasCleanDisk (file_state conn) → IsAtRest (file_state conn)) }
 {
     look_at_log(rt, path)?;
     make_private(rt, path);
@@ -95,7 +100,7 @@ pub fn open_desk<D: Disk + Drop>(
     conn: Connection<FileStore<D>>,
 ) -> Result<Desk<SqlKeep<FileStore<D>>>, Untaken<Connection<FileStore<D>>>>
     requires idle { conn.in_transaction ≡ false }
-    requires opens { HasCleanDisk (file_state conn) → Opens (file_state conn) }
+    requires opens { HasCleanDisk (file_state conn) → IsAtRest (file_state conn) }
     ensures begun { IfOk result (IsBegun ⟦<SqlKeep<FileStore<D>> as Keep>⟧ conn) }
     ensures untaken { IfErr result (λ untaken. IsUntaken conn untaken.left untaken.fault) }
     ensures fault { IfErr result (λ untaken. is_of_opening untaken.fault ≡ true) }
