@@ -34,10 +34,8 @@ use std::io::{Read, Write};
 use tb_board::{Key, Name};
 use tb_calls::Keep;
 use tb_desk::{Desk, ListKeep};
+use watched::READ_LIMIT;
 pub use watched::Watched;
-
-/// How many reads a script may take.
-const READ_LIMIT: u64 = 1_099_511_627_776;
 
 /// Writes the answers to the reader's lines, and on a fault a front of them. The world begins with the person `root`, whose key is
 /// `root-key-1` and who owns board 1. The answers to a piece that is read are written before the next one is read. It ends with

@@ -1,13 +1,20 @@
 //! A reader whose reads are counted, and the writes that answer it.
-ghost use Rattle.std.specs.Prelude.{◌≡◌, ◌<◌, ◌≤◌, ◌+◌, ◌-◌, ◌^◌, ◌||◌, false, is_err, length, min, IfErr, IfOk, OnErr, OnOk};
+ghost use Rattle.std.specs.Prelude.{◌≡◌, ◌⊎◌, ◌<◌, ◌≤◌, ◌+◌, ◌-◌, ◌^◌, ◌||◌, false, true, is_err, length, min, IfErr, IfOk, IfSome, OnErr, OnOk};
 ghost use Rattle.std.specs.Io.{ReadsAtMost};
 ghost use Rattle.std.specs.Io.KnownBytes.{Appends, ReadConsumes, WriteAppends};
-ghost use Rattle.tb_script.specs.declared.fault.LinesFault.TheVariants.{ReadFailed, WriteFailed};
+ghost use Rattle.tb_script.specs.declared.fault.LinesFault.TheVariants.{Memory, ReadFailed, WriteFailed};
+ghost use Rattle.tb_script.specs.Fault.{is_unread};
+ghost use Rattle.tb_script.specs.Watching.{IsSpent, IsWholeOrLong};
 ghost use Rattle.tb_values.specs.Appends.{AppendsFront};
 
 use crate::fault::LinesFault;
+use std::alloc::Global;
 use std::io::{Read, Write};
 use std::marker::Model;
+use tb_values::Items;
+
+/// How many reads may be taken.
+pub(crate) const READ_LIMIT: u64 = 1_099_511_627_776;
 
 /// A reader, how many reads were taken of it, whether one has failed, and whether a write of the answers to it has. Only a read and a
 /// write change these fields, so no function that is handed one can make up that one of them failed.
@@ -63,6 +70,25 @@ impl<R: Read + Drop> Watched<R> {
                 Err(LinesFault::ReadFailed)
             }
         }
+    }
+
+    /// Reads to the end, or until more bytes have come than that.
+    pub fn read_whole(&mut self, alloc: Global, most: usize) -> Result<Items<u8>, LinesFault>
+        ensures whole { IfSome self.old.left (λ text. IfOk result (IsWholeOrLong most text)) }
+        ensures unread { is_unread result ≡ true → IsSpent self.new }
+        ensures unwritten { self.new.write_failed ≡ self.old.write_failed }
+        ensures fault { IfErr result (λ fault. (fault ≡ ReadFailed) ⊎ (fault ≡ Memory)) }
+    {
+        let mut bytes = Vec::new(alloc);
+        let mut chunk = [0u8; 8192];
+        'reads: for _taken in 0..READ_LIMIT {
+            let count = self.read(&mut chunk)?;
+            bytes.extend_from_slice(&chunk[..count])?;
+            if count == 0 || bytes.len() > most {
+                return Ok(Items::from_vec(bytes));
+            }
+        }
+        Err(LinesFault::ReadFailed)
     }
 
     /// Writes all of the answers, or a front of them.
