@@ -10,7 +10,6 @@ mod fault;
 mod ids;
 mod items;
 mod judging;
-mod laws;
 mod losses;
 mod notes;
 mod numbers;
@@ -25,4 +24,3 @@ mod verdict;
 
 pub use cleaning::{Cleaned, clean};
 pub use fault::CleaningFault;
-pub use laws::none_is_refused;

@@ -1,8 +1,7 @@
 //! The comparison of what a file stores with what its tasks say.
 ghost use Rattle.std.specs.Prelude.{◌≡◌, false, IfErr, IfOk, true};
 ghost use Rattle.sqlite.specs.Files.{file_state};
-ghost use Rattle.sqlite.specs.State.{HasCleanDisk};
-ghost use Rattle.tb_sql_tables.specs.Failing.{IsAtRest};
+ghost use Rattle.sqlite.specs.State.{HasCleanDisk, Opens};
 ghost use Rattle.tb_files.specs.Check.{IsChecked};
 ghost use Rattle.tb_files.specs.Faults.{is_of_checking};
 ghost use Rattle.tb_files.specs.File.{InSession};
@@ -30,7 +29,7 @@ pub fn check_file<D: Disk + Drop, W: Write>(
     writer: &mut W,
 ) -> Result<Ending, NotDone<Connection<FileStore<D>>>>
     requires idle { conn.in_transaction ≡ false }
-    requires opens { HasCleanDisk (file_state conn) → IsAtRest (file_state conn) }
+    requires opens { HasCleanDisk (file_state conn) → Opens (file_state conn) }
     ensures checked { IfOk result (λ ending. InSession ⟦<SqlKeep<FileStore<D>> as Keep>⟧ conn
         (λ old. IsChecked old (W.contents writer.old) (W.contents writer.new) ending)) }
     ensures undone { IfErr result

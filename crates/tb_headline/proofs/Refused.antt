@@ -2,7 +2,7 @@
 use Rattle.std.proofs.Common.{◌≡◌, ◌&&◌, Bool, true, false, List, [], ◌∷◌, Result, Err, inl, inr, refl}
 use Rattle.std.specs.Prelude.{◌⊎◌}
 use Rattle.sqlite.specs.Held.{Held, state}
-use Rattle.sqlite.specs.State.{HasCleanDisk, State as Database}
+use Rattle.sqlite.specs.State.{HasCleanDisk, Opens, State as Database}
 use Rattle.sqlite_schema.specs.declared.schema.Schema.{Schema}
 use Rattle.sqlite_schema.specs.declared.schema.Table.{Table}
 use Rattle.sqlite_trees.specs.declared.store.Store.{Ghosts}
@@ -16,7 +16,7 @@ use Rattle.tb_sql.specs.declared.opening.Version.TheVariants.{First, Second, Thi
 use Rattle.tb_sql.specs.Opening.{IsAnswered, are_old, are_ours, are_second, are_tables, has_key_indexes, has_meta, has_tables, is_meta, is_person, is_board, is_role, is_task, is_link, is_instance, is_gone, is_kept, is_horizon, is_history}
 use Rattle.tb_sql_tables.specs.Content.{AreRows, AreVersionRows, Content}
 use Rattle.tb_sql_tables.specs.Standing.{StandsEmpty}
-use Rattle.tb_sql_tables.specs.Failing.{FailsByFault, IsAtRest}
+use Rattle.tb_sql_tables.specs.Failing.{FailsByFault}
 use Rattle.tb_lookup.specs.Migrating.{IsEmptyOrStored}
 use Rattle.tb_headline.specs.Refusals.{HasMeta, IsFilled, IsRefused, IsUnmade, Says}
 use Rattle.tb_headline.specs.Headline.{IsFileOf}
@@ -68,11 +68,11 @@ module _ {S : Type 0} (g : Ghosts S) (conn : Held S) where
   no_state foreign s (inr (inr rows)) = foreign rows.content (inr (inl rows.stored))
 
   pub refused : (new : Database) (fault : OpenFault)
-      → (IsForeign fault → HasCleanDisk new → IsAtRest (state g conn)
+      → (IsForeign fault → HasCleanDisk new → Opens (state g conn)
       → (content : Content) → AreVersionRows content (state g conn).now.trees → ⊥)
       → (has_meta (state g conn).now.schema.tables ≡ false → fault ≡ NotOurs)
       → (IsForeign fault → HasCleanDisk new → HasMeta g conn → IsAnswered g conn (Err fault))
-      → (fault ≡ Store → IsAtRest (state g conn) → FailsByFault (state g conn) new (λ content. AreRows content (state g conn).now.trees))
+      → (fault ≡ Store → Opens (state g conn) → FailsByFault (state g conn) new (λ content. AreRows content (state g conn).now.trees))
       → IsRefused g conn new fault
   refused new NotOurs foreign unmarked shown excused = λ clean. (
     λ opens. no_state (foreign (inl refl) clean opens),
@@ -94,8 +94,8 @@ module _ {S : Type 0} (g : Ghosts S) (conn : Held S) where
 
   -- what is left where no store is made
   pub unmade : (first : State) (left : Held S) (fault : CreateFault) → (fault ≡ NotEmpty → (left ≡ conn) × IsFilled (state g conn))
-      → (fault ≡ MakingMemory → IsAtRest (state g conn) → StandsEmpty (state g left))
-      → (fault ≡ MakingFailed → IsAtRest (state g conn) → IsEmptyOrStored first (state g left)) → IsUnmade g first conn left fault
+      → (fault ≡ MakingMemory → Opens (state g conn) → StandsEmpty (state g left))
+      → (fault ≡ MakingFailed → Opens (state g conn) → IsEmptyOrStored first (state g left)) → IsUnmade g first conn left fault
   unmade first left NotEmpty taken memory store = taken refl
   unmade first left MakingFailed taken memory store = store refl
   unmade first left MakingMemory taken memory store = memory refl

@@ -24,4 +24,3 @@ pub mod StoredBoards
 pub mod StoredRoles
 pub mod Within
 pub mod WorldRead
-pub mod Excused

@@ -28,10 +28,6 @@ pub fn person_row_named<S: Alter>(
     ensures idle { conn.new.in_transaction ≡ false }
     ensures found { IfOk result (λ row. OfContent (state S.Store conn.old) (state S.Store conn.new)
         (λ content. IsOneOf (filter (is_named name.now) content.people) row)) }
-    ensures excused { result ≡ Err StoreFault.Store
-        → FailsByFault (state S.Store conn.old) (state S.Store conn.new)
-        (λ content. IsContent content (state S.Store conn.old).now) }
-    ensures faults { KeepsFaults (state S.Store conn.old) (state S.Store conn.new) }
     ensures same { IsAsBefore (state S.Store conn.old) (state S.Store conn.new) }
 {
     let mut tx = conn.transaction();
@@ -52,10 +48,6 @@ pub fn person_row_at<S: Alter>(
     ensures idle { conn.new.in_transaction ≡ false }
     ensures found { IfOk result (λ row. OfContent (state S.Store conn.old) (state S.Store conn.new)
         (λ content. IsOneOf (filter (is_person id) content.people) row)) }
-    ensures excused { result ≡ Err StoreFault.Store
-        → FailsByFault (state S.Store conn.old) (state S.Store conn.new)
-        (λ content. IsContent content (state S.Store conn.old).now) }
-    ensures faults { KeepsFaults (state S.Store conn.old) (state S.Store conn.new) }
     ensures same { IsAsBefore (state S.Store conn.old) (state S.Store conn.new) }
 {
     let mut tx = conn.transaction();
@@ -120,10 +112,6 @@ pub fn board_row_at<S: Alter>(
     ensures idle { conn.new.in_transaction ≡ false }
     ensures found { IfOk result (λ row. OfContent (state S.Store conn.old) (state S.Store conn.new)
         (λ content. IsOneOf (filter (is_board id) content.boards) row)) }
-    ensures excused { result ≡ Err StoreFault.Store
-        → FailsByFault (state S.Store conn.old) (state S.Store conn.new)
-        (λ content. IsContent content (state S.Store conn.old).now) }
-    ensures faults { KeepsFaults (state S.Store conn.old) (state S.Store conn.new) }
     ensures same { IsAsBefore (state S.Store conn.old) (state S.Store conn.new) }
 {
     let mut tx = conn.transaction();
@@ -144,10 +132,6 @@ pub fn horizon_row_at<S: Alter>(
     ensures idle { conn.new.in_transaction ≡ false }
     ensures found { IfOk result (λ row. OfContent (state S.Store conn.old) (state S.Store conn.new)
         (λ content. IsOneOf (filter (is_horizon board) content.horizon) row)) }
-    ensures excused { result ≡ Err StoreFault.Store
-        → FailsByFault (state S.Store conn.old) (state S.Store conn.new)
-        (λ content. IsContent content (state S.Store conn.old).now) }
-    ensures faults { KeepsFaults (state S.Store conn.old) (state S.Store conn.new) }
     ensures same { IsAsBefore (state S.Store conn.old) (state S.Store conn.new) }
 {
     let mut tx = conn.transaction();
@@ -169,10 +153,6 @@ pub fn kept_row_at<S: Alter>(
     ensures idle { conn.new.in_transaction ≡ false }
     ensures found { IfOk result (λ row. OfContent (state S.Store conn.old) (state S.Store conn.new)
         (λ content. IsOneOf (filter (is_kept person id) content.kept) row)) }
-    ensures excused { result ≡ Err StoreFault.Store
-        → FailsByFault (state S.Store conn.old) (state S.Store conn.new)
-        (λ content. IsContent content (state S.Store conn.old).now) }
-    ensures faults { KeepsFaults (state S.Store conn.old) (state S.Store conn.new) }
     ensures same { IsAsBefore (state S.Store conn.old) (state S.Store conn.new) }
 {
     let mut tx = conn.transaction();

@@ -19,7 +19,6 @@ mod lists;
 mod message;
 mod new_key;
 mod order_fault;
-mod reading;
 mod running;
 mod status;
 mod viewing;

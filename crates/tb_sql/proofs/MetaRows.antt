@@ -21,7 +21,7 @@ use Rattle.tb_sql_tables.specs.declared.rows.MetaRow.{MetaRow}
 use Rattle.tb_sql_tables.specs.Tables.{meta_plain, meta_tree, old_schema, second_schema}
 use Rattle.tb_sql_tables.specs.Rows.{version_row}
 use Rattle.tb_sql_tables.specs.Read.{meta_of, IsMetaRow}
-use Rattle.tb_sql_tables.specs.Content.{old_part, Content, AreTables, HasKeyed, HasRows, IsContent}
+use Rattle.tb_sql_tables.specs.Content.{Content, AreTables, HasKeyed, HasRows, IsContent}
 use Rattle.tb_sql_tables.specs.Statements.{Finds, Ran, Turns}
 use Rattle.tb_sql_tables.specs.Standing.{IsHalfway}
 use Rattle.tb_sql_tables.specs.Failing.{IsExcused}
@@ -32,6 +32,7 @@ use Rattle.tb_sql_tables.proofs.Inside.{shown_open}
 use Rattle.tb_sql_tables.proofs.Queries.{query_of, program_of, output_at}
 use Rattle.tb_sql_tables.proofs.Statements.{Asks, AsksIn, Means}
 use Rattle.tb_sql.specs.Opening.{our_meta, row_of_meta, meta_text, AreMetas, AreShown}
+use Rattle.tb_sql.specs.Migrating.{first_part}
 
 abbrev shown_terms : List Term
 shown_terms = col 1 2 ∷ col 1 3 ∷ []
@@ -122,7 +123,7 @@ no_keyed = record { shaped = (tt, tt); same = IsPermutation-refl [] }
 no_rows : HasRows [] []
 no_rows = record { shaped = (tt, tt); same = IsPermutation-refl [] }
 
-pub update_version : (old new : State) → Ran update_text [] old new → (content : Content) → Turns (IsHalfway content) (IsContent (old_part content)) old new
+pub update_version : (old new : State) → Ran update_text [] old new → (content : Content) → Turns (IsHalfway content) (IsContent (first_part content)) old new
 update_version old new ran content = record {
   shown = ran.1.1;
   made = λ is.
@@ -131,7 +132,7 @@ update_version old new ran content = record {
       let was = is.tables in
       let e = effect.1 in
       let o = e.others in
-      let tables : AreTables (old_part content) new.now.trees = record {
+      let tables : AreTables (first_part content) new.now.trees = record {
         meta = effect.0;
         people = rw (o.1.0 (omega arith)) was.people;
         boards = rw (o.1.1.0 (omega arith)) was.boards;
@@ -146,7 +147,6 @@ update_version old new ran content = record {
         task_identifiers = was.task_identifiers;
         kept_identifiers = was.kept_identifiers;
         history_identifiers = tt;
-        fits = was.fits;
       } in
       record { schema = e.schema; rows = record { sound = e.sound; tables = tables } };
 }

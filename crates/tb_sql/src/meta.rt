@@ -3,11 +3,12 @@
 ghost use Rattle.std.specs.Prelude.{◌≡◌, [], ◌∷◌, IsTrue, IfErr, IfOk, OnOk};
 ghost use Rattle.sqlite.specs.State.{HasCleanDisk, Survives};
 ghost use Rattle.tb_sql_tables.specs.Inside.{seen, KeepsInside, KeepsOnErr};
-ghost use Rattle.tb_sql_tables.specs.Content.{old_part, Content, IsContent};
+ghost use Rattle.tb_sql_tables.specs.Content.{Content, IsContent};
 ghost use Rattle.tb_sql_tables.specs.Statements.{Finds, Turns};
 ghost use Rattle.tb_sql_tables.specs.Standing.{IsHalfway};
 ghost use Rattle.tb_sql_tables.specs.Failing.{IsExcused};
 ghost use Rattle.tb_sql.specs.Opening.{our_meta, AreMetas, AreShown};
+ghost use Rattle.tb_sql.specs.Migrating.{first_part};
 
 use sqlite::{Alter, Error, Transaction};
 use tb_sql_tables::read::read_all;
@@ -39,7 +40,7 @@ pub(crate) fn update_version<S: Alter>(tx: &mut Transaction<'_, S>) -> Result<()
     ensures made { HasCleanDisk (seen S.Store tx.new)
         → IsTrue (seen S.Store tx.old).in_transaction
         → OnOk result ((content : Content)
-        → Turns (IsHalfway content) (IsContent (old_part content))
+        → Turns (IsHalfway content) (IsContent (first_part content))
         (seen S.Store tx.old) (seen S.Store tx.new)) }
     ensures kept { KeepsOnErr (seen S.Store tx.old) (seen S.Store tx.new) result }
     ensures survives { Survives (seen S.Store tx.old) (seen S.Store tx.new) (λ _. ⊥) }

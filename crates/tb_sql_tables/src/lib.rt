@@ -4,7 +4,6 @@
 #![tactic(auto)]
 
 pub mod create;
-pub mod fitting;
 pub mod read;
 pub mod rows;
 pub mod run;
