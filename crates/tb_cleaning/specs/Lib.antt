@@ -8,6 +8,7 @@ pub mod Notes
 pub mod Numbers
 pub mod Ordering
 pub mod Places
+pub mod Readable
 pub mod Respelling
 pub mod Sorting
 pub mod Steps

@@ -10,6 +10,7 @@ mod fault;
 mod ids;
 mod items;
 mod judging;
+mod laws;
 mod losses;
 mod notes;
 mod numbers;
@@ -24,3 +25,4 @@ mod verdict;
 
 pub use cleaning::{Cleaned, clean};
 pub use fault::CleaningFault;
+pub use laws::none_is_refused;
