@@ -1,16 +1,35 @@
 //! A task of a text as an import takes it: numbers are whole, and steps are those of boards.
 
-ghost use Rattle.std.specs.Prelude.{◌≡◌, [], IfOk, OnOk};
+ghost use Rattle.std.specs.Prelude.{◌≡◌, [], IfOk, OnOk, option_map};
 ghost use Rattle.serde_json.specs.Data.{no_members};
 ghost use Rattle.serde_json.specs.View.{members_view, view};
-ghost use Rattle.tb_cleaning.specs.Respelling.{change_of, changes_of, changes_on, item_of, members_on, step_text, value_of, whole_text, with_text};
+ghost use Rattle.tb_cleaning.specs.Respelling.{change_of, changes_of, changes_on, item_of, members_on, new_text, step_text, text_change, value_of, whole_text, with_text};
 
-use crate::numbers::whole_of;
+use crate::numbers::{whole_in, whole_of};
 use crate::steps::respelled;
 use crate::telling::push_line;
 use serde_json::{Map, Value, put};
 use std::alloc::{AllocError, Global};
 use tb_values::{Items, Text};
+
+/// The value that means the same as a text, where there is another: a place of an instance becomes a number, and a step that of a board.
+fn new_text(alloc: Global, name: &str, text: &str) -> Result<Option<Value>, AllocError>
+    ensures { IfOk result (λ made. option_map view made ≡ new_text name.now text.now) }
+{
+    if name == "imask" {
+        return match whole_in(text.as_bytes()) {
+            Some(whole) => Ok(Some(Value::from(whole))),
+            None => Ok(None),
+        };
+    }
+    if name != "recur" {
+        return Ok(None);
+    }
+    match respelled(alloc, text)? {
+        Some(step) => Ok(Some(Value::String(step.into_string()))),
+        None => Ok(None),
+    }
+}
 
 /// The value of a member, or another one that means the same.
 fn value_of(alloc: Global, name: &str, value: &Value) -> Result<Value, AllocError>
@@ -21,8 +40,8 @@ fn value_of(alloc: Global, name: &str, value: &Value) -> Result<Value, AllocErro
             Some(whole) => Ok(Value::from(whole)),
             None => value.clone(),
         },
-        Value::String(text) if name == "recur" => match respelled(alloc, text.as_str())? {
-            Some(step) => Ok(Value::String(step.into_string())),
+        Value::String(text) => match new_text(alloc, name, text.as_str())? {
+            Some(made) => Ok(made),
             None => value.clone(),
         },
         _ => value.clone(),
@@ -69,6 +88,24 @@ fn step_text(alloc: Global, before: &str, step: &str) -> Result<Text, AllocError
     Ok(Text::from_string(text))
 }
 
+fn text_change(alloc: Global, name: &str, text: &str) -> Result<Option<Text>, AllocError>
+    ensures { IfOk result (λ change. change ≡ text_change name.now text.now) }
+{
+    if name == "imask" {
+        return match whole_in(text.as_bytes()) {
+            Some(whole) => Ok(Some(whole_text(alloc, name, i64::from(whole))?)),
+            None => Ok(None),
+        };
+    }
+    if name != "recur" {
+        return Ok(None);
+    }
+    match respelled(alloc, text)? {
+        Some(step) => Ok(Some(step_text(alloc, text, step.as_str())?)),
+        None => Ok(None),
+    }
+}
+
 /// What is told of a member that is written otherwise.
 fn change_of(alloc: Global, name: &str, value: &Value) -> Result<Option<Text>, AllocError>
     ensures { IfOk result (λ change. change ≡ change_of name.now (view value.now)) }
@@ -78,10 +115,7 @@ fn change_of(alloc: Global, name: &str, value: &Value) -> Result<Option<Text>, A
             Some(whole) => Ok(Some(whole_text(alloc, name, whole)?)),
             None => Ok(None),
         },
-        Value::String(text) if name == "recur" => match respelled(alloc, text.as_str())? {
-            Some(step) => Ok(Some(step_text(alloc, text.as_str(), step.as_str())?)),
-            None => Ok(None),
-        },
+        Value::String(text) => text_change(alloc, name, text.as_str()),
         _ => Ok(None),
     }
 }
