@@ -73,7 +73,7 @@ def expect_alike(what, text, notes):
     expect(f"{what}: refused", names(cleaning.refused), kinds["can't be taken"])
     expect(f"{what}: doubles", names(cleaning.doubles), kinds["left out"])
     expect(f"{what}: changed", set(names(entry for entry in cleaning.taken if entry.changes)), set(kinds["changed"]))
-    expect(f"{what}: orphans", names(entry for entry, why in cleaning.orphans if "no template" in why), kinds["orphan"])
+    expect(f"{what}: orphans", names(entry for entry, why in cleaning.orphans), kinds["orphan"])
     expect(f"{what}: links", names(entry for entry, why in cleaning.unlinked if "isn't there" in why), kinds["link dropped"])
     theirs = collections.Counter()
     for (name, _), count in cleaning.dropped.items():
@@ -158,6 +158,37 @@ def look_at_order():
     expect("over a template", (0, {ID.format(801): 1}), (status, dict(ours(notes)[0]["can't be ordered"])))
 
 
+def of_template(number, **members):
+    """A task that comes as an instance of a template."""
+    return {"uuid": ID.format(number), "description": f"Instance {number}", "entry": "20260101T000000Z", "parent": ID.format(900), "recur": "weekly", **members}
+
+
+def look_at_places():
+    """Places with a fraction of zeros are whole, and each instance is told of which the import makes a plain task."""
+    template = {"uuid": ID.format(900), "description": "Template", "status": "recurring", "recur": "weekly", **DUE, "mask": "--"}
+    places = (0.0, 0, 1, 1.0, 2, 2**32, "x", None, -1, 0.5)
+    tasks = [template, *(of_template(901 + at, imask=place) for at, place in enumerate(places)), of_template(920), of_template(921, parent=ID.format(999), imask=0), of_template(922, parent=None, imask=1, status="pending")]
+    look_at("places", tasks)
+    texts = ("0.000000", "0.0", "01.0", "1", "1.000000", "2.0", "4294967296.0", "0.", ".0", "0.01", "-0.0", "0.0 ")
+    tasks = [template, *(of_template(901 + at, imask=place) for at, place in enumerate(texts))]
+    text = json.dumps(tasks).encode()
+    status, notes, _ = tb("import", "-", "--check", given=text)
+    told = [re.sub(r'(\w+): [-0-9a-f]{33}(\d{3}) ".*": ', r"\1 \2: ", line) for line in notes.splitlines()[:-1]]
+    lost = {902: "another instance has its place", 904: "another instance has its place", 905: "another instance has its place", 906: "its template's mask has no place for it"}
+    lost |= {number: "it has no place (imask) among its template's instances" for number in range(907, 913)}
+    expect("texts of places: changes", [f"changed {number}: imask is {place}" for number, place in ((901, 0), (902, 0), (903, 1), (905, 1), (906, 2))], [line for line in told if line.startswith("changed")])
+    expect("texts of places: orphans", [f"orphan {number}: {why}, so it becomes a plain task" for number, why in lost.items()], [line for line in told if line.startswith("orphan")])
+    (status, out, _), brought = board_with("--clean", given=text)
+    expect("texts of places: the import", (0, f"{len(lost)} instances without their template" in out), (status, True))
+    expect("texts of places: the board", {ID.format(901): 0, ID.format(903): 1}, {it["uuid"]: it["imask"] for it in brought if "imask" in it})
+    # (a second one goes on without its place, and the first in the order in which they are brought has it)
+    waits = [template, of_template(901, imask=0, depends=[ID.format(903)]), of_template(902, imask=0), {"uuid": ID.format(903), "description": "First", "entry": "20260101T000000Z"}]
+    status, notes, _ = tb("import", "-", "--check", given=json.dumps(waits).encode())
+    expect("one that waits", {ID.format(901): 1}, dict(ours(notes)[0]["orphan"]))
+    (status, out, _), brought = board_with("--clean", given=json.dumps(waits).encode())
+    expect("one that waits, on the board", {ID.format(902): 0}, {it["uuid"]: it["imask"] for it in brought if "imask" in it})
+
+
 def look_at_faults():
     """What can't be cleaned."""
     for given, told in ((b"[{", "This isn't what an import takes"), (b"Buy milk\n", "--check, --clean and --skip are for JSON alone"), (json.dumps([{}] * 10001).encode(), "A board takes 10,000 tasks")):
@@ -182,7 +213,24 @@ def look_at_taskwarrior():
     task("add", "cost:2.5", "pages:8", "priority:H", "+spring", "project:Home.Garden", "Own attributes")
     task("add", "wait:2099-01-01", "Wait")
     subprocess.run(["task", "list"], stdout=subprocess.DEVNULL, stderr=subprocess.DEVNULL, env=environment)
-    look_at("Taskwarrior", json.loads(task("rc.gc=off", "rc.recurrence=off", "export")))
+    exported = task("rc.gc=off", "rc.recurrence=off", "export")
+    look_at("Taskwarrior", json.loads(exported))
+    look_at_second_trip(task, exported)
+
+
+def look_at_second_trip(task, exported):
+    """Taskwarrior writes the places of tasks that it imported with a fraction of zeros, and none is lost."""
+    os.mkdir("second")
+    with open("exported.json", "wb") as file:
+        file.write(exported)
+    task("rc.data.location=second", "rc.recurrence=off", "import", "exported.json")
+    again = task("rc.data.location=second", "rc.gc=off", "rc.recurrence=off", "export")
+    there = {it["uuid"]: int(it["imask"]) for it in json.loads(exported) if "imask" in it and it["recur"] != "PT1H"}
+    expect("places with a fraction", len(re.findall(rb'"imask":\d+\.0+[,}]', again)), sum("imask" in it for it in json.loads(exported)))
+    (status, out, told), brought = board_with("--skip", given=again)
+    kinds, _, counts = ours(told)
+    expect("the second trip", (0, set(), False), (status, set(there) - set(kinds["changed"]), "without their template" in out))
+    expect("its places", there, {it["uuid"]: it["imask"] for it in brought if it["uuid"] in there})
 
 
 os.makedirs(os.path.join(HOME, ".config/taskboard"))
@@ -191,6 +239,7 @@ with open(os.open(os.path.join(HOME, ".config/taskboard/key"), os.O_CREAT | os.O
 look_at_each()
 look_at_drawn()
 look_at_order()
+look_at_places()
 look_at_faults()
 look_at_taskwarrior()
 print(f"cleaning: {len(wrong)} wrong, SEED={SEED}")

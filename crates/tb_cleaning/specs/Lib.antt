@@ -7,6 +7,7 @@ pub mod Mark
 pub mod Notes
 pub mod Numbers
 pub mod Ordering
+pub mod Orphans
 pub mod Places
 pub mod Readable
 pub mod Respelling

@@ -1,5 +1,5 @@
 -- What an import drops of the tasks that it takes.
-use Rattle.std.specs.Prelude.{ℕ, ◌+◌, ◌==◌, Bool, true, false, not, ◌&&◌, ◌||◌, List, [], ◌∷◌, ◌++◌, nat_lt, codes, Option, Some, None, is_some, map, if◌then◌else◌}
+use Rattle.std.specs.Prelude.{ℕ, ◌+◌, Bool, true, not, ◌&&◌, List, [], ◌∷◌, ◌++◌, nat_lt, codes, Option, Some, None, is_some, map, if◌then◌else◌}
 use Rattle.std.specs.List.{list_any}
 use Rattle.std.specs.Str.{bytes_eq}
 use Rattle.serde_json.specs.Data.{Data, null, boolean, number, string, array, object, Members, no_members, member}
@@ -9,12 +9,11 @@ use Rattle.tb_task.specs.declared.extra.Extra.{Extra}
 use Rattle.tb_task.specs.declared.incoming.Incoming.{Incoming}
 use Rattle.tb_json.specs.Attribute.{unless_blank}
 use Rattle.tb_cleaning.specs.Entries.{Judged, id_of, taken_in}
-use Rattle.tb_cleaning.specs.Ordering.{has_instances}
-use Rattle.tb_cleaning.specs.Places.{depends_in, place_of, with_place}
+use Rattle.tb_cleaning.specs.Places.{depends_in, place_of}
 use Rattle.tb_cleaning.specs.Respelling.{with_text}
 use Rattle.tb_cleaning.specs.Steps.{Text}
 use Rattle.tb_cleaning.specs.Telling.{line_of, one_line}
-use Rattle.tb_cleaning.specs.declared.losses.TheConstants.{DROPPED, LATER, LINK_LATER, LINK_LOST, NOT_THERE, NO_END, NO_EXTRA, NO_INSTANCE, NO_PLACE, NO_PRIORITY, NO_MASK, NO_RECUR, NO_TEMPLATE, ORPHAN}
+use Rattle.tb_cleaning.specs.declared.losses.TheConstants.{DROPPED, LATER, LINK_LATER, LINK_LOST, NOT_THERE, NO_END, NO_EXTRA, NO_INSTANCE, NO_PLACE, NO_PRIORITY, NO_MASK, NO_RECUR}
 
 -- ---- members
 
@@ -77,38 +76,6 @@ drops_of found task (Some i) = drops_in found task i
 abbrev pub all_drops : List Text → List Judged → List Text
 all_drops found [] = found
 all_drops found (e ∷ es) = all_drops (drops_of found e.item (taken_in e.verdict)) es
-
--- ---- instances without a template
-
-abbrev pub id_if : Bool → Option ℕ → Option ℕ
-id_if true id = id
-id_if false id = None
-
-abbrev pub templates_on : List ℕ → List Judged → List ℕ
-templates_on found [] = found
-templates_on found (e ∷ es) = templates_on (with_place found (id_if (has_instances e) (id_of e))) es
-
-abbrev pub is_there : List ℕ → Option ℕ → Bool
-is_there ids None = false
-is_there ids (Some id) = list_any (λ other. other == id) ids
-
--- it comes as an instance, and its template doesn't come
-abbrev pub is_orphan : List ℕ → Option Incoming → Bool
-is_orphan templates None = false
-is_orphan templates (Some i) = (is_some i.raw_parent || is_some i.raw_imask)
-    && not (is_there templates i.raw_parent)
-
-abbrev pub orphan_of : List ℕ → Judged → Option Text
-orphan_of templates e = if is_orphan templates (taken_in e.verdict)
-    then Some (line_of ORPHAN.now e.item NO_TEMPLATE.now) else None
-
-abbrev pub orphans_on : List ℕ → List Text → List Judged → List Text
-orphans_on templates found [] = found
-orphans_on templates found (e ∷ es) =
-    orphans_on templates (with_text found (orphan_of templates e)) es
-
-abbrev pub all_orphans : List Judged → List Text
-all_orphans es = orphans_on (templates_on [] es) [] es
 
 -- ---- links
 

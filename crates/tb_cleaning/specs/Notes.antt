@@ -2,8 +2,9 @@
 use Rattle.std.specs.Prelude.{ℕ, ◌==◌, Bool, true, false, List, [], ◌∷◌, ◌++◌, length, codes, decimal, Option, Some, None, if◌then◌else◌}
 use Rattle.serde_json.specs.Data.{Data}
 use Rattle.tb_cleaning.specs.Entries.{Judged}
-use Rattle.tb_cleaning.specs.Losses.{all_drops, all_links, all_orphans}
+use Rattle.tb_cleaning.specs.Losses.{all_drops, all_links}
 use Rattle.tb_cleaning.specs.Ordering.{brought}
+use Rattle.tb_cleaning.specs.Orphans.{all_orphans}
 use Rattle.tb_cleaning.specs.Respelling.{with_text}
 use Rattle.tb_cleaning.specs.Steps.{Text}
 use Rattle.tb_cleaning.specs.Telling.{line_of}

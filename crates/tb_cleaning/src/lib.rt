@@ -15,6 +15,7 @@ mod losses;
 mod notes;
 mod numbers;
 mod ordering;
+mod orphans;
 mod places;
 mod respelling;
 mod sorting;

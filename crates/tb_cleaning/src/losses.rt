@@ -3,17 +3,14 @@
 ghost use Rattle.std.specs.Prelude.{◌≡◌, [], IfOk, OnOk, is_some, map};
 ghost use Rattle.serde_json.specs.View.{members_view, view};
 ghost use Rattle.tb_cleaning.specs.Entries.{id_of, seen, taken_in};
-ghost use Rattle.tb_cleaning.specs.Losses.{all_drops, all_links, all_orphans, drop_of, drop_text, drops_in, drops_of, drops_on, has_extra, id_if, is_dropped, is_kept, is_orphan, is_there, link_at, link_text, links_from, links_on, orphan_of, orphans_on, reason_of, templates_on};
-ghost use Rattle.tb_cleaning.specs.Ordering.{has_instances};
+ghost use Rattle.tb_cleaning.specs.Losses.{all_drops, all_links, drop_of, drop_text, drops_in, drops_of, drops_on, has_extra, is_dropped, is_kept, link_at, link_text, links_from, links_on, reason_of};
 ghost use Rattle.tb_cleaning.specs.Places.{depends_in};
 ghost use Rattle.tb_cleaning.specs.Telling.{line_of};
 ghost use Rattle.tb_json.specs.Attribute.{unless_blank};
 
 use crate::entry::Entry;
 use crate::ids::Ids;
-use crate::ordering::has_instances;
 use crate::respelling::push_text;
-use crate::sorting::{has_id, push_id};
 use crate::telling::{line_of, push_line};
 use serde_json::{Map, Value};
 use std::alloc::{AllocError, Global};
@@ -21,8 +18,6 @@ use tb_task::{Incoming, TaskId, is_attribute};
 use tb_values::{Items, Text};
 
 const DROPPED: &str = "will be dropped: ";
-
-const ORPHAN: &str = "orphan: ";
 
 const LINK_LOST: &str = "link dropped: ";
 
@@ -41,8 +36,6 @@ const NO_PRIORITY: &str = "it isn't H, M or L";
 const NO_RECUR: &str = "the task is neither template nor instance";
 
 const NO_EXTRA: &str = "it is neither a text nor a whole number of 64 bits";
-
-const NO_TEMPLATE: &str = "it has no template here, so it becomes a plain task";
 
 const NOT_THERE: &str = " that it depends on isn't there";
 
@@ -190,81 +183,6 @@ pub(crate) fn all_drops(alloc: Global, entries: &[&Entry]) -> Result<Items<Text>
     Ok(found)
 }
 
-fn template_id(entry: &Entry) -> Option<TaskId>
-    ensures { result ≡ id_if (has_instances (seen entry.now)) (id_of (seen entry.now)) }
-{
-    if has_instances(entry) {
-        entry.id()
-    } else {
-        None
-    }
-}
-
-fn templates_of(alloc: Global, entries: &[&Entry]) -> Result<Items<TaskId>, AllocError>
-    ensures { IfOk result
-        (λ ids. ids ≡ templates_on [] (map (λ e. seen e.now) entries.entry.now)) }
-{
-    let mut found = Items::new(alloc);
-    for entry in entries {
-        push_id(&mut found, template_id(entry))?;
-    }
-    Ok(found)
-}
-
-fn is_there(ids: &[TaskId], id: Option<TaskId>) -> bool
-    ensures { result ≡ is_there ids.now id }
-{
-    match id {
-        Some(id) => has_id(ids, id),
-        None => false,
-    }
-}
-
-fn is_orphan(templates: &[TaskId], entry: &Entry) -> bool
-    ensures { result ≡ is_orphan templates.now (taken_in entry.now.verdict) }
-{
-    match entry.taken() {
-        Some(incoming) => {
-            (incoming.raw_parent.is_some() || incoming.raw_imask.is_some())
-                && !is_there(templates, incoming.raw_parent)
-        }
-        None => false,
-    }
-}
-
-fn orphan_of(alloc: Global, templates: &[TaskId], entry: &Entry) -> Result<Option<Text>, AllocError>
-    ensures { IfOk result (λ line. line ≡ orphan_of templates.now (seen entry.now)) }
-{
-    if !is_orphan(templates, entry) {
-        return Ok(None);
-    }
-    Ok(Some(line_of(alloc, ORPHAN, &entry.value, NO_TEMPLATE)?))
-}
-
-fn orphans_on(
-    alloc: Global,
-    templates: &[TaskId],
-    entries: &[&Entry],
-) -> Result<Items<Text>, AllocError>
-    ensures { IfOk result
-        (λ lines. lines ≡ orphans_on templates.now [] (map (λ e. seen e.now) entries.entry.now)) }
-{
-    let mut found = Items::new(alloc);
-    for entry in entries {
-        push_text(&mut found, orphan_of(alloc, templates, entry)?)?;
-    }
-    Ok(found)
-}
-
-/// A line for each instance whose template isn't brought.
-pub(crate) fn all_orphans(alloc: Global, entries: &[&Entry]) -> Result<Items<Text>, AllocError>
-    ensures { IfOk result
-        (λ lines. lines ≡ all_orphans (map (λ e. seen e.now) entries.entry.now)) }
-{
-    let templates = templates_of(alloc, entries)?;
-    orphans_on(alloc, templates.as_slice(), entries)
-}
-
 fn link_text(alloc: Global, id: TaskId, what: &str) -> Result<Text, AllocError>
     ensures { IfOk result (λ text. text ≡ link_text id what.now) }
 {
@@ -352,7 +270,7 @@ fn links_from(alloc: Global, ids: &Ids, entries: &[&Entry]) -> Result<Items<Text
     Ok(found)
 }
 
-fn ids_of(alloc: Global, entries: &[&Entry]) -> Result<Ids, AllocError>
+pub(crate) fn ids_of(alloc: Global, entries: &[&Entry]) -> Result<Ids, AllocError>
     ensures { IfOk result
         (λ ids. ids ≡ map id_of (map (λ e. seen e.now) entries.entry.now)) }
 {

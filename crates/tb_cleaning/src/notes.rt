@@ -6,7 +6,8 @@ ghost use Rattle.tb_cleaning.specs.Entries.{seen};
 ghost use Rattle.tb_cleaning.specs.Notes.{all_changes, changed_part, changes_on, counted, counts_text, double_line, doubles_on, doubles_part, drops_part, left_out, lines_text, losses_lines, losses_part, losses_text, notes_on, notes_text, refused_line, refused_on, refused_part, taken_part, tasks_lines, tasks_text};
 
 use crate::entry::Entry;
-use crate::losses::{all_drops, all_links, all_orphans};
+use crate::losses::{all_drops, all_links};
+use crate::orphans::all_orphans;
 use crate::respelling::push_text;
 use crate::telling::line_of;
 use crate::verdict::Verdict;

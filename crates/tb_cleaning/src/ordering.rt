@@ -76,7 +76,7 @@ fn templates_of(alloc: Global, entries: &[Entry]) -> Result<Vec<bool>, AllocErro
     Ok(marks)
 }
 
-pub(crate) fn has_instances(entry: &Entry) -> bool
+fn has_instances(entry: &Entry) -> bool
     ensures { result ≡ has_instances (seen entry.now) }
 {
     match entry.taken() {

@@ -43,7 +43,7 @@ pub(crate) fn depends_of(
     }
 }
 
-fn place_of_some(ids: &Ids, id: Option<TaskId>) -> Option<usize>
+pub(crate) fn place_of_some(ids: &Ids, id: Option<TaskId>) -> Option<usize>
     ensures { result ≡ place_of_some ids.now id }
 {
     ids.place_of(id?)

@@ -132,7 +132,7 @@ fn refused_id(entry: &Entry) -> Option<TaskId>
     }
 }
 
-pub(crate) fn push_id(found: &mut Items<TaskId>, id: Option<TaskId>) -> Result<(), AllocError>
+fn push_id(found: &mut Items<TaskId>, id: Option<TaskId>) -> Result<(), AllocError>
     ensures { OnOk result (found.new ≡ with_place found.old id) }
 {
     match id {
@@ -165,7 +165,7 @@ fn is_lost(ids: &Ids, refused: &[TaskId], id: TaskId) -> bool
     has_id(refused, id) && ids.place_of(id).is_none()
 }
 
-pub(crate) fn has_id(list: &[TaskId], id: TaskId) -> bool
+fn has_id(list: &[TaskId], id: TaskId) -> bool
     ensures { result ≡ list_any (λ other. other == id) list.now }
 {
     list.iter().any(|other| *other == id)
