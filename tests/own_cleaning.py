@@ -39,7 +39,7 @@ MEMBERS = [
     {"tags": None, "depends": "", "due": None, "annotations": ""}, {"status": "waiting"}, {"description": "tab\tline\n" + "x" * 200}, {"wait": "99991231T235959Z"},
 ]
 LINE = re.compile(r"(can't be taken|left out|changed|orphan|link dropped|can't be ordered|will be dropped): (.*)")
-COUNTS = re.compile(r"(\d+) tasks? can be taken, (\d+) can't be taken(?: and are left out)?, (\d+) changed, (\d+) doubles? left out, (\d+) orphans?, (\d+) links? and (\d+) members? dropped\n$")
+COUNTS = re.compile(r"(\d+) tasks? can be taken, (\d+) can't be taken(?: and are left out)?, (\d+) changes?, (\d+) doubles? left out, (\d+) orphans?, (\d+) links? and (\d+) members? dropped\n$")
 wrong = []
 
 

@@ -24,6 +24,7 @@ form_of name =
     else if bytes_eq name (codes "project") then A_TEXT.now
     else if bytes_eq name (codes "recur") then A_TEXT.now
     else if bytes_eq name (codes "parent") then A_UUID.now
+    else if bytes_eq name (codes "uuid") then A_UUID.now
     else if bytes_eq name (codes "mask") then A_MASK.now
     else if bytes_eq name (codes "tags") then A_LIST.now
     else if bytes_eq name (codes "depends") then LINKS.now
@@ -36,8 +37,7 @@ form_reason name = codes "its " ++ (one_line name ++ (codes " isn't " ++ form_of
 -- of the first member, in byte order, in a wrong form
 abbrev pub member_reason : Text → Text
 member_reason name =
-    if bytes_eq name (codes "uuid") then NO_UUID.now
-    else if bytes_eq name (codes "description") then NO_DESCRIPTION.now
+    if bytes_eq name (codes "description") then NO_DESCRIPTION.now
     else form_reason name
 
 abbrev pub step_reason : Option Text → Text

@@ -77,7 +77,7 @@ refused_part skips n =
     decimal (length n.refused) ++ (codes " can't be taken" ++ left_out skips)
 
 abbrev pub changed_part : Notes → Text
-changed_part n = codes ", " ++ (decimal (length n.changes) ++ codes " changed, ")
+changed_part n = codes ", " ++ (counted (length n.changes) (codes " change") ++ codes ", ")
 
 abbrev pub doubles_part : Notes → Text
 doubles_part n = counted (length n.doubles) (codes " double") ++ codes " left out, "

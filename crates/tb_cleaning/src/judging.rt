@@ -30,7 +30,7 @@ const A_STATUS: &str = "one of pending, waiting, recurring, completed, deleted";
 
 const A_TEXT: &str = "a text";
 
-const A_UUID: &str = "a uuid";
+const A_UUID: &str = "a uuid such as 00000001-0000-8000-8000-000000000001";
 
 const A_MASK: &str = "made of -, +, X, W and ?, or is too long";
 
@@ -50,7 +50,7 @@ fn form_of(name: &str) -> &'static str
     match name {
         "status" => A_STATUS,
         "priority" | "project" | "recur" => A_TEXT,
-        "parent" => A_UUID,
+        "parent" | "uuid" => A_UUID,
         "mask" => A_MASK,
         "tags" => A_LIST,
         "depends" => LINKS,
@@ -62,9 +62,6 @@ fn form_of(name: &str) -> &'static str
 fn member_reason(alloc: Global, name: &str) -> Result<Text, AllocError>
     ensures { IfOk result (λ reason. reason ≡ member_reason name.now) }
 {
-    if name == "uuid" {
-        return Text::from_str(alloc, NO_UUID);
-    }
     if name == "description" {
         return Text::from_str(alloc, NO_DESCRIPTION);
     }

@@ -128,8 +128,8 @@ impl Notes {
             (string_bytes text.new ≡ string_bytes text.old ++ changed_part self.now) }
     {
         text.push_str(", ")?;
-        push_number(text, self.changes.len())?;
-        text.push_str(" changed, ")
+        push_counted(text, self.changes.len(), " change")?;
+        text.push_str(", ")
     }
 
     fn push_doubles_part(&self, text: &mut String) -> Result<(), AllocError>
