@@ -1,7 +1,8 @@
 #!/bin/sh
 # Bridges between a board and other tools, with the real programs: a week of random edits on both sides, runs and servers that are stopped
 # at random, and edits while a run goes on; at the end of each day both sides say the same, with each task once and no edit lost without a
-# word (docs/TESTING.md). It needs python3, task of Taskwarrior 2.6 and todo-txt, each for its part, and takes minutes;
+# word (docs/TESTING.md). Days are the same in zones east and west. It needs python3, task of
+# Taskwarrior 2.6 and todo-txt, each for its part, and takes minutes;
 # SYNC_TASKS and SYNC_DAYS make it smaller, SEED repeats a run.
 set -eu
 
@@ -38,6 +39,7 @@ else
 fi
 
 if is_there task && task --version | grep -q '^2\.6'; then
+    part sync_days.py
     part sync_scenes.py
     part syncing.py
 else

@@ -2,28 +2,9 @@
 import datetime
 
 from taskboard_bridges.board_tasks import is_template
+from taskboard_bridges.days import day_of, local_day, moment_of
 
 OVERDUE, TODAY, WEEK, NEW = "Overdue", "Due today", "Due within a week", "New for you"
-UTC = datetime.timezone.utc
-
-
-def moment_of(text):
-    """A moment's text as a time of UTC."""
-    return datetime.datetime.strptime(text, "%Y%m%dT%H%M%SZ").replace(tzinfo=UTC)
-
-
-def day_of(text, zone):
-    """The day of a moment that says a day alone: midnight of UTC, or midnight where the people are; None of another moment."""
-    moment = moment_of(text)
-    if (moment.hour, moment.minute, moment.second) == (0, 0, 0):
-        return moment.date()
-    there = moment.astimezone(zone)
-    return there.date() if (there.hour, there.minute, there.second) == (0, 0, 0) else None
-
-
-def local_day(text, zone):
-    """The day on which a moment falls where the people are."""
-    return day_of(text, zone) or moment_of(text).astimezone(zone).date()
 
 
 def is_open(task):

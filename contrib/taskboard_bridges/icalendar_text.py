@@ -1,7 +1,8 @@
 """An iCalendar text (RFC 5545) of due tasks. Nothing is kept here: the same tasks give the same text."""
 import re
 
-from taskboard_bridges.agenda import day_of, is_open
+from taskboard_bridges.agenda import is_open
+from taskboard_bridges.days import day_of
 
 PRIORITIES = {"H": "1", "M": "5", "L": "9"}
 MOST_OCTETS = 75

@@ -31,11 +31,6 @@ def date_of(moment):
     return f"{moment[:4]}-{moment[4:6]}-{moment[6:8]}"
 
 
-def midnight(moment):
-    """The first moment of a moment's day."""
-    return f"{moment[:8]}T000000Z"
-
-
 class Line:
     """What a line says: whether it's done, its letter, its two dates, and its words. A mark counts where something other than blanks follows."""
 

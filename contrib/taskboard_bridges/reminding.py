@@ -14,8 +14,9 @@ import subprocess
 import sys
 import uuid
 
-from taskboard_bridges.agenda import NEW, OVERDUE, TODAY, WEEK, assignee, boards_of, day_of, is_shown, moment_of, parts_of
+from taskboard_bridges.agenda import NEW, OVERDUE, TODAY, WEEK, assignee, boards_of, is_shown, parts_of
 from taskboard_bridges.asking import Fault, read_key
+from taskboard_bridges.days import day_of, moment_of
 from taskboard_bridges.icalendar_text import calendar
 from taskboard_bridges.keeping import replace_file
 

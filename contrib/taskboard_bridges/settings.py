@@ -1,10 +1,9 @@
 """The configuration of taskboard-remind, which is read once. Nothing is kept here."""
 import configparser
-import datetime
 import os
-import zoneinfo
 
 from taskboard_bridges.asking import Boards, Fault, read_key
+from taskboard_bridges.days import zone_named
 
 KNOWN = {
     "boards": ("address", "member", "key", "page", "boards", "zone", "state", "cacert"),
@@ -58,12 +57,10 @@ class Settings:
 
     def read_zone(self, name):
         """The time zone of a name."""
-        if name == "UTC":
-            return datetime.timezone.utc
         try:
-            return zoneinfo.ZoneInfo(name)
-        except (zoneinfo.ZoneInfoNotFoundError, ValueError):
-            raise self.fault(f"there is no time zone {name}") from None
+            return zone_named(name)
+        except Fault as fault:
+            raise self.fault(fault) from None
 
     def numbers(self, text):
         """The numbers of boards in a text."""

@@ -303,7 +303,7 @@ class Sync:
     def keep_plan(self, plan):
         """Keeps what the run is about to do, as the next one has to know of it where this one is stopped; and which tasks both sides have
         alike, so that the next one sees what changes from now on."""
-        alike = {task: merged for task, merged in plan.bases.items() if isinstance(merged, tuple) and task not in plan.changes and task not in plan.merges}
+        alike = {task: merged for task, merged in plan.bases.items() if task not in plan.changes and task not in plan.merges}
         self.keep_bases(plan, alike, {}, set())
         for merged in plan.bases.values():
             self.state.owed += [conflict.owed for conflict in getattr(merged, "conflicts", ()) if hasattr(conflict, "owed")]

@@ -5,6 +5,7 @@ import subprocess
 
 from taskboard_bridges.asking import Fault
 from taskboard_bridges.board_tasks import MOST_BYTES, SETTABLE, now, view_of
+from taskboard_bridges.days import MIDNIGHT, day_alone, day_of, midnight
 from taskboard_bridges.merging import LINK, NOTE, STARTED, STATUS, TAG, UNFIT, VALUE, number_of, plain
 
 # No hook runs, nothing is asked, no recurring task makes instances, and no number of a task changes under its user's hands.
@@ -16,6 +17,8 @@ MOMENT = re.compile(r"\d{8}T\d{6}Z")
 # How many tasks are asked for by their names.
 FEW = 100
 DATES = ("due", "wait", "scheduled", "until")
+# Dates that are days where they have no time: midnight in UTC on a board, and here in Taskwarrior.
+DAYS = ("due", "scheduled")
 PRIORITIES = ("H", "M", "L")
 
 
@@ -98,7 +101,7 @@ class Taskwarrior:
         """A view of a board's task without what Taskwarrior has no name for."""
         return {key: value for key, value in view.items() if is_nameable(key) and value != ""}
 
-    def to_right(self, key, value, _like):
+    def to_right(self, key, value, like):
         """A value as Taskwarrior holds it."""
         if value is None or key in (STATUS, STARTED) or key[0] == LINK:
             return value
@@ -109,6 +112,8 @@ class Taskwarrior:
             return UNFIT if key == NOTE or respelled(key) != key else value
         name, kind = key[1:], self.types.get(key[1:])
         if name in DATES or kind == "date":
+            if name in DAYS and value != like and value.endswith(MIDNIGHT):
+                value = midnight(value, None)
             is_fit = isinstance(value, str) and MOMENT.fullmatch(value) and FIRST <= value < LAST and (name != "until" or value > now())
             return value if is_fit else UNFIT
         if kind == "numeric":
@@ -121,6 +126,8 @@ class Taskwarrior:
             return UNFIT if key[0] == TAG and re.search(r"[ \t\r\n]", key) else value
         if key == "=priority":
             return value if value in PRIORITIES else UNFIT
+        if key[1:] in DAYS:
+            return day_alone(value, None) if MOMENT.fullmatch(value) and day_of(value, None) else value
         if isinstance(like, bool) and value in ("true", "false"):
             return value == "true"
         number = number_of(value)

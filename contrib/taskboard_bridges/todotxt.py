@@ -9,8 +9,9 @@ import uuid
 
 from taskboard_bridges.asking import Fault
 from taskboard_bridges.board_tasks import is_template
+from taskboard_bridges.days import day_alone, moved
 from taskboard_bridges.keeping import clear_up, sync_folder, write_beside
-from taskboard_bridges.lines import Line, is_blank, made_by_import, midnight, replaced, spell
+from taskboard_bridges.lines import Line, is_blank, made_by_import, replaced, spell
 from taskboard_bridges.merging import STATUS, TAG, UNFIT
 
 SHOWN = (STATUS, "=description", "=project", "=priority", "=due")
@@ -60,12 +61,12 @@ class File:
 
 
 class TodoTxt:
-    """A file of todo.txt and its archive."""
+    """A file of todo.txt and its archive. Its days are those of a zone."""
 
     name, where = "todo.txt", "in todo.txt"
 
-    def __init__(self, path, archive, marks, state):
-        self.path, self.archive, self.marks, self.is_first = path, archive, marks, state.is_new
+    def __init__(self, path, archive, marks, state, zone=None):
+        self.path, self.archive, self.marks, self.is_first, self.zone = path, archive, marks, state.is_new, zone
 
     def place(self):
         """Where the tasks are, for the user."""
@@ -124,20 +125,20 @@ class TodoTxt:
         """A view of a board's task without what a line doesn't say."""
         return {key: value for key, value in view.items() if key in SHOWN or key[0] == TAG}
 
-    @staticmethod
-    def to_right(key, value, _like):
+    def to_right(self, key, value, _like):
         """A value as a line holds it: days without a time, and no spaces in a project."""
         if value is None or key not in SHOWN or key == STATUS:
             return value
         if key == "=due":
-            return midnight(value)
+            return day_alone(value, self.zone)
         if key == "=project":
             return replaced(value, "_").replace(" ", "_")
         return " ".join(re.findall("[^ ]+", replaced(value, " "))) or value if key == "=description" else value
 
-    @staticmethod
-    def to_left(key, value, _like):
-        """A value as a board holds it."""
+    def to_left(self, key, value, like):
+        """A value as a board holds it; a due date that is put off keeps its time."""
+        if key == "=due" and value is not None:
+            return moved(like, value, self.zone)
         return value if key in SHOWN or key[0] == TAG or value is None else UNFIT
 
     @staticmethod
@@ -145,10 +146,9 @@ class TodoTxt:
         """What a line is written from: what the board has."""
         return {key: pair[0] for key, pair in merged.base.items() if pair[0] is not None}
 
-    @staticmethod
-    def read_back(task, view):
+    def read_back(self, task, view):
         """How a line is read that was written from a view: words of a description may be marks."""
-        return {} if view[STATUS] == "deleted" else Line(spell(task, view, "19700101T000000Z", None)).view()
+        return {} if view[STATUS] == "deleted" else Line(self.spelled(task, view, "19700101T000000Z", None)).view()
 
     # Writing.
 
@@ -188,18 +188,22 @@ class TodoTxt:
                 return False
             if lines and not lines[-1].endswith("\n"):
                 lines[-1] += "\n"
-            lines.append(self.spelled(task, change) + "\n")
+            lines.append(self.line_of(task, change) + "\n")
             return True
         if not is_here or at is None or text != change.read.raw:
             return False
-        lines[at] = None if change.target[STATUS] == "deleted" else self.spelled(task, change) + file.lines[at][len(text):]
+        lines[at] = None if change.target[STATUS] == "deleted" else self.line_of(task, change) + file.lines[at][len(text):]
         return True
 
-    @staticmethod
-    def spelled(task, change):
+    def line_of(self, task, change):
         """A task's line, which keeps a letter that no priority stands for."""
         letter = change.read.line.letter if change.read else None
-        return spell(task, change.target, change.left["entry"], change.left.get("end"), letter if letter and letter > "C" else None)
+        return self.spelled(task, change.target, change.left["entry"], change.left.get("end"), letter if letter and letter > "C" else None)
+
+    def spelled(self, task, view, entry, end, letter=None):
+        """The line of a view, with the days of its moments in the zone."""
+        view = {**view, **({"=due": day_alone(view["=due"], self.zone)} if "=due" in view else {})}
+        return spell(task, view, day_alone(entry, self.zone), end and day_alone(end, self.zone), letter)
 
     def replace(self, file, lines, written):
         """Puts lines in the place of a file, unless it isn't as it was read; whether it was done."""
