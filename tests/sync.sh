@@ -1,7 +1,7 @@
 #!/bin/sh
 # Bridges between a board and other tools, with the real programs: a week of random edits on both sides, runs and servers that are stopped
 # at random, and edits while a run goes on; at the end of each day both sides say the same, with each task once and no edit lost without a
-# word (docs/TESTING.md). Days are the same in zones east and west. It needs python3, task of
+# word (docs/TESTING.md). Days are the same in zones east and west, and lines of each kind stay what they are. It needs python3, task of
 # Taskwarrior 2.6 and todo-txt, each for its part, and takes minutes;
 # SYNC_TASKS and SYNC_DAYS make it smaller, SEED repeats a run.
 set -eu
@@ -45,6 +45,7 @@ if is_there task && task --version | grep -q '^2\.6'; then
 else
     echo "Taskwarrior: skipped, since task 2.6 isn't there"
 fi
+part sync_lines.py
 if is_there todo-txt || is_there todo.sh; then
     part syncing_todotxt.py
 else

@@ -67,6 +67,7 @@ class Line:
                 self.uuid = word[5:].lower()
             else:
                 others.append(word)
+        self.is_bare = not others
         self.description = " ".join(others) if others else self.body
 
     def view(self):

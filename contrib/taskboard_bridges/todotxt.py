@@ -26,7 +26,7 @@ class Task:
 
     def __init__(self, file, raw, line):
         self.file, self.raw, self.line, self.modified = file, raw, line, file.modified
-        self.view = line.view()
+        self.view = view_of(line)
 
     def moments(self):
         """What a new task of the board takes along as it is."""
@@ -35,22 +35,25 @@ class Task:
 
 
 class File:
-    """A file as it was read: its bytes, its lines with what ends them, and when it was changed."""
+    """A file as it was read: its bytes, the mark of their order that some editors put first, its lines with what ends them, and when it
+    was changed."""
 
     def __init__(self, path, may_lack):
-        self.path, self.data, self.modified = os.path.realpath(path), b"", ""
+        self.path, self.data, self.modified, self.mark = os.path.realpath(path), b"", "", ""
         try:
             with open(self.path, "rb") as file:
                 self.data = file.read()
                 changed = os.fstat(file.fileno()).st_mtime
             self.modified = datetime.datetime.fromtimestamp(changed, datetime.timezone.utc).strftime("%Y%m%dT%H%M%SZ")
-            self.lines = re.findall(r"[^\n]*\n|[^\n]+", self.data.decode())
+            text = self.data.decode()
+            self.mark = text[:1] if text.startswith("\ufeff") else ""
+            self.lines = re.findall(r"[^\n]*\n|[^\n]+", text.removeprefix(self.mark))
         except FileNotFoundError:
             if not may_lack:
                 raise Fault(f"there is no file {path}: make it, or write its name right") from None
             self.lines = []
         except UnicodeDecodeError:
-            raise Fault(f"{path} isn't UTF-8 text") from None
+            raise Fault(f"{path} isn't UTF-8 text. Nothing was changed: save it as UTF-8") from None
 
     def read(self):
         """Each line that isn't blank: its place, and its text without what ends it."""
@@ -58,6 +61,10 @@ class File:
             text = raw.removesuffix("\n").removesuffix("\r") if raw.endswith("\n") else raw
             if not is_blank(text):
                 yield at, text
+
+    def end(self):
+        """What ends a line here."""
+        return "\r\n" if self.lines and self.lines[0].endswith("\r\n") else "\n"
 
 
 class TodoTxt:
@@ -148,7 +155,7 @@ class TodoTxt:
 
     def read_back(self, task, view):
         """How a line is read that was written from a view: words of a description may be marks."""
-        return {} if view[STATUS] == "deleted" else Line(self.spelled(task, view, "19700101T000000Z", None)).view()
+        return {} if view[STATUS] == "deleted" else view_of(Line(self.spelled(task, view, "19700101T000000Z", None)))
 
     # Writing.
 
@@ -186,9 +193,9 @@ class TodoTxt:
         if change.is_new or is_moved(change, self):
             if is_archive or at is not None or change.target[STATUS] == "deleted":
                 return False
-            if lines and not lines[-1].endswith("\n"):
-                lines[-1] += "\n"
-            lines.append(self.line_of(task, change) + "\n")
+            if lines and lines[-1] and not lines[-1].endswith("\n"):
+                lines[-1] += file.end()
+            lines.append(self.line_of(task, change) + file.end())
             return True
         if not is_here or at is None or text != change.read.raw:
             return False
@@ -203,12 +210,16 @@ class TodoTxt:
     def spelled(self, task, view, entry, end, letter=None):
         """The line of a view, with the days of its moments in the zone."""
         view = {**view, **({"=due": day_alone(view["=due"], self.zone)} if "=due" in view else {})}
+        said = Line(view["=description"])
+        if said.is_bare:
+            # What a text of marks alone says isn't said twice.
+            view = {key: value for key, value in view.items() if key in (STATUS, "=description") or said.view().get(key) != value}
         return spell(task, view, day_alone(entry, self.zone), end and day_alone(end, self.zone), letter)
 
     def replace(self, file, lines, written):
         """Puts lines in the place of a file, unless it isn't as it was read; whether it was done."""
         folder = os.path.dirname(file.path)
-        new, before = write_beside(file.path, "".join(lines).encode()), write_beside(file.path, file.data)
+        new, before = write_beside(file.path, (file.mark + "".join(lines)).encode()), write_beside(file.path, file.data)
         try:
             os.chmod(new, os.stat(file.path).st_mode & 0o7777)
             ran = self.marks.run(written, ["sh", "-c", 'cmp -s "$1" "$2" && mv "$3" "$2"', "sh", before, file.path, new])
@@ -218,6 +229,12 @@ class TodoTxt:
             for path in (new, before):
                 with contextlib.suppress(FileNotFoundError):
                     os.unlink(path)
+
+
+def view_of(line):
+    """The keys of a line's task. The text of a line of marks alone is these marks, without the word that names the task."""
+    words = [word for word in re.findall(r"[^ \t]+", line.body) if word.lower() != f"uuid:{line.uuid}"] if line.is_bare else []
+    return {**line.view(), **({"=description": " ".join(words)} if words else {})}
 
 
 def is_moved(change, right):
