@@ -46,6 +46,7 @@ else
     echo "Taskwarrior: skipped, since task 2.6 isn't there"
 fi
 part sync_lines.py
+part sync_words.py
 if is_there todo-txt || is_there todo.sh; then
     part syncing_todotxt.py
 else

@@ -42,7 +42,7 @@ class Scenes(Week):
         self.editor.call("tasks", odd)
         before = self.editor.tasks()[C]
         told = self.runs.complete()
-        expect("what is told", True, told.count("one side can't hold it") == 6 and all(what in told for what in (" due stays", "tag a,b", "tag when:status")))
+        expect("what is told", True, told.count("can't be kept in Taskwarrior, and stays on the board") == 6 and all(what in told for what in (" due can't", "tag a,b", "tag when:status")))
         there = self.user.tasks()[C]
         expect("what came", (["plain"], "true", "24", "pending"), (there["tags"], there["flag"], there["pages"], there["status"]))
         expect("what isn't there", set(), {"due", "until", "review", "weird name", "annotations"} & set(there))
@@ -242,7 +242,7 @@ class Scenes(Week):
         lost["tasks"][str(uuids.uuid4())] = lost["tasks"][D]
         self.put("lost.json", lost)
         self.runs.words = [word.replace("state.json", "lost.json") for word in said]
-        expect("a board that was restored", True, "aren't on board 1" in self.runs.complete(statuses=(1,)))
+        expect("a board that was restored", True, "can't be found on board 1" in self.runs.complete(statuses=(1,)))
         self.put("open", "ann-key-1")
         for name, bad, told in (("ann", "zed", "doesn't know"), ("key", "open", "chmod 600"), ("1", "7", "none on which you have a role")):
             self.runs.words = [bad if word == name else word.replace("state.json", f"{bad}.json") for word in said]

@@ -2,6 +2,7 @@
 import http.client
 import json
 import os
+import re
 import ssl
 import stat
 import time
@@ -11,6 +12,18 @@ import urllib.parse
 AWAY = {429, 500, 502, 503, 504}
 # The server ends a connection after 1,000 messages, and an idle one after 120 seconds.
 MOST_MESSAGES, MOST_IDLE = 900, 60
+VISIBLE = re.compile("[!-~]+")
+# What refusals mean that a user can do something about.
+REASONS = {
+    "Cycle": "tasks would wait for each other in a circle",
+    "Full": "the board takes no more tasks, so go on with a new one",
+    "NotAllowed": "your role doesn't allow it, so ask an owner",
+    "WrongStatus": "the task's status doesn't allow it",
+    "BodyTooLong": "it has over 1,048,576 bytes",
+    "BadTask BadText": "a text has over 16,384 bytes or the character 0",
+    "BadTask BadTag": "a tag is empty or has a blank in it",
+    "BadTask EmptyDescription": "a description or a note is empty",
+}
 
 
 class Fault(Exception):
@@ -48,7 +61,19 @@ def read_key(path):
                 raise Fault(f"others may read or write {path}: chmod 600 {path}")
             return file.read().strip()
     except (OSError, UnicodeDecodeError) as fault:
-        raise Fault(f"no key can be read from {path}: {fault}") from None
+        why = fault.strerror if isinstance(fault, OSError) else "it isn't ASCII"
+        raise Fault(f"no key can be read from {path}: {why}. Write the key there, for you alone to read (mode 0600)") from None
+
+
+def place_of(address):
+    """Whether an address is one of https, its host and its port."""
+    try:
+        parts = urllib.parse.urlsplit(address if "//" in address else f"http://{address}")
+        if parts.scheme in ("http", "https") and parts.hostname and not parts.path.strip("/"):
+            return parts.scheme == "https", parts.hostname, parts.port
+    except ValueError:
+        pass
+    raise Fault(f"{address} is no address: it has to be HOST:PORT, or https://HOST")
 
 
 class Boards:
@@ -56,13 +81,13 @@ class Boards:
 
     def __init__(self, address, member, key, patience=60, authority=None):
         self.address, self.patience = address, patience
-        parts = urllib.parse.urlsplit(address if "//" in address else f"http://{address}")
-        if parts.scheme not in ("http", "https") or not parts.hostname or parts.path.strip("/"):
-            raise Fault(f"{address} is no address: it has to be HOST:PORT, or https://HOST")
-        self.is_secure, self.host, self.port = parts.scheme == "https", parts.hostname, parts.port
+        self.is_secure, self.host, self.port = place_of(address)
         if not self.is_secure and self.host not in ("127.0.0.1", "localhost", "::1"):
             raise Fault(f"the key would go to {self.host} in the open: give an https:// address, or a tunnel of ssh")
         self.context = ssl.create_default_context(cafile=authority) if self.is_secure else None
+        for what, text in (("the name", member), ("the key", key)):
+            if not VISIBLE.fullmatch(text):
+                raise Fault(f"{what} has to be visible ASCII characters on one line, without blanks. Nothing was changed")
         self.fields = {"x-member": member, "x-key": key}
         self.connection, self.messages, self.used = None, 0, 0.0
 
@@ -108,7 +133,7 @@ class Boards:
             answer = self.one_try(method, target, body, fields or {})
             if answer and answer.status not in AWAY:
                 if answer.status == 401:
-                    raise Fault(f"{self.address} doesn't know this name with this key")
+                    raise Fault(f"{self.address} doesn't know this name with this key. Nothing more was changed: look at both")
                 return answer
             if time.monotonic() + pause > end:
                 told = f"answers {answer.status}" if answer else "doesn't answer"

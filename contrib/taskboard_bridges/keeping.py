@@ -139,7 +139,7 @@ class State:
                 kept = json.load(file)
         except (OSError, ValueError) as fault:
             raise Fault(f"{self.path} can't be read: {fault}") from None
-        if not isinstance(kept, dict) or kept.get("version") != VERSION:
+        if not isinstance(kept, dict) or kept.get("version") != VERSION or not {"about", *KEPT} <= {*kept}:
             raise Fault(f"{self.path} is of another version of this program, or no state at all: name another by --state")
         if kept["about"] != self.about:
             raise Fault(f"{self.path} belongs to board {kept['about']['board']} at {kept['about']['address']}: name another by --state")

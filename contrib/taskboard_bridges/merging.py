@@ -10,10 +10,11 @@ STATUS, STARTED, VALUE, TAG, LINK, NOTE = "status", "started", "=", "#", ">", "!
 
 
 class Merged:
-    """What a task has to be on both sides: the keys that change on each, the conflicts, and what one side can't hold."""
+    """What a task has to be on both sides: the keys that change on each, the conflicts, and the keys that one side can't hold, with
+    whether that is the left one."""
 
     def __init__(self):
-        self.left, self.right, self.conflicts, self.unfit = {}, {}, [], []
+        self.left, self.right, self.conflicts, self.unfit = {}, {}, [], {}
         # What both sides have of each key once its changes are made.
         self.base = {}
 
@@ -104,7 +105,7 @@ def merge_key(merged, key, before, has_base, left, right, fits, left_wins):
         merged.put(key, left, right, left, right)
         return
     if not has_base and UNFIT in (fits.to_right(key, left, right), fits.to_left(key, right, left)):
-        merged.unfit.append(key)
+        merged.unfit[key] = fits.to_left(key, right, left) is UNFIT
         merged.put(key, left, right, left, right)
         return
     left_changed, right_changed = not has_base or left != before[0], not has_base or right != before[1]
@@ -141,7 +142,7 @@ def merge_to(merged, key, left, right, new_left, new_right, fits):
     if key[0] == NOTE:
         new_left, new_right = fits.to_left(key, new_left, left), fits.to_right(key, new_right, right)
     if new_left is UNFIT or new_right is UNFIT:
-        merged.unfit.append(key)
+        merged.unfit[key] = new_left is UNFIT
         new_left = left if new_left is UNFIT else new_left
         new_right = right if new_right is UNFIT else new_right
     merged.put(key, left, right, new_left, new_right)

@@ -7,7 +7,7 @@ import json
 import re
 
 from taskboard_bridges import board_tasks
-from taskboard_bridges.asking import Fault
+from taskboard_bridges.asking import REASONS, Fault
 from taskboard_bridges.board_tasks import Call, calls_of, identifier, is_template, view_of
 from taskboard_bridges.merging import LINK, NOTE, STARTED, STATUS, UNFIT, VALUE, after, merge, plain
 
@@ -51,7 +51,7 @@ class Sync:
         """Passes until nothing changed meanwhile on either side; whether all was taken."""
         role = self.boards.role(self.board)
         if role not in ("owner", "member"):
-            raise Fault(f"board {self.board}: " + ("there is none on which you have a role" if role is None else f"a {role} may change nothing"))
+            raise Fault(f"board {self.board}: " + ("there is none on which you have a role" if role is None else f"a {role} may change nothing") + ". Ask an owner for the role member")
         if self.options.dry_run:
             self.dry_run()
             return True
@@ -64,7 +64,7 @@ class Sync:
             if not plan.skipped:
                 break
         else:
-            self.say(f"{len(plan.skipped)} tasks changed again and again meanwhile: run it again", True)
+            self.say(f"{counted(len(plan.skipped), 'task')} changed again and again meanwhile: run it again", True)
         self.summary()
         return not self.refusals and not plan.skipped
 
@@ -73,6 +73,8 @@ class Sync:
         if any(self.counts.values()):
             self.say("board: {added} new, {changed} changed; {name}: {made} new, {written} changed; conflicts {conflicts}, refused {refused}, gone {gone}".format(
                 name=self.right.name, **self.counts))
+        if self.refusals:
+            self.say("what was refused stays where it is; it is tried anew once its task changes, or by --again", True)
 
     def dry_run(self):
         """Says what a run would do, and changes nothing, the state neither."""
@@ -158,7 +160,7 @@ class Sync:
         known = [task for task in self.state.tasks if self.base(task)]
         lost = [task for task in known if task not in plan.lefts]
         if lost:
-            raise Fault(f"{len(lost)} of {len(known)} tasks of the last run aren't on board {self.board}: it was restored from a copy, or is another one. "
+            raise Fault(f"{len(lost)} of the last run's {counted(len(known), 'task')} can't be found on board {self.board}: it was restored from a copy, or is another one. "
                         f"Nothing was changed. To begin anew, with both sides as they are, remove {self.state.path}")
         present = [task for task in known if not self.state.tasks[task].get("gone")]
         if len(present) > 2 and not any(task in plan.rights for task in present):
@@ -207,7 +209,7 @@ class Sync:
         for key, value in view.items():
             fit = self.right.to_right(key, value, None)
             if fit is UNFIT:
-                self.tell_unfit(plan, task, key)
+                self.tell_unfit(plan, task, key, False)
             elif fit is not None:
                 target[key] = fit
         plan.changes[task] = Change(task, target, list(target), plan.lefts[task], None)
@@ -233,8 +235,8 @@ class Sync:
             return
         wins = self.winner(task, plan.lefts[task].get("modified", ""), right.modified)
         merged = merge(self.base(task), left_view, right_view, self.right, wins)
-        for key in merged.unfit:
-            self.tell_unfit(plan, task, key)
+        for key, is_by_board in merged.unfit.items():
+            self.tell_unfit(plan, task, key, is_by_board)
         for conflict in merged.conflicts:
             self.note_conflict(plan, task, merged, conflict, left_view, right_view)
         if merged.left or task in self.state.reopened:
@@ -351,17 +353,18 @@ class Sync:
         entry = self.state.entry(task)
         digest = self.digest(plan, task, call)
         if digest in entry["refused"] and not self.options.again:
-            self.refuse(plan, task, f"{call.word}{named(call.keys)}", f"{entry['refused'][digest]}, as before (--again tries it anew)")
+            self.refuse(plan, task, told(call), f"{entry['refused'][digest]}, as before (--again tries it anew)")
             return False
         answer = self.boards.call(self.identifier(task, call), call.target(self.board, task), call.bytes())
         if answer.is_accepted():
             entry["refused"].pop(digest, None)
-            self.say(f"board: {call.word} {self.label(plan, task)}{named(call.keys) if call.word != 'add' else ''}")
+            self.say(f"board: {call.word} {self.label(plan, task)}{told(call).removeprefix(call.word)}")
             return True
         if call.word == "modify" and len(call.keys) > 1:
             return None
         entry["refused"][digest] = answer.name()
-        self.refuse(plan, task, f"{call.word}{named(call.keys)}", answer.name())
+        why = answer.name()
+        self.refuse(plan, task, told(call), f"{why} ({REASONS[why]})" if why in REASONS else why)
         return False
 
     def refuse(self, plan, task, what, why):
@@ -377,7 +380,7 @@ class Sync:
         for key, value in plan.adds[task].items():
             fit = self.right.to_left(key, value, None)
             if fit is UNFIT:
-                self.tell_unfit(plan, task, key)
+                self.tell_unfit(plan, task, key, True)
             elif fit is not None and (key[0] != LINK or key[1:] in there):
                 view[key] = fit
         kept = {key: value for key, value in plan.adds[task].items() if key[0] != LINK or key in view}
@@ -474,10 +477,11 @@ class Sync:
         text = left.get("description") or (right.view.get(VALUE + "description") if right else "")
         return f"{task[:8]} {json.dumps(str(text)[:60], ensure_ascii=False)}"
 
-    def tell_unfit(self, plan, task, key):
+    def tell_unfit(self, plan, task, key, is_by_board):
         """Tells once, ever, that a value stays on one side; the state keeps that it was told."""
         if self.state.tell_once(f"{task} {key}"):
-            self.say(f"one side can't hold it: {self.label(plan, task)}:{named([key])} stays on the other", True)
+            lacking, keeping = ("on the board", self.right.where) if is_by_board else (self.right.where, "on the board")
+            self.say(f"not taken: {self.label(plan, task)}:{named([key])} can't be kept {lacking}, and stays {keeping}", True)
 
 
 def comes_again(entry, view):
@@ -503,11 +507,21 @@ def was(value):
     return "was removed" if value is None else f"was {json.dumps(plain(value), ensure_ascii=False)}"
 
 
+def counted(number, what):
+    """A number of things."""
+    return f"{number} {what}{'' if number == 1 else 's'}"
+
+
+def told(call):
+    """A call as it is told: a new task's is told by its word."""
+    return call.word + ("" if call.word == "add" else named(call.keys))
+
+
 def named(keys):
     """The keys as a user knows them."""
     names = []
     for key in keys:
-        kind, rest = key[0], key[1:]
+        kind, rest = key[0], key[1:81]
         names.append({VALUE: rest, "#": f"tag {rest}", ">": f"waits for {rest[:8]}", "!": f"note {json.dumps(rest[:40], ensure_ascii=False)}"}.get(kind, key))
     return " " + ", ".join(names) if names else ""
 

@@ -46,8 +46,8 @@ def state_file(options, kind, more=""):
 
 
 def tell(text, file=None):
-    """Prints a line with a space for each control character, which a terminal might obey."""
-    print(re.sub(r"[\x00-\x1f\x7f-\x9f]", " ", text), file=file, flush=True)
+    """Prints a line with a space for each control character, which a terminal might obey, and for what breaks a line or turns it round."""
+    print(re.sub(r"[\x00-\x1f\x7f-\x9f\u2028-\u202e\u2066-\u2069]", " ", text), file=file, flush=True)
 
 
 def bridge(options, path, make_right):
@@ -62,5 +62,5 @@ def bridge(options, path, make_right):
         tell(f"{sys.argv[0].rpartition('/')[2]}: {fault}", sys.stderr)
         return 1
     except OSError as fault:
-        print(f"{sys.argv[0].rpartition('/')[2]}: {fault.filename or ''}: {fault.strerror}: nothing is lost, run it again", file=sys.stderr)
+        tell(f"{sys.argv[0].rpartition('/')[2]}: {fault.filename or 'the system'}: {fault.strerror}. Nothing is lost: mend that, and run it again", sys.stderr)
         return 1
