@@ -8,13 +8,20 @@ import { announce, go, state } from "./state.js";
 
 // What has the focus in a form without a task of its own, or beside one; the form that changes a task takes it itself.
 const FIELDS = { add: "add-line", note: "note-text" };
+// The drafts of forms that are of no board stand under this number.
+const OF_SERVER = 0;
 const REPLACES = "Something else stands in this form and isn't sent. Replace it?";
 
-// Puts the text where its form looks for a draft, and shows that form. Gives whether it stands there.
-function openDraft({ board, view, task, kind, content }) {
+// Puts the text where its form looks for a draft. Gives whether it stands there.
+function putDraft(kind, task, content, board) {
     const old = readDraft(kind, task, board);
     if (old && JSON.stringify(old) !== JSON.stringify(content) && !confirm(REPLACES)) return false;
-    if (!keepDraft(kind, task, content, board)) return false;
+    return keepDraft(kind, task, content, board);
+}
+
+// Puts it there, and shows that form.
+function openDraft({ board, view, task, kind, content }) {
+    if (!putDraft(kind, task, content, board)) return false;
     go(board, view, task);
     announce("draft");
     // (once the address is read, which shows the form)
@@ -27,13 +34,18 @@ const FORMS = {
     modify: ({ board, task, form }) => openDraft({ board, view: "tasks", kind: "edit", task, content: form }),
     annotate: ({ board, task, form }) => openDraft({ board, view: "tasks", kind: "note", task, content: form.description }),
     boards: ({ form }) => {
+        if (!putDraft("board", "", { typed: { "board-title": form.title }, chosen: {} }, OF_SERVER)) return false;
+        announce("draft");
         find("board-dialog").showModal();
-        find("board-title").value = form.title;
         return true;
     },
-    people: ({ form, subject }, { key = "" }) => openPeople({ "person-name": subject, "person-key": key, "person-role": form.role, "person-here": form.joins }),
-    roles: ({ board, form }) => openPeople({ "invite-name": form.member, "invite-role": form.role }, board),
-    key: (change) => (isOwnKey(change) ? openAccount() : openPeople({ "keys-name": change.subject })),
+    people: ({ form, subject }, { key = "" }) => {
+        const isOpen = openPeople("person", { "person-name": subject }, { "person-role": form.role, "person-here": form.joins });
+        if (isOpen) find("person-key").value = key;
+        return isOpen;
+    },
+    roles: ({ board, form }) => openPeople("invite", { "invite-name": form.member }, { "invite-role": form.role }, board),
+    key: (change) => (isOwnKey(change) ? openAccount() : openPeople("keys", { "keys-name": change.subject }, {})),
 };
 
 function openAccount() {
@@ -41,9 +53,10 @@ function openAccount() {
     return true;
 }
 
-function openPeople(values, board = state.number) {
-    go(board, "people");
-    for (const [id, value] of Object.entries(values)) find(id)[typeof value === "boolean" ? "checked" : "value"] = value;
+function openPeople(kind, typed, chosen, board = OF_SERVER) {
+    if (!putDraft(kind, "", { typed, chosen }, board)) return false;
+    go(board || state.number, "people");
+    announce("draft");
     return true;
 }
 

@@ -25,10 +25,11 @@ export function keepDraft(kind, task, content, board = state.number) {
     }
 }
 
-// Acts with a draft of this kind once another tab has typed it, sent it or taken it back; `taskOf` gives the task that is shown, where it is of one.
-export function whenTypedElsewhere(kind, act, taskOf = () => "") {
+// Acts with a draft of this kind once another tab has typed it, sent it or taken it back; `taskOf` gives the task that is shown, where it is of
+// one, and `boardOf` the board.
+export function whenTypedElsewhere(kind, act, taskOf = () => "", boardOf = () => state.number) {
     addEventListener("storage", ({ key, newValue }) => {
-        if (state.who && key === keyOf(kind, taskOf(), state.number)) act(JSON.parse(newValue));
+        if (state.who && key === keyOf(kind, taskOf(), boardOf())) act(JSON.parse(newValue));
     });
 }
 

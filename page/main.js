@@ -14,6 +14,7 @@ import { options } from "./fields.js";
 import { beginFiles } from "./files.js";
 import { beginFilters } from "./filterbar.js";
 import { beginFocus } from "./focus.js";
+import { FormDraft } from "./formdrafts.js";
 import { beginLooking, lookAgain, lookAtBoards } from "./fresh.js";
 import { beginHistory } from "./history.js";
 import { beginKeys } from "./keys.js";
@@ -125,19 +126,29 @@ const PARTS = [
     beginKeys,
 ];
 
-function begin() {
-    keepUnused();
-    for (const beginPart of PARTS) beginPart();
-    find("board").addEventListener("change", (event) => go(event.target.value, state.view === "day" ? "tasks" : state.view));
+// Asks for the title of a new board, which stays as a draft until it is sent or taken back.
+function beginMaking() {
+    const draft = new FormDraft("board", { form: "board-form", words: ["board-title"], isOfServer: true });
     find("new-board").addEventListener("click", () => find("board-dialog").showModal());
-    find("cancel-board").addEventListener("click", () => find("board-dialog").close());
+    find("cancel-board").addEventListener("click", () => {
+        find("board-dialog").close();
+        draft.drop();
+        draft.show();
+    });
     check(find("board-title"), (text) => faultInTitle(text.trim()));
     whenSent("board-form", (form) => {
         if (!isWhole(form)) return;
         madeHere = find("board-title").value.trim();
         find("board-dialog").close();
-        if (madeHere) keepFrom(form, changes.board(madeHere)).catch(tellFault);
+        if (madeHere) draft.send(() => keepFrom(form, changes.board(madeHere))).catch(tellFault);
     });
+}
+
+function begin() {
+    keepUnused();
+    for (const beginPart of PARTS) beginPart();
+    beginMaking();
+    find("board").addEventListener("change", (event) => go(event.target.value, state.view === "day" ? "tasks" : state.view));
     addEventListener("hashchange", showRoute);
     listen("boards", () => [drawBoards, lookAgain].forEach((part) => part()));
     listen("answered", (news) => showMade(news).catch(() => {}));

@@ -4,6 +4,7 @@ import { look } from "./asking.js";
 import { changes } from "./changes.js";
 import { check, isWhole } from "./checking.js";
 import { button, fill, find, make, said, span, whenSent } from "./dom.js";
+import { FormDraft } from "./formdrafts.js";
 import { tellFault } from "./notices.js";
 import { faultInTitle } from "./rules.js";
 import { keep } from "./sending.js";
@@ -12,6 +13,8 @@ import { go, here, listen, state } from "./state.js";
 const OWNED = "They own these boards, and you don't. The server tells nobody who has a key: where the other owners were let go too, take the board over.";
 // The title that the form was filled with, the board that is taken over and shown then, and whose boards are listed.
 let [filled, taken, listed] = ["", 0, ""];
+// The drafts of a title, and of the number of a board to take over.
+let [titled, numbered] = [null, null];
 
 const take = (number, title) => keep(changes.take(number, title)).catch(tellFault);
 
@@ -23,7 +26,18 @@ export function drawOwning(isOwner, isFirst) {
     find("take-here").hidden = isOwner;
     if (filled === `${board} ${title}`) return;
     filled = `${board} ${title}`;
-    find("title-text").value = title;
+    titled.show();
+}
+
+async function rename(form) {
+    if (isWhole(form)) await titled.send(() => keep(changes.title(state.number, find("title-text").value.trim())));
+}
+
+async function takeNumber(form) {
+    taken = Number(find("take-number").value);
+    numbered.drop();
+    form.reset();
+    await take(taken, String(taken));
 }
 
 // The boards that someone owns and who asks doesn't, each with its other owners. A board that can't be asked for is left out, and counted.
@@ -76,12 +90,10 @@ function whenTaken({ change: { board, path }, status }) {
 
 export function beginOwning() {
     check(find("title-text"), (text) => faultInTitle(text.trim()));
-    whenSent("title-form", (form) => isWhole(form) && keep(changes.title(state.number, find("title-text").value.trim())).catch(tellFault));
-    whenSent("take-form", (form) => {
-        taken = Number(find("take-number").value);
-        take(taken, String(taken));
-        form.reset();
-    });
+    titled = new FormDraft("title", { form: "title-form", words: ["title-text"], usual: () => here()?.title ?? "" });
+    numbered = new FormDraft("take", { form: "take-form", words: ["take-number"], isOfServer: true });
+    whenSent("title-form", (form) => rename(form).catch(tellFault));
+    whenSent("take-form", takeNumber);
     find("take-here").addEventListener("click", () => take(state.number, here().title));
     listen("route", hide);
     listen("answered", whenTaken);

@@ -3,6 +3,7 @@ import { changes, isOfFirst } from "./changes.js";
 import { check, isWhole } from "./checking.js";
 import { button, fill, find, make, said, span, whenSent } from "./dom.js";
 import { options } from "./fields.js";
+import { FormDraft } from "./formdrafts.js";
 import { tellFault } from "./notices.js";
 import { drawOwning, showBoardsOf } from "./owning.js";
 import { faultInKey, faultInName } from "./rules.js";
@@ -13,8 +14,8 @@ import { here, listen, state } from "./state.js";
 
 // The roles that are known here, and those that the server tells of.
 const roles = new Set(["owner", "member", "reader"]);
-// The people that are shown, and whose key is told.
-let [shown, keyed] = ["", ""];
+// The people that are shown, and whose key is told; the drafts of the forms, by their kinds.
+let [shown, keyed, drafts] = ["", "", {}];
 
 // Set once the server said that someone isn't the first person.
 const refusedTo = (name) => `taskboard.adds-nobody ${name}`;
@@ -52,16 +53,18 @@ function drawUntil() {
 
 // Gives someone another key: whoever lost it, whose key others know, or who was let go and comes back.
 async function giveKey(name) {
-    if (!confirm(`Give ${name} a new key? The one that ${name} may have now ends.`)) return;
+    if (!confirm(`Give ${name} a new key? The one that ${name} may have now ends.`)) return false;
     const key = newKey();
     await keep(changes.key(name, key));
     tellKey(name, key);
+    return true;
 }
 
 async function letGo(name) {
-    if (!confirm(`Let ${name} go? Nothing that ${name} asks or changes is taken any more. The name, the roles and all that ${name} did stay. A new key lets ${name} come back.`)) return;
+    if (!confirm(`Let ${name} go? Nothing that ${name} asks or changes is taken any more. The name, the roles and all that ${name} did stay. A new key lets ${name} come back.`)) return false;
     await keep(changes.key(name, null));
     await showBoardsOf(name);
+    return true;
 }
 
 const KEY_ACTS = [["New key", giveKey], ["Let go", letGo]];
@@ -98,6 +101,7 @@ async function draw(isAnew) {
     const owners = people.filter(({ role }) => role === "owner").length;
     fill(find("people"), people.map((person) => row(person, isFirst, owners)));
     for (const id of ["invite-role", "person-role"]) fill(find(id), choices(find(id).value || "member"));
+    for (const kind of ["invite", "person"]) drafts[kind].showChoices();
     find("invite-form").hidden = !isOwner();
     for (const id of ["person-form", "keys-form"]) find(id).hidden = !isFirst;
     drawOwning(isOwner(), isFirst);
@@ -112,28 +116,42 @@ async function addPerson(form) {
     const [name, key, role] = ["person-name", "person-key", "person-role"].map((id) => find(id).value.trim());
     const joins = isOwner() && find("person-here").checked;
     if (!isWhole(form)) return;
-    await keepFrom(form, changes.person(name, key, { role, joins }), ...(joins ? [changes.role(state.number, name, role)] : []));
+    const made = [changes.person(name, key, { role, joins }), ...(joins ? [changes.role(state.number, name, role)] : [])];
+    await drafts.person.send(() => keepFrom(form, ...made));
     tellKey(name, key);
+}
+
+async function invite(form) {
+    const made = changes.role(state.number, find("invite-name").value.trim(), find("invite-role").value);
+    if (isWhole(form)) await drafts.invite.send(() => keepFrom(form, made));
 }
 
 function beginKeysOfOthers() {
     const input = find("keys-name");
-    const withName = (act) => () => isWhole(find("keys-form")) && act(input.value.trim()).catch(tellFault);
+    const endDraft = (isDone) => isDone && drafts.keys.drop();
+    const withName = (act) => () => isWhole(find("keys-form")) && act(input.value.trim()).then(endDraft).catch(tellFault);
     check(input, (text) => (text.trim() === state.who?.name ? "You change your own key by a click on your name, at the top." : faultInName(text.trim())));
     whenSent("keys-form", withName(giveKey));
     find("keys-end").addEventListener("click", withName(letGo));
     find("keys-boards").addEventListener("click", withName(showBoardsOf));
 }
 
+function beginDrafts() {
+    drafts = {
+        invite: new FormDraft("invite", { form: "invite-form", words: ["invite-name"], choices: ["invite-role"] }),
+        person: new FormDraft("person", { form: "person-form", words: ["person-name"], choices: ["person-role", "person-here"], isOfServer: true }),
+        keys: new FormDraft("keys", { form: "keys-form", words: ["keys-name"], isOfServer: true }),
+    };
+}
+
 export function beginPeople() {
+    beginDrafts();
     find("make-key").addEventListener("click", makeKey);
     whenSent("person-form", (form) => addPerson(form).catch(tellFault));
     for (const id of ["person-name", "invite-name"]) check(find(id), (text) => faultInName(text.trim()));
     check(find("person-key"), (text) => faultInKey(text.trim()));
     beginKeysOfOthers();
-    whenSent("invite-form", (form) => {
-        if (isWhole(form)) keepFrom(form, changes.role(state.number, find("invite-name").value.trim(), find("invite-role").value)).catch(tellFault);
-    });
+    whenSent("invite-form", (form) => invite(form).catch(tellFault));
     listen("route", () => {
         find("person-told").hidden = true;
         draw(true);

@@ -4,7 +4,7 @@
 // A browser asks for the worker at each start, and a page that stays open every few minutes; it is installed anew where a byte of it differs. The
 // next line, made by tests/page_content.py, differs with every other file, so a new version is found then, also where its files are as long as
 // before.
-// Content of the other files: 18cf82ab9b211a591f06e9ea4cb4a748c589a5e29bf3459465a5c16f9048666e
+// Content of the other files: 2e90cea151493d34220b6015efa27127ef2cbc2fd976d3c12ca429180e26cebd
 
 const VERSION = "taskboard ";
 const FILE = /^\/(?:[a-z0-9_.-]+\.(?:html|css|js|svg|png|ico))?$/;

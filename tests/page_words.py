@@ -3,7 +3,7 @@ import contextlib
 import copy
 import json
 
-from office import ALL_ANSWERED, BROWSER, ENTER, IS_LISTED, IS_TOLD, KEYS, PORT, ask, expect, new_board, tasks, tell
+from office import ALL_ANSWERED, BROWSER, ENTER, ESCAPE, IS_LISTED, IS_TOLD, KEYS, PORT, ask, expect, new_board, tasks, tell
 from office import add as add_task
 from relay import LOSES_ANSWERS, LOSES_POSTS
 from webdriver import STRANGER, Browser
@@ -316,6 +316,48 @@ def drafts_stay(office):
     expect("sent", ["First", "Half a line", "Second"], sorted(one["description"] for one in tasks(board)))
 
 
+# What the forms under People are typed into, each with what is typed; a key isn't kept.
+FORMS = (("#invite-name", "bo"), ("#title-text", "Half a title"), ("#person-name", "car"), ("#keys-name", "dor"), ("#take-number", "7"))
+
+
+def forms_stay(office):
+    """What is typed into the forms of people and titles stays over another board and a reload, each on its board; a key stays nowhere."""
+    browser, board, other = office.browser, new_board("Forms"), new_board("Other forms")
+    office.begin(board)
+    office.go(board, "people")
+    browser.wait(IS_SHOWN, "#person-form")
+    for field, text in FORMS:
+        type_into(browser, field, text)
+    browser.type("#person-key", "half-a-key")
+    browser.run("const role = document.getElementById('invite-role'); role.value = 'reader'; role.dispatchEvent(new Event('input'))")
+    browser.click("#new-board")
+    browser.type("#board-title", "Half a board" + ESCAPE)
+    expect("keys on the device", False, "half-a-key" in browser.run(DEVICE))
+    office.go(other, "people")
+    browser.wait(HAS_VALUE, "#title-text", "Other forms")
+    expect("of another board", "", browser.run(VALUE, "#invite-name"))
+    for way in ("back", "reload"):
+        if way == "reload":
+            office.begin(board)
+        office.go(board, "people")
+        browser.wait("return document.querySelectorAll('#invite-role option').length > 1")
+        for field, text in (*FORMS, ("#board-title", "Half a board"), ("#invite-role", "reader")):
+            browser.wait(HAS_VALUE, field, text)
+    type_into(browser, "#title-text", "A whole title" + ENTER)
+    type_into(browser, "#invite-name", "ann" + ENTER)
+    browser.wait(ALL_ANSWERED)
+    for field in ("#person-name", "#keys-name", "#take-number"):
+        browser.run("const field = document.querySelector(arguments[0]); field.value = ''; field.dispatchEvent(new Event('input'))", field)
+    browser.click("#new-board")
+    browser.click("#cancel-board")
+    office.begin(board)
+    office.go(board, "people")
+    browser.wait(HAS_VALUE, "#title-text", "A whole title")
+    for field in ("#invite-name", "#person-name", "#board-title"):
+        expect(f"left in {field}", "", browser.run(VALUE, field))
+    browser.run("document.querySelectorAll('#notices .quiet').forEach((away) => away.click())")
+
+
 def in_two_tabs(office):
     """Two tabs of one person share what is typed: each shows it, and what one of them sends stands in the other no more."""
     browser, board = office.browser, new_board("In two tabs")
@@ -589,4 +631,4 @@ def unsent_looks_done(office):
     expect("the first", task, stored["Slow one"]["uuid"])
 
 
-SCENES = (refused_keep_text, refused_person, refused_board, board_made_late, told_before, drafts_stay, in_two_tabs, device_is_full, two_edit_one_task, two_complete_one_task, changed_while_waiting, edited_before_sending, new_key_without_tls, signing_out, unsent_stands_once, unsent_looks_done)
+SCENES = (refused_keep_text, refused_person, refused_board, board_made_late, told_before, drafts_stay, forms_stay, in_two_tabs, device_is_full, two_edit_one_task, two_complete_one_task, changed_while_waiting, edited_before_sending, new_key_without_tls, signing_out, unsent_stands_once, unsent_looks_done)
