@@ -76,20 +76,29 @@ const byRank = (one, other) => other.rank - one.rank;
 const withWholes = (project) => [project, ...project.split(".", MOST_PARTS).map((_, at, parts) => parts.slice(0, at + 1).join("."))];
 const sortedTexts = (texts) => [...new Set(texts)].filter(Boolean).sort((one, other) => (one < other ? -1 : 1));
 
-// The tasks, of which `at` has the places, with the changes of some of them. Such a task knows how it was before, a new one how it was added.
-function laidOver(tasks, at, changes) {
-    const laid = new Map();
+// A task with a change, which knows how it was before; a new one how it was added.
+function withChange(last, change) {
+    const told = changed(last?.told, change);
+    return told && told !== last?.told ? Object.assign(new Task(JSON.stringify(told)), { before: last?.before ?? last }) : last;
+}
+
+// The tasks, of which `at` has the places, with the changes of some of them; and what came of each change. `known` is what came of them before:
+// thousands may wait, and a change that finds the same task as before isn't made anew.
+function laidOver(tasks, at, changes, known) {
+    const [laid, made] = [new Map(), new Map()];
     for (const change of changes) {
         const last = laid.get(change.task) ?? tasks[at.get(change.task)];
-        const told = changed(last?.told, change);
-        if (told && told !== last?.told) laid.set(change.task, Object.assign(new Task(JSON.stringify(told)), { before: last?.before ?? last }));
+        const before = known.get(change.id);
+        const task = before && before.last === last ? before.task : withChange(last, change);
+        made.set(change.id, { last, task });
+        if (task !== last) laid.set(change.task, task);
     }
     const shown = [...tasks];
     for (const [uuid, task] of laid) {
         if (at.has(uuid)) shown[at.get(uuid)] = task;
         else shown.push(task);
     }
-    return shown;
+    return { shown, made };
 }
 
 function rate(task, moment, day) {
@@ -113,7 +122,7 @@ export class Board {
     // The tasks as the server told them with the places of their uuids, and the changes that were laid over them.
     #told = [];
     #at = new Map();
-    #laid = { told: null, ids: "" };
+    #laid = { told: null, ids: "", made: new Map() };
 
     // Takes an export that was asked for then. Gives whether anything is new.
     async take(text, askedAt) {
@@ -182,8 +191,9 @@ export class Board {
         const changes = unseen(this.number, this.askedAt);
         const ids = changes.map(({ id }) => id).join();
         if (this.#laid.told === this.#told && this.#laid.ids === ids) return false;
-        this.#laid = { told: this.#told, ids };
-        this.tasks = changes.length > 0 ? laidOver(this.#told, this.#at, changes) : this.#told;
+        const { shown, made } = laidOver(this.#told, this.#at, changes, this.#laid.made);
+        this.#laid = { told: this.#told, ids, made };
+        this.tasks = changes.length > 0 ? shown : this.#told;
         return true;
     }
 

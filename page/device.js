@@ -54,3 +54,6 @@ export const one = (order) => within("readonly", (store) => store.get(order));
 
 // A person's changes, in their order.
 export const all = (member) => within("readonly", (store) => store.index("member").getAll(member));
+
+// The changes of all who use this device that stand behind that one.
+export const behind = (order) => within("readonly", (store) => store.getAll(IDBKeyRange.lowerBound(order, true)));

@@ -16,6 +16,8 @@ import { announce, here, listen, state } from "./state.js";
 // How often the history is asked in sight and the server else, after how long someone counts as idle, how long a pause in typing is, and how
 // long a board that was seen before is shown without its age; in milliseconds.
 const [NEWS, ACTIVE, IDLE, IDLE_AFTER, LEAST, TYPING, PATIENCE] = [3000, 15000, 60000, 60000, 1000, 2000, 1500];
+// While changes of one's own wait, looks at the board take one part in so many of the time.
+const SHARE = 10;
 // What people do to a board that its people's lists of boards show.
 const CHANGE_BOARDS = ["role", "take", "title"];
 const ACTS = ["keydown", "pointerdown", "pointermove", "wheel", "touchstart"];
@@ -24,6 +26,8 @@ let [isAsking, isWanted, wantsBoard, wantsBoards, isThere] = [false, false, fals
 // When the last looks at the board, at its history and at the boards were, the last tick, the last act and the last typing; the boards as they
 // were told; and the work of showing what was seen.
 let [lastLook, lastNews, lastMe, lastTick, lastAct, lastTyped, lastBoards, showing] = [0, 0, 0, 0, 0, 0, "", Promise.resolve()];
+// How long the last look at the board took until it was shown.
+let lookTook = 0;
 // The board whose history is known, and up to which number; and whether something has happened on it that isn't shown.
 let [heard, isStale] = [{ number: 0, last: 0 }, false];
 
@@ -86,9 +90,12 @@ async function lookAtBoard() {
     if (!isNew) board.rank();
     if (state.who !== who || state.number !== number) return;
     show(board, isNew, { at: Date.now(), isSeen: false });
+    lookTook = performance.now() - lastLook;
     keepSeen(who, exportOf(number), isNew ? text : undefined);
 }
 
+// Whether it is too soon for another look: each loads the whole board, and thousands of changes may be answered one after the other.
+const isTooSoon = () => waiting().length > 0 && performance.now() - lastLook < Math.max(NEWS, Math.min(ACTIVE, SHARE * lookTook));
 const isTyping = () => performance.now() - lastTyped <= TYPING;
 const isActive = () => performance.now() - lastAct < IDLE_AFTER;
 const isLoaded = () => state.board?.number === state.number && !state.board.isSeen;
@@ -110,7 +117,7 @@ async function lookAtNews() {
         wantsBoards ||= told.entries.some(({ what }) => CHANGE_BOARDS.includes(what));
     }
     if (isFirst || told.last !== last) announce("deeds", { ...told, number, isFirst, isWatched: !document.hidden && isActive() });
-    return isStale && !document.hidden && !isTyping();
+    return isStale && !document.hidden && !isTyping() && !isTooSoon();
 }
 
 // Whether the server shows some task otherwise by now. Where its clock lags, or nobody makes the instance that is due, that is asked again.
@@ -211,7 +218,7 @@ function hearByClock() {
     const past = performance.now();
     const isFree = !document.hidden && !isTyping();
     if (isFree && past - lastTick >= (isActive() ? ACTIVE : IDLE)) tick();
-    if (isFree && isLoaded() && past - lastLook > LEAST && (isStale || isDue())) lookAgain();
+    if (isFree && isLoaded() && past - lastLook > LEAST && !isTooSoon() && (isStale || isDue())) lookAgain();
     else if (past - Math.max(lastNews, lastLook) >= (document.hidden ? IDLE : NEWS)) ask(isFree && !isLoaded());
 }
 
@@ -227,7 +234,7 @@ const changesBoards = ({ path }) => ["roles", "take", "title"].includes(path.spl
 // refusal may mean that one's role is another by now.)
 function lookAfter({ change, status }) {
     const withBoards = status !== 200 || change.board === 0 || changesBoards(change);
-    if (document.hidden || (!withBoards && waiting().length > 0 && performance.now() - lastLook < NEWS)) return;
+    if (document.hidden || (!withBoards && isTooSoon())) return;
     lookAgain(withBoards);
 }
 

@@ -51,6 +51,7 @@ function drawState() {
 }
 
 function drawUnanswered() {
+    if (find("unanswered").hidden) return;
     const all = waiting();
     const giveUp = (one) => confirm("Send this change no more? It may have acted already, if only its answer was lost.") && forget(one);
     // A change of the own key that has acted is needed to go on with the new one.

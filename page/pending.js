@@ -10,7 +10,8 @@ let answered = [];
 
 listen("answered", ({ change, status }) => {
     if (status !== 200 || !change.task) return;
-    answered = answered.filter(({ at }) => at > Date.now() - FORGOTTEN_AFTER);
+    const oldest = Date.now() - FORGOTTEN_AFTER;
+    if (answered[0]?.at <= oldest) answered = answered.filter(({ at }) => at > oldest);
     answered.push({ change, at: Date.now() });
 });
 

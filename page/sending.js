@@ -17,14 +17,19 @@ import { announce, state } from "./state.js";
 
 const PAUSES = [1, 2, 4, 8, 15, 30];
 const LEASE = 6000;
+// How often the page shows what was answered while other changes wait, in milliseconds.
+const SHOWN_EVERY = 100;
 // A change that waited longer than this, in milliseconds, or over a message without an answer, is compared with its task before it is sent.
 const OLD = 60000;
 const tabs = new BroadcastChannel("taskboard");
 const tab = newIdentifier();
 
-// What the device holds of the person who is signed in: changes that wait, were refused, or have something to tell; and how often the
-// first that waits was sent in vain.
-let [held, tries, isSending] = [[], 0, false];
+// What the device holds of the person who is signed in, by its order: changes that wait, were refused, or have something to tell; those that
+// wait and the others, once somebody asks for them; and up to which order the device is known. With thousands of changes each of them is read
+// once, and not anew after each answer.
+let [held, lists, lastOrder] = [new Map(), null, 0];
+// How often the first that waits was sent in vain, and whether what was answered is shown soon.
+let [tries, isSending, isShownSoon] = [0, false, false];
 // What is on its way to the device, one after the other; it isn't sent before it stands there.
 let [putting, lastPut] = [[], Promise.resolve()];
 // The work that says which key is the one by now.
@@ -32,22 +37,66 @@ let knowing = Promise.resolve();
 // Ends the pause, and whether one that begins is to be left out: somebody asked for sending while a message was on its way.
 let [endPause, isHurried] = [() => {}, false];
 
-const onDevice = () => held.filter((change) => change.state === "waiting");
-export const waiting = () => [...onDevice(), ...putting.filter(({ id }) => !held.some((one) => one.id === id))];
-export const settled = () => held.filter((change) => change.state !== "waiting");
+function listsOf() {
+    const all = [...held.values()];
+    const onDevice = all.filter((change) => change.state === "waiting");
+    const ids = new Set(putting.length > 0 ? all.map(({ id }) => id) : []);
+    const onTheWay = putting.filter(({ id }) => !ids.has(id));
+    return { onDevice, waiting: [...onDevice, ...onTheWay], settled: all.filter((change) => change.state !== "waiting") };
+}
+
+const listed = () => (lists ??= listsOf());
+const onDevice = () => listed().onDevice;
+export const waiting = () => listed().waiting;
+export const settled = () => listed().settled;
 export const vainTries = () => tries;
 
-async function readDevice(then = () => {}) {
-    held = state.who ? await device.all(state.who.name) : [];
-    then();
+function announceKept() {
+    lists = null;
     announce("kept");
 }
 
-// Takes into what is held here what was just edited on the device, and what was taken away there. With thousands of changes it would take minutes
-// to read all of them anew after each answer.
+// So too, but not anew for each of many answers.
+function announceSoon() {
+    lists = null;
+    if (isShownSoon) return;
+    isShownSoon = true;
+    setTimeout(() => {
+        isShownSoon = false;
+        announce("kept");
+    }, onDevice().length > 0 ? SHOWN_EVERY : 0);
+}
+
+function hold(changes) {
+    for (const change of changes) {
+        lastOrder = Math.max(lastOrder, change.order);
+        if (change.member === state.who?.name) held.set(change.order, change);
+    }
+    lists = null;
+}
+
+async function readDevice(then = () => {}) {
+    const all = state.who ? await device.all(state.who.name) : [];
+    held = new Map();
+    hold(all);
+    then();
+    announceKept();
+}
+
+// Reads what stands behind all that is known of the device.
+async function readNew(then) {
+    if (!state.who) return readDevice(then);
+    const found = await device.behind(lastOrder);
+    hold(found);
+    then?.();
+    if (found.length > 0 || then) announceKept();
+}
+
+// Takes into what is held here what was just edited on the device, and what was taken away there.
 function takeEdited({ edits, gone }) {
-    const [edited, orders] = [new Map(edits.map((members) => [members.order, members])), new Set(gone)];
-    held = held.filter(({ order }) => !orders.has(order)).map((change) => (edited.has(change.order) ? { ...change, ...edited.get(change.order) } : change));
+    for (const order of gone) held.delete(order);
+    for (const members of edits) if (held.has(members.order)) held.set(members.order, { ...held.get(members.order), ...members });
+    lists = null;
 }
 
 const inKnowing = (work) => (knowing = knowing.then(work).catch(console.error));
@@ -58,8 +107,8 @@ tabs.onmessage = async ({ data }) => {
         if (data.done) takeEdited(data.done);
         announce("answered", data);
     }
-    if (data.done) announce("kept");
-    else await readDevice();
+    if (data.done) announceSoon();
+    else await (data.isNew ? readNew() : readDevice());
     send();
 };
 
@@ -114,13 +163,14 @@ export async function keepGroups(groups) {
     });
     if (kept.length === 0) return;
     putting.push(...kept);
-    announce("kept");
+    announceKept();
+    const ids = new Set(kept.map(({ id }) => id));
     try {
         await inOrder(async () => device.put(await Promise.all(kept.map(hideSecret))));
     } finally {
-        await readDevice(() => (putting = putting.filter((one) => !kept.includes(one))));
+        await readNew(() => (putting = putting.filter(({ id }) => !ids.has(id))));
     }
-    tabs.postMessage({});
+    tabs.postMessage({ isNew: true });
     sendNow();
 }
 
@@ -208,7 +258,7 @@ async function firstOf(who) {
 // Sends the first change of the device that waits, and then the next; gives whether all were answered.
 async function sendInOrder(who) {
     try {
-        await readDevice();
+        await readNew();
         for (let change = await firstOf(who); change; change = await firstOf(who)) {
             const isKnown = await (isOwnKey(change) ? sendOwnKey(who, change) : sendOne(who, change));
             tries = 0;
@@ -288,24 +338,26 @@ const isDoubtful = (change) => !change.isSure && (change.isOld || change.made < 
 // What waits now has waited over a message without an answer.
 async function noteVainTry() {
     announce("reach", false);
-    await device.update(onDevice().filter((change) => !change.isOld), { isOld: true });
+    const young = onDevice().filter((change) => !change.isOld);
+    await device.update(young, { isOld: true });
+    takeEdited({ edits: young.map(({ order }) => ({ order, isOld: true })), gone: [] });
 }
 
 // Takes an answer down before the next change is sent.
 async function settle(who, change, answer) {
     const { status, body } = answer;
     if (body.more) await device.put([toKeep(making.sweep(change.board), "", change.member)]);
-    const behind = status === 200 ? [] : held.filter((other) => change.group && other.group === change.group && other.order > change.order);
+    const behind = status === 200 ? [] : [...held.values()].filter((other) => change.group && other.group === change.group && other.order > change.order);
     const left = await afterAnswer(who, change, answer, behind);
     const gone = left ? (left.state === "refused" ? behind : []) : [change];
     const done = { edits: left ? [{ order: change.order, ...left }] : [], gone: gone.map(({ order }) => order) };
     await device.edit(done.edits, gone);
-    if (body.more) await readDevice();
+    if (body.more) await readNew();
     const news = { change, status, body, done };
     tabs.postMessage(news);
     takeEdited(done);
     if (state.who?.name === change.member) announce("answered", news);
-    announce("kept");
+    announceSoon();
 }
 
 const inTurn = (name, work) => (navigator.locks ? navigator.locks.request(name, work) : underLease(name, work));
@@ -327,5 +379,7 @@ async function underLease(name, work) {
     }
 }
 
+// (what another tab did while this one slept is read whole)
+const wake = () => readDevice().then(sendNow);
 addEventListener("online", sendNow);
-document.addEventListener("visibilitychange", () => document.hidden || sendNow());
+document.addEventListener("visibilitychange", () => document.hidden || wake().catch(console.error));

@@ -140,6 +140,58 @@ def many_wait(office):
     expect("looks at the board, at most", True, asked() - before < 5 + (time.monotonic() - begun) / 2)
 
 
+# Keeps so many new tasks on the device, each by itself, as many of them as there are of a list that was pasted.
+ADD_MANY = """const [board, count] = arguments;
+return Promise.all([import("./sending.js"), import("./changes.js")])
+    .then(([{ keepEach }, { changes }]) => keepEach(Array.from({ length: count }, (_, at) => changes.add(board, { description: `Task ${at}` }))));"""
+ARE_ON_DEVICE = """return new Promise((done) => {
+    indexedDB.open("taskboard").onsuccess = ({ target }) => {
+        target.result.transaction("changes").objectStore("changes").count().onsuccess = ({ target }) => done(target.result === arguments[0]);
+    };
+});"""
+# From here on counts what is read of the device, and what is made anew of the tasks.
+COUNTED = """window.counts = { read: 0, made: 0 };
+for (const kind of [IDBIndex, IDBObjectStore]) {
+    const { getAll } = kind.prototype;
+    kind.prototype.getAll = function (...words) {
+        const request = getAll.apply(this, words);
+        request.addEventListener("success", () => (window.counts.read += request.result.length));
+        return request;
+    };
+}
+const { stringify } = JSON;
+JSON.stringify = (...words) => {
+    window.counts.made += 1;
+    return stringify(...words);
+};"""
+
+
+def hundreds_wait(office):
+    """Where hundreds of changes wait, one more reads none of them and makes none of their tasks anew; and a page that is closed while they are
+    sent loses none."""
+    browser, board, count = office.browser, new_board("Hundreds"), 500
+    office.begin(board)
+    office.relay.break_off(LOSES_POSTS)
+    browser.run(ADD_MANY, board, count)
+    browser.wait(IS_TOLD, f"{count} changes aren't answered yet")
+    browser.wait(WAITED, count)
+    browser.run(COUNTED)
+    browser.type("#add-line", "One more" + ENTER)
+    browser.wait(ARE_ON_DEVICE, count + 1)
+    time.sleep(1)
+    counts = browser.run("return window.counts")
+    expect(f"read and made anew for one more, of {count}", [True, True], [counts[name] < count / 2 for name in ("read", "made")])
+    office.relay.heal()
+    browser.run("dispatchEvent(new Event('online'))")
+    while len(tasks(board)) < count / 10:
+        time.sleep(0.2)
+    office.begin(board)
+    end = time.monotonic() + 60 * browser.patience
+    while not browser.run(ALL_ANSWERED) and time.monotonic() < end:
+        time.sleep(0.2)
+    expect("each once, in their order", [*(f"Task {at}" for at in range(count)), "One more"], of_all(board, "description"))
+
+
 def move(browser, board, accepts=True):
     """Moves the chosen tasks, or asks for it alone: what the page says before."""
     browser.run(f"const words = arguments; setTimeout(() => ((...arguments) => {{ {CHANGE} }})(...words))", "bulk-move", str(board))
@@ -209,4 +261,4 @@ def left_behind(office):
     expect("of what is closed", True, told.startswith("Move 1 task to Beyond?") and told.endswith("What is closed stays: 1 task."))
 
 
-SCENES = (several, back_unheard, many_wait, moves, left_behind)
+SCENES = (several, back_unheard, many_wait, hundreds_wait, moves, left_behind)
