@@ -261,6 +261,7 @@ def told_before(office):
         type_into(browser, "#person-name", name)
         type_into(browser, "#person-key", key + ENTER)
         browser.wait("return document.getElementById('person-form').textContent.includes(arguments[0])", told)
+    put_into(browser, "#person-name", "")
     browser.click("#new-board")
     put_into(browser, "#board-title", "Ш" * 101)
     browser.type("#board-title", ENTER)
