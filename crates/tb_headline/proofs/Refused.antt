@@ -2,7 +2,7 @@
 use Rattle.std.proofs.Common.{◌≡◌, ◌&&◌, Bool, true, false, List, [], ◌∷◌, Result, Err, inl, inr, refl}
 use Rattle.std.specs.Prelude.{◌⊎◌}
 use Rattle.sqlite.specs.Held.{Held, state}
-use Rattle.sqlite.specs.State.{HasCleanDisk, Opens, State as Database}
+use Rattle.sqlite.specs.State.{HasCleanDisk, State as Database}
 use Rattle.sqlite_schema.specs.declared.schema.Schema.{Schema}
 use Rattle.sqlite_schema.specs.declared.schema.Table.{Table}
 use Rattle.sqlite_trees.specs.declared.store.Store.{Ghosts}
@@ -13,10 +13,10 @@ use Rattle.tb_sql.specs.declared.opening.OpenFault.{OpenFault}
 use Rattle.tb_sql.specs.declared.opening.OpenFault.TheVariants.{NotOurs, WrongVersion, Store, Memory}
 use Rattle.tb_sql.specs.declared.opening.Version.{Version}
 use Rattle.tb_sql.specs.declared.opening.Version.TheVariants.{First, Second, Third}
-use Rattle.tb_sql.specs.Opening.{IsAnswered, are_old, are_ours, are_second, are_tables, has_key_indexes, has_meta, has_tables, is_meta, is_person, is_board, is_role, is_task, is_link, is_instance, is_gone, is_kept, is_horizon, is_history}
+use Rattle.tb_sql.specs.Opening.{HidesNone, IsAnswered, are_old, are_ours, are_second, are_tables, has_key_indexes, has_meta, has_tables, is_meta, is_person, is_board, is_role, is_task, is_link, is_instance, is_gone, is_kept, is_horizon, is_history}
 use Rattle.tb_sql_tables.specs.Content.{AreRows, AreVersionRows, Content}
 use Rattle.tb_sql_tables.specs.Standing.{StandsEmpty}
-use Rattle.tb_sql_tables.specs.Failing.{FailsByFault}
+use Rattle.tb_sql_tables.specs.Failing.{FailsByFault, IsAtRest}
 use Rattle.tb_lookup.specs.Migrating.{IsEmptyOrStored}
 use Rattle.tb_headline.specs.Refusals.{HasMeta, IsFilled, IsRefused, IsUnmade, Says}
 use Rattle.tb_headline.specs.Headline.{IsFileOf}
@@ -68,17 +68,18 @@ module _ {S : Type 0} (g : Ghosts S) (conn : Held S) where
   no_state foreign s (inr (inr rows)) = foreign rows.content (inr (inl rows.stored))
 
   pub refused : (new : Database) (fault : OpenFault)
-      → (IsForeign fault → HasCleanDisk new → Opens (state g conn)
+      → (IsForeign fault → HasCleanDisk new → IsAtRest (state g conn)
       → (content : Content) → AreVersionRows content (state g conn).now.trees → ⊥)
       → (has_meta (state g conn).now.schema.tables ≡ false → fault ≡ NotOurs)
       → (IsForeign fault → HasCleanDisk new → HasMeta g conn → IsAnswered g conn (Err fault))
-      → (fault ≡ Store → Opens (state g conn) → FailsByFault (state g conn) new (λ content. AreRows content (state g conn).now.trees))
+      → (fault ≡ Store → IsAtRest (state g conn) → FailsByFault (state g conn) new (λ content. AreRows content (state g conn).now.trees))
+      → (fault ≡ Store → HidesNone (state g conn) new)
       → IsRefused g conn new fault
-  refused new NotOurs foreign unmarked shown excused = λ clean. (
+  refused new NotOurs foreign unmarked shown excused hides = λ clean. (
     λ opens. no_state (foreign (inl refl) clean opens),
     λ meta. said (Err NotOurs) (λ is. absurd (cc)) (λ is. absurd (cc)) (shown (inl refl) clean meta),
   )
-  refused new WrongVersion foreign unmarked shown excused =
+  refused new WrongVersion foreign unmarked shown excused hides =
       let meta = marked (has_meta (state g conn).now.schema.tables) WrongVersion unmarked (λ is. absurd (cc)) in (
         meta,
         λ clean. (
@@ -86,16 +87,16 @@ module _ {S : Type 0} (g : Ghosts S) (conn : Held S) where
           said (Err WrongVersion) (λ is. absurd (cc)) (λ is. absurd (cc)) (shown (inr refl) clean meta),
         ),
       )
-  refused new Store foreign unmarked shown excused = (
+  refused new Store foreign unmarked shown excused hides = (
     marked (has_meta (state g conn).now.schema.tables) Store unmarked (λ is. absurd (cc)),
-    λ clean opens ready s rows. excused refl opens clean ready rows.content rows.stored,
+    (λ clean opens ready s rows. excused refl opens clean ready rows.content rows.stored, hides refl),
   )
-  refused new Memory foreign unmarked shown excused = marked (has_meta (state g conn).now.schema.tables) Memory unmarked (λ is. absurd (cc))
+  refused new Memory foreign unmarked shown excused hides = marked (has_meta (state g conn).now.schema.tables) Memory unmarked (λ is. absurd (cc))
 
   -- what is left where no store is made
   pub unmade : (first : State) (left : Held S) (fault : CreateFault) → (fault ≡ NotEmpty → (left ≡ conn) × IsFilled (state g conn))
-      → (fault ≡ MakingMemory → Opens (state g conn) → StandsEmpty (state g left))
-      → (fault ≡ MakingFailed → Opens (state g conn) → IsEmptyOrStored first (state g left)) → IsUnmade g first conn left fault
+      → (fault ≡ MakingMemory → IsAtRest (state g conn) → StandsEmpty (state g left))
+      → (fault ≡ MakingFailed → IsAtRest (state g conn) → IsEmptyOrStored first (state g left)) → IsUnmade g first conn left fault
   unmade first left NotEmpty taken memory store = taken refl
   unmade first left MakingFailed taken memory store = store refl
   unmade first left MakingMemory taken memory store = memory refl

@@ -2,7 +2,8 @@
 //! calls, or serves connections, until it stops.
 ghost use Rattle.std.specs.Prelude.{◌≡◌, ◌≢◌, ◌⊎◌, ℕ, false, length, take, true, IfErr, IfOk, IsErr, List, MatchResult, None, Ok, OnErr, OnOk, Option, Some};
 ghost use Rattle.sqlite.specs.Held.{state};
-ghost use Rattle.sqlite.specs.State.{HasCleanDisk, IsLive, Opens};
+ghost use Rattle.sqlite.specs.State.{HasCleanDisk, IsLive};
+ghost use Rattle.tb_sql_tables.specs.Failing.{IsAtRest};
 ghost use Rattle.tb_calls.specs.declared.fault.KeepFault.TheVariants.{Store};
 ghost use Rattle.tb_calls.specs.declared.call.Call.{Call};
 ghost use Rattle.tb_calls.specs.Call.{State, once, plain, opening};
@@ -33,7 +34,7 @@ pub fn make<S: Alter>(
     key: &Key,
 ) -> Result<Desk<SqlKeep<S>>, (Connection<S>, CreateFault)>
     requires { conn.in_transaction ≡ false }
-    ensures begun { IfOk result (λ desk. Opens (state S.Store conn)
+    ensures begun { IfOk result (λ desk. IsAtRest (state S.Store conn)
         → IsAt (opening name.now key.now) (⟦<SqlKeep<S> as Keep>⟧.holds desk)
         (⟦<SqlKeep<S> as Keep>⟧.after_stop desk)) }
     ensures filled { IsFilled (state S.Store conn)
@@ -54,10 +55,10 @@ pub fn resume<S: Alter>(
     conn: Connection<S>,
 ) -> Result<Desk<SqlKeep<S>>, (Connection<S>, OpenFault)>
     requires { conn.in_transaction ≡ false }
-    ensures begun { IfOk result (λ desk. Opens (state S.Store conn)
+    ensures begun { IfOk result (λ desk. IsAtRest (state S.Store conn)
         → (s : State) → IsFileOf s (state S.Store conn).now.trees
         → IsAt s (⟦<SqlKeep<S> as Keep>⟧.holds desk) (⟦<SqlKeep<S> as Keep>⟧.after_stop desk)) }
-    ensures stopped { Opens (state S.Store conn) → (s : State)
+    ensures stopped { IsAtRest (state S.Store conn) → (s : State)
         → IsFileOf s (state S.Store conn).now.trees
         → MatchResult result (λ desk. StopLeaves (state S.Store desk.conn) (AreTreesOf s))
         (λ e. StopLeaves (state S.Store e.0) (IsFileOf s)) }

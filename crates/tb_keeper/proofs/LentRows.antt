@@ -5,7 +5,7 @@ use Rattle.std.specs.Option.{option_map}
 use Rattle.std.proofs.lemmas.Bool.{cases_Bool, eq-eqb, eqb-true}
 use Rattle.std.proofs.lemmas.List.{append-nil}
 use Rattle.std.proofs.lemmas.List.Elements.{filter-append}
-use Rattle.sqlite.specs.State.{State as Database}
+use Rattle.sqlite.specs.State.{HasCleanDisk, State as Database}
 use Rattle.sqlite_keyed.proofs.ListLemmas.{all_weaker, filter_none}
 use Rattle.tb_task.specs.TaskId.{IsRead}
 use Rattle.tb_task.specs.declared.task.Task.{Task}
@@ -28,7 +28,7 @@ use Rattle.tb_sql_tables.specs.Content.{Content}
 use Rattle.tb_sql_tables.specs.Found.{IsOneOf}
 use Rattle.tb_sql_tables.specs.declared.rows.TaskRow.{TaskRow}
 use Rattle.tb_lookup.specs.Reopening.{OfContent, OfState}
-use Rattle.tb_lookup.specs.Stored.{AreRowsOf}
+use Rattle.tb_lookup.specs.Stored.{AreRowsOf, IsStored}
 use Rattle.tb_keeper.specs.Lending.{lent_row, row_behind, stored_row}
 use Rattle.tb_keeper.specs.declared.lending.StoredRow.{StoredRow}
 
@@ -110,6 +110,12 @@ task_in k (Some b) = option_map (task_row b (k + 1)) (slice_get b.tasks k)
 same_Ok : (x y : Task) → ◌≡◌ {A = Result Task JsonFault} (Ok x) (Ok y) → x ≡ y
 same_Ok x y h = cc
 
+-- its body is the text of a task with its identifier
+record IsReadAs (r : TaskRow) : Type 0 where
+  task : Task
+  read : stored_of r.body ≡ Ok task
+  own : task.id ≡ r.uuid
+
 module _ (s : State) (c : Content) (rows : AreRowsOf s c) (m k : ℕ) where
   abbrev all : List TaskRow
   all = flat_map board_tasks s.world.boards
@@ -157,6 +163,23 @@ module _ (s : State) (c : Content) (rows : AreRowsOf s c) (m k : ℕ) where
       go None at none = absurd (cc)
       go (Some b) at one = on b at (slice_get b.tasks k) refl one
 
+  -- a row that is found is the text of its task
+  one_read : IsRead → (r : TaskRow) → IsOneOf (filter (is_task m (k + 1)) c.tasks) (Some r) → IsReadAs r
+  one_read law r is = go (find_board s.world m) refl (row_found (Some r) is)
+    where
+      on : (b : Board) → find_board s.world m ≡ Some b → (t : Option Task) → slice_get b.tasks k ≡ t → Some r ≡ option_map (task_row b (k + 1)) t → IsReadAs r
+      on b at None at_t none = absurd (cc)
+      on b at (Some t) at_t one =
+          let row_is : r ≡ task_row b (k + 1) t = cc in
+          let good = found_has IsGood (has_number m) s.world.boards b rows.good.good at in
+          let form = found_has HasBoardForm (has_number m) s.world.boards b rows.form.boards at in
+          let fits = storable t (at_get HasTaskForm b.tasks k t form.tasks at_t) (at_get IsSound b.tasks k t good.sound at_t) in
+          record { task = t; read = ap (λ (x : TaskRow). stored_of x.body) row_is ∙ stored_of-stored_text law t fits; own = sym (ap (λ (x : TaskRow). x.uuid) row_is) }
+
+      go : (b : Option Board) → find_board s.world m ≡ b → Some r ≡ task_in k b → IsReadAs r
+      go None at none = absurd (cc)
+      go (Some b) at one = on b at (slice_get b.tasks k) refl one
+
 -- ---- of what is stored
 
 pub none_lent : (old new : Database) (m k p : ℕ) → p ≡ k + 1 → OfContent old new (λ c. IsOneOf (filter (is_task m p) c.tasks) None) → OfState old new (λ s. None ≡ stored_row s.world m k)
@@ -168,3 +191,10 @@ pub one_lent : IsRead → (old new : Database) (m k p : ℕ) (r : TaskRow) (task
 one_lent law old new m k p r task at found read clean s stored =
     (λ i. let row : StoredRow = record { place = at i; task = task; mask = r.mask } in Some row)
     ∙ one_stored s stored.content stored.rows m k law r task (subst (λ q. IsOneOf (filter (is_task m q) stored.content.tasks) (Some r)) at (found clean stored.content stored.stands)) read
+
+-- a row that is found is never refused
+pub row_never : IsRead → (old new : Database) (m k p : ℕ) (r : TaskRow) → p ≡ k + 1 → OfContent old new (λ c. IsOneOf (filter (is_task m p) c.tasks) (Some r)) → ((task : Task) → stored_of r.body ≡ Ok task → task.id ≡ r.uuid → ⊥)
+    → HasCleanDisk new → (s : State) → IsStored s old → ⊥
+row_never law old new m k p r at found refused clean s stored =
+    let it = one_read s stored.content stored.rows m k law r (subst (λ q. IsOneOf (filter (is_task m q) stored.content.tasks) (Some r)) at (found clean stored.content stored.stands)) in
+    refused it.task it.read it.own

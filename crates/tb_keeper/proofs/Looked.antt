@@ -1,5 +1,5 @@
 -- What is looked up is what a command looks at.
-use Rattle.std.proofs.Common.{◌≡◌, ◌∙◌, ◌==◌, inl, inr, if◌then◌else◌, ℕ, Bool, true, false, true≢false, List, [], ◌∷◌, length, Option, Some, None, Ordering, nat_eq, option_map, unwrap_or, refl, sym, ap, subst}
+use Rattle.std.proofs.Common.{◌≡◌, ◌<◌, ◌^◌, arith, ◌∙◌, ◌==◌, inl, inr, if◌then◌else◌, ℕ, Bool, true, false, true≢false, List, [], ◌∷◌, length, Option, Some, None, Ordering, nat_eq, option_map, unwrap_or, refl, sym, ap, subst}
 use Rattle.std.specs.Prelude.{IfSome, IsSome, is_some, slice_get, find as found_among}
 use Rattle.std.specs.List.{AllByRecursion}
 use Rattle.std.specs.Map.{lookup}
@@ -23,6 +23,8 @@ use Rattle.tb_calls.specs.declared.call.KeptReply.{KeptReply}
 use Rattle.tb_calls.specs.Call.{CallName, State, name_cmp}
 use Rattle.tb_calls.specs.Roles.{person_at}
 use Rattle.tb_calls.proofs.Names.{names_exact}
+use Rattle.tb_core.specs.GoodWorld.{IsGoodWorld}
+use Rattle.tb_core.proofs.GoodPeople.{number_in}
 use Rattle.tb_core.specs.Apply.{board_for, board_of, board_seen, board_taken, owners_for, person_for, seen_of, seen_with}
 use Rattle.tb_core.specs.declared.command.Command.{Command}
 use Rattle.tb_core.specs.declared.command.Command.TheVariants.{NewPerson, NewBoard, OwnKey, SetKey, SetRole, Take, OnBoard}
@@ -58,6 +60,9 @@ module _ (w : World) (name : List ℕ) (found : Option StoredPerson) where
 
   pub nobody_number : found ≡ None → IsPersonFound w name found → None ≡ number_of w name
   nobody_number is are = sym (subst (IsPersonFound w name) is are).0
+
+pub number_fits : (w : World) (name : List ℕ) (n : ℕ) → IsGoodWorld w → number_of w name ≡ Some n → n < 2 ^ 32
+number_fits w name n good is = let within = number_in w name n is in omega (arith, within.1, good.people)
 
 -- ---- the first person
 

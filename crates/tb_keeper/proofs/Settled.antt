@@ -1,22 +1,24 @@
 -- What a look leaves of what is held, however it ended.
-use Rattle.std.proofs.Common.{◌≡◌, ℕ, Bool, true, false, ◌||◌, List, Result, Ok, Err, refl, sym, subst}
+use Rattle.std.proofs.Common.{◌≡◌, ℕ, Bool, true, false, ◌||◌, List, Result, Ok, Err, refl, sym, subst, ◌∙◌}
 use Rattle.std.specs.Prelude.{IfOk}
 use Rattle.std.proofs.lemmas.Result.{IfOk-weaker}
-use Rattle.sqlite.specs.State.{State as Database}
+use Rattle.sqlite.specs.State.{HasCleanDisk, State as Database}
 use Rattle.tb_board.specs.declared.board.Board.{Board}
 use Rattle.tb_calls.specs.Call.{State}
 use Rattle.tb_calls.specs.Keep.{IsStill, is_store}
 use Rattle.tb_calls.specs.declared.fault.KeepFault.{KeepFault}
+use Rattle.tb_calls.specs.declared.fault.KeepFault.TheVariants.{Store}
 use Rattle.tb_cache.specs.BoardCache.{AreOf}
 use Rattle.tb_sql.specs.Opening.{IsAsBefore}
 use Rattle.tb_sql.specs.declared.store.StoreFault.{StoreFault}
 use Rattle.tb_sql.specs.declared.store.StoreFault.TheVariants.{Memory as NoRoom, Store as Failed}
 use Rattle.tb_lookup.specs.Reopening.{OfState}
-use Rattle.tb_lookup.specs.Stored.{MayLeave}
+use Rattle.tb_lookup.specs.Stored.{IsStored, MayLeave}
 use Rattle.tb_keeper.specs.Ending.{ended}
+use Rattle.tb_keeper.specs.Failing.{FailsOf}
 use Rattle.tb_keeper.specs.declared.people_at_hand.People.{People}
 use Rattle.tb_keeper.specs.Holds.{Holds, IsAtHand}
-use Rattle.tb_keeper.proofs.Holding.{hand_after, hand_failure_leaves, hand_leaves, hand_told}
+use Rattle.tb_keeper.proofs.Holding.{held_of, hand_after, hand_failure_leaves, hand_leaves, hand_told}
 use Rattle.tb_keeper.proofs.KnownPeople.{same_people}
 
 or_false : (b : Bool) → b ≡ (b || false)
@@ -76,3 +78,15 @@ module _ (failed : Bool) (people : People) (boards : ℕ) (cached later : List (
   pub settled_leaves : {T : Type 0} (r : Result T StoreFault) (e : Result T KeepFault) → e ≡ ended r → OfState old new (λ s. AreOf s.world cached → AreOf s.world later)
       → IsStill (λ s. Holds failed people boards cached old s) (λ t. MayLeave old t) (λ s. Holds (failed || is_store e) people boards later new s) (λ t. MayLeave new t)
   settled_leaves r e as_told of = settled_hand_leaves failed people people boards cached later old new fine before idle r e as_told (hand_after people people boards cached later old new (same_people people old new) of)
+
+-- ---- why a look fails
+
+ended_store : {T : Type 0} (r : Result T StoreFault) → ended r ≡ Err Store → r ≡ Err Failed
+ended_store (Ok x) is = absurd (cc)
+ended_store (Err NoRoom) is = absurd (cc)
+ended_store (Err Failed) is = refl
+
+-- what excuses a look excuses the call that told it
+pub settled_fails : {T : Type 0} (failed : Bool) (people : People) (boards : ℕ) (cached : List (ℕ × Board)) (old new : Database) → failed ≡ false → (HasCleanDisk new → HasCleanDisk old) → (r : Result T StoreFault) (e : Result T KeepFault) → e ≡ ended r
+    → (r ≡ Err Failed → FailsOf old new (λ s. IsStored s old × IsAtHand people boards cached s.world)) → e ≡ Err Store → FailsOf old new (λ s. Holds failed people boards cached old s)
+settled_fails failed people boards cached old new fine before r e as_told fails is clean ready s held = fails (ended_store r (sym as_told ∙ is)) clean ready s (held_of failed people boards cached old s fine (before clean) held)

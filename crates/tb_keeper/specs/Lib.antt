@@ -3,6 +3,7 @@ pub mod Committing
 pub mod Counts
 pub mod Ending
 pub mod Exporting
+pub mod Failing
 pub mod Forms
 pub mod Holds
 pub mod Laws

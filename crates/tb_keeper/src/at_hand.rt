@@ -1,6 +1,6 @@
 //! The boards at hand, and what follows changes there.
 
-ghost use Rattle.std.specs.Prelude.{◌≡◌, ◌+◌, ◌≤◌, ℕ, None, Ok, Some, IfOk, IfSome, IsSome, OnErr, OnOk, false, nat_eq};
+ghost use Rattle.std.specs.Prelude.{◌≡◌, ◌+◌, ◌≤◌, ℕ, Err, None, Ok, Some, IfOk, IfSome, IsSome, OnErr, OnOk, false, nat_eq};
 ghost use Rattle.std.specs.List.{count_by};
 ghost use Rattle.std.specs.Map.{lookup};
 ghost use Rattle.sqlite.specs.Held.{state};
@@ -11,7 +11,8 @@ ghost use Rattle.tb_cache.specs.BoardCache.{AreOf};
 ghost use Rattle.tb_cache.specs.Following.{TouchesNone};
 ghost use Rattle.tb_core.specs.GoodWorld.{IsGoodWorld};
 ghost use Rattle.tb_sql.specs.Opening.{IsAsBefore};
-ghost use Rattle.tb_lookup.specs.Reopening.{OfState};
+ghost use Rattle.tb_sql_tables.specs.Failing.{KeepsFaults};
+ghost use Rattle.tb_lookup.specs.Reopening.{FailsOfState, OfState};
 ghost use Rattle.tb_keeper.specs.Counts.{is_new_board, is_new_person, one_if};
 ghost use Rattle.tb_keeper.specs.Holds.{IsAtHand};
 ghost use Rattle.tb_keeper.specs.Using.{found_in, put_by, used_at};
@@ -43,6 +44,9 @@ pub(crate) fn board_at<S: Alter>(
     ensures unread { IsSome (lookup (nat_eq number) cache.old.entries) → conn.new ≡ conn.old }
     ensures cached { OfState (state S.Store conn.old) (state S.Store conn.new)
         (λ s. AreOf s.world cache.old.entries → AreOf s.world cache.new.entries) }
+    ensures excused { result ≡ Err StoreFault.Store
+        → FailsOfState (state S.Store conn.old) (state S.Store conn.new) }
+    ensures faults { KeepsFaults (state S.Store conn.old) (state S.Store conn.new) }
     ensures same { IsAsBefore (state S.Store conn.old) (state S.Store conn.new) }
 {
     if let Some(board) = cached_board(cache, number)? {
@@ -61,6 +65,7 @@ fn cached_board(cache: &mut BoardCache, number: u32) -> Result<Option<Shared<Boa
     ensures there { IfOk result (λ found. found ≡ lookup (nat_eq number) cache.new.entries) }
     ensures used { cache.new.entries ≡ used_at cache.old number (found_in result) }
     ensures none { result ≡ Ok None → cache.new ≡ cache.old }
+    ensures fault { result ≡ Err StoreFault.Store → ⊥ }
     ensures of { (w : World) → AreOf w cache.old.entries → AreOf w cache.new.entries }
 {
     if cache.cached(number).is_none() {

@@ -1,6 +1,6 @@
 ghost use Rattle.std.specs.Prelude.{◌≡◌, [], false, IfErr, IfOk, MatchResult};
 ghost use Rattle.sqlite.specs.Held.{state};
-ghost use Rattle.sqlite.specs.State.{Opens};
+ghost use Rattle.tb_sql_tables.specs.Failing.{IsAtRest};
 ghost use Rattle.tb_calls.specs.Call.{opening};
 ghost use Rattle.tb_sql.specs.Writing.{opening as content_of};
 ghost use Rattle.tb_sql_tables.specs.Standing.{StandsEmpty};
@@ -43,7 +43,7 @@ impl<S: Alter> SqlKeep<S> {
         key: &Key,
     ) -> Result<SqlKeep<S>, (Connection<S>, CreateFault)>
         requires { conn.in_transaction ≡ false }
-        ensures created { IfOk result (λ keep. Opens (state S.Store conn)
+        ensures created { IfOk result (λ keep. IsAtRest (state S.Store conn)
             → Holds keep.failed keep.people keep.boards keep.cache.entries (state S.Store keep.conn)
             (opening name.now key.now)) }
         ensures fresh { IfOk result (λ keep. keep.failed ≡ false) }
@@ -52,9 +52,9 @@ impl<S: Alter> SqlKeep<S> {
         ensures taken { IfErr result
             (λ e. e.1 ≡ CreateFault.NotEmpty
             → (e.0 ≡ conn) × ((state S.Store conn).now.schema ≡ no_schema → ⊥)) }
-        ensures memory { IfErr result (λ e. e.1 ≡ CreateFault.Memory → Opens (state S.Store conn)
+        ensures memory { IfErr result (λ e. e.1 ≡ CreateFault.Memory → IsAtRest (state S.Store conn)
             → StandsEmpty (state S.Store e.0)) }
-        ensures store { IfErr result (λ e. e.1 ≡ CreateFault.Store → Opens (state S.Store conn)
+        ensures store { IfErr result (λ e. e.1 ≡ CreateFault.Store → IsAtRest (state S.Store conn)
             → IsEmptyOrStored (opening name.now key.now) (state S.Store e.0)) }
         ensures idle { IfErr result (λ e. e.0.in_transaction ≡ false) }
     {

@@ -2,7 +2,7 @@
 
 ghost use Rattle.std.specs.Prelude.{◌≡◌, false, IfErr, IfOk, MatchResult};
 ghost use Rattle.sqlite.specs.Held.{state};
-ghost use Rattle.sqlite.specs.State.{Opens};
+ghost use Rattle.tb_sql_tables.specs.Failing.{IsAtRest};
 ghost use Rattle.tb_calls.specs.Call.{opening};
 ghost use Rattle.tb_sql.specs.FirstVersion.{first_content};
 ghost use Rattle.tb_sql_tables.specs.Standing.{StandsEmpty};
@@ -29,13 +29,13 @@ pub fn create_v1<S: Alter>(
 ) -> Result<Connection<S>, (Connection<S>, CreateFault)>
     requires { conn.in_transaction ≡ false }
     ensures created { IfOk result
-        (λ made. Opens (state S.Store conn)
+        (λ made. IsAtRest (state S.Store conn)
         → IsStoredOld (opening name.now key.now) (state S.Store made)) }
     ensures empty { ((state S.Store conn).now.schema ≡ no_schema → ⊥)
         → MatchResult result (λ made. ⊥) (λ e. (e.0 ≡ conn) × (e.1 ≡ CreateFault.NotEmpty)) }
-    ensures memory { IfErr result (λ e. e.1 ≡ CreateFault.Memory → Opens (state S.Store conn)
+    ensures memory { IfErr result (λ e. e.1 ≡ CreateFault.Memory → IsAtRest (state S.Store conn)
         → StandsEmpty (state S.Store e.0)) }
-    ensures store { IfErr result (λ e. e.1 ≡ CreateFault.Store → Opens (state S.Store conn)
+    ensures store { IfErr result (λ e. e.1 ≡ CreateFault.Store → IsAtRest (state S.Store conn)
         → IsEmptyOrStoredOld (opening name.now key.now) (state S.Store e.0)) }
     ensures idle { IfErr result (λ e. e.0.in_transaction ≡ false) }
 {

@@ -1,17 +1,21 @@
 //! The rows of a board's tasks, lent one at a time.
 
-ghost use Rattle.std.specs.Prelude.{◌≡◌, ◌+◌, ◌≤◌, Err, IfErr, IfOk, IsErrOf, None, Ok, OnOk, Some, false, filter, true};
+ghost use Rattle.std.specs.Prelude.{◌≡◌, ◌+◌, ◌≤◌, Err, IfErr, IfOk, IsErrOf, None, Ok, OnOk, Some, false, filter, true, ◌<◌, ◌^◌};
 ghost use Rattle.sqlite.specs.Held.{state};
 ghost use Rattle.sqlite.specs.State.{HasCleanDisk};
 ghost use Rattle.tb_calls.specs.Call.{State};
 ghost use Rattle.tb_calls.specs.Keep.{IsStill, is_store};
 ghost use Rattle.tb_calls.specs.declared.fault.KeepFault.{KeepFault as Fault};
 ghost use Rattle.tb_json.specs.Stored.{stored_of};
+ghost use Rattle.tb_task.specs.declared.task.Task.{Task as Stored};
 ghost use Rattle.tb_sql.specs.Changes.{is_task};
 ghost use Rattle.tb_sql.specs.Opening.{IsAsBefore};
 ghost use Rattle.tb_sql_tables.specs.Found.{IsOneOf};
-ghost use Rattle.tb_lookup.specs.Reopening.{OfContent, OfState};
+ghost use Rattle.tb_lookup.specs.Reopening.{OfContent, OfState, FailsOfState};
 ghost use Rattle.tb_lookup.specs.Stored.{MayLeave};
+ghost use Rattle.tb_sql_tables.specs.Content.{IsContent};
+ghost use Rattle.tb_sql_tables.specs.Failing.{FailsByFault, KeepsFaults};
+ghost use Rattle.tb_keeper.specs.Failing.{FailsOf};
 ghost use Rattle.tb_keeper.specs.Holds.{Holds};
 ghost use Rattle.tb_keeper.specs.Lending.{passed, stored_row};
 
@@ -80,6 +84,11 @@ impl<S: Alter> SqlKeep<S> {
             → Holds self.old.failed self.old.people self.old.boards self.old.cache.entries
             (state S.Store self.old.conn) s
             → IfOk result (λ row. row ≡ stored_row s.world board behind) }
+        ensures excused { IsErrOf result KeepFault.Store → self.old.failed ≡ false
+            → behind + 1 < 2 ^ 32 → FailsOf (state S.Store self.old.conn)
+            (state S.Store self.new.conn)
+            (λ s. Holds self.old.failed self.old.people self.old.boards self.old.cache.entries
+            (state S.Store self.old.conn) s) }
         ensures same { IsStill
             (λ s. Holds self.old.failed self.old.people self.old.boards self.old.cache.entries
             (state S.Store self.old.conn) s)
@@ -112,6 +121,13 @@ impl<S: Alter> Lent<'_, S> {
             self.old.keep.now.boards self.old.keep.now.cache.entries
             (state S.Store self.old.keep.now.conn) s
             → IfOk result (λ row. row ≡ stored_row s.world self.old.board self.old.behind) }
+        ensures excused { IsErrOf result KeepFault.Store → self.old.fault ≡ None
+            → self.old.keep.now.failed ≡ false → self.old.behind + 1 < 2 ^ 32
+            → FailsOf (state S.Store self.old.keep.now.conn)
+            (state S.Store self.new.keep.now.conn)
+            (λ s. Holds self.old.keep.now.failed self.old.keep.now.people
+            self.old.keep.now.boards self.old.keep.now.cache.entries
+            (state S.Store self.old.keep.now.conn) s) }
         ensures moved { IfOk result (λ row. self.new.behind ≡ passed row self.old.behind) }
         ensures again { (f : Fault) → self.old.fault ≡ Some f
             → (result ≡ Err f) × (self.new.keep.now ≡ self.old.keep.now) }
@@ -170,6 +186,9 @@ pub(crate) fn find_row<S: Alter>(
     ensures idle { conn.old.in_transaction ≡ false → conn.new.in_transaction ≡ false }
     ensures found { IfOk result (λ row. OfState (state S.Store conn.old) (state S.Store conn.new)
         (λ s. row ≡ stored_row s.world board behind)) }
+    ensures excused { result ≡ Err StoreFault.Store → behind + 1 < 2 ^ 32
+        → FailsOfState (state S.Store conn.old) (state S.Store conn.new) }
+    ensures faults { KeepsFaults (state S.Store conn.old) (state S.Store conn.new) }
     ensures placed { IfOk result (λ row. behind + 1 ≤ 4294967295) }
     ensures same { IsAsBefore (state S.Store conn.old) (state S.Store conn.new) }
 {
@@ -189,7 +208,9 @@ pub(crate) fn find_row<S: Alter>(
 
 /// The task of a row. Texts that no task has, and a text of another task, are a failure of the store.
 fn read_task(alloc: Global, row: &TaskRow) -> Result<Task, StoreFault>
-    ensures { IfOk result (λ task. stored_of row.now.body ≡ Ok task) }
+    ensures read { IfOk result (λ task. stored_of row.now.body ≡ Ok task) }
+    ensures refused { result ≡ Err StoreFault.Store → (task : Stored)
+        → stored_of row.now.body ≡ Ok task → task.id ≡ row.now.uuid → ⊥ }
 {
     let task = match read_stored(alloc, row.body.as_str()) {
         Ok(task) => task,
@@ -220,6 +241,10 @@ fn task_row_at<S: Alter>(
     ensures idle { conn.new.in_transaction ≡ false }
     ensures found { IfOk result (λ row. OfContent (state S.Store conn.old) (state S.Store conn.new)
         (λ content. IsOneOf (filter (is_task board place) content.tasks) row)) }
+    ensures excused { result ≡ Err StoreFault.Store
+        → FailsByFault (state S.Store conn.old) (state S.Store conn.new)
+        (λ content. IsContent content (state S.Store conn.old).now) }
+    ensures faults { KeepsFaults (state S.Store conn.old) (state S.Store conn.new) }
     ensures same { IsAsBefore (state S.Store conn.old) (state S.Store conn.new) }
 {
     let mut tx = conn.transaction();

@@ -1,6 +1,6 @@
 //! What is looked up for a call.
 
-ghost use Rattle.std.specs.Prelude.{◌≡◌, ℕ, IfOk, Some, false, find};
+ghost use Rattle.std.specs.Prelude.{◌≡◌, ℕ, IfOk, Some, false, find, Err};
 ghost use Rattle.std.specs.FinMap.{get};
 ghost use Rattle.std.specs.Option.{option_map};
 ghost use Rattle.sqlite.specs.Held.{state};
@@ -9,7 +9,10 @@ ghost use Rattle.tb_cache.specs.BoardCache.{AreOf};
 ghost use Rattle.tb_calls.specs.Roles.{person_at};
 ghost use Rattle.tb_core.specs.Apply.{board_of, number_for, other_of, own_for, seen_with};
 ghost use Rattle.tb_sql.specs.Opening.{IsAsBefore};
-ghost use Rattle.tb_lookup.specs.Reopening.{OfState};
+ghost use Rattle.tb_sql_tables.specs.Failing.{KeepsFaults};
+ghost use Rattle.tb_lookup.specs.Reopening.{OfState, FailsOfState};
+ghost use Rattle.tb_lookup.specs.Stored.{IsStored};
+ghost use Rattle.tb_keeper.specs.Failing.{FailsOf};
 ghost use Rattle.tb_keeper.specs.Looking.{AreParties, IsGlance, IsGlanceAt, IsSeenAtHand, caller_role, takes};
 ghost use Rattle.tb_keeper.specs.PeopleAtHand.{AreStillKnown, IsKnownIn};
 
@@ -41,6 +44,9 @@ pub(crate) fn find_key<S: Alter>(
         (λ s. IsKnownIn s.world people.old.known → key ≡ key_of s.world name.now)) }
     ensures people { AreStillKnown (state S.Store conn.old) (state S.Store conn.new)
         people.old people.new }
+    ensures excused { result ≡ Err StoreFault.Store
+        → FailsOfState (state S.Store conn.old) (state S.Store conn.new) }
+    ensures faults { KeepsFaults (state S.Store conn.old) (state S.Store conn.new) }
     ensures same { IsAsBefore (state S.Store conn.old) (state S.Store conn.new) }
 {
     if !conn.is_autocommit() {
@@ -87,6 +93,10 @@ pub(crate) fn find_reply<S: Alter>(
         (λ s. IsKnownIn s.world people.old.known → kept ≡ get s.kept (name.now, id))) }
     ensures people { AreStillKnown (state S.Store conn.old) (state S.Store conn.new)
         people.old people.new }
+    ensures excused { result ≡ Err StoreFault.Store
+        → FailsOf (state S.Store conn.old) (state S.Store conn.new)
+        (λ s. IsStored s (state S.Store conn.old) × IsKnownIn s.world people.old.known) }
+    ensures faults { KeepsFaults (state S.Store conn.old) (state S.Store conn.new) }
     ensures same { IsAsBefore (state S.Store conn.old) (state S.Store conn.new) }
 {
     if !conn.is_autocommit() {
@@ -169,6 +179,9 @@ pub(crate) fn look_up<S: Alter>(
         → IsSeenAtHand cache.new.entries n glance.board) }
     ensures cached { OfState (state S.Store conn.old) (state S.Store conn.new)
         (λ s. AreOf s.world cache.old.entries → AreOf s.world cache.new.entries) }
+    ensures excused { result ≡ Err StoreFault.Store
+        → FailsOfState (state S.Store conn.old) (state S.Store conn.new) }
+    ensures faults { KeepsFaults (state S.Store conn.old) (state S.Store conn.new) }
     ensures same { IsAsBefore (state S.Store conn.old) (state S.Store conn.new) }
 {
     if !conn.is_autocommit() {
@@ -202,6 +215,9 @@ fn find_parties<S: Alter>(
         → AreParties s.world name.now command.now parties)) }
     ensures people { AreStillKnown (state S.Store conn.old) (state S.Store conn.new)
         people.old people.new }
+    ensures excused { result ≡ Err StoreFault.Store
+        → FailsOfState (state S.Store conn.old) (state S.Store conn.new) }
+    ensures faults { KeepsFaults (state S.Store conn.old) (state S.Store conn.new) }
     ensures same { IsAsBefore (state S.Store conn.old) (state S.Store conn.new) }
 {
     let caller = find_caller(alloc, conn, people, name)?;
@@ -223,6 +239,9 @@ fn find_caller<S: Alter>(
         (λ s. IsKnownIn s.world people.old.known → number ≡ number_of s.world name.now)) }
     ensures people { AreStillKnown (state S.Store conn.old) (state S.Store conn.new)
         people.old people.new }
+    ensures excused { result ≡ Err StoreFault.Store
+        → FailsOfState (state S.Store conn.old) (state S.Store conn.new) }
+    ensures faults { KeepsFaults (state S.Store conn.old) (state S.Store conn.new) }
     ensures same { IsAsBefore (state S.Store conn.old) (state S.Store conn.new) }
 {
     match person_at(alloc, conn, people, name)? {
@@ -242,6 +261,9 @@ fn find_own<S: Alter>(
     ensures idle { conn.new.in_transaction ≡ false }
     ensures found { IfOk result (λ own. OfState (state S.Store conn.old) (state S.Store conn.new)
         (λ s. own ≡ own_for s.world name.now command.now)) }
+    ensures excused { result ≡ Err StoreFault.Store
+        → FailsOfState (state S.Store conn.old) (state S.Store conn.new) }
+    ensures faults { KeepsFaults (state S.Store conn.old) (state S.Store conn.new) }
     ensures same { IsAsBefore (state S.Store conn.old) (state S.Store conn.new) }
 {
     match command {
@@ -264,6 +286,9 @@ fn find_person<S: Alter>(
     ensures idle { conn.new.in_transaction ≡ false }
     ensures found { IfOk result (λ person. OfState (state S.Store conn.old) (state S.Store conn.new)
         (λ s. person ≡ find (has_name name.now) s.world.people)) }
+    ensures excused { result ≡ Err StoreFault.Store
+        → FailsOfState (state S.Store conn.old) (state S.Store conn.new) }
+    ensures faults { KeepsFaults (state S.Store conn.old) (state S.Store conn.new) }
     ensures same { IsAsBefore (state S.Store conn.old) (state S.Store conn.new) }
 {
     let Some(person) = stored_person(alloc, conn, name)? else {
@@ -287,6 +312,9 @@ fn find_other<S: Alter>(
     ensures idle { conn.new.in_transaction ≡ false }
     ensures found { IfOk result (λ number. OfState (state S.Store conn.old) (state S.Store conn.new)
         (λ s. number ≡ number_for s.world (other_of command.now))) }
+    ensures excused { result ≡ Err StoreFault.Store
+        → FailsOfState (state S.Store conn.old) (state S.Store conn.new) }
+    ensures faults { KeepsFaults (state S.Store conn.old) (state S.Store conn.new) }
     ensures same { IsAsBefore (state S.Store conn.old) (state S.Store conn.new) }
 {
     match command.other() {
@@ -304,6 +332,9 @@ fn find_number<S: Alter>(
     ensures idle { conn.new.in_transaction ≡ false }
     ensures found { IfOk result (λ number. OfState (state S.Store conn.old) (state S.Store conn.new)
         (λ s. number ≡ number_of s.world name.now)) }
+    ensures excused { result ≡ Err StoreFault.Store
+        → FailsOfState (state S.Store conn.old) (state S.Store conn.new) }
+    ensures faults { KeepsFaults (state S.Store conn.old) (state S.Store conn.new) }
     ensures same { IsAsBefore (state S.Store conn.old) (state S.Store conn.new) }
 {
     match stored_person(alloc, conn, name)? {
@@ -339,6 +370,9 @@ fn glance_at<S: Alter>(
     ensures at_hand { IfOk result (λ glance. IsSeenAtHand cache.new.entries board glance.board) }
     ensures cached { OfState (state S.Store conn.old) (state S.Store conn.new)
         (λ s. AreOf s.world cache.old.entries → AreOf s.world cache.new.entries) }
+    ensures excused { result ≡ Err StoreFault.Store
+        → FailsOfState (state S.Store conn.old) (state S.Store conn.new) }
+    ensures faults { KeepsFaults (state S.Store conn.old) (state S.Store conn.new) }
     ensures same { IsAsBefore (state S.Store conn.old) (state S.Store conn.new) }
 {
     let caller = parties.caller.unwrap_or(0); // Nobody has this number.
@@ -370,6 +404,9 @@ fn see_board<S: Alter>(
     ensures at_hand { IfOk result (IsSeenAtHand cache.new.entries number) }
     ensures cached { OfState (state S.Store conn.old) (state S.Store conn.new)
         (λ s. AreOf s.world cache.old.entries → AreOf s.world cache.new.entries) }
+    ensures excused { result ≡ Err StoreFault.Store
+        → FailsOfState (state S.Store conn.old) (state S.Store conn.new) }
+    ensures faults { KeepsFaults (state S.Store conn.old) (state S.Store conn.new) }
     ensures same { IsAsBefore (state S.Store conn.old) (state S.Store conn.new) }
 {
     let Some(role) = role else {

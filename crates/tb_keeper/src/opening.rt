@@ -1,10 +1,10 @@
 ghost use Rattle.std.specs.Prelude.{◌≡◌, ◌≢◌, ◌⊎◌, Err, IfErr, IfOk, MatchResult, Ok, false, true};
 ghost use Rattle.sqlite.specs.Held.{state};
-ghost use Rattle.sqlite.specs.State.{HasCleanDisk, Opens};
+ghost use Rattle.sqlite.specs.State.{HasCleanDisk};
 ghost use Rattle.tb_calls.specs.Call.{State};
-ghost use Rattle.tb_sql.specs.Opening.{has_meta, has_tables, is_old, is_second, IsAnswered, IsAsBefore};
+ghost use Rattle.tb_sql.specs.Opening.{has_meta, has_tables, is_old, is_second, HidesNone, IsAnswered, IsAsBefore};
 ghost use Rattle.tb_sql_tables.specs.Content.{AreRows, AreVersionRows, Content, Stands};
-ghost use Rattle.tb_sql_tables.specs.Failing.{FailsByFault, KeepsFaults};
+ghost use Rattle.tb_sql_tables.specs.Failing.{FailsByFault, KeepsFaults, IsAtRest};
 ghost use Rattle.tb_lookup.specs.Reopening.{OfState};
 ghost use Rattle.tb_lookup.specs.Stored.{AreOldTreesOf, AreTreesOf};
 ghost use Rattle.tb_lookup.specs.Migrating.{IsStoredInEither, IsStoredInFirst, IsStoredInSecond, IsStoredOld, IsStoredSecond};
@@ -43,12 +43,12 @@ impl<S: Alter> SqlKeep<S> {
             (λ s. Holds keep.failed keep.people keep.boards keep.cache.entries
             (state S.Store keep.conn) s)) }
         ensures opened { IfOk result
-            (λ keep. HasCleanDisk (state S.Store keep.conn) → Opens (state S.Store conn)
+            (λ keep. HasCleanDisk (state S.Store keep.conn) → IsAtRest (state S.Store conn)
             → (s : State) → AreTreesOf s (state S.Store conn).now.trees
             → Holds keep.failed keep.people keep.boards keep.cache.entries
             (state S.Store keep.conn) s) }
         ensures migrated { IfOk result
-            (λ keep. HasCleanDisk (state S.Store keep.conn) → Opens (state S.Store conn)
+            (λ keep. HasCleanDisk (state S.Store keep.conn) → IsAtRest (state S.Store conn)
             → (s : State) → AreOldTreesOf s (state S.Store conn).now.trees
             → Holds keep.failed keep.people keep.boards keep.cache.entries
             (state S.Store keep.conn) s) }
@@ -60,12 +60,12 @@ impl<S: Alter> SqlKeep<S> {
             × (is_second (state S.Store conn).now.schema ≡ false))
             → IsAsBefore (state S.Store conn) (state S.Store e.0)) }
         ensures stopped { IfErr result
-            (λ e. Opens (state S.Store conn) → (s : State)
+            (λ e. IsAtRest (state S.Store conn) → (s : State)
             → AreOldTreesOf s (state S.Store conn).now.trees
             → IsStoredInEither s (state S.Store e.0)) }
         ensures foreign { IfErr result
             (λ e. (e.1 ≡ OpenFault.NotOurs) ⊎ (e.1 ≡ OpenFault.WrongVersion)
-            → HasCleanDisk (state S.Store e.0) → Opens (state S.Store conn)
+            → HasCleanDisk (state S.Store e.0) → IsAtRest (state S.Store conn)
             → (content : Content) → AreVersionRows content (state S.Store conn).now.trees → ⊥) }
         ensures unmarked { has_meta (state S.Store conn).now.schema.tables ≡ false
             → MatchResult result (λ keep. ⊥) (λ e. e.1 ≡ OpenFault.NotOurs) }
@@ -74,9 +74,11 @@ impl<S: Alter> SqlKeep<S> {
             → HasCleanDisk (state S.Store e.0)
             → has_meta (state S.Store conn).now.schema.tables ≡ true
             → IsAnswered S.Store conn (Err e.1)) }
-        ensures excused { IfErr result (λ e. e.1 ≡ OpenFault.Store → Opens (state S.Store conn)
+        ensures excused { IfErr result (λ e. e.1 ≡ OpenFault.Store → IsAtRest (state S.Store conn)
             → FailsByFault (state S.Store conn) (state S.Store e.0)
             (λ content. AreRows content (state S.Store conn).now.trees)) }
+        ensures hides { IfErr result (λ e. e.1 ≡ OpenFault.Store
+            → HidesNone (state S.Store conn) (state S.Store e.0)) }
         ensures ready { IfOk result (λ keep. keep.conn.in_transaction ≡ false) }
         ensures idle { IfErr result (λ e. e.0.in_transaction ≡ false) }
     {

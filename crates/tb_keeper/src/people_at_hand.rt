@@ -1,12 +1,13 @@
 //! The people at hand: how many there are, and the one that was found last, with the role on the board that was asked for last.
 
-ghost use Rattle.std.specs.Prelude.{◌≡◌, ◌+◌, ◌≤◌, IfOk, IfSome, IsSome, OnErr, OnOk, None, Some, false};
+ghost use Rattle.std.specs.Prelude.{◌≡◌, ◌+◌, ◌≤◌, IfOk, IfSome, IsSome, OnErr, OnOk, None, Some, false, Err};
 ghost use Rattle.std.specs.List.{count_by, list_any};
 ghost use Rattle.std.specs.Option.{option_map};
 ghost use Rattle.sqlite.specs.Held.{state};
 ghost use Rattle.tb_sql.specs.Opening.{IsAsBefore};
+ghost use Rattle.tb_sql_tables.specs.Failing.{KeepsFaults};
 ghost use Rattle.tb_lookup.specs.People.{IsPersonFound};
-ghost use Rattle.tb_lookup.specs.Reopening.{OfState};
+ghost use Rattle.tb_lookup.specs.Reopening.{OfState, FailsOfState};
 ghost use Rattle.tb_lookup.specs.Roles.{AreRolesFound};
 ghost use Rattle.tb_keeper.specs.Counts.{is_new_person};
 ghost use Rattle.tb_keeper.specs.PeopleAtHand.{AreStillKnown, IsKnownIn, known_after, known_as, known_roles, known_with, own_roles, roles_of, touches_people, with_roles};
@@ -60,6 +61,9 @@ pub(crate) fn person_at<S: Alter>(
     ensures unread { IsSome (known_as people.old.known name.now) → conn.new ≡ conn.old }
     ensures people { AreStillKnown (state S.Store conn.old) (state S.Store conn.new)
         people.old people.new }
+    ensures excused { result ≡ Err StoreFault.Store
+        → FailsOfState (state S.Store conn.old) (state S.Store conn.new) }
+    ensures faults { KeepsFaults (state S.Store conn.old) (state S.Store conn.new) }
     ensures same { IsAsBefore (state S.Store conn.old) (state S.Store conn.new) }
 {
     match people.look(name) {
@@ -93,6 +97,9 @@ pub(crate) fn roles_at<S: Alter>(
         → conn.new ≡ conn.old }
     ensures people { AreStillKnown (state S.Store conn.old) (state S.Store conn.new)
         people.old people.new }
+    ensures excused { result ≡ Err StoreFault.Store
+        → FailsOfState (state S.Store conn.old) (state S.Store conn.new) }
+    ensures faults { KeepsFaults (state S.Store conn.old) (state S.Store conn.new) }
     ensures same { IsAsBefore (state S.Store conn.old) (state S.Store conn.new) }
 {
     if let Some(roles) = people.known_roles(board, caller, other) {

@@ -155,8 +155,8 @@ fn row_of(person: u32, call: &Call, reply: &Reply) -> Result<KeptRow, AllocError
         person,
         id: call.id,
         content,
-        number: u32::from(reply.number),
-        status: u32::from(reply.status),
+        number: reply.number,
+        status: reply.status,
         body,
     })
 }

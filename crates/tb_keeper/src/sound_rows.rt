@@ -17,6 +17,7 @@ use tb_lookup::faults::fault_of;
 use tb_lookup::reading::{kept_rows, people_rows, role_rows};
 use tb_rows::read_people;
 use tb_sql::store::StoreFault;
+use tb_sql_tables::fitting::kept_fits;
 use tb_sql_tables::rows::{BoardRow, KeptRow, PersonRow, RoleRow};
 use tb_task::MOST_PEOPLE;
 
@@ -68,9 +69,8 @@ fn are_of_people(rows: &[KeptRow], people: usize) -> bool
 fn is_reply_of(row: &KeptRow, people: usize) -> bool
     ensures { result ≡ is_reply_row people row.now }
 {
+    kept_fits(row);
     is_number_of(row.person, people)
-        && u8::try_from(row.number).is_ok()
-        && u16::try_from(row.status).is_ok()
 }
 
 fn is_number_of(person: u32, people: usize) -> bool

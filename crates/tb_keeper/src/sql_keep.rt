@@ -1,4 +1,5 @@
 ghost use Rattle.std.specs.Prelude.{◌≡◌, ◌||◌, ℕ, None, Some, IfOk, IfSome, IsErrOf, IsSome, OnOk, false, if◌then◌else◌, nat_eq, true};
+ghost use Rattle.std.specs.FinMap.{get};
 ghost use Rattle.std.specs.Map.{lookup};
 ghost use Rattle.std.specs.Option.{option_map};
 ghost use Rattle.sqlite.specs.Held.{state};
@@ -8,6 +9,7 @@ ghost use Rattle.tb_calls.specs.Call.{State};
 ghost use Rattle.tb_calls.specs.Keep.{HoldsEither, IsStill, MayCommit, is_store, with_reply};
 ghost use Rattle.tb_core.specs.Apply.{board_of, seen_of};
 ghost use Rattle.tb_lookup.specs.Stored.{IsStored, IsStoredAsEither, MayLeave};
+ghost use Rattle.tb_keeper.specs.Failing.{FailsOf};
 ghost use Rattle.tb_keeper.specs.Ending.{ended};
 ghost use Rattle.tb_keeper.specs.Holds.{Holds};
 ghost use Rattle.tb_keeper.specs.Looking.{IsSeenAtHand};
@@ -133,7 +135,27 @@ impl<S: Alter> Keep for SqlKeep<S> {
         alloc: Global,
         name: &Name,
         id: TaskId,
-    ) -> Result<Option<KeptReply>, KeepFault> {
+    ) -> Result<Option<KeptReply>, KeepFault>
+        ensures answer { (state S.Store self.new.conn).is_clean ≡ true → (s : State)
+            → Holds self.old.failed self.old.people self.old.boards self.old.cache.entries
+            (state S.Store self.old.conn) s
+            → IfOk result (λ kept. kept ≡ get s.kept (name.now, id)) }
+        ensures excused { IsErrOf result KeepFault.Store → self.old.failed ≡ false
+            → FailsOf (state S.Store self.old.conn) (state S.Store self.new.conn)
+            (λ s. Holds self.old.failed self.old.people self.old.boards self.old.cache.entries
+            (state S.Store self.old.conn) s) }
+        ensures same { IsStill
+            (λ s. Holds self.old.failed self.old.people self.old.boards self.old.cache.entries
+            (state S.Store self.old.conn) s)
+            (λ t. MayLeave (state S.Store self.old.conn) t)
+            (λ s. Holds self.new.failed self.new.people self.new.boards self.new.cache.entries
+            (state S.Store self.new.conn) s)
+            (λ t. MayLeave (state S.Store self.new.conn) t) }
+        ensures failed { self.new.failed ≡ is_store result }
+        ensures honest { (state S.Store self.new.conn).is_clean ≡ true
+            → (state S.Store self.old.conn).is_clean ≡ true }
+        ensures closed { self.old.failed ≡ true → IsErrOf result KeepFault.Store }
+    {
         if self.failed {
             return Err(KeepFault::Store);
         }
@@ -148,6 +170,10 @@ impl<S: Alter> Keep for SqlKeep<S> {
             (state S.Store self.old.conn) s
             → IsSome (key_of s.world name.now)
             → IfOk result (λ seen. seen ≡ seen_of s.world name.now command.now) }
+        ensures excused { IsErrOf result KeepFault.Store → self.old.failed ≡ false
+            → FailsOf (state S.Store self.old.conn) (state S.Store self.new.conn)
+            (λ s. Holds self.old.failed self.old.people self.old.boards self.old.cache.entries
+            (state S.Store self.old.conn) s) }
         ensures at_hand { IfOk result
             (λ seen. (n : ℕ) → board_of command.now ≡ Some n
             → IsSeenAtHand self.new.cache.entries n seen.board) }

@@ -24,3 +24,4 @@ pub mod StoredBoards
 pub mod StoredRoles
 pub mod Within
 pub mod WorldRead
+pub mod Excused

@@ -1,5 +1,5 @@
 -- The row of a name tells the person of that name.
-use Rattle.std.proofs.Common.{◌≡◌, ◌∙◌, ◌⊎◌, inl, inr, ◌+◌, ◌<◌, ℕ, true, false, not, true≢false, List, [], ◌∷◌, map, filter, find, length, Option, Some, None, Result, Ok, refl, sym, ap, arith, IsPermutation}
+use Rattle.std.proofs.Common.{◌≡◌, ◌∙◌, ◌⊎◌, inl, inr, ◌+◌, ◌<◌, ℕ, true, false, not, true≢false, List, [], ◌∷◌, map, filter, find, length, Option, Some, None, Result, Ok, Err, refl, sym, ap, arith, IsPermutation}
 use Rattle.std.specs.Prelude.{nat_lt}
 use Rattle.std.specs.List.{prefix_len, position_or_len, AllByRecursion, IsDistinct}
 use Rattle.std.specs.Str.{bytes_eq}
@@ -14,6 +14,7 @@ use Rattle.tb_sql.specs.Changes.{is_named}
 use Rattle.tb_sql_tables.specs.Found.{IsOneOf}
 use Rattle.tb_sql_tables.specs.declared.rows.PersonRow.{PersonRow}
 use Rattle.tb_rows.specs.declared.fault.ReopenFault.{ReopenFault}
+use Rattle.tb_rows.specs.declared.fault.ReopenFault.TheVariants.{NotRows}
 use Rattle.tb_rows.specs.Forms.{HasPersonForm}
 use Rattle.tb_rows.specs.Reading.{secret_in}
 use Rattle.tb_rows.proofs.OneOf.{none_found, one_found}
@@ -148,3 +149,10 @@ person_found w name row key has read = (has.number, has.found ∙ ap Some same)
 
     same : has.person ≡ record { name = name; key = key }
     same = λ i. record { name = has.called i; key = own i }
+
+-- it is never one that no person has
+pub secret_never : (w : World) (name : List ℕ) (row : PersonRow) → HasRow w name row → secret_in row.secret ≡ Err NotRows → ⊥
+secret_never w name row has is =
+    let own : secret_in row.secret ≡ Ok has.person.key = ap secret_in has.secret ∙ secret_read has.person.key has.form.key in
+    let both : Err NotRows ≡ Ok has.person.key = sym is ∙ own in
+    cc

@@ -2,13 +2,13 @@
 use Rattle.std.proofs.Common.{◌≡◌, ◌∙◌, inl, inr, false, true, sym, IsTrue}
 use Rattle.sqlite_trees.specs.declared.store.Store.{Ghosts}
 use Rattle.sqlite.specs.Held.{Held, state}
-use Rattle.sqlite.specs.State.{HasCleanDisk, Opens, State as Database}
+use Rattle.sqlite.specs.State.{HasCleanDisk, State as Database}
 use Rattle.tb_calls.specs.Call.{State}
 use Rattle.tb_sql.specs.Opening.{IsAsBefore}
 use Rattle.tb_sql.proofs.Opened.{stands_again}
 use Rattle.tb_sql_tables.specs.Content.{AreRows, Content, IsContent, Stands}
 use Rattle.tb_sql_tables.specs.Statements.{Finds}
-use Rattle.tb_sql_tables.specs.Failing.{FailsByFault, KeepsFaults}
+use Rattle.tb_sql_tables.specs.Failing.{FailsByFault, KeepsFaults, IsAtRest}
 use Rattle.tb_sql_tables.proofs.Failing.{fault_before, fault_behind, still_ready}
 use Rattle.tb_lookup.proofs.Contents.{IsThere}
 use Rattle.tb_lookup.specs.Stored.{IsStored}
@@ -35,7 +35,7 @@ pub stood : (c : Content) (old new : Database) → Stands c old → IsAsBefore o
 stood c old new stands same = stands_again (IsContent c) (AreRows c) old new stands same
 
 -- a content that was there stands behind an opening
-pub there_stands : (c : Content) (old mid : Database) → IsThere c old → IsAsBefore old mid → (Opens old → (c : Content) → AreRows c old.now.trees → Stands c mid) → Stands c mid
+pub there_stands : (c : Content) (old mid : Database) → IsThere c old → IsAsBefore old mid → (IsAtRest old → (c : Content) → AreRows c old.now.trees → Stands c mid) → Stands c mid
 there_stands c old mid (inl stands) same shows = stood c old mid stands same
 there_stands c old mid (inr opened) same shows = shows opened.0 c opened.1
 

@@ -1,11 +1,13 @@
 -- The row of a number is that of the board of the number.
-use Rattle.std.proofs.Common.{◌≡◌, ◌∙◌, ◌+◌, ◌<◌, ◌≤◌, ◌==◌, ℕ, Bool, List, [], ◌∷◌, Option, Some, None, filter, find, map, length, refl, sym, ap, subst, arith, inl, inr}
+use Rattle.std.proofs.Common.{◌≡◌, ◌∙◌, ◌+◌, ◌<◌, ◌≤◌, ◌==◌, ℕ, Bool, true, List, [], ◌∷◌, Option, Some, None, filter, find, map, length, refl, sym, ap, subst, arith, inl, inr}
 use Rattle.std.specs.List.{AllByRecursion, list_any}
 use Rattle.std.specs.Option.{option_map}
 use Rattle.std.proofs.lemmas.Bool.{cases_Bool, eqb-true}
 use Rattle.std.proofs.lemmas.List.{length-map}
 use Rattle.sqlite.specs.State.{State as Database}
+use Rattle.tb_board.specs.Good.{IsGood}
 use Rattle.tb_board.specs.declared.board.Board.{Board}
+use Rattle.tb_board.specs.declared.world.World.{World}
 use Rattle.tb_board.specs.World.{find_board, has_number}
 use Rattle.tb_calls.specs.Call.{State}
 use Rattle.tb_rows.specs.Laws.{AreFoundAgain, IsBoardRead}
@@ -17,7 +19,9 @@ use Rattle.tb_sql.specs.Opening.{IsAsBefore}
 use Rattle.tb_sql_tables.specs.declared.rows.BoardRow.{BoardRow}
 use Rattle.tb_sql_tables.specs.Content.{Content}
 use Rattle.tb_sql_tables.specs.Found.{IsOneOf}
-use Rattle.tb_lookup.specs.Reopening.{OfBoard, OfContent, OfState}
+use Rattle.tb_sql_tables.specs.Failing.{HasFaulted, IsReady, KeepsFaults}
+use Rattle.tb_sql_tables.proofs.Failing.{fault_before, fault_behind, still_ready}
+use Rattle.tb_lookup.specs.Reopening.{FailsOfBoard, FailsOfState, OfBoard, OfContent, OfState}
 use Rattle.tb_lookup.specs.Stored.{AreRowsOf}
 use Rattle.tb_lookup.proofs.Reopened.{world_is_read}
 use Rattle.tb_lookup.proofs.Standing.{stood}
@@ -78,6 +82,34 @@ board_stored law old mid new k row b found read one two clean s stored =
         let each = found_has (IsBoardRead s.world stored.content) (has_number k) s.world.boards d (world_is_read law s stored.content stored.rows).each at in
         let row_is : row ≡ board_row d = cc in
         ap Some (read clean s.world stored.content d each (stood stored.content old mid stored.stands one) row_is) ∙ sym at
+
+-- ---- why it isn't read
+
+pub board_fails : AreFoundAgain → (old mid new : Database) (k : ℕ) (row : BoardRow) → OfContent old mid (λ c. IsOneOf (filter (is_board k) c.boards) (Some row)) → IsAsBefore old mid → KeepsFaults old mid
+    → IsAsBefore mid new → KeepsFaults mid new → FailsOfBoard mid new (λ d. row ≡ board_row d) → FailsOfState old new
+board_fails law old mid new k row found one kept two later fails clean ready s stored = elim (still_ready old mid kept (two.clean clean) ready) [
+  | inl still ↦ fault_behind old mid new kept.counts (go still (find_board s.world k) refl (row_found s stored.content stored.rows k (Some row) (found (two.clean clean) stored.content stored.stands)))
+  | inr fault ↦ fault_before old mid new fault later.counts
+]
+  where
+    go : IsReady mid → (d : Option Board) → find_board s.world k ≡ d → Some row ≡ option_map board_row d → HasFaulted mid new
+    go still None at is = absurd (cc)
+    go still (Some d) at is =
+        let each = found_has (IsBoardRead s.world stored.content) (has_number k) s.world.boards d (world_is_read law s stored.content stored.rows).each at in
+        let good = found_has IsGood (has_number k) s.world.boards d stored.rows.good.good at in
+        let row_is : row ≡ board_row d = cc in
+        fails clean still s.world stored.content d each (stood stored.content old mid stored.stands one) good row_is
+
+found_passes : {X : Type 0} (p : X → Bool) (xs : List X) (x : X) → find p xs ≡ Some x → p x ≡ true
+found_passes p [] x is = absurd (cc)
+found_passes p (y ∷ ys) x is = elim (cases_Bool (p y)) [
+  | inl here ↦ let same : Some y ≡ Some x = rw here at is in let it : y ≡ x = cc in subst (λ z. p z ≡ true) it here
+  | inr other ↦ found_passes p ys x (rw other at is)
+]
+
+-- it has its number
+pub number_is : (w : World) (k : ℕ) (b : Board) → Some b ≡ find_board w k → b.number ≡ k
+number_is w k b is = eqb-true b.number k (found_passes (has_number k) w.boards b (sym is))
 
 -- ---- the numbers of boards
 

@@ -1,11 +1,11 @@
 -- The roles on one board tell what all roles tell of it.
-use Rattle.std.proofs.Common.{◌≡◌, ◌∙◌, ◌==◌, ◌&&◌, ℕ, Bool, true, false, List, [], Option, Some, None, Result, Ok, filter, find, map, length, refl, sym, ap, subst, IsPermutation}
+use Rattle.std.proofs.Common.{◌≡◌, ◌∙◌, ◌==◌, ◌&&◌, ℕ, Bool, true, false, List, [], Option, Some, None, Result, Ok, Err, filter, find, map, length, refl, sym, ap, subst, IsPermutation}
 use Rattle.std.specs.Prelude.{slice_get}
 use Rattle.std.specs.List.{count_by}
 use Rattle.std.specs.Option.{option_map}
 use Rattle.std.proofs.lemmas.List.Sorted.{IsPermutation-sym}
 use Rattle.std.proofs.lemmas.List.Sums.{length-filter}
-use Rattle.sqlite.specs.State.{State as Database}
+use Rattle.sqlite.specs.State.{HasCleanDisk, State as Database}
 use Rattle.sqlite_keyed.proofs.ListLemmas.{slice_get-filter, IsPermutation-filter}
 use Rattle.sqlite_trees.proofs.ListLemmas.{filter-filter}
 use Rattle.tb_board.specs.declared.world.RoleOn.{RoleOn}
@@ -13,6 +13,7 @@ use Rattle.tb_board.specs.declared.world.World.{World}
 use Rattle.tb_board.specs.World.{is_owner, is_role_of, owners, owns, role_of}
 use Rattle.tb_calls.specs.Call.{State}
 use Rattle.tb_rows.specs.declared.fault.ReopenFault.{ReopenFault}
+use Rattle.tb_rows.specs.declared.fault.ReopenFault.TheVariants.{NotRows}
 use Rattle.tb_rows.specs.Reading.{roles_in}
 use Rattle.tb_rows.proofs.Orders.{in_order}
 use Rattle.tb_rows.proofs.ReadPeople.{roles_read}
@@ -23,7 +24,7 @@ use Rattle.tb_sql_tables.specs.declared.rows.RoleRow.{RoleRow}
 use Rattle.tb_sql_tables.specs.Content.{Content}
 use Rattle.tb_sql_tables.specs.Found.{AreFound}
 use Rattle.tb_lookup.specs.Reopening.{OfContent, OfState}
-use Rattle.tb_lookup.specs.Stored.{AreRowsOf}
+use Rattle.tb_lookup.specs.Stored.{AreRowsOf, IsStored}
 use Rattle.tb_lookup.specs.declared.roles.RolesFound.{RolesFound}
 use Rattle.tb_lookup.specs.Roles.{role_for, roles_at, AreRolesFound}
 
@@ -44,6 +45,14 @@ pub roles_stored : (old new : Database) (board : ℕ) (rows : List RoleRow) (rol
     → OfState old new (λ s. roles ≡ roles_at s.world board)
 roles_stored old new board rows roles found is clean s stored =
     same_Ok roles (roles_at s.world board) (sym is ∙ ap (roles_in []) (rows_at s stored.content stored.rows board rows (found clean stored.content stored.stands)) ∙ roles_read [] (roles_at s.world board))
+
+-- they are never what no world has
+pub roles_never : (old new : Database) (board : ℕ) (rows : List RoleRow) → OfContent old new (λ c. AreFound IsRoleBefore (filter (λ (row : RoleRow). row.board == board) c.roles) rows) → roles_in [] rows ≡ Err NotRows
+    → HasCleanDisk new → (s : State) → IsStored s old → ⊥
+roles_never old new board rows found is clean s stored =
+    let own : roles_in [] rows ≡ Ok (roles_at s.world board) = ap (roles_in []) (rows_at s stored.content stored.rows board rows (found clean stored.content stored.stands)) ∙ roles_read [] (roles_at s.world board) in
+    let both : Err NotRows ≡ Ok (roles_at s.world board) = sym is ∙ own in
+    cc
 
 -- ---- what these tell
 

@@ -8,7 +8,7 @@ ghost use Rattle.tb_rows.specs.Rows.{board_row};
 ghost use Rattle.tb_sql.specs.Opening.{IsAsBefore};
 ghost use Rattle.tb_sql_tables.specs.Content.{Stands};
 ghost use Rattle.tb_sql_tables.specs.Failing.{FailsByFault, KeepsFaults};
-ghost use Rattle.tb_lookup.specs.Reopening.{OfBoard, OfState};
+ghost use Rattle.tb_lookup.specs.Reopening.{OfBoard, OfState, FailsOfBoard, FailsOfState};
 
 use crate::by_key::{board_row_at, has_board_at, horizon_row_at};
 use crate::faults::fault_of;
@@ -37,6 +37,9 @@ pub fn stored_board<S: Alter>(
         (λ s. board ≡ find_board s.world number)) }
     ensures good { IfOk result (λ board. IfSome board IsGood) }
     ensures numbered { IfOk result (λ board. IfSome board (λ b. b.number ≡ number)) }
+    ensures excused { result ≡ Err StoreFault.Store
+        → FailsOfState (state S.Store conn.old) (state S.Store conn.new) }
+    ensures faults { KeepsFaults (state S.Store conn.old) (state S.Store conn.new) }
     ensures same { IsAsBefore (state S.Store conn.old) (state S.Store conn.new) }
 {
     rows_are_found_again();
@@ -61,6 +64,10 @@ fn read_good<S: Alter>(
     ensures found { IfOk result (λ board. OfBoard (state S.Store conn.old) (state S.Store conn.new)
         (λ w b. row.now ≡ board_row b → board ≡ b)) }
     ensures good { IfOk result IsGood }
+    ensures excused { result ≡ Err StoreFault.Store
+        → FailsOfBoard (state S.Store conn.old) (state S.Store conn.new)
+        (λ b. row.now ≡ board_row b) }
+    ensures faults { KeepsFaults (state S.Store conn.old) (state S.Store conn.new) }
     ensures same { IsAsBefore (state S.Store conn.old) (state S.Store conn.new) }
 {
     let horizon = horizon_row_at(conn, row.id)?;

@@ -1,10 +1,12 @@
 //! The rows of one person's roles. The query stands in a transaction that is dropped, and leaves everything as it was.
 
-ghost use Rattle.std.specs.Prelude.{◌≡◌, ◌==◌, false, filter, IfOk};
+ghost use Rattle.std.specs.Prelude.{◌≡◌, ◌==◌, false, filter, IfOk, Err};
 ghost use Rattle.sqlite.specs.Held.{state};
 ghost use Rattle.tb_sql.specs.Opening.{IsAsBefore};
 ghost use Rattle.tb_sql.specs.RolesOf.{IsBoardBefore};
 ghost use Rattle.tb_sql_tables.specs.Found.{AreFound};
+ghost use Rattle.tb_sql_tables.specs.Content.{IsContent};
+ghost use Rattle.tb_sql_tables.specs.Failing.{FailsByFault, KeepsFaults};
 ghost use Rattle.tb_lookup.specs.Reopening.{OfContent};
 
 use sqlite::{Alter, Connection};
@@ -23,6 +25,10 @@ pub fn role_rows_of<S: Alter>(
     ensures found { IfOk result (λ rows. OfContent (state S.Store conn.old) (state S.Store conn.new)
         (λ content. AreFound IsBoardBefore
         (filter (λ row. row.person == person) content.roles) rows)) }
+    ensures excused { result ≡ Err StoreFault.Store
+        → FailsByFault (state S.Store conn.old) (state S.Store conn.new)
+        (λ content. IsContent content (state S.Store conn.old).now) }
+    ensures faults { KeepsFaults (state S.Store conn.old) (state S.Store conn.new) }
     ensures same { IsAsBefore (state S.Store conn.old) (state S.Store conn.new) }
 {
     let mut tx = conn.transaction();

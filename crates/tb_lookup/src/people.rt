@@ -5,7 +5,7 @@ ghost use Rattle.sqlite.specs.Held.{state};
 ghost use Rattle.tb_sql.specs.Opening.{IsAsBefore};
 ghost use Rattle.tb_sql_tables.specs.Content.{Stands};
 ghost use Rattle.tb_sql_tables.specs.Failing.{FailsByFault, KeepsFaults};
-ghost use Rattle.tb_lookup.specs.Reopening.{OfState};
+ghost use Rattle.tb_lookup.specs.Reopening.{OfState, FailsOfState};
 ghost use Rattle.tb_lookup.specs.People.{IsPersonFound};
 
 use crate::by_key::{has_person_at, person_row_named};
@@ -34,6 +34,9 @@ pub fn stored_person<S: Alter>(
     ensures idle { conn.new.in_transaction ≡ false }
     ensures found { IfOk result (λ person. OfState (state S.Store conn.old) (state S.Store conn.new)
         (λ s. IsPersonFound s.world name.now person)) }
+    ensures excused { result ≡ Err StoreFault.Store
+        → FailsOfState (state S.Store conn.old) (state S.Store conn.new) }
+    ensures faults { KeepsFaults (state S.Store conn.old) (state S.Store conn.new) }
     ensures same { IsAsBefore (state S.Store conn.old) (state S.Store conn.new) }
 {
     let Some(row) = person_row_named(conn, name.as_str())? else {

@@ -1,10 +1,12 @@
 //! The rows of each table. Each query stands in a transaction that is dropped, and leaves everything as it was.
 
-ghost use Rattle.std.specs.Prelude.{◌≡◌, ◌==◌, false, filter, IfOk, IsPermutation};
+ghost use Rattle.std.specs.Prelude.{◌≡◌, ◌==◌, false, filter, IfOk, IsPermutation, Err};
 ghost use Rattle.sqlite.specs.Held.{state};
 ghost use Rattle.tb_sql.specs.Changes.{IsBoardBefore, IsGoneBefore, IsPersonBefore, IsRoleBefore, IsTaskBefore};
 ghost use Rattle.tb_sql.specs.Opening.{IsAsBefore};
 ghost use Rattle.tb_sql_tables.specs.Found.{AreFound};
+ghost use Rattle.tb_sql_tables.specs.Content.{IsContent};
+ghost use Rattle.tb_sql_tables.specs.Failing.{FailsByFault, KeepsFaults};
 ghost use Rattle.tb_lookup.specs.Reopening.{OfContent};
 
 use sqlite::{Alter, Connection};
@@ -24,6 +26,10 @@ pub fn people_rows<S: Alter>(conn: &mut Connection<S>) -> Result<Items<PersonRow
     ensures idle { conn.new.in_transaction ≡ false }
     ensures found { IfOk result (λ rows. OfContent (state S.Store conn.old) (state S.Store conn.new)
         (λ content. AreFound IsPersonBefore content.people rows)) }
+    ensures excused { result ≡ Err StoreFault.Store
+        → FailsByFault (state S.Store conn.old) (state S.Store conn.new)
+        (λ content. IsContent content (state S.Store conn.old).now) }
+    ensures faults { KeepsFaults (state S.Store conn.old) (state S.Store conn.new) }
     ensures same { IsAsBefore (state S.Store conn.old) (state S.Store conn.new) }
 {
     let mut tx = conn.transaction();
@@ -41,6 +47,10 @@ pub fn board_rows<S: Alter>(conn: &mut Connection<S>) -> Result<Items<BoardRow>,
     ensures idle { conn.new.in_transaction ≡ false }
     ensures found { IfOk result (λ rows. OfContent (state S.Store conn.old) (state S.Store conn.new)
         (λ content. AreFound IsBoardBefore content.boards rows)) }
+    ensures excused { result ≡ Err StoreFault.Store
+        → FailsByFault (state S.Store conn.old) (state S.Store conn.new)
+        (λ content. IsContent content (state S.Store conn.old).now) }
+    ensures faults { KeepsFaults (state S.Store conn.old) (state S.Store conn.new) }
     ensures same { IsAsBefore (state S.Store conn.old) (state S.Store conn.new) }
 {
     let mut tx = conn.transaction();
@@ -62,6 +72,10 @@ pub fn role_rows<S: Alter>(
     ensures found { IfOk result (λ rows. OfContent (state S.Store conn.old) (state S.Store conn.new)
         (λ content. AreFound IsRoleBefore
         (filter (λ row. row.board == board) content.roles) rows)) }
+    ensures excused { result ≡ Err StoreFault.Store
+        → FailsByFault (state S.Store conn.old) (state S.Store conn.new)
+        (λ content. IsContent content (state S.Store conn.old).now) }
+    ensures faults { KeepsFaults (state S.Store conn.old) (state S.Store conn.new) }
     ensures same { IsAsBefore (state S.Store conn.old) (state S.Store conn.new) }
 {
     let mut tx = conn.transaction();
@@ -83,6 +97,10 @@ pub fn task_rows<S: Alter>(
     ensures found { IfOk result (λ rows. OfContent (state S.Store conn.old) (state S.Store conn.new)
         (λ content. AreFound IsTaskBefore
         (filter (λ row. row.board == board) content.tasks) rows)) }
+    ensures excused { result ≡ Err StoreFault.Store
+        → FailsByFault (state S.Store conn.old) (state S.Store conn.new)
+        (λ content. IsContent content (state S.Store conn.old).now) }
+    ensures faults { KeepsFaults (state S.Store conn.old) (state S.Store conn.new) }
     ensures same { IsAsBefore (state S.Store conn.old) (state S.Store conn.new) }
 {
     let mut tx = conn.transaction();
@@ -103,6 +121,10 @@ pub fn gone_rows<S: Alter>(
     ensures idle { conn.new.in_transaction ≡ false }
     ensures found { IfOk result (λ rows. OfContent (state S.Store conn.old) (state S.Store conn.new)
         (λ content. AreFound IsGoneBefore (filter (λ row. row.board == board) content.gone) rows)) }
+    ensures excused { result ≡ Err StoreFault.Store
+        → FailsByFault (state S.Store conn.old) (state S.Store conn.new)
+        (λ content. IsContent content (state S.Store conn.old).now) }
+    ensures faults { KeepsFaults (state S.Store conn.old) (state S.Store conn.new) }
     ensures same { IsAsBefore (state S.Store conn.old) (state S.Store conn.new) }
 {
     let mut tx = conn.transaction();
@@ -120,6 +142,10 @@ pub fn kept_rows<S: Alter>(conn: &mut Connection<S>) -> Result<Items<KeptRow>, S
     ensures idle { conn.new.in_transaction ≡ false }
     ensures found { IfOk result (λ rows. OfContent (state S.Store conn.old) (state S.Store conn.new)
         (λ content. IsPermutation content.kept rows)) }
+    ensures excused { result ≡ Err StoreFault.Store
+        → FailsByFault (state S.Store conn.old) (state S.Store conn.new)
+        (λ content. IsContent content (state S.Store conn.old).now) }
+    ensures faults { KeepsFaults (state S.Store conn.old) (state S.Store conn.new) }
     ensures same { IsAsBefore (state S.Store conn.old) (state S.Store conn.new) }
 {
     let mut tx = conn.transaction();

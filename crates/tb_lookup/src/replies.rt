@@ -1,9 +1,10 @@
 //! Kept replies, as the tables tell them.
 
-ghost use Rattle.std.specs.Prelude.{◌≡◌, false, IfOk};
+ghost use Rattle.std.specs.Prelude.{◌≡◌, false, IfOk, Err, ◌<◌, ◌^◌};
 ghost use Rattle.sqlite.specs.Held.{state};
 ghost use Rattle.tb_sql.specs.Opening.{IsAsBefore};
-ghost use Rattle.tb_lookup.specs.Reopening.{OfState};
+ghost use Rattle.tb_sql_tables.specs.Failing.{KeepsFaults};
+ghost use Rattle.tb_lookup.specs.Reopening.{OfState, FailsOfState};
 ghost use Rattle.tb_lookup.specs.Stored.{reply_in};
 ghost use Rattle.tb_lookup.specs.Replies.{IsReplyFound};
 
@@ -24,20 +25,23 @@ pub fn stored_reply<S: Alter>(
     ensures idle { conn.new.in_transaction ≡ false }
     ensures found { IfOk result (λ kept. OfState (state S.Store conn.old) (state S.Store conn.new)
         (λ s. IsReplyFound s person id kept)) }
+    ensures excused { result ≡ Err StoreFault.Store → person < 2 ^ 32
+        → FailsOfState (state S.Store conn.old) (state S.Store conn.new) }
+    ensures faults { KeepsFaults (state S.Store conn.old) (state S.Store conn.new) }
     ensures same { IsAsBefore (state S.Store conn.old) (state S.Store conn.new) }
 {
     let Ok(person) = u32::try_from(person) else {
         return Err(StoreFault::Store); // No person has such a number.
     };
     match kept_row_at(conn, person, id)? {
-        Some(row) => Ok(Some(reply_of(row)?)),
+        Some(row) => Ok(Some(reply_of(row))),
         None => Ok(None),
     }
 }
 
-/// What a row keeps. Numbers that no reply has are a failure of the store.
-fn reply_of(row: KeptRow) -> Result<KeptReply, StoreFault>
-    ensures { IfOk result (λ kept. kept ≡ reply_in row) }
+/// What a row keeps.
+fn reply_of(row: KeptRow) -> KeptReply
+    ensures { result ≡ reply_in row }
 {
     let KeptRow {
         content,
@@ -46,16 +50,10 @@ fn reply_of(row: KeptRow) -> Result<KeptReply, StoreFault>
         body,
         ..
     } = row;
-    let Ok(number) = u8::try_from(number) else {
-        return Err(StoreFault::Store);
-    };
-    let Ok(status) = u16::try_from(status) else {
-        return Err(StoreFault::Store);
-    };
     let reply = Reply {
         number,
         status,
         body,
     };
-    Ok(KeptReply { content, reply })
+    KeptReply { content, reply }
 }

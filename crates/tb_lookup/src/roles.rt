@@ -1,9 +1,10 @@
 //! Roles, as the tables tell them.
 
-ghost use Rattle.std.specs.Prelude.{◌≡◌, false, IfOk};
+ghost use Rattle.std.specs.Prelude.{◌≡◌, false, IfOk, Err};
 ghost use Rattle.sqlite.specs.Held.{state};
 ghost use Rattle.tb_sql.specs.Opening.{IsAsBefore};
-ghost use Rattle.tb_lookup.specs.Reopening.{OfState};
+ghost use Rattle.tb_sql_tables.specs.Failing.{KeepsFaults};
+ghost use Rattle.tb_lookup.specs.Reopening.{OfState, FailsOfState};
 ghost use Rattle.tb_lookup.specs.Roles.{AreRolesFound, role_for, roles_at};
 
 use crate::faults::fault_of;
@@ -36,6 +37,9 @@ pub fn roles_found<S: Alter>(
     ensures idle { conn.new.in_transaction ≡ false }
     ensures found { IfOk result (λ roles. OfState (state S.Store conn.old) (state S.Store conn.new)
         (λ s. AreRolesFound s.world board caller other roles)) }
+    ensures excused { result ≡ Err StoreFault.Store
+        → FailsOfState (state S.Store conn.old) (state S.Store conn.new) }
+    ensures faults { KeepsFaults (state S.Store conn.old) (state S.Store conn.new) }
     ensures same { IsAsBefore (state S.Store conn.old) (state S.Store conn.new) }
 {
     let alone = roles_alone(alloc, conn, board)?;
@@ -52,6 +56,9 @@ fn roles_alone<S: Alter>(
     ensures idle { conn.new.in_transaction ≡ false }
     ensures found { IfOk result (λ alone. OfState (state S.Store conn.old) (state S.Store conn.new)
         (λ s. alone.roles ≡ roles_at s.world board)) }
+    ensures excused { result ≡ Err StoreFault.Store
+        → FailsOfState (state S.Store conn.old) (state S.Store conn.new) }
+    ensures faults { KeepsFaults (state S.Store conn.old) (state S.Store conn.new) }
     ensures same { IsAsBefore (state S.Store conn.old) (state S.Store conn.new) }
 {
     let rows = role_rows(conn, board)?;

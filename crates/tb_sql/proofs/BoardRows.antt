@@ -1,5 +1,5 @@
 -- What the statements on boards do.
-use Rattle.std.proofs.Common.{IsTrue, ◌≡◌, ◌∙◌, ◌⊎◌, ℕ, pos, List, [], ◌∷◌, map, codes, length, not, true, option_map, slice_get, refl, subst, arith}
+use Rattle.std.proofs.Common.{IsTrue, ◌≡◌, ◌∙◌, ◌⊎◌, ℕ, pos, List, [], ◌∷◌, map, codes, length, not, true, option_map, slice_get, refl, subst, arith, All, IsUtf8, ◌<◌, ◌^◌}
 use Rattle.std.specs.Prelude.{filter, ◌==◌}
 use Rattle.std.specs.List.{list_any}
 use Rattle.std.specs.declared.cmp.Ordering.TheVariants.{Less}
@@ -22,12 +22,12 @@ use Rattle.sqlite.specs.State.{FailsToQuery, IsTooLate, State, Shown}
 use Rattle.tb_sql_tables.specs.declared.rows.BoardRow.{BoardRow}
 use Rattle.tb_sql_tables.specs.Tables.{board_plain, board_table, board_tree, store_schema}
 use Rattle.tb_sql_tables.specs.Rows.{board_row}
-use Rattle.tb_sql_tables.specs.Read.{board_of}
+use Rattle.tb_sql_tables.specs.Read.{board_of, IsBoardRow}
 use Rattle.tb_sql_tables.specs.Statements.{Changes, Finds, Ran}
 use Rattle.tb_sql_tables.specs.Failing.{IsExcused}
 use Rattle.tb_sql_tables.specs.Found.{AreFound, IsOneOf}
 use Rattle.tb_sql_tables.proofs.Contents.{boards_changed}
-use Rattle.tb_sql_tables.proofs.Effects.{each, all_left, keyed_updated, keyed_shown, found, found_any, found_one}
+use Rattle.tb_sql_tables.proofs.Effects.{each, all_left, keyed_updated, keyed_shown, found, found_any, found_one, each_of, each_left}
 use Rattle.tb_sql_tables.proofs.Failing.{Suits, fails_so}
 use Rattle.tb_sql_tables.proofs.Inserts.{cast_integer, cast_null}
 use Rattle.tb_sql_tables.proofs.Inside.{shown_open}
@@ -38,6 +38,9 @@ use Rattle.tb_sql_tables.proofs.Queries.{query_of, program_of, output_at}
 use Rattle.tb_sql_tables.proofs.SqlTests.{and_true}
 use Rattle.tb_sql_tables.proofs.Statements.{Means, Asks, row_inserted}
 use Rattle.tb_sql.specs.Changes.{with_board, with_low, with_title, is_board, IsBoardBefore}
+use Rattle.tb_sql_tables.specs.Content.{Content, IsContent}
+use Rattle.tb_sql_tables.proofs.Fitted.{all_read, board_read as board_is_read, still_fit}
+use Rattle.tb_sql_tables.specs.Fitting.{FitsBoard}
 
 -- ---- a row goes in
 
@@ -54,14 +57,14 @@ inserts = record { is = refl; bare = (refl, refl) }
 abbrev pub row_params : BoardRow → Row
 row_params row = Int (pos row.id) ∷ Text row.title ∷ Int (pos row.low) ∷ []
 
-pub insert_board : (old new : State) (row : BoardRow) → Ran insert_text (row_params row) old new → Changes (with_board row) old new
-insert_board old new row ran = record {
+pub insert_board : (old new : State) (row : BoardRow) → FitsBoard row → Ran insert_text (row_params row) old new → Changes (with_board row) old new
+insert_board old new row fits ran = record {
   shown = ran.1.1;
   content = λ content is.
       let cells : Row = Null ∷ Text row.title ∷ Int (pos row.low) ∷ [] in
       let effect = row_inserted 2 board_plain refl refl insert_text old new is.schema (row_params row) ran.0 terms 4 (board_row row) inserts refl ran.1 in
       boards_changed content (row ∷ content.boards) old.now new.now effect.1 is
-      (keyed_put store_schema old.now.trees new.now.trees board_table (board_row row) (pos row.id) cells _ (rw (cast_null, cast_integer (pos row.id), cast_integer (pos row.low)) refl) effect.0 is.rows.tables.boards);
+      (keyed_put store_schema old.now.trees new.now.trees board_table (board_row row) (pos row.id) cells _ (rw (cast_null, cast_integer (pos row.id), cast_integer (pos row.low)) refl) effect.0 is.rows.tables.boards) (fits, is.rows.tables.fits.boards);
 }
 
 -- ---- the least free number of a board
@@ -80,8 +83,8 @@ updates : Means update_text (Update 2 (program_of (query_of board_tree by_id rep
 unfolding understood everything
 updates = record { is = refl; bare = (refl, refl) }
 
-pub update_low : (old new : State) (id low : ℕ) → Ran update_text (Int (pos id) ∷ Int (pos low) ∷ []) old new → Changes (with_low id low) old new
-update_low old new id low ran = record {
+pub update_low : (old new : State) (id low : ℕ) → low < 2 ^ 32 → Ran update_text (Int (pos id) ∷ Int (pos low) ∷ []) old new → Changes (with_low id low) old new
+update_low old new id low fits ran = record {
   shown = ran.1.1;
   content = λ content is.
       let params = Int (pos id) ∷ Int (pos low) ∷ [] in
@@ -89,7 +92,8 @@ update_low old new id low ran = record {
       let same = each (λ (board : BoardRow). and_true _ ∙ equal_numbers board.id id) content.boards in
       let effect = keyed_updated board_row (is_board id) content.boards 2 board_plain refl refl update_text by_id old new is.schema params ran same is.rows.tables.boards replaced set updates
       (λ r. refl) (λ board. rw (cast_null, cast_integer (pos board.id), cast_integer (pos low)) refl) in
-      boards_changed content _ old.now new.now effect.1 is effect.0;
+      boards_changed content _ old.now new.now effect.1 is effect.0
+      (still_fit FitsBoard (is_board id) set (λ board was. record { id = was.id; title = was.title; low = fits }) content.boards is.rows.tables.fits.boards);
 }
 
 -- ---- the title of a board
@@ -105,8 +109,8 @@ renames : Means title_text (Update 2 (program_of (query_of board_tree by_id rena
 unfolding understood everything
 renames = record { is = refl; bare = (refl, refl) }
 
-pub update_title : (old new : State) (id : ℕ) (title : List ℕ) → Ran title_text (Int (pos id) ∷ Text title ∷ []) old new → Changes (with_title id title) old new
-update_title old new id title ran = record {
+pub update_title : (old new : State) (id : ℕ) (title : List ℕ) → IsUtf8 title → Ran title_text (Int (pos id) ∷ Text title ∷ []) old new → Changes (with_title id title) old new
+update_title old new id title fits ran = record {
   shown = ran.1.1;
   content = λ content is.
       let params = Int (pos id) ∷ Text title ∷ [] in
@@ -114,7 +118,8 @@ update_title old new id title ran = record {
       let same = each (λ (board : BoardRow). and_true _ ∙ equal_numbers board.id id) content.boards in
       let effect = keyed_updated board_row (is_board id) content.boards 2 board_plain refl refl title_text by_id old new is.schema params ran same is.rows.tables.boards renamed set renames
       (λ r. refl) (λ board. rw (cast_null, cast_integer (pos board.id), cast_integer (pos board.low)) refl) in
-      boards_changed content _ old.now new.now effect.1 is effect.0;
+      boards_changed content _ old.now new.now effect.1 is effect.0
+      (still_fit FitsBoard (is_board id) set (λ board was. record { id = was.id; title = fits; low = was.low }) content.boards is.rows.tables.fits.boards);
 }
 
 -- ---- queries
@@ -153,6 +158,18 @@ select_boards old new rows shown = record {
       (found board_of (query_of board_tree [] shown_terms in_order) out _ rows (each (λ row. refl) _) answer IsBoardBefore lower);
 }
 
+pub select_boards_read : (old new : State) (rows : List Row) → Shown select_text [] old new rows → (content : Content) → IsContent content old.now → All IsBoardRow rows
+select_boards_read old new rows shown content is =
+    let answer = keyed_shown board_row (λ row. true) content.boards board_tree refl select_text [] shown_terms in_order asks old new [] rows is.schema shown (each (λ row. refl) _) is.rows.tables.boards in
+    all_read IsBoardRow _ _ _ rows answer (each_of board_is_read _ (each_left _ (λ row. true) content.boards is.rows.tables.fits.boards))
+
+select_boards_suits : Suits select_text board_tree [] shown_terms in_order []
+unfolding understood everything
+select_boards_suits = record { whole = refl; given = refl; typed = refl }
+
+pub select_boards_excused : (old new : State) (e : Error) → FailsToQuery select_text [] old new e ⊎ IsTooLate select_text [] old new e → IsExcused old new e
+select_boards_excused old new e failed other ready content is = fails_so select_text board_tree [] shown_terms in_order asks _ select_boards_suits old new e is.schema ready other failed
+
 abbrev pub find_text : List ℕ
 find_text = codes "SELECT id, title, low FROM board WHERE id = ?1"
 
@@ -170,6 +187,20 @@ find_board old new id rows shown = record {
       let answer = keyed_shown board_row (is_board id) content.boards board_tree refl find_text by_id shown_terms [] asks_one old new params rows is.schema shown same is.rows.tables.boards in
       found_one board_of (query_of board_tree by_id shown_terms []) (λ row. output_at board_tree refl by_id shown_terms [] params (board_row row)) _ rows (each (λ row. refl) _) answer;
 }
+
+pub find_board_read : (old new : State) (id : ℕ) (rows : List Row) → Shown find_text (Int (pos id) ∷ []) old new rows → (content : Content) → IsContent content old.now → All IsBoardRow rows
+find_board_read old new id rows shown content is =
+    let params = Int (pos id) ∷ [] in
+    let same = each (λ (row : BoardRow). and_true _ ∙ equal_numbers row.id id) content.boards in
+    let answer = keyed_shown board_row (is_board id) content.boards board_tree refl find_text by_id shown_terms [] asks_one old new params rows is.schema shown same is.rows.tables.boards in
+    all_read IsBoardRow _ _ _ rows answer (each_of board_is_read _ (each_left _ (is_board id) content.boards is.rows.tables.fits.boards))
+
+find_board_suits : (id : ℕ) → Suits find_text board_tree by_id shown_terms [] (Int (pos id) ∷ [])
+unfolding understood everything
+find_board_suits id = record { whole = refl; given = refl; typed = refl }
+
+pub find_board_excused : (old new : State) (id : ℕ) (e : Error) → FailsToQuery find_text (Int (pos id) ∷ []) old new e ⊎ IsTooLate find_text (Int (pos id) ∷ []) old new e → IsExcused old new e
+find_board_excused old new id e failed other ready content is = fails_so find_text board_tree by_id shown_terms [] asks_one _ (find_board_suits id) old new e is.schema ready other failed
 
 -- ---- whether there is one of a number
 

@@ -1,5 +1,5 @@
 -- What the statements on instances that are gone do.
-use Rattle.std.proofs.Common.{◌≡◌, ◌&&◌, ℕ, pos, List, [], ◌∷◌, map, drop, codes, inl, inr, refl, ap₂, arith}
+use Rattle.std.proofs.Common.{◌≡◌, ◌&&◌, ℕ, pos, List, [], ◌∷◌, map, drop, codes, inl, inr, refl, ap₂, arith, All, ◌⊎◌, not}
 use Rattle.std.specs.Prelude.{filter, ◌==◌}
 use Rattle.std.specs.declared.cmp.Ordering.TheVariants.{Less}
 use Rattle.std.proofs.lemmas.Int.{ints}
@@ -16,21 +16,27 @@ use Rattle.sqlite_schema.specs.declared.command.Command.TheVariants.{Insert, Del
 use Rattle.sqlite_schema.specs.declared.command.Source.TheVariants.{Values}
 use Rattle.sqlite_tied.specs.Compute.{everything}
 use Rattle.sqlite.specs.Listing.{understood}
-use Rattle.sqlite.specs.State.{State, Shown}
+use Rattle.sqlite.specs.State.{State, Shown, FailsToQuery, IsTooLate}
 use Rattle.tb_sql_tables.specs.declared.rows.GoneRow.{GoneRow}
 use Rattle.tb_sql_tables.specs.Tables.{gone_plain, gone_table, gone_tree, store_schema}
 use Rattle.tb_sql_tables.specs.Rows.{gone_row}
-use Rattle.tb_sql_tables.specs.Read.{gone_of}
+use Rattle.tb_sql_tables.specs.Read.{gone_of, IsGoneRow}
 use Rattle.tb_sql_tables.specs.Statements.{Changes, Finds, Ran}
 use Rattle.tb_sql_tables.specs.Found.{AreFound}
 use Rattle.tb_sql_tables.proofs.Contents.{gone_changed}
-use Rattle.tb_sql_tables.proofs.Effects.{each, cells_deleted, cells_shown, found}
+use Rattle.tb_sql_tables.proofs.Effects.{each, cells_deleted, cells_shown, found, each_of, each_left}
 use Rattle.tb_sql_tables.proofs.Inserts.{row_put, cast_integer, cast_null}
 use Rattle.tb_sql_tables.proofs.Inside.{shown_open}
 use Rattle.tb_sql_tables.proofs.KeyTests.{by_one, by_three, has_one, has_three, one_tested, three_tested, equal_numbers}
 use Rattle.tb_sql_tables.proofs.Queries.{query_of, program_of, output_at}
 use Rattle.tb_sql_tables.proofs.Statements.{Means, Asks, row_inserted}
 use Rattle.tb_sql.specs.Changes.{with_gone, without_gone, is_gone, IsGoneBefore}
+use Rattle.tb_sql_tables.specs.Failing.{IsExcused}
+use Rattle.tb_sql_tables.specs.Content.{Content, IsContent}
+use Rattle.tb_sql_tables.proofs.Failing.{Suits, fails_so}
+use Rattle.tb_sql_tables.proofs.Fitted.{all_read, gone_read as gone_is_read}
+use Rattle.sqlite.specs.declared.error.Error.{Error}
+use Rattle.tb_sql_tables.specs.Fitting.{FitsGone}
 
 -- ---- a row goes in
 
@@ -44,14 +50,14 @@ inserts : Means insert_text (Insert 7 (Values terms 5))
 unfolding understood everything
 inserts = record { is = refl; bare = (refl, refl) }
 
-pub insert_gone : (old new : State) (row : GoneRow) → Ran insert_text (gone_row row) old new → Changes (with_gone row) old new
-insert_gone old new row ran = record {
+pub insert_gone : (old new : State) (row : GoneRow) → FitsGone row → Ran insert_text (gone_row row) old new → Changes (with_gone row) old new
+insert_gone old new row fits ran = record {
   shown = ran.1.1;
   content = λ content is.
       let cells = gone_row row in
       let effect = row_inserted 7 gone_plain refl refl insert_text old new is.schema cells ran.0 terms 5 (Null ∷ cells) inserts refl ran.1 in
       gone_changed content (row ∷ content.gone) old.now new.now effect.1 is
-      (row_put store_schema old.now.trees new.now.trees gone_table (Null ∷ cells) cells _ (rw (cast_null, cast_integer (pos row.board), cast_integer (pos row.template), cast_integer (pos row.imask)) refl) effect.0 is.rows.tables.gone);
+      (row_put store_schema old.now.trees new.now.trees gone_table (Null ∷ cells) cells _ (rw (cast_null, cast_integer (pos row.board), cast_integer (pos row.template), cast_integer (pos row.imask)) refl) effect.0 is.rows.tables.gone) (fits, is.rows.tables.fits.gone);
 }
 
 -- ---- rows go
@@ -70,7 +76,7 @@ delete_gone old new board template imask ran = record {
       let same = each (λ (row : GoneRow). ap₂ ◌&&◌ (equal_numbers row.board board) (ap₂ ◌&&◌ (equal_numbers row.template template) (equal_numbers row.imask imask))) content.gone in
       let effect = cells_deleted gone_row (is_gone board template imask) content.gone 7 gone_plain refl refl delete_text by_three old new is.schema (Int (pos board) ∷ Int (pos template) ∷ Int (pos imask) ∷ []) ran
       (has_three (Int (pos board)) (Int (pos template)) (Int (pos imask))) (three_tested (Int (pos board)) (Int (pos template)) (Int (pos imask)) []) same is.rows.tables.gone deletes in
-      gone_changed content _ old.now new.now effect.1 is effect.0;
+      gone_changed content _ old.now new.now effect.1 is effect.0 (each_left FitsGone (λ x. not (is_gone board template imask x)) content.gone is.rows.tables.fits.gone);
 }
 
 -- ---- queries
@@ -116,3 +122,18 @@ select_gone old new board rows shown = record {
       (has_one (Int (pos board))) out (one_tested (Int (pos board)) []) (shows params) same is.rows.tables.gone in
       found gone_of (query_of gone_tree by_one shown_terms in_order) (λ row. out (gone_row row)) _ rows (each (λ row. refl) _) answer IsGoneBefore lower;
 }
+
+pub select_gone_read : (old new : State) (board : ℕ) (rows : List Row) → Shown select_text (Int (pos board) ∷ []) old new rows → (content : Content) → IsContent content old.now → All IsGoneRow rows
+select_gone_read old new board rows shown content is =
+    let params = Int (pos board) ∷ [] in
+    let same = each (λ (row : GoneRow). equal_numbers row.board board) content.gone in
+    let answer = cells_shown gone_row (λ row. row.board == board) content.gone gone_tree refl select_text by_one shown_terms in_order asks old new params rows is.schema shown
+    (has_one (Int (pos board))) out (one_tested (Int (pos board)) []) (shows params) same is.rows.tables.gone in
+    all_read IsGoneRow _ _ _ rows answer (each_of gone_is_read _ (each_left _ (λ row. row.board == board) content.gone is.rows.tables.fits.gone))
+
+select_gone_suits : (board : ℕ) → Suits select_text gone_tree by_one shown_terms in_order (Int (pos board) ∷ [])
+unfolding understood everything
+select_gone_suits board = record { whole = refl; given = refl; typed = refl }
+
+pub select_gone_excused : (old new : State) (board : ℕ) (e : Error) → FailsToQuery select_text (Int (pos board) ∷ []) old new e ⊎ IsTooLate select_text (Int (pos board) ∷ []) old new e → IsExcused old new e
+select_gone_excused old new board e failed other ready content is = fails_so select_text gone_tree by_one shown_terms in_order asks _ (select_gone_suits board) old new e is.schema ready other failed

@@ -1,5 +1,5 @@
 -- What the statements on kept replies do.
-use Rattle.std.proofs.Common.{◌≡◌, ◌<◌, ◌^◌, ◌&&◌, ℕ, pos, List, [], ◌∷◌, drop, map, codes, true, option_map, slice_get, refl, subst, ap₂, IsPermutation}
+use Rattle.std.proofs.Common.{◌≡◌, ◌<◌, ◌^◌, ◌&&◌, ℕ, pos, List, [], ◌∷◌, drop, map, codes, true, option_map, slice_get, refl, subst, ap₂, IsPermutation, All, ◌⊎◌}
 use Rattle.std.specs.Prelude.{filter}
 use Rattle.std.specs.Int.{to_be_bytes, w128}
 use Rattle.sqlite_value.specs.declared.value.Value.TheVariants.{Null, Int, Blob}
@@ -10,11 +10,11 @@ use Rattle.sqlite_schema.specs.declared.command.Command.TheVariants.{Insert}
 use Rattle.sqlite_schema.specs.declared.command.Source.TheVariants.{Values}
 use Rattle.sqlite_tied.specs.Compute.{everything}
 use Rattle.sqlite.specs.Listing.{understood}
-use Rattle.sqlite.specs.State.{State, Shown}
+use Rattle.sqlite.specs.State.{State, Shown, FailsToQuery, IsTooLate}
 use Rattle.tb_sql_tables.specs.declared.rows.KeptRow.{KeptRow}
 use Rattle.tb_sql_tables.specs.Tables.{kept_plain, kept_table, kept_tree, store_schema}
 use Rattle.tb_sql_tables.specs.Rows.{kept_row}
-use Rattle.tb_sql_tables.specs.Read.{kept_of}
+use Rattle.tb_sql_tables.specs.Read.{kept_of, IsKeptRow}
 use Rattle.tb_sql_tables.specs.Statements.{Changes, Finds, Ran}
 use Rattle.tb_sql_tables.specs.Found.{IsOneOf}
 use Rattle.tb_sql_tables.proofs.Contents.{kept_changed}
@@ -26,6 +26,12 @@ use Rattle.tb_sql_tables.proofs.Queries.{query_of, output_at}
 use Rattle.tb_sql_tables.proofs.Statements.{Means, Asks, row_inserted}
 use Rattle.uuid.proofs.OrderLemmas.{from_be_bytes-to_be_bytes_16}
 use Rattle.tb_sql.specs.Changes.{with_kept, is_kept}
+use Rattle.tb_sql_tables.specs.Failing.{IsExcused}
+use Rattle.tb_sql_tables.specs.Content.{Content, IsContent}
+use Rattle.tb_sql_tables.proofs.Failing.{Suits, fails_so}
+use Rattle.tb_sql_tables.proofs.Fitted.{all_read, kept_read as kept_is_read}
+use Rattle.sqlite.specs.declared.error.Error.{Error}
+use Rattle.tb_sql_tables.specs.Fitting.{FitsKept}
 
 -- ---- a row goes in
 
@@ -39,14 +45,14 @@ inserts : Means insert_text (Insert 8 (Values terms 7))
 unfolding understood everything
 inserts = record { is = refl; bare = (refl, refl) }
 
-pub insert_kept : (old new : State) (row : KeptRow) → row.id < 2 ^ 128 → Ran insert_text (kept_row row) old new → Changes (with_kept row) old new
-insert_kept old new row low ran = record {
+pub insert_kept : (old new : State) (row : KeptRow) → FitsKept row → row.id < 2 ^ 128 → Ran insert_text (kept_row row) old new → Changes (with_kept row) old new
+insert_kept old new row fits low ran = record {
   shown = ran.1.1;
   content = λ content is.
       let cells = kept_row row in
       let effect = row_inserted 8 kept_plain refl refl insert_text old new is.schema cells ran.0 terms 7 (Null ∷ cells) inserts refl ran.1 in
       kept_changed content (row ∷ content.kept) old.now new.now effect.1 is
-      (row_put store_schema old.now.trees new.now.trees kept_table (Null ∷ cells) cells _ (rw (cast_null, cast_integer (pos row.person), cast_integer (pos row.number), cast_integer (pos row.status)) refl) effect.0 is.rows.tables.kept) (low, is.rows.tables.kept_identifiers);
+      (row_put store_schema old.now.trees new.now.trees kept_table (Null ∷ cells) cells _ (rw (cast_null, cast_integer (pos row.person), cast_integer (pos row.number), cast_integer (pos row.status)) refl) effect.0 is.rows.tables.kept) (low, is.rows.tables.kept_identifiers) (fits, is.rows.tables.fits.kept);
 }
 
 -- ---- queries
@@ -92,6 +98,21 @@ find_kept old new person id low rows shown = record {
       found_one kept_of (query_of kept_tree by_two shown_terms []) (λ row. out_one (kept_row row)) _ rows (each_of kept_read _ (each_left _ _ content.kept is.rows.tables.kept_identifiers)) answer;
 }
 
+pub find_kept_read : (old new : State) (person id : ℕ) → id < 2 ^ 128 → (rows : List Row) → Shown find_text (Int (pos person) ∷ Blob (to_be_bytes w128 id) ∷ []) old new rows → (content : Content) → IsContent content old.now → All IsKeptRow rows
+find_kept_read old new person id low rows shown content is =
+    let params = Int (pos person) ∷ Blob (to_be_bytes w128 id) ∷ [] in
+    let same = each_of (λ (row : KeptRow) own. ap₂ ◌&&◌ (equal_numbers row.person person) (equal_identifiers row.id id own low)) content.kept is.rows.tables.kept_identifiers in
+    let answer = cells_shown kept_row (is_kept person id) content.kept kept_tree refl find_text by_two shown_terms [] asks_one old new params rows is.schema shown
+    (has_two (Int (pos person)) (Blob (to_be_bytes w128 id))) out_one (two_tested (Int (pos person)) (Blob (to_be_bytes w128 id)) []) (shows_one params) same is.rows.tables.kept in
+    all_read IsKeptRow _ _ _ rows answer (each_of kept_is_read _ (each_left _ (is_kept person id) content.kept is.rows.tables.fits.kept))
+
+find_kept_suits : (person id : ℕ) → Suits find_text kept_tree by_two shown_terms [] (Int (pos person) ∷ Blob (to_be_bytes w128 id) ∷ [])
+unfolding understood everything
+find_kept_suits person id = record { whole = refl; given = refl; typed = refl }
+
+pub find_kept_excused : (old new : State) (person id : ℕ) (e : Error) → FailsToQuery find_text (Int (pos person) ∷ Blob (to_be_bytes w128 id) ∷ []) old new e ⊎ IsTooLate find_text (Int (pos person) ∷ Blob (to_be_bytes w128 id) ∷ []) old new e → IsExcused old new e
+find_kept_excused old new person id e failed other ready content is = fails_so find_text kept_tree by_two shown_terms [] asks_one _ (find_kept_suits person id) old new e is.schema ready other failed
+
 abbrev pub select_text : List ℕ
 select_text = codes "SELECT person, id, content, number, status, body FROM kept"
 
@@ -112,3 +133,16 @@ select_kept old new rows shown = record {
       subst (λ all. IsPermutation all (map kept_of rows)) (all_left content.kept)
       (found_same kept_of (query_of kept_tree [] shown_terms []) (λ row. out_one (kept_row row)) _ rows (each_of kept_read _ (each_left (λ (row : KeptRow). row.id < 2 ^ 128) (λ row. true) content.kept is.rows.tables.kept_identifiers)) answer);
 }
+
+pub select_kept_read : (old new : State) (rows : List Row) → Shown select_text [] old new rows → (content : Content) → IsContent content old.now → All IsKeptRow rows
+select_kept_read old new rows shown content is =
+    let answer = cells_shown kept_row (λ row. true) content.kept kept_tree refl select_text [] shown_terms [] asks_all old new [] rows is.schema shown
+    (λ cells. true) out_one (λ r. refl) shows_all (each (λ row. refl) _) is.rows.tables.kept in
+    all_read IsKeptRow _ _ _ rows answer (each_of kept_is_read _ (each_left _ (λ row. true) content.kept is.rows.tables.fits.kept))
+
+select_kept_suits : Suits select_text kept_tree [] shown_terms [] []
+unfolding understood everything
+select_kept_suits = record { whole = refl; given = refl; typed = refl }
+
+pub select_kept_excused : (old new : State) (e : Error) → FailsToQuery select_text [] old new e ⊎ IsTooLate select_text [] old new e → IsExcused old new e
+select_kept_excused old new e failed other ready content is = fails_so select_text kept_tree [] shown_terms [] asks_all _ select_kept_suits old new e is.schema ready other failed

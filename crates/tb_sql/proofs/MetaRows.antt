@@ -21,18 +21,17 @@ use Rattle.tb_sql_tables.specs.declared.rows.MetaRow.{MetaRow}
 use Rattle.tb_sql_tables.specs.Tables.{meta_plain, meta_tree, old_schema, second_schema}
 use Rattle.tb_sql_tables.specs.Rows.{version_row}
 use Rattle.tb_sql_tables.specs.Read.{meta_of, IsMetaRow}
-use Rattle.tb_sql_tables.specs.Content.{Content, AreTables, HasKeyed, HasRows, IsContent}
+use Rattle.tb_sql_tables.specs.Content.{old_part, Content, AreTables, HasKeyed, HasRows, IsContent}
 use Rattle.tb_sql_tables.specs.Statements.{Finds, Ran, Turns}
 use Rattle.tb_sql_tables.specs.Standing.{IsHalfway}
-use Rattle.tb_sql_tables.specs.Failing.{IsExcused}
+use Rattle.tb_sql_tables.specs.Failing.{HasFaulted, IsExcused, IsReady}
 use Rattle.tb_sql_tables.proofs.Effects.{each, all_left, keyed_shown, keyed_shown_in, keyed_updated, found_in_order, found_same}
 use Rattle.tb_sql_tables.proofs.Failing.{Suits, fails_so}
 use Rattle.tb_sql_tables.proofs.Inserts.{cast_integer, cast_null}
 use Rattle.tb_sql_tables.proofs.Inside.{shown_open}
 use Rattle.tb_sql_tables.proofs.Queries.{query_of, program_of, output_at}
 use Rattle.tb_sql_tables.proofs.Statements.{Asks, AsksIn, Means}
-use Rattle.tb_sql.specs.Opening.{our_meta, row_of_meta, meta_text, AreMetas, AreShown}
-use Rattle.tb_sql.specs.Migrating.{first_part}
+use Rattle.tb_sql.specs.Opening.{our_meta, row_of_meta, meta_text, AreMetas, AreShown, IsOfVersion, ReadsVersion}
 
 abbrev shown_terms : List Term
 shown_terms = col 1 2 ∷ col 1 3 ∷ []
@@ -85,24 +84,36 @@ suits = record { whole = refl; given = refl; typed = refl }
 pub meta_excused : (old new : State) (e : Error) → FailsToQuery meta_text [] old new e ⊎ IsTooLate meta_text [] old new e → IsExcused old new e
 meta_excused old new e failed other ready content is = fails_so meta_text meta_tree [] shown_terms [] asks [] suits old new e is.schema ready other failed
 
--- the row of a store is read without a refusal
-pub our_row_is_read : (old new : State) (rows : List Row) → Shown meta_text [] old new rows → (content : Content) → IsContent content old.now → All IsMetaRow rows
-our_row_is_read old new rows shown content is =
-    let answer = keyed_shown row_of_meta (λ row. true) (our_meta ∷ []) meta_tree refl meta_text [] shown_terms [] asks old new [] rows is.schema shown (refl, tt) is.rows.tables.meta in
-    let one : answer.ordered ≡ out our_meta ∷ [] = one_permutation (out our_meta) answer.ordered answer.same in
-    subst (All IsMetaRow) (sym (answer.shown ∙ ap (map (λ (o : Output). o.1)) one)) (All-from_recursion IsMetaRow ((out our_meta).1 ∷ []) (ours, tt))
+pub version_read : (old new : State) (e : Error) → FailsToQuery meta_text [] old new e ⊎ IsTooLate meta_text [] old new e → ReadsVersion old new e
+version_read old new e failed other ready version is = fails_so meta_text meta_tree [] shown_terms [] asks [] suits old new e is.schema ready other failed
+
+abbrev meta_at : ℕ → MetaRow
+meta_at version = record { kind = codes "taskboard"; version = version }
+
+-- the row of a store of whatever version is read without a refusal
+pub version_is_read : (old new : State) (rows : List Row) → Shown meta_text [] old new rows → (version : ℕ) → IsOfVersion version old.now → All IsMetaRow rows
+version_is_read old new rows shown version is =
+    let meta = meta_at version in
+    let answer = keyed_shown row_of_meta (λ row. true) (meta ∷ []) meta_tree refl meta_text [] shown_terms [] asks old new [] rows is.schema shown (refl, tt) is.row in
+    let one : answer.ordered ≡ out meta ∷ [] = one_permutation (out meta) answer.ordered answer.same in
+    subst (All IsMetaRow) (sym (answer.shown ∙ ap (map (λ (o : Output). o.1)) one)) (All-from_recursion IsMetaRow ((out meta).1 ∷ []) (ours, tt))
   where
     letters : IsAscii (codes "taskboard")
     letters = IsAscii-from_all (codes "taskboard") (All-from_recursion (λ b. b < 128) (codes "taskboard")
         (omega arith, (omega arith, (omega arith, (omega arith, (omega arith, (omega arith, (omega arith, (omega arith, (omega arith, tt))))))))))
 
-    ours : IsMetaRow (out our_meta).1
-    ours = record { both = refl; kind = (codes "taskboard", refl, IsUtf8-from_ascii (codes "taskboard") letters); version = (2, refl, omega arith) }
+    ours : IsMetaRow (out (meta_at version)).1
+    ours = record { both = refl; kind = (codes "taskboard", refl, IsUtf8-from_ascii (codes "taskboard") letters); version = (version, refl, is.fits) }
 
-pub row_excused : {X : Type 0} (old new : State) (rows : List Row) (result : Result X Error) → ((content : Content) → IsContent content old.now → All IsMetaRow rows)
-    → IfErr result (λ e. e ≢ SqliteFailure OutOfMemory → ¬ All IsMetaRow rows) → IfErr result (IsExcused old new)
-row_excused old new rows (Ok x) reads refused = tt
-row_excused old new rows (Err e) reads refused = λ other ready content is. absurd (refused other (reads content is))
+pub our_row_is_read : (old new : State) (rows : List Row) → Shown meta_text [] old new rows → (content : Content) → IsContent content old.now → All IsMetaRow rows
+our_row_is_read old new rows shown content is =
+    version_is_read old new rows shown 2 (record { schema = is.schema; row = is.rows.tables.meta; fits = omega arith })
+
+pub row_excused : {X C : Type 0} (Holds : C → Type 0) (old new : State) (rows : List Row) (result : Result X Error) → ((c : C) → Holds c → All IsMetaRow rows)
+    → IfErr result (λ e. e ≢ SqliteFailure OutOfMemory → ¬ All IsMetaRow rows)
+    → IfErr result (λ e. e ≢ SqliteFailure OutOfMemory → IsReady old → (c : C) → Holds c → HasFaulted old new)
+row_excused Holds old new rows (Ok x) reads refused = tt
+row_excused Holds old new rows (Err e) reads refused = λ other ready c is. absurd (refused other (reads c is))
 
 -- ---- the version is told
 
@@ -123,7 +134,7 @@ no_keyed = record { shaped = (tt, tt); same = IsPermutation-refl [] }
 no_rows : HasRows [] []
 no_rows = record { shaped = (tt, tt); same = IsPermutation-refl [] }
 
-pub update_version : (old new : State) → Ran update_text [] old new → (content : Content) → Turns (IsHalfway content) (IsContent (first_part content)) old new
+pub update_version : (old new : State) → Ran update_text [] old new → (content : Content) → Turns (IsHalfway content) (IsContent (old_part content)) old new
 update_version old new ran content = record {
   shown = ran.1.1;
   made = λ is.
@@ -132,7 +143,7 @@ update_version old new ran content = record {
       let was = is.tables in
       let e = effect.1 in
       let o = e.others in
-      let tables : AreTables (first_part content) new.now.trees = record {
+      let tables : AreTables (old_part content) new.now.trees = record {
         meta = effect.0;
         people = rw (o.1.0 (omega arith)) was.people;
         boards = rw (o.1.1.0 (omega arith)) was.boards;
@@ -147,6 +158,7 @@ update_version old new ran content = record {
         task_identifiers = was.task_identifiers;
         kept_identifiers = was.kept_identifiers;
         history_identifiers = tt;
+        fits = was.fits;
       } in
       record { schema = e.schema; rows = record { sound = e.sound; tables = tables } };
 }

@@ -7,7 +7,7 @@ use Rattle.sqlite.specs.State.{KeepsCommit, State}
 use Rattle.tb_sql_tables.specs.declared.rows.BoardRow.{BoardRow}
 use Rattle.tb_sql_tables.specs.declared.rows.HorizonRow.{HorizonRow}
 use Rattle.tb_sql_tables.specs.declared.rows.PersonRow.{PersonRow}
-use Rattle.tb_sql_tables.specs.Content.{without_history, Content, IsContent}
+use Rattle.tb_sql_tables.specs.Content.{old_part, without_history, Content, IsContent}
 use Rattle.tb_sql_tables.specs.Statements.{Changes, Finds, Turns}
 use Rattle.tb_sql_tables.specs.Standing.{IsOldContent, IsSecondContent}
 use Rattle.tb_sql_tables.specs.Found.{AreFound}
@@ -15,7 +15,7 @@ use Rattle.tb_sql_tables.proofs.Changing.{changes_then}
 use Rattle.tb_sql_tables.proofs.Reordered.{reordered, AreReordered}
 use Rattle.tb_sql.specs.declared.migrating.Counts.{Counts}
 use Rattle.tb_sql.specs.Changes.{IsBoardBefore, IsPersonBefore}
-use Rattle.tb_sql.specs.Migrating.{first_horizon, first_part, horizon_changes, migrated, IsMigrated, IsWidened}
+use Rattle.tb_sql.specs.Migrating.{first_horizon, horizon_changes, migrated, IsMigrated, IsWidened}
 use Rattle.tb_sql.specs.Writing.{changed_by_all}
 
 -- the rows of boards go in one after the other
@@ -32,9 +32,9 @@ all_in [] rows = IsPermutation-refl rows
 all_in (board ∷ boards) rows =
     IsPermutation-trans _ _ _ (all_in boards (first_horizon board ∷ rows)) (IsPermutation-middle (map first_horizon boards) (first_horizon board) rows)
 
-in_any_order : (content : Content) (boards : List BoardRow) → IsPermutation content.boards boards → AreReordered (changed_by_all (horizon_changes boards) (first_part content)) (migrated content)
+in_any_order : (content : Content) (boards : List BoardRow) → IsPermutation content.boards boards → AreReordered (changed_by_all (horizon_changes boards) (old_part content)) (migrated content)
 in_any_order content boards same =
-    let bare = first_part content in
+    let bare = old_part content in
     let put : IsPermutation (rows_before boards []) (map first_horizon boards) = subst (IsPermutation (rows_before boards [])) (append-nil (map first_horizon boards)) (all_in boards []) in
     let rows = IsPermutation-trans _ _ _ put (IsPermutation-map first_horizon _ _ (IsPermutation-sym content.boards boards same)) in
     subst (λ c. AreReordered c (migrated content)) (sym (horizons_in boards bare)) (record {
@@ -52,11 +52,11 @@ in_any_order content boards same =
 
 module _ (a b c d : State) (content : Content) (people : List PersonRow) (boards : List BoardRow) (counts : Counts) where
   pub filled : Changes (λ x. x) a b → Finds (λ x. AreFound IsPersonBefore x.people people) a → Changes (λ x. x) b c → Finds (λ x. AreFound IsBoardBefore x.boards boards) b
-      → Changes (changed_by_all (horizon_changes boards)) c d → counts.people ≡ length people → counts.boards ≡ length boards → Turns (IsContent (first_part content)) (IsMigrated content counts) a d
+      → Changes (changed_by_all (horizon_changes boards)) c d → counts.people ≡ length people → counts.boards ≡ length boards → Turns (IsContent (old_part content)) (IsMigrated content counts) a d
   filled first people_found second boards_found put people_are boards_are = record {
     shown = (changes_then (λ x. x) (changed_by_all (horizon_changes boards)) a c d (changes_then (λ x. x) (λ x. x) a b c first second) put).shown;
     made = λ is.
-        let bare = first_part content in
+        let bare = old_part content in
         let at_b = first.content bare is in
         let at_d = put.content bare (second.content bare at_b) in
         let of_people = people_found.found bare is in

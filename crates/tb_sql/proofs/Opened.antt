@@ -1,14 +1,16 @@
 -- What a connection that has just been opened shows.
-use Rattle.std.proofs.Common.{◌≡◌, ◌∙◌, ◌⊎◌, ◌&&◌, ◌==◌, Bool, List, [], ◌∷◌, codes, bytes_eq, cond, length, Result, IfOk, IsPermutation, IsTrue, true, false, true≢false, Ok, Err, arith, inl, inr, refl, sym, ap, subst}
+use Rattle.std.proofs.Common.{◌≡◌, ◌≢◌, ◌∙◌, ◌⊎◌, ◌&&◌, ◌==◌, Bool, ℕ, List, [], ◌∷◌, codes, bytes_eq, cond, length, Result, IfOk, IsPermutation, IsTrue, true, false, true≢false, Ok, Err, arith, inl, inr, refl, sym, ap, subst}
 use Rattle.std.proofs.lemmas.List.Sorted.{length_permutation, All-permutation}
 use Rattle.std.proofs.lemmas.List.Elements.{All-from_recursion, recursion_from_All}
+use Rattle.std.proofs.lemmas.Bool.{eqb-true}
 use Rattle.sqlite_trees.specs.Tree.{Trees}
 use Rattle.sqlite_schema.specs.declared.schema.Table.{Table}
 use Rattle.sqlite_schema.specs.declared.schema.Schema.{Schema}
 use Rattle.sqlite_catalog.specs.Listing.{IsSound}
 use Rattle.sqlite.specs.Effect.{Database}
 use Rattle.sqlite.proofs.Callers.{one_permutation}
-use Rattle.sqlite.specs.State.{State, HasCleanDisk, Opens, IsLive, KeepsCommit, IsRolledBack, Survives}
+use Rattle.sqlite.specs.State.{State, HasCleanDisk, IsLive, KeepsCommit, IsRolledBack, Survives}
+use Rattle.tb_sql_tables.specs.Failing.{IsAtRest}
 use Rattle.tb_sql_tables.specs.Tables.{no_schema, old_schema, second_schema, store_schema}
 use Rattle.tb_sql_tables.specs.Content.{Content, AreOldRows, AreRows, AreSecondRows, AreVersionRows, IsContent, Stands, StandsBy}
 use Rattle.tb_sql_tables.specs.Standing.{IsOldContent, IsSecondContent, StandsEmpty, StandsOld, StandsSecond}
@@ -25,17 +27,17 @@ use Rattle.tb_sql.specs.declared.store.StoreFault.TheVariants.{Memory as StoreMe
 use Rattle.tb_sql.specs.Opening.{are_tables, by_version, chosen, has_meta, has_tables, if_there, is_old, is_ours, is_second, judged, old_meta, our_meta, taken, AreMetas, IsAsBefore, IsOfStore, is_meta, is_person, is_board, is_role, is_task, is_link, is_instance, is_gone, is_kept, is_horizon, is_history}
 
 -- rows of a content make the schema that of a store
-pub opened_content : (s : State) (content : Content) → Opens s → IsLive s → AreRows content s.now.trees → IsContent content s.now
+pub opened_content : (s : State) (content : Content) → IsAtRest s → IsLive s → AreRows content s.now.trees → IsContent content s.now
 opened_content s content opened live rows = record { schema = sym (schema_once store_schema s.now.schema s.now.trees refl rows.sound (live opened.is_open).0); rows = rows }
 
-pub opened_old : (s : State) (content : Content) → Opens s → IsLive s → AreOldRows content s.now.trees → IsOldContent content s.now
+pub opened_old : (s : State) (content : Content) → IsAtRest s → IsLive s → AreOldRows content s.now.trees → IsOldContent content s.now
 opened_old s content opened live rows = record { schema = sym (schema_once old_schema s.now.schema s.now.trees refl rows.sound (live opened.is_open).0); rows = rows }
 
-pub opened_second : (s : State) (content : Content) → Opens s → IsLive s → AreSecondRows content s.now.trees → IsSecondContent content s.now
+pub opened_second : (s : State) (content : Content) → IsAtRest s → IsLive s → AreSecondRows content s.now.trees → IsSecondContent content s.now
 opened_second s content opened live rows = record { schema = sym (schema_once second_schema s.now.schema s.now.trees refl rows.sound (live opened.is_open).0); rows = rows }
 
 module _ (s : State) (settled : (db : Trees) → IsTrue s.is_open → s.may_leave db → db ≡ s.committed.trees) where
-  at_rest : (Seen : Database → Type 0) (Left : Trees → Type 0) → Opens s → Seen s.now → Left s.now.trees → StandsBy Seen Left s
+  at_rest : (Seen : Database → Type 0) (Left : Trees → Type 0) → IsAtRest s → Seen s.now → Left s.now.trees → StandsBy Seen Left s
   at_rest Seen Left opened seen left = record {
     seen = λ clean is_open. (seen, sym opened.clean);
     left = λ clean db may.
@@ -43,16 +45,16 @@ module _ (s : State) (settled : (db : Trees) → IsTrue s.is_open → s.may_leav
         subst Left (sym is) left;
   }
 
-  pub opened_stands : (content : Content) → Opens s → IsLive s → AreRows content s.now.trees → Stands content s
+  pub opened_stands : (content : Content) → IsAtRest s → IsLive s → AreRows content s.now.trees → Stands content s
   opened_stands content opened live rows = at_rest (IsContent content) (AreRows content) opened (opened_content s content opened live rows) rows
 
-  pub opened_stands_old : (content : Content) → Opens s → IsLive s → AreOldRows content s.now.trees → StandsOld content s
+  pub opened_stands_old : (content : Content) → IsAtRest s → IsLive s → AreOldRows content s.now.trees → StandsOld content s
   opened_stands_old content opened live rows = at_rest (IsOldContent content) (AreOldRows content) opened (opened_old s content opened live rows) rows
 
-  pub opened_stands_second : (content : Content) → Opens s → IsLive s → AreSecondRows content s.now.trees → StandsSecond content s
+  pub opened_stands_second : (content : Content) → IsAtRest s → IsLive s → AreSecondRows content s.now.trees → StandsSecond content s
   opened_stands_second content opened live rows = at_rest (IsSecondContent content) (AreSecondRows content) opened (opened_second s content opened live rows) rows
 
-  pub opened_empty : Opens s → IsLive s → s.now.schema ≡ no_schema → StandsEmpty s
+  pub opened_empty : IsAtRest s → IsLive s → s.now.schema ≡ no_schema → StandsEmpty s
   opened_empty opened live none = at_rest (λ db. db.schema ≡ no_schema) (IsSound no_schema) opened none (subst (λ schema. IsSound schema s.now.trees) none (live opened.is_open).0)
 
 -- another number of tables than of tests
@@ -100,12 +102,12 @@ store_has_meta schema (inl is) other = has_first_table schema store_schema is ou
 store_has_meta schema (inr (inl is)) other = has_first_table schema second_schema is second_first other
 store_has_meta schema (inr (inr is)) other = has_first_table schema old_schema is old_first other
 
-of_store : (s : State) (content : Content) → Opens s → IsLive s → AreVersionRows content s.now.trees → IsOfStore s.now.schema
+of_store : (s : State) (content : Content) → IsAtRest s → IsLive s → AreVersionRows content s.now.trees → IsOfStore s.now.schema
 of_store s content opened live (inl rows) = inl (opened_content s content opened live rows).schema
 of_store s content opened live (inr (inl rows)) = inr (inl (opened_second s content opened live rows).schema)
 of_store s content opened live (inr (inr rows)) = inr (inr (opened_old s content opened live rows).schema)
 
-pub first_refused : (s : State) (content : Content) → Opens s → IsLive s → has_meta s.now.schema.tables ≡ false → AreVersionRows content s.now.trees → ⊥
+pub first_refused : (s : State) (content : Content) → IsAtRest s → IsLive s → has_meta s.now.schema.tables ≡ false → AreVersionRows content s.now.trees → ⊥
 first_refused s content opened live other rows = store_has_meta s.now.schema (of_store s content opened live rows) other
 
 ours_not_old : is_old store_schema ≡ false
@@ -133,17 +135,17 @@ unfolding Rattle.sqlite_schema.specs.Names.same_name is_meta is_person is_board 
 old_not_ours = refl
 
 -- the version is that of the tables which have the rows
-pub rows_third : (s : State) (content : Content) (version : Version) → Opens s → IsLive s → has_tables version s.now.schema ≡ true → AreRows content s.now.trees → version ≡ Third
+pub rows_third : (s : State) (content : Content) (version : Version) → IsAtRest s → IsLive s → has_tables version s.now.schema ≡ true → AreRows content s.now.trees → version ≡ Third
 rows_third s content Third opened live has rows = refl
 rows_third s content Second opened live has rows = absurd (true≢false (sym has ∙ ap (λ x. is_second x) (opened_content s content opened live rows).schema ∙ ours_not_second))
 rows_third s content First opened live has rows = absurd (true≢false (sym has ∙ ap (λ x. is_old x) (opened_content s content opened live rows).schema ∙ ours_not_old))
 
-pub rows_second : (s : State) (content : Content) (version : Version) → Opens s → IsLive s → has_tables version s.now.schema ≡ true → AreSecondRows content s.now.trees → version ≡ Second
+pub rows_second : (s : State) (content : Content) (version : Version) → IsAtRest s → IsLive s → has_tables version s.now.schema ≡ true → AreSecondRows content s.now.trees → version ≡ Second
 rows_second s content Second opened live has rows = refl
 rows_second s content Third opened live has rows = absurd (true≢false (sym has ∙ ap (λ x. is_ours x) (opened_second s content opened live rows).schema ∙ second_not_ours))
 rows_second s content First opened live has rows = absurd (true≢false (sym has ∙ ap (λ x. is_old x) (opened_second s content opened live rows).schema ∙ second_not_old))
 
-pub rows_first : (s : State) (content : Content) (version : Version) → Opens s → IsLive s → has_tables version s.now.schema ≡ true → AreOldRows content s.now.trees → version ≡ First
+pub rows_first : (s : State) (content : Content) (version : Version) → IsAtRest s → IsLive s → has_tables version s.now.schema ≡ true → AreOldRows content s.now.trees → version ≡ First
 rows_first s content First opened live has rows = refl
 rows_first s content Second opened live has rows = absurd (true≢false (sym has ∙ ap (λ x. is_second x) (opened_old s content opened live rows).schema ∙ old_not_second))
 rows_first s content Third opened live has rows = absurd (true≢false (sym has ∙ ap (λ x. is_ours x) (opened_old s content opened live rows).schema ∙ old_not_ours))
@@ -152,7 +154,7 @@ rows_first s content Third opened live has rows = absurd (true≢false (sym has 
 known_taken : (schema known : Schema) (metas : List MetaRow) (meta : MetaRow) (version : Version) → schema ≡ known → metas ≡ meta ∷ [] → taken known (meta ∷ []) ≡ Ok version → taken schema metas ≡ Ok version
 known_taken schema known metas meta version is one known_is = ap (λ x. taken x metas) is ∙ ap (taken known) one ∙ known_is
 
-one_taken : (s : State) (content : Content) (metas : List MetaRow) → Opens s → IsLive s → AreMetas s.now metas → AreVersionRows content s.now.trees → (version : Version) × (taken s.now.schema metas ≡ Ok version)
+one_taken : (s : State) (content : Content) (metas : List MetaRow) → IsAtRest s → IsLive s → AreMetas s.now metas → AreVersionRows content s.now.trees → (version : Version) × (taken s.now.schema metas ≡ Ok version)
 one_taken s content metas opened live told (inl rows) =
     let schema = (opened_content s content opened live rows).schema in
     let one = one_permutation our_meta metas (told (inl schema) (our_meta ∷ []) rows.tables.meta) in
@@ -166,7 +168,7 @@ one_taken s content metas opened live told (inr (inr rows)) =
     let one = one_permutation old_meta metas (told (inr (inr schema)) (old_meta ∷ []) rows.tables.meta) in
     (First, known_taken s.now.schema old_schema metas old_meta First schema one old_taken)
 
-pub never_refused : (s : State) (content : Content) (metas : List MetaRow) (fault : OpenFault) → Opens s → IsLive s → AreMetas s.now metas → AreVersionRows content s.now.trees → Err fault ≡ taken s.now.schema metas → ⊥
+pub never_refused : (s : State) (content : Content) (metas : List MetaRow) (fault : OpenFault) → IsAtRest s → IsLive s → AreMetas s.now metas → AreVersionRows content s.now.trees → Err fault ≡ taken s.now.schema metas → ⊥
 never_refused s content metas fault opened live told rows is =
     let version = one_taken s content metas opened live told rows in
     let none : Err fault ≡ Ok version.0 = is ∙ version.1 in
@@ -227,6 +229,17 @@ pub taken_same : (schema : Schema) (rows metas : List MetaRow) → IsPermutation
 taken_same schema rows metas same = ap (if_there schema) (judged_same rows metas same)
 
 -- ---- the answer, by the tables and the rows
+
+-- a store of another version isn't taken
+pub others_refused : (schema : Schema) (version : ℕ) (taken_as : Version) → version ≢ 2 → schema ≡ store_schema
+    → taken schema (record { kind = codes "taskboard"; version = version } ∷ []) ≡ Ok taken_as → ⊥
+others_refused schema version taken_as other same is = go (version == 2) refl (version == 1) (rw same at is)
+  where
+    go : (second : Bool) → (version == 2) ≡ second → (first : Bool)
+        → if_there store_schema (cond second (Ok Two) (cond first (Ok One) (Err WrongVersion))) ≡ Ok taken_as → ⊥
+    go true two first is = other (eqb-true version 2 two)
+    go false two true is = absurd (let wrong : Err NotOurs ≡ Ok taken_as = rw ours_not_old at is in cc)
+    go false two false is = absurd (cc)
 
 pub refused_taken : (schema : Schema) (metas : List MetaRow) (fault : OpenFault) → Err fault ≡ judged metas → Err fault ≡ taken schema metas
 refused_taken schema metas fault is = ap (if_there schema) is

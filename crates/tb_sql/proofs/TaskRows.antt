@@ -1,5 +1,5 @@
 -- What the statements on tasks do.
-use Rattle.std.proofs.Common.{◌≡◌, ◌<◌, ◌^◌, ◌&&◌, ℕ, pos, List, [], ◌∷◌, map, drop, codes, Bool, true, false, cond, Option, option_map, slice_get, refl, sym, ap₂, subst, arith}
+use Rattle.std.proofs.Common.{◌≡◌, ◌<◌, ◌^◌, ◌&&◌, ℕ, pos, List, [], ◌∷◌, map, drop, codes, Bool, true, false, cond, Option, option_map, slice_get, refl, sym, ap₂, subst, arith, All, ◌⊎◌, IsUtf8, IfSome}
 use Rattle.std.specs.Prelude.{filter, ◌==◌}
 use Rattle.std.specs.declared.cmp.Ordering.TheVariants.{Less}
 use Rattle.std.proofs.lemmas.Int.{ints}
@@ -19,13 +19,13 @@ use Rattle.sqlite_rules.specs.Cast.{cast, cast_row}
 use Rattle.sqlite_tied.specs.Compute.{everything}
 use Rattle.sqlite.specs.Given.{IsPlain}
 use Rattle.sqlite.specs.Listing.{understood}
-use Rattle.sqlite.specs.State.{State, Shown}
+use Rattle.sqlite.specs.State.{State, Shown, FailsToQuery, IsTooLate}
 use Rattle.sqlite.specs.Values.{or_null}
 use Rattle.tb_sql_tables.specs.declared.rows.TaskRow.{TaskRow}
 use Rattle.tb_sql_tables.specs.Tables.{task_plain, task_table, task_tree, store_schema}
 use Rattle.tb_sql_tables.specs.Rows.{task_row}
-use Rattle.tb_sql_tables.specs.Read.{task_of}
-use Rattle.tb_sql_tables.specs.Content.{HaveIdentifiers}
+use Rattle.tb_sql_tables.specs.Read.{task_of, IsTaskRow}
+use Rattle.tb_sql_tables.specs.Content.{HaveIdentifiers, Content, IsContent}
 use Rattle.tb_sql_tables.specs.Statements.{Changes, Finds, Ran}
 use Rattle.tb_sql_tables.specs.Found.{AreFound, IsOneOf}
 use Rattle.tb_sql_tables.proofs.Contents.{tasks_changed}
@@ -39,6 +39,11 @@ use Rattle.tb_sql_tables.proofs.Statements.{Means, Asks, row_inserted}
 use Rattle.uuid.proofs.OrderLemmas.{from_be_bytes-to_be_bytes_16}
 use Rattle.tb_sql.specs.Lend.{tasks_text}
 use Rattle.tb_sql.specs.Changes.{with_task, with_text, with_mask, is_task, IsTaskBefore}
+use Rattle.tb_sql_tables.specs.Failing.{IsExcused}
+use Rattle.tb_sql_tables.proofs.Failing.{Suits, fails_so}
+use Rattle.tb_sql_tables.proofs.Fitted.{all_read, task_read as task_is_read, still_fit}
+use Rattle.sqlite.specs.declared.error.Error.{Error}
+use Rattle.tb_sql_tables.specs.Fitting.{FitsTask}
 
 -- ---- a row goes in
 
@@ -52,14 +57,14 @@ inserts : Means insert_text (Insert 4 (Values terms 6))
 unfolding understood everything
 inserts = record { is = refl; bare = (refl, refl) }
 
-pub insert_task : (old new : State) (row : TaskRow) → row.uuid < 2 ^ 128 → Ran insert_text (task_row row) old new → Changes (with_task row) old new
-insert_task old new row low ran = record {
+pub insert_task : (old new : State) (row : TaskRow) → FitsTask row → row.uuid < 2 ^ 128 → Ran insert_text (task_row row) old new → Changes (with_task row) old new
+insert_task old new row fits low ran = record {
   shown = ran.1.1;
   content = λ content is.
       let cells = task_row row in
       let effect = row_inserted 4 task_plain refl refl insert_text old new is.schema cells ran.0 terms 6 (Null ∷ cells) inserts refl ran.1 in
       tasks_changed content (row ∷ content.tasks) old.now new.now effect.1 is
-      (row_put store_schema old.now.trees new.now.trees task_table (Null ∷ cells) cells _ (rw (cast_null, cast_integer (pos row.board), cast_integer (pos row.place), cast_mask row.mask) refl) effect.0 is.rows.tables.tasks) (low, is.rows.tables.task_identifiers);
+      (row_put store_schema old.now.trees new.now.trees task_table (Null ∷ cells) cells _ (rw (cast_null, cast_integer (pos row.board), cast_integer (pos row.place), cast_mask row.mask) refl) effect.0 is.rows.tables.tasks) (low, is.rows.tables.task_identifiers) (fits, is.rows.tables.fits.tasks);
 }
 
 -- changes that keep identifiers
@@ -98,15 +103,16 @@ module _ (board place : ℕ) (body : List ℕ) (mask : Option (List ℕ)) where
   update_text_altered_is [] = refl
   update_text_altered_is (id ∷ cells) = refl
 
-  pub update_text : (old new : State) → Ran text_text update_text_params old new → Changes (with_text board place body mask) old new
-  update_text old new ran = record {
+  pub update_text : (old new : State) → IsUtf8 body → IfSome mask IsUtf8 → Ran text_text update_text_params old new → Changes (with_text board place body mask) old new
+  update_text old new text_fits mask_fits ran = record {
     shown = ran.1.1;
     content = λ content is.
         let same = each (λ (task : TaskRow). ap₂ ◌&&◌ (equal_numbers task.board board) (equal_numbers task.place place)) content.tasks in
         let effect = cells_updated task_row (is_task board place) content.tasks 4 task_plain refl refl text_text by_two old new is.schema update_text_params ran
         (has_two (Int (pos board)) (Int (pos place))) (two_tested (Int (pos board)) (Int (pos place)) (Text body ∷ or_null Text mask ∷ [])) same is.rows.tables.tasks update_text_replaced update_text_set update_text_altered updates_text
         (λ r. refl) update_text_altered_is (λ task. rw (cast_integer (pos task.board), cast_integer (pos task.place), cast_mask mask) refl) in
-        tasks_changed content _ old.now new.now effect.1 is effect.0 (still_identified (is_task board place) update_text_set (λ task. refl) content.tasks is.rows.tables.task_identifiers);
+        tasks_changed content _ old.now new.now effect.1 is effect.0 (still_identified (is_task board place) update_text_set (λ task. refl) content.tasks is.rows.tables.task_identifiers)
+        (still_fit FitsTask (is_task board place) update_text_set (λ task was. record { board = was.board; place = was.place; body = text_fits; mask = mask_fits }) content.tasks is.rows.tables.fits.tasks);
   }
 
 -- ---- the mask of a task
@@ -136,15 +142,16 @@ module _ (board place : ℕ) (mask : Option (List ℕ)) where
   update_mask_altered_is [] = refl
   update_mask_altered_is (id ∷ cells) = refl
 
-  pub update_mask : (old new : State) → Ran mask_text update_mask_params old new → Changes (with_mask board place mask) old new
-  update_mask old new ran = record {
+  pub update_mask : (old new : State) → IfSome mask IsUtf8 → Ran mask_text update_mask_params old new → Changes (with_mask board place mask) old new
+  update_mask old new fits ran = record {
     shown = ran.1.1;
     content = λ content is.
         let same = each (λ (task : TaskRow). ap₂ ◌&&◌ (equal_numbers task.board board) (equal_numbers task.place place)) content.tasks in
         let effect = cells_updated task_row (is_task board place) content.tasks 4 task_plain refl refl mask_text by_two old new is.schema update_mask_params ran
         (has_two (Int (pos board)) (Int (pos place))) (two_tested (Int (pos board)) (Int (pos place)) (or_null Text mask ∷ [])) same is.rows.tables.tasks update_mask_replaced update_mask_set update_mask_altered updates_mask
         (λ r. refl) update_mask_altered_is (λ task. rw (cast_integer (pos task.board), cast_integer (pos task.place), cast_mask mask) refl) in
-        tasks_changed content _ old.now new.now effect.1 is effect.0 (still_identified (is_task board place) update_mask_set (λ task. refl) content.tasks is.rows.tables.task_identifiers);
+        tasks_changed content _ old.now new.now effect.1 is effect.0 (still_identified (is_task board place) update_mask_set (λ task. refl) content.tasks is.rows.tables.task_identifiers)
+        (still_fit FitsTask (is_task board place) update_mask_set (λ task was. record { board = was.board; place = was.place; body = was.body; mask = fits }) content.tasks is.rows.tables.fits.tasks);
   }
 
 -- ---- queries
@@ -197,6 +204,21 @@ select_tasks old new board rows shown = record {
       found task_of (query_of task_tree by_one shown_terms in_order) (λ row. out (task_row row)) _ rows (each_of task_read _ (each_left _ _ content.tasks is.rows.tables.task_identifiers)) answer IsTaskBefore lower;
 }
 
+pub select_tasks_read : (old new : State) (board : ℕ) (rows : List Row) → Shown tasks_text (Int (pos board) ∷ []) old new rows → (content : Content) → IsContent content old.now → All IsTaskRow rows
+select_tasks_read old new board rows shown content is =
+    let params = Int (pos board) ∷ [] in
+    let same = each (λ (row : TaskRow). equal_numbers row.board board) content.tasks in
+    let answer = cells_shown task_row (λ row. row.board == board) content.tasks task_tree refl tasks_text by_one shown_terms in_order asks old new params rows is.schema shown
+    (has_one (Int (pos board))) out (one_tested (Int (pos board)) []) (shows params) same is.rows.tables.tasks in
+    all_read IsTaskRow _ _ _ rows answer (each_of task_is_read _ (each_left _ (λ row. row.board == board) content.tasks is.rows.tables.fits.tasks))
+
+select_tasks_suits : (board : ℕ) → Suits tasks_text task_tree by_one shown_terms in_order (Int (pos board) ∷ [])
+unfolding understood everything
+select_tasks_suits board = record { whole = refl; given = refl; typed = refl }
+
+pub select_tasks_excused : (old new : State) (board : ℕ) (e : Error) → FailsToQuery tasks_text (Int (pos board) ∷ []) old new e ⊎ IsTooLate tasks_text (Int (pos board) ∷ []) old new e → IsExcused old new e
+select_tasks_excused old new board e failed other ready content is = fails_so tasks_text task_tree by_one shown_terms in_order asks _ (select_tasks_suits board) old new e is.schema ready other failed
+
 abbrev pub find_text : List ℕ
 find_text = codes "SELECT board, place, uuid, body, mask FROM task WHERE board = ?1 AND place = ?2"
 
@@ -222,3 +244,18 @@ find_task old new board place rows shown = record {
       (has_two (Int (pos board)) (Int (pos place))) out_one (two_tested (Int (pos board)) (Int (pos place)) []) (shows_one params) same is.rows.tables.tasks in
       found_one task_of (query_of task_tree by_two shown_terms []) (λ row. out_one (task_row row)) _ rows (each_of task_read _ (each_left _ _ content.tasks is.rows.tables.task_identifiers)) answer;
 }
+
+pub find_task_read : (old new : State) (board place : ℕ) (rows : List Row) → Shown find_text (Int (pos board) ∷ Int (pos place) ∷ []) old new rows → (content : Content) → IsContent content old.now → All IsTaskRow rows
+find_task_read old new board place rows shown content is =
+    let params = Int (pos board) ∷ Int (pos place) ∷ [] in
+    let same = each (λ (row : TaskRow). ap₂ ◌&&◌ (equal_numbers row.board board) (equal_numbers row.place place)) content.tasks in
+    let answer = cells_shown task_row (is_task board place) content.tasks task_tree refl find_text by_two shown_terms [] asks_one old new params rows is.schema shown
+    (has_two (Int (pos board)) (Int (pos place))) out_one (two_tested (Int (pos board)) (Int (pos place)) []) (shows_one params) same is.rows.tables.tasks in
+    all_read IsTaskRow _ _ _ rows answer (each_of task_is_read _ (each_left _ (is_task board place) content.tasks is.rows.tables.fits.tasks))
+
+find_task_suits : (board place : ℕ) → Suits find_text task_tree by_two shown_terms [] (Int (pos board) ∷ Int (pos place) ∷ [])
+unfolding understood everything
+find_task_suits board place = record { whole = refl; given = refl; typed = refl }
+
+pub find_task_excused : (old new : State) (board place : ℕ) (e : Error) → FailsToQuery find_text (Int (pos board) ∷ Int (pos place) ∷ []) old new e ⊎ IsTooLate find_text (Int (pos board) ∷ Int (pos place) ∷ []) old new e → IsExcused old new e
+find_task_excused old new board place e failed other ready content is = fails_so find_text task_tree by_two shown_terms [] asks_one _ (find_task_suits board place) old new e is.schema ready other failed

@@ -11,10 +11,6 @@ use Rattle.tb_sql.specs.declared.migrating.Counts.{Counts}
 abbrev pub without_horizon : Content → Content
 without_horizon content = record content { horizon = [] }
 
--- what the first version holds of a content
-abbrev pub first_part : Content → Content
-first_part content = without_history (without_horizon content)
-
 -- a board of the first version has one instance ahead
 abbrev pub first_horizon : BoardRow → HorizonRow
 first_horizon board = record { board = board.id; ahead = 1 }

@@ -1,5 +1,5 @@
 -- Which databases are taken as a store.
-use Rattle.std.specs.Prelude.{◌≡◌, ◌⊎◌, ◌&&◌, ◌==◌, if◌then◌else◌, ℕ, pos, Bool, true, false, List, [], ◌∷◌, length, codes, bytes_eq, IsTrue, map, IsPermutation, Result, Ok, Err}
+use Rattle.std.specs.Prelude.{◌≡◌, ◌≢◌, ◌<◌, ◌⊎◌, ◌&&◌, ◌==◌, if◌then◌else◌, ℕ, pos, Bool, true, false, List, [], ◌∷◌, length, codes, bytes_eq, IsTrue, map, IsPermutation, Result, Ok, Err}
 use Rattle.sqlite_value.specs.declared.value.Value.TheVariants.{Null, Int, Text as Words}
 use Rattle.sqlite_value.specs.Order.{Row}
 use Rattle.sqlite_trees.specs.declared.store.Store.{Ghosts}
@@ -13,9 +13,13 @@ use Rattle.sqlite_schema.specs.Names.{same_name}
 use Rattle.sqlite.specs.Effect.{Database}
 use Rattle.sqlite.specs.Held.{Held, state}
 use Rattle.sqlite.specs.State.{State, HasCleanDisk, Shown}
+use Rattle.sqlite.specs.declared.error.ErrorCode.TheVariants.{OutOfMemory}
+use Rattle.sqlite.specs.declared.error.Error.{Error}
+use Rattle.sqlite.specs.declared.error.Error.TheVariants.{SqliteFailure}
 use Rattle.tb_sql_tables.specs.declared.rows.MetaRow.{MetaRow}
 use Rattle.tb_sql_tables.specs.Tables.{meta_tree, old_schema, second_schema, store_schema}
 use Rattle.tb_sql_tables.specs.Content.{HasKeyed}
+use Rattle.tb_sql_tables.specs.Failing.{HasFaulted, IsReady}
 use Rattle.tb_sql_tables.specs.Read.{meta_of}
 use Rattle.tb_sql.specs.declared.opening.OpenFault.{OpenFault}
 use Rattle.tb_sql.specs.declared.opening.Version.{Version}
@@ -237,6 +241,25 @@ module _ {S : Type 0} (g : Ghosts S) where
   IsAnswered conn answer =
       ((metas : List MetaRow) × AreShownFrom conn metas × (answer ≡ taken conn.schema metas))
       ⊎ ((answer ≡ Err Store) ⊎ (answer ≡ Err Memory))
+
+-- ---- a store of whatever version
+
+-- today's tables are there, and the one row of the first names a store and this version
+pub record IsOfVersion (version : ℕ) (db : Database) : Type 0 where
+  pub schema : db.schema ≡ store_schema
+  pub row : HasKeyed (row_of_meta (record { kind = codes "taskboard"; version = version }) ∷ [])
+      (db.trees meta_tree)
+  pub fits : version < 4294967296
+
+-- its version is read, unless memory is wanting, or the disk has failed or refused a call since
+abbrev pub ReadsVersion : State → State → Error → Type 0
+ReadsVersion old new e = e ≢ SqliteFailure OutOfMemory → IsReady old → (version : ℕ)
+    → IsOfVersion version old.now → HasFaulted old new
+
+-- one of another version isn't told as failed, unless the disk has failed or refused a call since
+abbrev pub HidesNone : State → State → Type 0
+HidesNone old new = HasCleanDisk new → IsReady old → (version : ℕ) → version ≢ 2
+    → IsOfVersion version old.now → HasFaulted old new
 
 -- ---- what a look leaves
 

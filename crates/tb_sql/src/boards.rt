@@ -10,6 +10,7 @@ ghost use Rattle.tb_sql_tables.specs.Found.{AreFound, IsOneOf};
 ghost use Rattle.tb_sql.specs.Changes.{with_board, with_low, with_title, is_board, IsBoardBefore};
 
 use sqlite::{Alter, Error, Transaction, params};
+use tb_sql_tables::fitting::{board_fits, number_fits, text_fits};
 use tb_sql_tables::read::{read_all, read_first};
 use tb_sql_tables::rows::BoardRow;
 use tb_sql_tables::run::{find_rows, run};
@@ -25,6 +26,7 @@ pub fn insert_board<S: Alter>(tx: &mut Transaction<'_, S>, board: &BoardRow) -> 
     ensures kept { KeepsOnErr (seen S.Store tx.old) (seen S.Store tx.new) result }
     ensures survives { Survives (seen S.Store tx.old) (seen S.Store tx.new) (λ _. ⊥) }
 {
+    board_fits(board);
     let title = board.title.as_str();
     run(
         tx,
@@ -42,6 +44,7 @@ pub fn update_low<S: Alter>(tx: &mut Transaction<'_, S>, id: u32, low: u32) -> R
     ensures kept { KeepsOnErr (seen S.Store tx.old) (seen S.Store tx.new) result }
     ensures survives { Survives (seen S.Store tx.old) (seen S.Store tx.new) (λ _. ⊥) }
 {
+    number_fits(low);
     run(
         tx,
         "UPDATE board SET low = ?2 WHERE id = ?1",
@@ -63,6 +66,7 @@ pub fn update_title<S: Alter>(
     ensures kept { KeepsOnErr (seen S.Store tx.old) (seen S.Store tx.new) result }
     ensures survives { Survives (seen S.Store tx.old) (seen S.Store tx.new) (λ _. ⊥) }
 {
+    text_fits(title);
     run(
         tx,
         "UPDATE board SET title = ?2 WHERE id = ?1",
@@ -79,6 +83,8 @@ pub fn select_boards<S: Alter>(tx: &mut Transaction<'_, S>) -> Result<Items<Boar
     ensures looks { HasCleanDisk (seen S.Store tx.new)
         → IsTrue (seen S.Store tx.old).in_transaction
         → OnOk result (Changes (λ content. content) (seen S.Store tx.old) (seen S.Store tx.new)) }
+    ensures excused { HasCleanDisk (seen S.Store tx.new)
+        → IfErr result (IsExcused (seen S.Store tx.old) (seen S.Store tx.new)) }
     ensures kept { KeepsInside (seen S.Store tx.old) (seen S.Store tx.new) }
     ensures survives { Survives (seen S.Store tx.old) (seen S.Store tx.new) (λ _. ⊥) }
 {
@@ -92,6 +98,8 @@ pub fn find_board<S: Alter>(tx: &mut Transaction<'_, S>, id: u32) -> Result<Opti
     ensures found { HasCleanDisk (seen S.Store tx.new)
         → IfOk result (λ board. Finds
         (λ content. IsOneOf (filter (is_board id) content.boards) board) (seen S.Store tx.old)) }
+    ensures excused { HasCleanDisk (seen S.Store tx.new)
+        → IfErr result (IsExcused (seen S.Store tx.old) (seen S.Store tx.new)) }
     ensures kept { KeepsInside (seen S.Store tx.old) (seen S.Store tx.new) }
     ensures survives { Survives (seen S.Store tx.old) (seen S.Store tx.new) (λ _. ⊥) }
 {

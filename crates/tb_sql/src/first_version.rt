@@ -13,6 +13,7 @@ ghost use Rattle.tb_sql.specs.FirstVersion.{first_content};
 use crate::store::StoreFault;
 use sqlite::{Alter, Connection, Error, Transaction, params};
 use tb_sql_tables::create::create_old;
+use tb_sql_tables::fitting::{board_fits, person_fits, role_fits};
 use tb_sql_tables::rows::{BoardRow, PersonRow, RoleRow};
 use tb_sql_tables::run::run;
 
@@ -27,6 +28,7 @@ fn insert_person<S: Alter>(tx: &mut Transaction<'_, S>, person: &PersonRow) -> R
     ensures kept { KeepsOnErr (seen S.Store tx.old) (seen S.Store tx.new) result }
     ensures survives { Survives (seen S.Store tx.old) (seen S.Store tx.new) (λ _. ⊥) }
 {
+    person_fits(person);
     let name = person.name.as_str();
     let secret = person.secret.as_str();
     run(
@@ -47,6 +49,7 @@ fn insert_board<S: Alter>(tx: &mut Transaction<'_, S>, board: &BoardRow) -> Resu
     ensures kept { KeepsOnErr (seen S.Store tx.old) (seen S.Store tx.new) result }
     ensures survives { Survives (seen S.Store tx.old) (seen S.Store tx.new) (λ _. ⊥) }
 {
+    board_fits(board);
     let title = board.title.as_str();
     run(
         tx,
@@ -66,6 +69,7 @@ fn insert_role<S: Alter>(tx: &mut Transaction<'_, S>, role: &RoleRow) -> Result<
     ensures kept { KeepsOnErr (seen S.Store tx.old) (seen S.Store tx.new) result }
     ensures survives { Survives (seen S.Store tx.old) (seen S.Store tx.new) (λ _. ⊥) }
 {
+    role_fits(role);
     run(
         tx,
         "INSERT INTO role (board, person, kind) VALUES (?1, ?2, ?3)",

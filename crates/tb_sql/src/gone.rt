@@ -1,13 +1,15 @@
 //! The statements on the instances that are not on the board.
 
-ghost use Rattle.std.specs.Prelude.{◌≡◌, IsTrue, IfOk, OnOk, ◌==◌, filter};
+ghost use Rattle.std.specs.Prelude.{◌≡◌, IsTrue, IfErr, IfOk, OnOk, ◌==◌, filter};
 ghost use Rattle.sqlite.specs.State.{HasCleanDisk, Survives};
 ghost use Rattle.tb_sql_tables.specs.Inside.{seen, KeepsInside, KeepsOnErr};
 ghost use Rattle.tb_sql_tables.specs.Statements.{Changes, Finds};
+ghost use Rattle.tb_sql_tables.specs.Failing.{IsExcused};
 ghost use Rattle.tb_sql_tables.specs.Found.{AreFound};
 ghost use Rattle.tb_sql.specs.Changes.{with_gone, without_gone, IsGoneBefore};
 
 use sqlite::{Alter, Error, Transaction, params};
+use tb_sql_tables::fitting::gone_fits;
 use tb_sql_tables::read::read_all;
 use tb_sql_tables::rows::GoneRow;
 use tb_sql_tables::run::{find_rows, run};
@@ -22,6 +24,7 @@ pub fn insert_gone<S: Alter>(tx: &mut Transaction<'_, S>, gone: &GoneRow) -> Res
     ensures kept { KeepsOnErr (seen S.Store tx.old) (seen S.Store tx.new) result }
     ensures survives { Survives (seen S.Store tx.old) (seen S.Store tx.new) (λ _. ⊥) }
 {
+    gone_fits(gone);
     let mark = gone.mark.as_str();
     run(
         tx,
@@ -62,6 +65,8 @@ pub fn select_gone<S: Alter>(
         → IfOk result (λ gone. Finds
         (λ content. AreFound IsGoneBefore (filter (λ row. row.board == board) content.gone) gone)
         (seen S.Store tx.old)) }
+    ensures excused { HasCleanDisk (seen S.Store tx.new)
+        → IfErr result (IsExcused (seen S.Store tx.old) (seen S.Store tx.new)) }
     ensures kept { KeepsInside (seen S.Store tx.old) (seen S.Store tx.new) }
     ensures survives { Survives (seen S.Store tx.old) (seen S.Store tx.new) (λ _. ⊥) }
 {

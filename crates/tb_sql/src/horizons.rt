@@ -1,13 +1,15 @@
 //! The statements on how far ahead the boards look.
 
-ghost use Rattle.std.specs.Prelude.{◌≡◌, IsTrue, IfOk, OnOk, filter};
+ghost use Rattle.std.specs.Prelude.{◌≡◌, IsTrue, IfErr, IfOk, OnOk, filter};
 ghost use Rattle.sqlite.specs.State.{HasCleanDisk, Survives};
 ghost use Rattle.tb_sql_tables.specs.Inside.{seen, KeepsInside, KeepsOnErr};
 ghost use Rattle.tb_sql_tables.specs.Statements.{Changes, Finds};
+ghost use Rattle.tb_sql_tables.specs.Failing.{IsExcused};
 ghost use Rattle.tb_sql_tables.specs.Found.{IsOneOf};
 ghost use Rattle.tb_sql.specs.Changes.{with_ahead, with_horizon, is_horizon};
 
 use sqlite::{Alter, Error, Transaction, params};
+use tb_sql_tables::fitting::{horizon_fits, number_fits};
 use tb_sql_tables::read::read_first;
 use tb_sql_tables::rows::HorizonRow;
 use tb_sql_tables::run::{find_rows, run};
@@ -25,6 +27,7 @@ pub fn insert_horizon<S: Alter>(
     ensures kept { KeepsOnErr (seen S.Store tx.old) (seen S.Store tx.new) result }
     ensures survives { Survives (seen S.Store tx.old) (seen S.Store tx.new) (λ _. ⊥) }
 {
+    horizon_fits(horizon);
     run(
         tx,
         "INSERT INTO horizon (board, ahead) VALUES (?1, ?2)",
@@ -46,6 +49,7 @@ pub fn update_horizon<S: Alter>(
     ensures kept { KeepsOnErr (seen S.Store tx.old) (seen S.Store tx.new) result }
     ensures survives { Survives (seen S.Store tx.old) (seen S.Store tx.new) (λ _. ⊥) }
 {
+    number_fits(ahead);
     run(
         tx,
         "UPDATE horizon SET ahead = ?2 WHERE board = ?1",
@@ -63,6 +67,8 @@ pub fn find_horizon<S: Alter>(
         → IfOk result (λ horizon. Finds
         (λ content. IsOneOf (filter (is_horizon board) content.horizon) horizon)
         (seen S.Store tx.old)) }
+    ensures excused { HasCleanDisk (seen S.Store tx.new)
+        → IfErr result (IsExcused (seen S.Store tx.old) (seen S.Store tx.new)) }
     ensures kept { KeepsInside (seen S.Store tx.old) (seen S.Store tx.new) }
     ensures survives { Survives (seen S.Store tx.old) (seen S.Store tx.new) (λ _. ⊥) }
 {

@@ -1,13 +1,15 @@
 //! The statements on the instances of templates.
 
-ghost use Rattle.std.specs.Prelude.{◌≡◌, IsTrue, IfOk, OnOk, ◌==◌, filter};
+ghost use Rattle.std.specs.Prelude.{◌≡◌, IsTrue, IfErr, IfOk, OnOk, ◌==◌, filter};
 ghost use Rattle.sqlite.specs.State.{HasCleanDisk, Survives};
 ghost use Rattle.tb_sql_tables.specs.Inside.{seen, KeepsInside, KeepsOnErr};
 ghost use Rattle.tb_sql_tables.specs.Statements.{Changes, Finds};
+ghost use Rattle.tb_sql_tables.specs.Failing.{IsExcused};
 ghost use Rattle.tb_sql_tables.specs.Found.{AreFound};
 ghost use Rattle.tb_sql.specs.Changes.{with_instance, IsInstanceBefore};
 
 use sqlite::{Alter, Error, Transaction, params};
+use tb_sql_tables::fitting::instance_fits;
 use tb_sql_tables::read::read_all;
 use tb_sql_tables::rows::InstanceRow;
 use tb_sql_tables::run::{find_rows, run};
@@ -26,6 +28,7 @@ pub fn insert_instance<S: Alter>(
     ensures kept { KeepsOnErr (seen S.Store tx.old) (seen S.Store tx.new) result }
     ensures survives { Survives (seen S.Store tx.old) (seen S.Store tx.new) (λ _. ⊥) }
 {
+    instance_fits(instance);
     run(
         tx,
         "INSERT INTO instance (board, template, imask, place) VALUES (?1, ?2, ?3, ?4)",
@@ -48,6 +51,8 @@ pub fn select_instances<S: Alter>(
         → IfOk result (λ instances. Finds (λ content. AreFound IsInstanceBefore
         (filter (λ instance. instance.board == board) content.instances) instances)
         (seen S.Store tx.old)) }
+    ensures excused { HasCleanDisk (seen S.Store tx.new)
+        → IfErr result (IsExcused (seen S.Store tx.old) (seen S.Store tx.new)) }
     ensures kept { KeepsInside (seen S.Store tx.old) (seen S.Store tx.new) }
     ensures survives { Survives (seen S.Store tx.old) (seen S.Store tx.new) (λ _. ⊥) }
 {

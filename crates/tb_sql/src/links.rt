@@ -1,13 +1,15 @@
 //! The statements on the links between tasks.
 
-ghost use Rattle.std.specs.Prelude.{◌≡◌, IsTrue, IfOk, OnOk, ◌==◌, filter};
+ghost use Rattle.std.specs.Prelude.{◌≡◌, IsTrue, IfErr, IfOk, OnOk, ◌==◌, filter};
 ghost use Rattle.sqlite.specs.State.{HasCleanDisk, Survives};
 ghost use Rattle.tb_sql_tables.specs.Inside.{seen, KeepsInside, KeepsOnErr};
 ghost use Rattle.tb_sql_tables.specs.Statements.{Changes, Finds};
+ghost use Rattle.tb_sql_tables.specs.Failing.{IsExcused};
 ghost use Rattle.tb_sql_tables.specs.Found.{AreFound};
 ghost use Rattle.tb_sql.specs.Changes.{with_link, without_links, IsLinkBefore};
 
 use sqlite::{Alter, Error, Transaction, params};
+use tb_sql_tables::fitting::link_fits;
 use tb_sql_tables::read::read_all;
 use tb_sql_tables::rows::LinkRow;
 use tb_sql_tables::run::{find_rows, run};
@@ -22,6 +24,7 @@ pub fn insert_link<S: Alter>(tx: &mut Transaction<'_, S>, link: &LinkRow) -> Res
     ensures kept { KeepsOnErr (seen S.Store tx.old) (seen S.Store tx.new) result }
     ensures survives { Survives (seen S.Store tx.old) (seen S.Store tx.new) (λ _. ⊥) }
 {
+    link_fits(link);
     run(
         tx,
         "INSERT INTO link (board, place, target) VALUES (?1, ?2, ?3)",
@@ -60,6 +63,8 @@ pub fn select_links<S: Alter>(
         → IfOk result (λ links. Finds
         (λ content. AreFound IsLinkBefore (filter (λ link. link.board == board) content.links)
         links) (seen S.Store tx.old)) }
+    ensures excused { HasCleanDisk (seen S.Store tx.new)
+        → IfErr result (IsExcused (seen S.Store tx.old) (seen S.Store tx.new)) }
     ensures kept { KeepsInside (seen S.Store tx.old) (seen S.Store tx.new) }
     ensures survives { Survives (seen S.Store tx.old) (seen S.Store tx.new) (λ _. ⊥) }
 {

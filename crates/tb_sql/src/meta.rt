@@ -3,12 +3,11 @@
 ghost use Rattle.std.specs.Prelude.{◌≡◌, [], ◌∷◌, IsTrue, IfErr, IfOk, OnOk};
 ghost use Rattle.sqlite.specs.State.{HasCleanDisk, Survives};
 ghost use Rattle.tb_sql_tables.specs.Inside.{seen, KeepsInside, KeepsOnErr};
-ghost use Rattle.tb_sql_tables.specs.Content.{Content, IsContent};
+ghost use Rattle.tb_sql_tables.specs.Content.{old_part, Content, IsContent};
 ghost use Rattle.tb_sql_tables.specs.Statements.{Finds, Turns};
 ghost use Rattle.tb_sql_tables.specs.Standing.{IsHalfway};
 ghost use Rattle.tb_sql_tables.specs.Failing.{IsExcused};
-ghost use Rattle.tb_sql.specs.Opening.{our_meta, AreMetas, AreShown};
-ghost use Rattle.tb_sql.specs.Migrating.{first_part};
+ghost use Rattle.tb_sql.specs.Opening.{our_meta, AreMetas, AreShown, ReadsVersion};
 
 use sqlite::{Alter, Error, Transaction};
 use tb_sql_tables::read::read_all;
@@ -27,6 +26,8 @@ pub fn select_meta<S: Alter>(tx: &mut Transaction<'_, S>) -> Result<Items<MetaRo
         → IfOk result (λ metas. AreShown (seen S.Store tx.old) (seen S.Store tx.new) metas) }
     ensures excused { HasCleanDisk (seen S.Store tx.new)
         → IfErr result (IsExcused (seen S.Store tx.old) (seen S.Store tx.new)) }
+    ensures hides { HasCleanDisk (seen S.Store tx.new)
+        → IfErr result (ReadsVersion (seen S.Store tx.old) (seen S.Store tx.new)) }
     ensures kept { KeepsInside (seen S.Store tx.old) (seen S.Store tx.new) }
     ensures survives { Survives (seen S.Store tx.old) (seen S.Store tx.new) (λ _. ⊥) }
 {
@@ -40,7 +41,7 @@ pub(crate) fn update_version<S: Alter>(tx: &mut Transaction<'_, S>) -> Result<()
     ensures made { HasCleanDisk (seen S.Store tx.new)
         → IsTrue (seen S.Store tx.old).in_transaction
         → OnOk result ((content : Content)
-        → Turns (IsHalfway content) (IsContent (first_part content))
+        → Turns (IsHalfway content) (IsContent (old_part content))
         (seen S.Store tx.old) (seen S.Store tx.new)) }
     ensures kept { KeepsOnErr (seen S.Store tx.old) (seen S.Store tx.new) result }
     ensures survives { Survives (seen S.Store tx.old) (seen S.Store tx.new) (λ _. ⊥) }

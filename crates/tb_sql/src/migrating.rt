@@ -4,11 +4,11 @@ ghost use Rattle.std.specs.Prelude.{◌≡◌, false, map, IsTrue, IfErr, IfOk, 
 ghost use Rattle.sqlite.specs.Held.{state};
 ghost use Rattle.sqlite.specs.State.{HasCleanDisk, Survives};
 ghost use Rattle.tb_sql_tables.specs.Inside.{seen, KeepsOnErr};
-ghost use Rattle.tb_sql_tables.specs.Content.{AreRows, Content, IsContent, StandsBy};
+ghost use Rattle.tb_sql_tables.specs.Content.{old_part, AreRows, Content, IsContent, StandsBy};
 ghost use Rattle.tb_sql_tables.specs.Standing.{IsOldContent, StandsOld, StandsOldOr};
 ghost use Rattle.tb_sql_tables.specs.Statements.{Turns};
 ghost use Rattle.tb_sql.specs.Opening.{IsAsBefore};
-ghost use Rattle.tb_sql.specs.Migrating.{first_part, horizon_changes, migrated, IsMigrated};
+ghost use Rattle.tb_sql.specs.Migrating.{horizon_changes, migrated, IsMigrated};
 
 use crate::boards::select_boards;
 use crate::changes::{RowChange, apply_changes};
@@ -48,7 +48,7 @@ fn widen<S: Alter>(tx: &mut Transaction<'_, S>) -> Result<(), Error>
     ensures made { HasCleanDisk (seen S.Store tx.new)
         → IsTrue (seen S.Store tx.old).in_transaction
         → OnOk result ((content : Content)
-        → Turns (IsOldContent content) (IsContent (first_part content))
+        → Turns (IsOldContent content) (IsContent (old_part content))
         (seen S.Store tx.old) (seen S.Store tx.new)) }
     ensures kept { KeepsOnErr (seen S.Store tx.old) (seen S.Store tx.new) result }
     ensures survives { Survives (seen S.Store tx.old) (seen S.Store tx.new) (λ _. ⊥) }
@@ -64,7 +64,7 @@ fn fill<S: Alter>(alloc: Global, tx: &mut Transaction<'_, S>) -> Result<Counts, 
     ensures made { HasCleanDisk (seen S.Store tx.new)
         → IsTrue (seen S.Store tx.old).in_transaction
         → IfOk result (λ counts. (content : Content)
-        → Turns (IsContent (first_part content)) (IsMigrated content counts)
+        → Turns (IsContent (old_part content)) (IsMigrated content counts)
         (seen S.Store tx.old) (seen S.Store tx.new)) }
     ensures kept { KeepsOnErr (seen S.Store tx.old) (seen S.Store tx.new) result }
     ensures survives { Survives (seen S.Store tx.old) (seen S.Store tx.new) (λ _. ⊥) }

@@ -1,14 +1,14 @@
 //! Takes a connection that was opened over a database as a store.
 
-ghost use Rattle.std.specs.Prelude.{◌≡◌, ◌⊎◌, List, [], ◌∷◌, map, true, false, IsTrue, IfOk, OnOk, Bool, Ok, Err};
+ghost use Rattle.std.specs.Prelude.{◌≡◌, ◌≢◌, ◌⊎◌, ℕ, List, [], ◌∷◌, map, true, false, IsTrue, IfOk, OnOk, Bool, Ok, Err};
 ghost use Rattle.sqlite.specs.Held.{state};
-ghost use Rattle.sqlite.specs.State.{HasCleanDisk, Opens};
+ghost use Rattle.sqlite.specs.State.{HasCleanDisk};
 ghost use Rattle.tb_sql_tables.specs.Tables.{meta_tree, no_schema};
 ghost use Rattle.tb_sql_tables.specs.declared.rows.MetaRow.{MetaRow as Meta};
 ghost use Rattle.tb_sql_tables.specs.Content.{Content, AreOldRows, AreRows, AreSecondRows, AreVersionRows, HasKeyed, IsContent, Stands};
 ghost use Rattle.tb_sql_tables.specs.Standing.{StandsEmpty, StandsOld, StandsSecond};
-ghost use Rattle.tb_sql_tables.specs.Failing.{FailsByFault, KeepsFaults};
-ghost use Rattle.tb_sql.specs.Opening.{chosen, has_meta, has_tables, judged, number_of, our_meta, row_of_meta, taken, Answers, AreMetas, AreShownFrom, IsAnswered, IsAsBefore, IsOfStore};
+ghost use Rattle.tb_sql_tables.specs.Failing.{FailsByFault, KeepsFaults, IsAtRest};
+ghost use Rattle.tb_sql.specs.Opening.{chosen, has_meta, has_tables, judged, number_of, our_meta, row_of_meta, taken, Answers, AreMetas, AreShownFrom, HidesNone, IsAnswered, IsAsBefore, IsOfStore, IsOfVersion};
 
 use crate::layout::{has_meta, is_old, is_ours, is_second};
 use crate::meta::select_meta;
@@ -66,7 +66,7 @@ impl OpenFault {
 pub fn is_empty<S: Alter>(conn: &Connection<S>) -> bool
     ensures value { IsTrue result → (state S.Store conn.now).now.schema ≡ no_schema }
     ensures taken { result ≡ false → (state S.Store conn.now).now.schema ≡ no_schema → ⊥ }
-    ensures stands { IsTrue result → Opens (state S.Store conn.now)
+    ensures stands { IsTrue result → IsAtRest (state S.Store conn.now)
         → StandsEmpty (state S.Store conn.now) }
 {
     let schema = conn.schema();
@@ -88,6 +88,8 @@ fn read_meta<S: Alter>(conn: &mut Connection<S>) -> Result<Items<MetaRow>, Store
     ensures excused { result ≡ Err StoreFault.Store
         → FailsByFault (state S.Store conn.old) (state S.Store conn.new)
         (λ content. IsContent content (state S.Store conn.old).now) }
+    ensures hides { result ≡ Err StoreFault.Store
+        → HidesNone (state S.Store conn.old) (state S.Store conn.new) }
     ensures faults { KeepsFaults (state S.Store conn.old) (state S.Store conn.new) }
     ensures same { IsAsBefore (state S.Store conn.old) (state S.Store conn.new) }
 {
@@ -140,24 +142,27 @@ pub fn accept<S: Alter>(conn: &mut Connection<S>) -> Result<Version, OpenFault>
     requires { conn.old.in_transaction ≡ false }
     ensures idle { conn.new.in_transaction ≡ false }
     ensures shows { OnOk result
-        (Opens (state S.Store conn.old) → (content : Content)
+        (IsAtRest (state S.Store conn.old) → (content : Content)
         → AreRows content (state S.Store conn.old).now.trees
         → Stands content (state S.Store conn.new)) }
-    ensures old { Opens (state S.Store conn.old) → (content : Content)
+    ensures old { IsAtRest (state S.Store conn.old) → (content : Content)
         → AreOldRows content (state S.Store conn.old).now.trees
         → StandsOld content (state S.Store conn.new) }
-    ensures earlier { Opens (state S.Store conn.old) → (content : Content)
+    ensures earlier { IsAtRest (state S.Store conn.old) → (content : Content)
         → AreSecondRows content (state S.Store conn.old).now.trees
         → StandsSecond content (state S.Store conn.new) }
-    ensures third { IfOk result (λ version. Opens (state S.Store conn.old) → (content : Content)
+    ensures third { IfOk result (λ version. IsAtRest (state S.Store conn.old) → (content : Content)
         → AreRows content (state S.Store conn.old).now.trees → version ≡ Version.Third) }
-    ensures second { IfOk result (λ version. Opens (state S.Store conn.old) → (content : Content)
+    ensures second { IfOk result (λ version. IsAtRest (state S.Store conn.old) → (content : Content)
         → AreSecondRows content (state S.Store conn.old).now.trees → version ≡ Version.Second) }
-    ensures first { IfOk result (λ version. Opens (state S.Store conn.old) → (content : Content)
+    ensures first { IfOk result (λ version. IsAtRest (state S.Store conn.old) → (content : Content)
         → AreOldRows content (state S.Store conn.old).now.trees → version ≡ Version.First) }
     ensures refuses { (result ≡ Err OpenFault.NotOurs) ⊎ (result ≡ Err OpenFault.WrongVersion)
-        → HasCleanDisk (state S.Store conn.new) → Opens (state S.Store conn.old)
+        → HasCleanDisk (state S.Store conn.new) → IsAtRest (state S.Store conn.old)
         → (content : Content) → AreVersionRows content (state S.Store conn.old).now.trees → ⊥ }
+    ensures others { IfOk result
+        (λ _. HasCleanDisk (state S.Store conn.new) → (version : ℕ) → version ≢ 2
+        → IsOfVersion version (state S.Store conn.old).now → ⊥) }
     ensures tables { IfOk result
         (λ version. has_tables version (state S.Store conn.old).now.schema ≡ true) }
     ensures foreign { has_meta (state S.Store conn.old).now.schema.tables ≡ false
@@ -170,9 +175,11 @@ pub fn accept<S: Alter>(conn: &mut Connection<S>) -> Result<Version, OpenFault>
         → (metas : List Meta)
         → HasKeyed (map row_of_meta metas) ((state S.Store conn.old).now.trees meta_tree)
         → Answers (taken (state S.Store conn.old).now.schema metas) result }
-    ensures excused { result ≡ Err OpenFault.Store → Opens (state S.Store conn.old)
+    ensures excused { result ≡ Err OpenFault.Store → IsAtRest (state S.Store conn.old)
         → FailsByFault (state S.Store conn.old) (state S.Store conn.new)
         (λ content. AreRows content (state S.Store conn.old).now.trees) }
+    ensures hides { result ≡ Err OpenFault.Store
+        → HidesNone (state S.Store conn.old) (state S.Store conn.new) }
     ensures faults { KeepsFaults (state S.Store conn.old) (state S.Store conn.new) }
     ensures same { IsAsBefore (state S.Store conn.old) (state S.Store conn.new) }
 {

@@ -10,6 +10,7 @@ ghost use Rattle.tb_sql_tables.specs.Found.{AreFound, IsOneOf};
 ghost use Rattle.tb_sql.specs.Changes.{with_person, with_secret, is_named, is_person, IsPersonBefore};
 
 use sqlite::{Alter, Error, Transaction, params};
+use tb_sql_tables::fitting::{person_fits, text_fits};
 use tb_sql_tables::read::{read_all, read_first};
 use tb_sql_tables::rows::PersonRow;
 use tb_sql_tables::run::{find_rows, run};
@@ -25,6 +26,7 @@ pub fn insert_person<S: Alter>(tx: &mut Transaction<'_, S>, person: &PersonRow) 
     ensures kept { KeepsOnErr (seen S.Store tx.old) (seen S.Store tx.new) result }
     ensures survives { Survives (seen S.Store tx.old) (seen S.Store tx.new) (λ _. ⊥) }
 {
+    person_fits(person);
     let name = person.name.as_str();
     let secret = person.secret.as_str();
     run(
@@ -48,6 +50,7 @@ pub fn update_secret<S: Alter>(
     ensures kept { KeepsOnErr (seen S.Store tx.old) (seen S.Store tx.new) result }
     ensures survives { Survives (seen S.Store tx.old) (seen S.Store tx.new) (λ _. ⊥) }
 {
+    text_fits(secret);
     run(
         tx,
         "UPDATE person SET secret = ?2 WHERE name = ?1",
@@ -64,6 +67,8 @@ pub fn select_people<S: Alter>(tx: &mut Transaction<'_, S>) -> Result<Items<Pers
     ensures looks { HasCleanDisk (seen S.Store tx.new)
         → IsTrue (seen S.Store tx.old).in_transaction
         → OnOk result (Changes (λ content. content) (seen S.Store tx.old) (seen S.Store tx.new)) }
+    ensures excused { HasCleanDisk (seen S.Store tx.new)
+        → IfErr result (IsExcused (seen S.Store tx.old) (seen S.Store tx.new)) }
     ensures kept { KeepsInside (seen S.Store tx.old) (seen S.Store tx.new) }
     ensures survives { Survives (seen S.Store tx.old) (seen S.Store tx.new) (λ _. ⊥) }
 {
@@ -81,6 +86,8 @@ pub fn find_person<S: Alter>(
         → IfOk result (λ person. Finds
         (λ content. IsOneOf (filter (is_named name.now) content.people) person)
         (seen S.Store tx.old)) }
+    ensures excused { HasCleanDisk (seen S.Store tx.new)
+        → IfErr result (IsExcused (seen S.Store tx.old) (seen S.Store tx.new)) }
     ensures kept { KeepsInside (seen S.Store tx.old) (seen S.Store tx.new) }
     ensures survives { Survives (seen S.Store tx.old) (seen S.Store tx.new) (λ _. ⊥) }
 {
@@ -101,6 +108,8 @@ pub fn find_person_at<S: Alter>(
     ensures found { HasCleanDisk (seen S.Store tx.new)
         → IfOk result (λ person. Finds
         (λ content. IsOneOf (filter (is_person id) content.people) person) (seen S.Store tx.old)) }
+    ensures excused { HasCleanDisk (seen S.Store tx.new)
+        → IfErr result (IsExcused (seen S.Store tx.old) (seen S.Store tx.new)) }
     ensures kept { KeepsInside (seen S.Store tx.old) (seen S.Store tx.new) }
     ensures survives { Survives (seen S.Store tx.old) (seen S.Store tx.new) (λ _. ⊥) }
 {

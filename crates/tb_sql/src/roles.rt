@@ -1,13 +1,15 @@
 //! The statements on the roles of people on boards.
 
-ghost use Rattle.std.specs.Prelude.{◌≡◌, ◌==◌, filter, IsTrue, IfOk, OnOk};
+ghost use Rattle.std.specs.Prelude.{◌≡◌, ◌==◌, filter, IsTrue, IfErr, IfOk, OnOk};
 ghost use Rattle.sqlite.specs.State.{HasCleanDisk, Survives};
 ghost use Rattle.tb_sql_tables.specs.Inside.{seen, KeepsInside, KeepsOnErr};
 ghost use Rattle.tb_sql_tables.specs.Statements.{Changes, Finds};
+ghost use Rattle.tb_sql_tables.specs.Failing.{IsExcused};
 ghost use Rattle.tb_sql_tables.specs.Found.{AreFound, IsOneOf};
 ghost use Rattle.tb_sql.specs.Changes.{with_role, without_role, is_role, IsRoleBefore};
 
 use sqlite::{Alter, Error, Transaction, params};
+use tb_sql_tables::fitting::role_fits;
 use tb_sql_tables::read::{read_all, read_first};
 use tb_sql_tables::rows::RoleRow;
 use tb_sql_tables::run::{find_rows, run};
@@ -22,6 +24,7 @@ pub fn insert_role<S: Alter>(tx: &mut Transaction<'_, S>, role: &RoleRow) -> Res
     ensures kept { KeepsOnErr (seen S.Store tx.old) (seen S.Store tx.new) result }
     ensures survives { Survives (seen S.Store tx.old) (seen S.Store tx.new) (λ _. ⊥) }
 {
+    role_fits(role);
     run(
         tx,
         "INSERT INTO role (board, person, kind) VALUES (?1, ?2, ?3)",
@@ -60,6 +63,8 @@ pub fn select_roles<S: Alter>(
         → IfOk result (λ roles. Finds
         (λ content. AreFound IsRoleBefore (filter (λ role. role.board == board) content.roles)
         roles) (seen S.Store tx.old)) }
+    ensures excused { HasCleanDisk (seen S.Store tx.new)
+        → IfErr result (IsExcused (seen S.Store tx.old) (seen S.Store tx.new)) }
     ensures kept { KeepsInside (seen S.Store tx.old) (seen S.Store tx.new) }
     ensures survives { Survives (seen S.Store tx.old) (seen S.Store tx.new) (λ _. ⊥) }
 {
@@ -82,6 +87,8 @@ pub fn find_role<S: Alter>(
         → IfOk result (λ role. Finds
         (λ content. IsOneOf (filter (is_role board person) content.roles) role)
         (seen S.Store tx.old)) }
+    ensures excused { HasCleanDisk (seen S.Store tx.new)
+        → IfErr result (IsExcused (seen S.Store tx.old) (seen S.Store tx.new)) }
     ensures kept { KeepsInside (seen S.Store tx.old) (seen S.Store tx.new) }
     ensures survives { Survives (seen S.Store tx.old) (seen S.Store tx.new) (λ _. ⊥) }
 {

@@ -1,9 +1,10 @@
 //! The statement on the roles of one person.
 
-ghost use Rattle.std.specs.Prelude.{◌≡◌, ◌==◌, filter, IfOk};
+ghost use Rattle.std.specs.Prelude.{◌≡◌, ◌==◌, filter, IfErr, IfOk};
 ghost use Rattle.sqlite.specs.State.{HasCleanDisk, Survives};
 ghost use Rattle.tb_sql_tables.specs.Inside.{seen, KeepsInside};
 ghost use Rattle.tb_sql_tables.specs.Statements.{Finds};
+ghost use Rattle.tb_sql_tables.specs.Failing.{IsExcused};
 ghost use Rattle.tb_sql_tables.specs.Found.{AreFound};
 ghost use Rattle.tb_sql.specs.RolesOf.{IsBoardBefore};
 
@@ -23,6 +24,8 @@ pub fn select_roles_of<S: Alter>(
         → IfOk result (λ roles. Finds
         (λ content. AreFound IsBoardBefore (filter (λ role. role.person == person) content.roles)
         roles) (seen S.Store tx.old)) }
+    ensures excused { HasCleanDisk (seen S.Store tx.new)
+        → IfErr result (IsExcused (seen S.Store tx.old) (seen S.Store tx.new)) }
     ensures kept { KeepsInside (seen S.Store tx.old) (seen S.Store tx.new) }
     ensures survives { Survives (seen S.Store tx.old) (seen S.Store tx.new) (λ _. ⊥) }
 {

@@ -1,14 +1,16 @@
 //! The statements on the tasks.
 
-ghost use Rattle.std.specs.Prelude.{◌≡◌, IsTrue, IfOk, OnOk, ◌==◌, filter};
+ghost use Rattle.std.specs.Prelude.{◌≡◌, IsTrue, IfErr, IfOk, OnOk, ◌==◌, filter};
 ghost use Rattle.sqlite.specs.State.{HasCleanDisk, Survives};
 ghost use Rattle.tb_sql_tables.specs.Inside.{seen, KeepsInside, KeepsOnErr};
 ghost use Rattle.tb_sql_tables.specs.Statements.{Changes, Finds};
+ghost use Rattle.tb_sql_tables.specs.Failing.{IsExcused};
 ghost use Rattle.tb_sql_tables.specs.Found.{AreFound, IsOneOf};
 ghost use Rattle.tb_sql.specs.Changes.{with_task, with_text, with_mask, is_task, IsTaskBefore};
 
 use crate::bind::{identifier_bytes, lent};
 use sqlite::{Alter, Error, Transaction, params};
+use tb_sql_tables::fitting::{mask_fits, task_fits, text_fits};
 use tb_sql_tables::read::{read_all, read_first};
 use tb_sql_tables::rows::TaskRow;
 use tb_sql_tables::run::{find_rows, run};
@@ -23,6 +25,7 @@ pub fn insert_task<S: Alter>(tx: &mut Transaction<'_, S>, task: &TaskRow) -> Res
     ensures kept { KeepsOnErr (seen S.Store tx.old) (seen S.Store tx.new) result }
     ensures survives { Survives (seen S.Store tx.old) (seen S.Store tx.new) (λ _. ⊥) }
 {
+    task_fits(task);
     let uuid = identifier_bytes(task.uuid);
     let uuid = uuid.as_slice();
     let body = task.body.as_str();
@@ -50,6 +53,8 @@ pub fn update_text<S: Alter>(
     ensures kept { KeepsOnErr (seen S.Store tx.old) (seen S.Store tx.new) result }
     ensures survives { Survives (seen S.Store tx.old) (seen S.Store tx.new) (λ _. ⊥) }
 {
+    text_fits(body);
+    mask_fits(mask);
     let mask = lent(mask);
     run(
         tx,
@@ -73,6 +78,7 @@ pub fn update_mask<S: Alter>(
     ensures kept { KeepsOnErr (seen S.Store tx.old) (seen S.Store tx.new) result }
     ensures survives { Survives (seen S.Store tx.old) (seen S.Store tx.new) (λ _. ⊥) }
 {
+    mask_fits(mask);
     let mask = lent(mask);
     run(
         tx,
@@ -91,6 +97,8 @@ pub fn select_tasks<S: Alter>(
         → IfOk result (λ tasks. Finds
         (λ content. AreFound IsTaskBefore (filter (λ task. task.board == board) content.tasks)
         tasks) (seen S.Store tx.old)) }
+    ensures excused { HasCleanDisk (seen S.Store tx.new)
+        → IfErr result (IsExcused (seen S.Store tx.old) (seen S.Store tx.new)) }
     ensures kept { KeepsInside (seen S.Store tx.old) (seen S.Store tx.new) }
     ensures survives { Survives (seen S.Store tx.old) (seen S.Store tx.new) (λ _. ⊥) }
 {
@@ -113,6 +121,8 @@ pub fn find_task<S: Alter>(
         → IfOk result (λ task. Finds
         (λ content. IsOneOf (filter (is_task board place) content.tasks) task)
         (seen S.Store tx.old)) }
+    ensures excused { HasCleanDisk (seen S.Store tx.new)
+        → IfErr result (IsExcused (seen S.Store tx.old) (seen S.Store tx.new)) }
     ensures kept { KeepsInside (seen S.Store tx.old) (seen S.Store tx.new) }
     ensures survives { Survives (seen S.Store tx.old) (seen S.Store tx.new) (λ _. ⊥) }
 {

@@ -24,6 +24,7 @@ use Rattle.tb_sql_tables.specs.declared.rows.HistoryRow.{HistoryRow}
 use Rattle.tb_sql_tables.specs.Tables.{history_plain, history_table, history_tree, store_schema}
 use Rattle.tb_sql_tables.specs.Rows.{history_row}
 use Rattle.tb_sql_tables.specs.Read.{number_of}
+use Rattle.tb_sql_tables.specs.Fitting.{FitsEntry}
 use Rattle.tb_sql_tables.specs.Statements.{Changes, Finds, Ran}
 use Rattle.tb_sql_tables.specs.Found.{AreFound}
 use Rattle.tb_sql_tables.proofs.Contents.{history_changed}
@@ -66,14 +67,14 @@ place_read : (place : Option ℕ) → place_of (or_null (λ n. Int (pos n)) plac
 place_read None = refl
 place_read (Some n) = refl
 
-pub insert_entry : (old new : State) (row : HistoryRow) → row.call < 2 ^ 128 → Ran insert_text (history_row row) old new → Changes (with_entry row) old new
-insert_entry old new row low ran = record {
+pub insert_entry : (old new : State) (row : HistoryRow) → FitsEntry row → row.call < 2 ^ 128 → Ran insert_text (history_row row) old new → Changes (with_entry row) old new
+insert_entry old new row fits low ran = record {
   shown = ran.1.1;
   content = λ content is.
       let cells = history_row row in
       let effect = row_inserted 10 history_plain refl refl insert_text old new is.schema cells ran.0 terms 8 (Null ∷ cells) inserts refl ran.1 in
       history_changed content (row ∷ content.history) old.now new.now effect.1 is
-      (row_put store_schema old.now.trees new.now.trees history_table (Null ∷ cells) cells _ (rw (cast_null, cast_integer (pos row.board), cast_integer (pos row.number), cast_integer (pos row.moment), cast_integer (pos row.person), cast_integer (pos row.what), cast_place row.task) refl) effect.0 is.rows.tables.history) (low, is.rows.tables.history_identifiers);
+      (row_put store_schema old.now.trees new.now.trees history_table (Null ∷ cells) cells _ (rw (cast_null, cast_integer (pos row.board), cast_integer (pos row.number), cast_integer (pos row.moment), cast_integer (pos row.person), cast_integer (pos row.what), cast_place row.task) refl) effect.0 is.rows.tables.history) (low, is.rows.tables.history_identifiers) (fits, is.rows.tables.fits.history);
 }
 
 -- ---- entries

@@ -11,6 +11,7 @@ ghost use Rattle.tb_sql_pages.specs.Last.{AreLast, listed};
 use crate::bind::{identifier_bytes, moment_number};
 use crate::read::{number_in_first, read_entries};
 use sqlite::{Alter, Error, Transaction, params};
+use tb_sql_tables::fitting::entry_fits;
 use tb_sql_tables::rows::HistoryRow;
 use tb_sql_tables::run::{find_rows, run};
 use tb_values::Items;
@@ -25,6 +26,7 @@ pub fn insert_entry<S: Alter>(tx: &mut Transaction<'_, S>, row: &HistoryRow) -> 
     ensures kept { KeepsOnErr (seen S.Store tx.old) (seen S.Store tx.new) result }
     ensures survives { Survives (seen S.Store tx.old) (seen S.Store tx.new) (λ _. ⊥) }
 {
+    entry_fits(row);
     let moment = moment_number(row.moment)?;
     let call = identifier_bytes(row.call);
     let call = call.as_slice();

@@ -22,7 +22,7 @@ use Rattle.sqlite.specs.Given.{IsPlain}
 use Rattle.sqlite.proofs.Callers.{command_of, statement_of, runs_as}
 use Rattle.tb_sql_tables.specs.Tables.{meta_plain, history_tree, horizon_tree, meta_tree, create_meta_text, create_person_text, create_board_text, create_role_text, create_task_text, create_link_text, create_instance_text, create_gone_text, create_kept_text, create_horizon_text, create_history_text, meta_table, person_table, board_table, role_table, task_table, link_table, instance_table, gone_table, kept_table, horizon_table, history_table, no_schema, meta_schema, person_schema, board_schema, role_schema, task_schema, link_schema, instance_schema, gone_schema, old_schema, second_schema, store_schema}
 use Rattle.tb_sql_tables.specs.Rows.{meta_row, version_row}
-use Rattle.tb_sql_tables.specs.Content.{nothing, without_history, Content, AreTables, AreOldTables, IsContent, HasRows, HasKeyed}
+use Rattle.tb_sql_tables.specs.Content.{nothing, without_history, Content, AreTables, AreOldTables, IsContent, IsFitting, HasRows, HasKeyed}
 use Rattle.tb_sql_tables.specs.Statements.{AreEmpty, Ran, Turns}
 use Rattle.tb_sql_tables.specs.Standing.{IsHalfway, IsQuarterway, IsOldContent, IsSecondContent}
 use Rattle.tb_sql_tables.proofs.Inserts.{went, same_value, cast_integer, cast_null}
@@ -230,6 +230,7 @@ add_horizon old new ran content = record {
         kept = rw o.1.1.1.1.1.1.1.1.0 was.kept;
         task_identifiers = was.task_identifiers;
         kept_identifiers = was.kept_identifiers;
+        fits = was.fits;
       } in
       record { schema = a.schema; tables = tables; no_horizon = a.empty };
 }
@@ -254,6 +255,7 @@ add_both old new ran content = record {
         kept = rw o.1.1.1.1.1.1.1.1.0 was.kept;
         task_identifiers = was.task_identifiers;
         kept_identifiers = was.kept_identifiers;
+        fits = was.fits;
       } in
       record { schema = a.schema; sound = a.sound; tables = tables; no_horizon = o.1.1.1.1.1.1.1.1.1.0 ∙ is.no_horizon; no_history = a.empty };
 }
@@ -281,6 +283,7 @@ add_history old new ran content = record {
         task_identifiers = was.task_identifiers;
         kept_identifiers = was.kept_identifiers;
         history_identifiers = tt;
+        fits = was.fits;
       } in
       record { schema = a.schema; rows = record { sound = a.sound; tables = tables } };
 }
@@ -313,6 +316,9 @@ source version = Int (pos 1) ∷ cells version
 no_keyed : HasKeyed [] []
 no_keyed = record { shaped = (tt, tt); same = IsPermutation-refl [] }
 
+none_fits : IsFitting nothing
+none_fits = record { people = tt; boards = tt; roles = tt; tasks = tt; links = tt; instances = tt; gone = tt; kept = tt; horizon = tt; history = tt }
+
 pub insert_meta : (old new : State) → Ran insert_meta_text [] old new → Turns (AreEmpty store_schema) (IsContent nothing) old new
 insert_meta old new ran = record {
   shown = ran.1.1;
@@ -335,6 +341,7 @@ insert_meta old new ran = record {
         task_identifiers = tt;
         kept_identifiers = tt;
         history_identifiers = tt;
+        fits = none_fits;
       } in
       record { schema = e.schema; rows = record { sound = e.sound; tables = tables } };
 }
@@ -358,6 +365,7 @@ insert_old_meta old new ran = record {
         kept = rw (o.1.1.1.1.1.1.1.1.0 (omega arith) ∙ was.empty.1.1.1.1.1.1.1.1.0) no_rows;
         task_identifiers = tt;
         kept_identifiers = tt;
+        fits = none_fits;
       } in
       record { schema = e.schema; rows = record { sound = e.sound; tables = tables } };
 }

@@ -1,5 +1,5 @@
 -- A query whose text a store understands fails for want of memory, or since the disk failed or refused a call.
-use Rattle.std.proofs.Common.{◌≡◌, ◌≢◌, ◌∙◌, ◌⊎◌, ◌≤◌, inl, inr, ℕ, List, [], ◌∷◌, length, Option, Some, None, Result, Ok, Err, IsTrue, IsSome, Any, true, false, refl, sym, ap, subst, subst₂, append-nil, true≢false, arith}
+use Rattle.std.proofs.Common.{◌≡◌, ◌≢◌, ◌∙◌, ◌⊎◌, ◌≤◌, inl, inr, ℕ, List, [], ◌∷◌, length, Option, Some, None, Result, Ok, Err, IfErr, All, IsTrue, IsSome, Any, true, false, refl, sym, ap, subst, subst₂, append-nil, true≢false, arith}
 use Rattle.sqlite_value.specs.declared.keys.Key.{Key}
 use Rattle.sqlite_value.specs.Order.{Row}
 use Rattle.sqlite_trees.specs.declared.error.StoreError.{StoreError}
@@ -20,7 +20,8 @@ use Rattle.sqlite.specs.Listing.{understood, reads_listing, IsSourceOf}
 use Rattle.sqlite.specs.State.{State, Fails, FailsToQuery, FailsToShow, HasCause, HasCleanDisk, IsNoStatement, IsNotRun, IsTooLate, Survives, store_error}
 use Rattle.sqlite.proofs.Callers.{command_of}
 use Rattle.tb_sql_tables.specs.Tables.{store_schema}
-use Rattle.tb_sql_tables.specs.Failing.{IsReady, HasFaulted, KeepsFaults}
+use Rattle.tb_sql_tables.specs.Content.{Content, IsContent}
+use Rattle.tb_sql_tables.specs.Failing.{IsExcused, IsReady, HasFaulted, KeepsFaults}
 use Rattle.tb_sql_tables.proofs.Queries.{query_of, program_of}
 use Rattle.tb_sql_tables.proofs.Statements.{Asks}
 
@@ -82,6 +83,12 @@ module _ (text : List ℕ) (tree : ℕ) (test project : List Term) (order : List
       let refused = subst (λ l. RefusesToRead l h.0.command it.0 params e) ready.unlimited it.2 in
       absurd (reads_on (subst₂ (λ k d. RefusesToRead None k d params e) command db refused))
   fails_so other (inr late) = absurd (let none = rw (never_plain late.0 late.1.is).0 at late.2 in cc)
+
+-- where the rows of each content are read without a refusal, so is what a query showed of them
+pub reading_excused : {X : Type 0} (P : Row → Type 0) (old new : State) (rows : List Row) (result : Result X Error) → ((content : Content) → IsContent content old.now → All P rows)
+    → IfErr result (λ e. e ≢ SqliteFailure code.OutOfMemory → ¬ All P rows) → IfErr result (IsExcused old new)
+reading_excused P old new rows (Ok x) reads refused = tt
+reading_excused P old new rows (Err e) reads refused = λ other ready content is. absurd (refused other (reads content is))
 
 -- ---- faults since
 

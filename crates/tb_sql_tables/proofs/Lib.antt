@@ -14,6 +14,7 @@ pub mod Masks
 pub mod KeyTests
 pub mod Effects
 pub mod Standing
+pub mod Fitted
 pub mod Reordered
 pub mod Creates
 pub mod Failing

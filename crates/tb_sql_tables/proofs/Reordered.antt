@@ -7,7 +7,7 @@ use Rattle.sqlite_value.specs.Order.{Row}
 use Rattle.sqlite_trees.specs.Tree.{Trees}
 use Rattle.sqlite.specs.State.{State}
 use Rattle.tb_sql_tables.specs.Rows.{person_row, board_row, role_row, task_row, link_row, instance_row, gone_row, kept_row, horizon_row, history_row}
-use Rattle.tb_sql_tables.specs.Content.{Content, HasRows, HasKeyed, AreTables, AreRows, Stands}
+use Rattle.tb_sql_tables.specs.Content.{Content, HasRows, HasKeyed, AreTables, AreRows, IsFitting, Stands}
 
 -- the same rows in another order
 pub record AreReordered (a b : Content) : Type 0 where
@@ -31,6 +31,20 @@ keyed_in row_of xs ys stored other h = record { shaped = h.shaped; same = IsPerm
 all_in : {X : Type 0} (P : X → Type 0) (xs ys : List X) → IsPermutation xs ys → AllByRecursion P xs → AllByRecursion P ys
 all_in P xs ys other all = recursion_from_All P ys (All-permutation P xs ys other (All-from_recursion P xs all))
 
+fitting : (a b : Content) → AreReordered a b → IsFitting a → IsFitting b
+fitting a b other was = record {
+  people = all_in _ _ _ other.people was.people;
+  boards = all_in _ _ _ other.boards was.boards;
+  roles = all_in _ _ _ other.roles was.roles;
+  tasks = all_in _ _ _ other.tasks was.tasks;
+  links = all_in _ _ _ other.links was.links;
+  instances = all_in _ _ _ other.instances was.instances;
+  gone = all_in _ _ _ other.gone was.gone;
+  kept = all_in _ _ _ other.kept was.kept;
+  horizon = all_in _ _ _ other.horizon was.horizon;
+  history = all_in _ _ _ other.history was.history;
+}
+
 pub reordered : (a b : Content) (db : Trees) → AreReordered a b → AreRows a db → AreRows b db
 reordered a b db other is =
     let was = is.tables in
@@ -49,6 +63,7 @@ reordered a b db other is =
       task_identifiers = all_in _ _ _ other.tasks was.task_identifiers;
       kept_identifiers = all_in _ _ _ other.kept was.kept_identifiers;
       history_identifiers = all_in _ _ _ other.history was.history_identifiers;
+      fits = fitting a b other was.fits;
     } in
     record { sound = is.sound; tables = tables }
 

@@ -18,6 +18,7 @@ use Rattle.tb_sql_tables.specs.declared.rows.GoneRow.{GoneRow}
 use Rattle.tb_sql_tables.specs.declared.rows.KeptRow.{KeptRow}
 use Rattle.tb_sql_tables.specs.declared.rows.HorizonRow.{HorizonRow}
 use Rattle.tb_sql_tables.specs.declared.rows.HistoryRow.{HistoryRow}
+use Rattle.tb_sql_tables.specs.Fitting.{FitsBoard, FitsEntry, FitsGone, FitsHorizon, FitsInstance, FitsKept, FitsLink, FitsPerson, FitsRole, FitsTask}
 use Rattle.tb_sql_tables.specs.Tables.{meta_tree, person_tree, board_tree, role_tree, task_tree, link_tree, instance_tree, gone_tree, kept_tree, horizon_tree, history_tree, old_schema, second_schema, store_schema}
 use Rattle.tb_sql_tables.specs.Rows.{meta_row, old_meta_row, person_row, board_row, role_row, task_row, link_row, instance_row, gone_row, kept_row, horizon_row, history_row}
 
@@ -53,6 +54,10 @@ nothing = record {
 abbrev pub without_history : Content → Content
 without_history content = record content { history = [] }
 
+-- what the tables of the first version hold
+abbrev pub old_part : Content → Content
+old_part content = record content { horizon = []; history = [] }
+
 -- each identifier is a number of 128 bits
 abbrev pub HaveIdentifiers : List TaskRow → Type 0
 HaveIdentifiers = AllByRecursion (λ task. task.uuid < 2 ^ 128)
@@ -62,6 +67,19 @@ AreIdentified = AllByRecursion (λ kept. kept.id < 2 ^ 128)
 
 abbrev pub AreCalled : List HistoryRow → Type 0
 AreCalled = AllByRecursion (λ row. row.call < 2 ^ 128)
+
+-- each row fits the columns of its table
+pub record IsFitting (content : Content) : Type 0 where
+  pub people : AllByRecursion FitsPerson content.people
+  pub boards : AllByRecursion FitsBoard content.boards
+  pub roles : AllByRecursion FitsRole content.roles
+  pub tasks : AllByRecursion FitsTask content.tasks
+  pub links : AllByRecursion FitsLink content.links
+  pub instances : AllByRecursion FitsInstance content.instances
+  pub gone : AllByRecursion FitsGone content.gone
+  pub kept : AllByRecursion FitsKept content.kept
+  pub horizon : AllByRecursion FitsHorizon content.horizon
+  pub history : AllByRecursion FitsEntry content.history
 
 -- ---- when the tables hold it
 
@@ -91,6 +109,7 @@ pub record AreTables (content : Content) (db : Trees) : Type 0 where
   pub task_identifiers : HaveIdentifiers content.tasks
   pub kept_identifiers : AreIdentified content.kept
   pub history_identifiers : AreCalled content.history
+  pub fits : IsFitting content
 
 -- the trees are the rows of the content, under the schema of a store, which they list and obey
 pub record AreRows (content : Content) (db : Trees) : Type 0 where
@@ -118,6 +137,7 @@ pub record AreSecondTables (content : Content) (db : Trees) : Type 0 where
   pub horizon : HasKeyed (map horizon_row content.horizon) (db horizon_tree)
   pub task_identifiers : HaveIdentifiers content.tasks
   pub kept_identifiers : AreIdentified content.kept
+  pub fits : IsFitting (without_history content)
 
 pub record AreSecondRows (content : Content) (db : Trees) : Type 0 where
   pub sound : IsSound second_schema db
@@ -138,6 +158,7 @@ pub record AreOldTables (content : Content) (db : Trees) : Type 0 where
   pub kept : HasRows (map kept_row content.kept) (db kept_tree)
   pub task_identifiers : HaveIdentifiers content.tasks
   pub kept_identifiers : AreIdentified content.kept
+  pub fits : IsFitting (old_part content)
 
 pub record AreOldRows (content : Content) (db : Trees) : Type 0 where
   pub sound : IsSound old_schema db

@@ -12,6 +12,11 @@ pub record IsReady (s : State) : Type 0 where
   pub is_open : IsTrue s.is_open
   pub unlimited : s.step_limit ≡ None
 
+-- The connection is open, and sees what was committed last: a new one, or one after each call of ours.
+pub record IsAtRest (s : State) : Type 0 where
+  pub is_open : IsTrue s.is_open
+  pub clean : s.now ≡ s.committed
+
 -- the disk has failed or refused a call since
 abbrev pub HasFaulted : State → State → Type 0
 HasFaulted old new = MoreFaults old.faults new.faults

@@ -1,5 +1,6 @@
 pub mod Content
 pub mod Failing
+pub mod Fitting
 pub mod Found
 pub mod Inside
 pub mod Read

@@ -1,8 +1,8 @@
 -- What the rows of a query read as. The columns stand in the order of the table's.
-use Rattle.std.specs.Prelude.{◌≡◌, ◌<◌, ◌^◌, List, [], length, ℕ, pos, IsUtf8, Option, Some, None}
+use Rattle.std.specs.Prelude.{◌≡◌, ◌<◌, ◌^◌, ◌⊎◌, List, [], length, ℕ, pos, IsUtf8, Option, Some, None}
 use Rattle.std.specs.Int.{from_be_bytes, w128}
 use Rattle.sqlite_value.specs.declared.value.Value.{Value}
-use Rattle.sqlite_value.specs.declared.value.Value.TheVariants.{Int, Text as Words, Blob as Bytes}
+use Rattle.sqlite_value.specs.declared.value.Value.TheVariants.{Null, Int, Text as Words, Blob as Bytes}
 use Rattle.sqlite_value.specs.Order.{Row, column}
 use Rattle.tb_sql_tables.specs.declared.rows.MetaRow.{MetaRow}
 use Rattle.tb_sql_tables.specs.declared.rows.PersonRow.{PersonRow}
@@ -112,6 +112,10 @@ horizon_of cells = record { board = number_of (column cells 0); ahead = number_o
 
 -- ---- what is read without a refusal
 
+-- a number below another
+abbrev pub IsBelow : ℕ → Value → Type 0
+IsBelow above value = (n : ℕ) × (value ≡ Int (pos n)) × (n < above)
+
 -- a number that fits
 abbrev pub IsNumber : Value → Type 0
 IsNumber value = (n : ℕ) × (value ≡ Int (pos n)) × (n < 2 ^ 32)
@@ -119,8 +123,78 @@ IsNumber value = (n : ℕ) × (value ≡ Int (pos n)) × (n < 2 ^ 32)
 abbrev pub IsText : Value → Type 0
 IsText value = (text : List ℕ) × (value ≡ Words text) × IsUtf8 text
 
+abbrev pub IsTextOrNone : Value → Type 0
+IsTextOrNone value = (value ≡ Null) ⊎ IsText value
+
+abbrev pub AreBytes : Value → Type 0
+AreBytes value = (bytes : List ℕ) × (value ≡ Bytes bytes)
+
+abbrev pub IsIdentifier : Value → Type 0
+IsIdentifier value = (bytes : List ℕ) × (value ≡ Bytes bytes) × (length bytes ≡ 16)
+
 -- the columns of the first table
 pub record IsMetaRow (cells : Row) : Type 0 where
   pub both : length cells ≡ 2
   pub kind : IsText (column cells 0)
   pub version : IsNumber (column cells 1)
+
+-- those of the others
+pub record IsPersonRow (cells : Row) : Type 0 where
+  pub all : length cells ≡ 3
+  pub id : IsNumber (column cells 0)
+  pub name : IsText (column cells 1)
+  pub secret : IsText (column cells 2)
+
+pub record IsBoardRow (cells : Row) : Type 0 where
+  pub all : length cells ≡ 3
+  pub id : IsNumber (column cells 0)
+  pub title : IsText (column cells 1)
+  pub low : IsNumber (column cells 2)
+
+pub record IsRoleRow (cells : Row) : Type 0 where
+  pub all : length cells ≡ 3
+  pub board : IsNumber (column cells 0)
+  pub person : IsNumber (column cells 1)
+  pub kind : IsNumber (column cells 2)
+
+pub record IsTaskRow (cells : Row) : Type 0 where
+  pub all : length cells ≡ 5
+  pub board : IsNumber (column cells 0)
+  pub place : IsNumber (column cells 1)
+  pub uuid : IsIdentifier (column cells 2)
+  pub body : IsText (column cells 3)
+  pub mask : IsTextOrNone (column cells 4)
+
+pub record IsLinkRow (cells : Row) : Type 0 where
+  pub all : length cells ≡ 3
+  pub board : IsNumber (column cells 0)
+  pub place : IsNumber (column cells 1)
+  pub target : IsNumber (column cells 2)
+
+pub record IsInstanceRow (cells : Row) : Type 0 where
+  pub all : length cells ≡ 4
+  pub board : IsNumber (column cells 0)
+  pub template : IsNumber (column cells 1)
+  pub imask : IsNumber (column cells 2)
+  pub place : IsNumber (column cells 3)
+
+pub record IsGoneRow (cells : Row) : Type 0 where
+  pub all : length cells ≡ 4
+  pub board : IsNumber (column cells 0)
+  pub template : IsNumber (column cells 1)
+  pub imask : IsNumber (column cells 2)
+  pub mark : IsText (column cells 3)
+
+pub record IsKeptRow (cells : Row) : Type 0 where
+  pub all : length cells ≡ 6
+  pub person : IsNumber (column cells 0)
+  pub id : IsIdentifier (column cells 1)
+  pub content : AreBytes (column cells 2)
+  pub number : IsBelow 256 (column cells 3)
+  pub status : IsBelow 65536 (column cells 4)
+  pub body : IsText (column cells 5)
+
+pub record IsHorizonRow (cells : Row) : Type 0 where
+  pub both : length cells ≡ 2
+  pub board : IsNumber (column cells 0)
+  pub ahead : IsNumber (column cells 1)

@@ -4,6 +4,7 @@
 #![tactic(auto)]
 
 pub mod create;
+pub mod fitting;
 pub mod read;
 pub mod rows;
 pub mod run;

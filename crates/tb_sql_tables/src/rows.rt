@@ -76,8 +76,8 @@ pub struct KeptRow {
     pub person: u32,
     pub id: TaskId,
     pub content: Items<u8>,
-    pub number: u32,
-    pub status: u32,
+    pub number: u8,
+    pub status: u16,
     pub body: Text,
 }
 

@@ -42,4 +42,4 @@ pub returns-in-Err-clause-refused : goal.returns-in-Err-clause-refused
 returns-in-Err-clause-refused g c =
     let unmarked = rw c.in-Err.is at c.open.ensures.unmarked in
     refused g.S.Store c.args.conn (state g.S.Store c.in-Err.refused.0) c.in-Err.refused.1
-    c.in-Err.ensures.foreign unmarked c.in-Err.ensures.shown c.in-Err.ensures.excused
+    c.in-Err.ensures.foreign unmarked c.in-Err.ensures.shown c.in-Err.ensures.excused c.in-Err.ensures.hides

@@ -8,6 +8,9 @@ use Rattle.tb_keeper.specs.Looking.{IsGlance, IsGlanceAt}
 use Rattle.tb_keeper.specs.PeopleAtHand.{IsKnownIn}
 use Rattle.tb_keeper.proofs.KnownPeople.{known_both}
 use Rattle.tb_keeper.proofs.Looked.{glance_off, glance_on, seen_under}
+use Rattle.std.proofs.lemmas.Result.{err_from_is_err_and}
+use Rattle.tb_sql_tables.proofs.Failing.{faults_then}
+use Rattle.tb_lookup.proofs.Excused.{err_told, later_fails}
 use Rattle.tb_keeper.proofs.looking.look_up.Goals as goal
 
 pub returns-in-Some-clause-found : goal.returns-in-Some-clause-found
@@ -41,3 +44,18 @@ pub returns-in-Some-clause-people : goal.returns-in-Some-clause-people
 returns-in-Some-clause-people g c =
     known_both (state g.S.Store c.args.conn.now) (state g.S.Store c.find_parties.new.conn) (state g.S.Store c.glance_at.new.conn) c.args.people.now c.find_parties.new.people c.glance_at.new.people
     c.in_ok-parties.ensures.people c.glance_at.ensures.people c.in_ok-parties.ensures.same c.in_ok-parties.ensures.idle c.glance_at.ensures.same.clean
+
+pub returns-in_err-parties-clause-excused : goal.returns-in_err-parties-clause-excused
+returns-in_err-parties-clause-excused g c is =
+    let p = err_from_is_err_and c.from_residual.result c.from_residual.ensures.1 in
+    c.in_err-parties.ensures.excused (err_told c.from_residual.result p.0 _ p.1 p.2 is)
+
+pub returns-in-Some-clause-excused : goal.returns-in-Some-clause-excused
+returns-in-Some-clause-excused g c is =
+    let one = c.in_ok-parties.ensures in
+    let two = c.glance_at.ensures in
+    later_fails (state g.S.Store c.args.conn.now) (state g.S.Store c.find_parties.new.conn) (state g.S.Store c.glance_at.new.conn) one.same one.idle one.faults two.same.clean two.faults (two.excused is)
+
+pub returns-in-Some-clause-faults : goal.returns-in-Some-clause-faults
+returns-in-Some-clause-faults g c =
+    faults_then _ (state g.S.Store c.find_parties.new.conn) _ c.in_ok-parties.ensures.faults c.glance_at.ensures.same.clean c.glance_at.ensures.faults

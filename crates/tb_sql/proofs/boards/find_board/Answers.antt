@@ -1,6 +1,9 @@
+use Rattle.std.proofs.lemmas.Result.{err_from_is_err_and}
 use Rattle.sqlite.specs.Held.{state}
 use Rattle.tb_sql_tables.proofs.Changing.{where_value}
-use Rattle.tb_sql.proofs.BoardRows.{find_board}
+use Rattle.tb_sql.proofs.BoardRows.{find_board, find_board_excused, find_board_read}
+use Rattle.tb_sql_tables.specs.Read.{IsBoardRow}
+use Rattle.tb_sql_tables.proofs.Failing.{reading_excused}
 use Rattle.tb_sql.proofs.boards.find_board.Goals as goal
 
 pub returns-clause-found : goal.returns-clause-found
@@ -8,4 +11,18 @@ returns-clause-found g c clean =
     let old = state g.S.Store c.args.tx.now.conn.now in
     let new = state g.S.Store c.find_rows.new.tx.conn.now in
     let rows = c.in_ok-rows.rows.items in
-    where_value c.read_first.result _ _ (rw c.deref.ensures.value at c.read_first.ensures) (find_board old new c.args.id rows (rw (c.params-to_sql.ensures) at (c.in_ok-rows.ensures.shown clean)))
+    where_value c.read_first.result _ _ (rw c.deref.ensures.value at c.read_first.ensures.value) (find_board old new c.args.id rows (rw (c.params-to_sql.ensures) at (c.in_ok-rows.ensures.shown clean)))
+
+pub returns-clause-excused : goal.returns-clause-excused
+returns-clause-excused g c clean =
+    let old = state g.S.Store c.args.tx.now.conn.now in
+    let new = state g.S.Store c.find_rows.new.tx.conn.now in
+    let rows = c.in_ok-rows.rows.items in
+    reading_excused IsBoardRow old new rows c.read_first.result (find_board_read old new c.args.id rows (rw (c.params-to_sql.ensures) at (c.in_ok-rows.ensures.shown clean))) (rw c.deref.ensures.value at c.read_first.ensures.refused)
+
+pub returns-in_err-rows-clause-excused : goal.returns-in_err-rows-clause-excused
+returns-in_err-rows-clause-excused g c clean =
+    let old = state g.S.Store c.args.tx.now.conn.now in
+    let new = state g.S.Store c.find_rows.new.tx.conn.now in
+    let p = err_from_is_err_and c.from_residual.result c.from_residual.ensures.1 in
+    rw (p.1, p.2) (find_board_excused old new c.args.id _ (rw (c.params-to_sql.ensures) at (c.in_err-rows.ensures.refused clean)))

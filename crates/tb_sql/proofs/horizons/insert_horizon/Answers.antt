@@ -5,5 +5,5 @@ use Rattle.tb_sql.proofs.horizons.insert_horizon.Goals as goal
 
 pub returns-clause-put : goal.returns-clause-put
 returns-clause-put g c clean inside =
-    where_ok c.run.result (insert_horizon (state g.S.Store c.args.tx.now.conn.now) (state g.S.Store c.run.new.tx.conn.now) c.args.horizon.now)
+    where_ok c.run.result (insert_horizon (state g.S.Store c.args.tx.now.conn.now) (state g.S.Store c.run.new.tx.conn.now) c.args.horizon.now c.horizon_fits.ensures)
     (rw (c.params-to_sql.ensures, c.params-to_sql-2.ensures) at (c.run.ensures.ran clean inside))

@@ -5,5 +5,5 @@ use Rattle.tb_sql.proofs.horizons.update_horizon.Goals as goal
 
 pub returns-clause-put : goal.returns-clause-put
 returns-clause-put g c clean inside =
-    where_ok c.run.result (update_horizon (state g.S.Store c.args.tx.now.conn.now) (state g.S.Store c.run.new.tx.conn.now) c.args.board c.args.ahead)
+    where_ok c.run.result (update_horizon (state g.S.Store c.args.tx.now.conn.now) (state g.S.Store c.run.new.tx.conn.now) c.args.board c.args.ahead c.number_fits.ensures)
     (rw (c.params-to_sql.ensures, c.params-to_sql-2.ensures) at (c.run.ensures.ran clean inside))

@@ -1,11 +1,10 @@
 use Rattle.std.proofs.Common.{arith}
 use Rattle.sqlite.specs.Held.{state}
 use Rattle.sqlite.specs.State.{HasCleanDisk}
-use Rattle.tb_sql_tables.specs.Content.{nothing, Content, IsContent}
+use Rattle.tb_sql_tables.specs.Content.{old_part, nothing, Content, IsContent}
 use Rattle.tb_sql_tables.specs.Standing.{IsHalfway, IsOldContent, IsQuarterway}
 use Rattle.tb_sql_tables.specs.Statements.{Turns}
 use Rattle.tb_sql_tables.proofs.Changing.{turns_then, where_ok}
-use Rattle.tb_sql.specs.Migrating.{first_part}
 use Rattle.tb_sql.proofs.migrating.widen.Goals as goal
 
 pub returns-clause-made : goal.returns-clause-made
@@ -19,5 +18,5 @@ returns-clause-made g c clean inside =
     let first : (content : Content) → Turns (IsOldContent content) (IsQuarterway content) a b = c.in_ok-create_horizon.ensures.added clean_b inside in
     let second : (content : Content) → Turns (IsQuarterway content) (IsHalfway content) b m = c.in_ok-create_history.ensures.both clean_m (first nothing).shown.mode in
     let both : (content : Content) → Turns (IsOldContent content) (IsHalfway content) a m = λ content. turns_then (IsOldContent content) (IsQuarterway content) (IsHalfway content) a b m (first content) (second content) in
-    where_ok c.update_version.result (λ next content. turns_then (IsOldContent content) (IsHalfway content) (IsContent (first_part content)) a m d (both content) (next content))
+    where_ok c.update_version.result (λ next content. turns_then (IsOldContent content) (IsHalfway content) (IsContent (old_part content)) a m d (both content) (next content))
     (c.update_version.ensures.made clean (second nothing).shown.mode)

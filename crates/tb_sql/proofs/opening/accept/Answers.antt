@@ -1,11 +1,12 @@
-use Rattle.std.proofs.Common.{◌≡◌, ◌∙◌, Ok, Err, true, false, refl, sym, ap, inl, inr}
+use Rattle.std.proofs.Common.{◌≡◌, ◌∙◌, List, [], ◌∷◌, codes, Ok, Err, true, false, refl, sym, ap, inl, inr}
 use Rattle.sqlite.specs.Held.{state}
+use Rattle.tb_sql_tables.specs.declared.rows.MetaRow.{MetaRow}
 use Rattle.tb_sql_tables.specs.Content.{AreOldRows, AreRows, AreSecondRows, IsContent}
 use Rattle.tb_sql_tables.specs.Standing.{IsOldContent, IsSecondContent}
 use Rattle.tb_sql.specs.Opening.{chosen, has_meta, has_tables, if_there, is_old, is_ours, is_second, judged, taken}
 use Rattle.tb_sql_tables.proofs.Changing.{at_ok}
 use Rattle.tb_sql.specs.declared.opening.OpenFault.TheVariants.{NotOurs, Store, WrongVersion}
-use Rattle.tb_sql.proofs.Opened.{first_refused, never_judged, never_refused, never_taken, on_ok, taken_same, taken_tables, told_so, refused_taken, rows_first, rows_second, rows_third, opened_content, opened_stands, opened_stands_old, opened_stands_second, same_before, stands_again, store_has_meta}
+use Rattle.tb_sql.proofs.Opened.{first_refused, never_judged, never_refused, never_taken, on_ok, others_refused, taken_same, taken_tables, told_so, refused_taken, rows_first, rows_second, rows_third, opened_content, opened_stands, opened_stands_old, opened_stands_second, same_before, stands_again, store_has_meta}
 use Rattle.tb_sql.proofs.opening.accept.Goals as goal
 
 -- ---- no first table
@@ -46,6 +47,11 @@ returns-in-Err-clause-excused g c is opened clean ready content rows =
     let failed = told_so c.in-Err.fault c.of.result c.of.ensures.memory (cc) in
     c.in-Err.ensures.excused (ap Err failed) clean ready content (opened_content s content opened c.schema.ensures.live rows)
 
+pub returns-in-Err-clause-hides : goal.returns-in-Err-clause-hides
+returns-in-Err-clause-hides g c is =
+    let failed = told_so c.in-Err.fault c.of.result c.of.ensures.memory (cc) in
+    c.in-Err.ensures.hides (ap Err failed)
+
 pub returns-in-Err-clause-earlier : goal.returns-in-Err-clause-earlier
 returns-in-Err-clause-earlier g c opened content rows =
     let conn = c.args.conn.now in
@@ -81,6 +87,11 @@ returns-in-Err-judge-clause-answered g c clean first =
 
 pub returns-in-Err-judge-clause-excused : goal.returns-in-Err-judge-clause-excused
 returns-in-Err-judge-clause-excused g c is =
+    let fault : c.in-Err-judge.fault ≡ Store = cc in
+    absurd (never_judged c.as_slice.result.now (sym c.in-Err-judge.ensures ∙ ap Err fault))
+
+pub returns-in-Err-judge-clause-hides : goal.returns-in-Err-judge-clause-hides
+returns-in-Err-judge-clause-hides g c is =
     let fault : c.in-Err-judge.fault ≡ Store = cc in
     absurd (never_judged c.as_slice.result.now (sym c.in-Err-judge.ensures ∙ ap Err fault))
 
@@ -208,8 +219,35 @@ returns-clause-answered g c clean has =
     let whole : c.choose.result ≡ taken schema c.in-Ok.metas = of_number ∙ ap (if_there schema) (c.in-Ok-judge.ensures ∙ ap judged c.as_slice.ensures) in
     inl (c.in-Ok.metas, c.in-Ok.ensures.shown clean, whole)
 
+pub returns-clause-others : goal.returns-clause-others
+returns-clause-others g c =
+    let schema = c.args.conn.now.schema in
+    let first : c.is_old-first.result ≡ is_old schema = c.is_old-first.ensures ∙ ap (λ x. is_old x) c.schema.ensures.value in
+    let second : c.is_second-second.result ≡ is_second schema = c.is_second-second.ensures ∙ ap (λ x. is_second x) c.schema-2.ensures.value in
+    let third : c.is_ours-third.result ≡ is_ours schema = c.is_ours-third.ensures ∙ ap (λ x. is_ours x) c.schema-3.ensures.value in
+    let number = c.in-Ok-judge.number in
+    let of_number : c.choose.result ≡ if_there schema (Ok number) =
+    c.choose.ensures ∙ rw (first, second, third) refl in
+    let whole : c.choose.result ≡ taken schema c.in-Ok.metas = of_number ∙ ap (if_there schema) (c.in-Ok-judge.ensures ∙ ap judged c.as_slice.ensures) in
+    on_ok _ c.choose.result (λ answer is clean version other store.
+    let one : List MetaRow = record { kind = codes "taskboard"; version = version } ∷ [] in
+    let metas = c.in-Ok.ensures.told clean (inl store.schema) one store.row in
+    others_refused schema version answer other store.schema (sym (taken_same schema one c.in-Ok.metas metas) ∙ sym whole ∙ is))
+
 pub returns-clause-excused : goal.returns-clause-excused
 returns-clause-excused g c is =
+    let schema = c.args.conn.now.schema in
+    let first : c.is_old-first.result ≡ is_old schema = c.is_old-first.ensures ∙ ap (λ x. is_old x) c.schema.ensures.value in
+    let second : c.is_second-second.result ≡ is_second schema = c.is_second-second.ensures ∙ ap (λ x. is_second x) c.schema-2.ensures.value in
+    let third : c.is_ours-third.result ≡ is_ours schema = c.is_ours-third.ensures ∙ ap (λ x. is_ours x) c.schema-3.ensures.value in
+    let number = c.in-Ok-judge.number in
+    let of_number : c.choose.result ≡ if_there schema (Ok number) =
+    c.choose.ensures ∙ rw (first, second, third) refl in
+    let whole : c.choose.result ≡ taken schema c.in-Ok.metas = of_number ∙ ap (if_there schema) (c.in-Ok-judge.ensures ∙ ap judged c.as_slice.ensures) in
+    absurd (never_taken schema c.in-Ok.metas (sym whole ∙ is))
+
+pub returns-clause-hides : goal.returns-clause-hides
+returns-clause-hides g c is =
     let schema = c.args.conn.now.schema in
     let first : c.is_old-first.result ≡ is_old schema = c.is_old-first.ensures ∙ ap (λ x. is_old x) c.schema.ensures.value in
     let second : c.is_second-second.result ≡ is_second schema = c.is_second-second.ensures ∙ ap (λ x. is_second x) c.schema-2.ensures.value in

@@ -5,5 +5,5 @@ use Rattle.tb_sql.proofs.people.insert_person.Goals as goal
 
 pub returns-clause-put : goal.returns-clause-put
 returns-clause-put g c clean inside =
-    where_ok c.run.result (insert_person (state g.S.Store c.args.tx.now.conn.now) (state g.S.Store c.run.new.tx.conn.now) c.args.person.now)
+    where_ok c.run.result (insert_person (state g.S.Store c.args.tx.now.conn.now) (state g.S.Store c.run.new.tx.conn.now) c.args.person.now c.person_fits.ensures)
     (rw (c.params-to_sql.ensures, c.params-to_sql-2.ensures, c.params-to_sql-3.ensures, c.as_str-name.ensures, c.as_str-secret.ensures) at (c.run.ensures.ran clean inside))

@@ -1,6 +1,9 @@
+use Rattle.std.proofs.lemmas.Result.{err_from_is_err_and}
 use Rattle.sqlite.specs.Held.{state}
 use Rattle.tb_sql_tables.proofs.Changing.{at_ok, where_value}
-use Rattle.tb_sql.proofs.PersonRows.{select_people, looking_at_people}
+use Rattle.tb_sql.proofs.PersonRows.{select_people, select_people_excused, select_people_read, looking_at_people}
+use Rattle.tb_sql_tables.specs.Read.{IsPersonRow}
+use Rattle.tb_sql_tables.proofs.Failing.{reading_excused}
 use Rattle.tb_sql.proofs.people.select_people.Goals as goal
 
 pub returns-clause-found : goal.returns-clause-found
@@ -15,3 +18,17 @@ returns-clause-looks g c clean inside =
     let old = state g.S.Store c.args.tx.now.conn.now in
     let new = state g.S.Store c.find_rows.new.tx.conn.now in
     at_ok c.read_all.result (looking_at_people old new c.in_ok-rows.rows.items inside (c.in_ok-rows.ensures.shown clean))
+
+pub returns-clause-excused : goal.returns-clause-excused
+returns-clause-excused g c clean =
+    let old = state g.S.Store c.args.tx.now.conn.now in
+    let new = state g.S.Store c.find_rows.new.tx.conn.now in
+    let rows = c.in_ok-rows.rows.items in
+    reading_excused IsPersonRow old new rows c.read_all.result (select_people_read old new rows (c.in_ok-rows.ensures.shown clean)) (rw c.deref.ensures.value at c.read_all.ensures.refused)
+
+pub returns-in_err-rows-clause-excused : goal.returns-in_err-rows-clause-excused
+returns-in_err-rows-clause-excused g c clean =
+    let old = state g.S.Store c.args.tx.now.conn.now in
+    let new = state g.S.Store c.find_rows.new.tx.conn.now in
+    let p = err_from_is_err_and c.from_residual.result c.from_residual.ensures.1 in
+    rw (p.1, p.2) (select_people_excused old new _ (c.in_err-rows.ensures.refused clean))

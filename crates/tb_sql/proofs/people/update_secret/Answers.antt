@@ -5,5 +5,5 @@ use Rattle.tb_sql.proofs.people.update_secret.Goals as goal
 
 pub returns-clause-put : goal.returns-clause-put
 returns-clause-put g c clean inside =
-    where_ok c.run.result (update_secret (state g.S.Store c.args.tx.now.conn.now) (state g.S.Store c.run.new.tx.conn.now) c.args.name.now c.args.secret.now)
+    where_ok c.run.result (update_secret (state g.S.Store c.args.tx.now.conn.now) (state g.S.Store c.run.new.tx.conn.now) c.args.name.now c.args.secret.now c.text_fits.ensures)
     (rw (c.params-to_sql.ensures, c.params-to_sql-2.ensures) at (c.run.ensures.ran clean inside))

@@ -14,6 +14,9 @@ pub returns-in-Err-clause-stopped : goal.returns-in-Err-clause-stopped
 returns-in-Err-clause-stopped g c opened s trees =
     left_old s (state g.S.Store c.args.conn) (state g.S.Store c.accept.new.conn) (c.in-Err.ensures.old opened) (c.in-Err.ensures.earlier opened) trees
 
+pub returns-in-Err-clause-hides : goal.returns-in-Err-clause-hides
+returns-in-Err-clause-hides g c is = c.in-Err.ensures.hides (ap Err is)
+
 -- ---- it is one of the first version
 
 pub returns-in-Ok-migrated-clause-tables : goal.returns-in-Ok-migrated-clause-tables
@@ -66,6 +69,9 @@ returns-in-Err-Store-clause-stopped g c opened s (inr second) = absurd (first_no
 
 pub returns-in-Err-Store-clause-excused : goal.returns-in-Err-Store-clause-excused
 returns-in-Err-Store-clause-excused g c is opened clean ready content rows = absurd (first_not_third (sym c.in-First.is ∙ c.in-Ok.ensures.third opened content rows))
+
+pub returns-in-Err-Store-clause-hides : goal.returns-in-Err-Store-clause-hides
+returns-in-Err-Store-clause-hides g c is clean ready version other store = absurd (c.in-Ok.ensures.others (c.in-Err-Store.ensures.clean clean) version other store)
 
 -- ---- it is one of the second
 
@@ -120,6 +126,9 @@ returns-in-Err-Store-widened-clause-stopped g c opened s (inr second) =
 pub returns-in-Err-Store-widened-clause-excused : goal.returns-in-Err-Store-widened-clause-excused
 returns-in-Err-Store-widened-clause-excused g c is opened clean ready content rows = absurd (second_not_third (sym c.in-Second.is ∙ c.in-Ok.ensures.third opened content rows))
 
+pub returns-in-Err-Store-widened-clause-hides : goal.returns-in-Err-Store-widened-clause-hides
+returns-in-Err-Store-widened-clause-hides g c is clean ready version other store = absurd (c.in-Ok.ensures.others (c.in-Err-Store-widened.ensures.clean clean) version other store)
+
 -- ---- it is one of today's
 
 pub returns-in-Ok-at_hand-clause-tables : goal.returns-in-Ok-at_hand-clause-tables
@@ -165,3 +174,6 @@ returns-in-Err-Store-at_hand-clause-excused g c is opened =
     let taken = c.in-Ok.ensures in
     let hand = c.in-Err-Store-at_hand.ensures in
     fails_then (λ content. AreRows content old.now.trees) (λ content. Stands content mid) old mid new (λ _ _ content rows. taken.shows opened content rows) taken.faults hand.same.clean hand.faults (hand.excused (ap Err c.in-Err-Store-at_hand.field-0-is))
+
+pub returns-in-Err-Store-at_hand-clause-hides : goal.returns-in-Err-Store-at_hand-clause-hides
+returns-in-Err-Store-at_hand-clause-hides g c is clean ready version other store = absurd (c.in-Ok.ensures.others (c.in-Err-Store-at_hand.ensures.same.clean clean) version other store)

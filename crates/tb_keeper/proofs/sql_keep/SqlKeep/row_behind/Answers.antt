@@ -4,6 +4,7 @@ use Rattle.sqlite_trees.proofs.Doubt.{clean_of}
 use Rattle.tb_keeper.specs.Lending.{stored_row}
 use Rattle.tb_keeper.proofs.Holding.{same_at_hand}
 use Rattle.tb_keeper.proofs.Settled.{settled_leaves, settled_ok, settled_told}
+use Rattle.tb_keeper.proofs.Settled.{settled_fails}
 use Rattle.tb_keeper.proofs.sql_keep.SqlKeep.row_behind.Goals as goal
 
 pub returns-clause-found : goal.returns-clause-found
@@ -26,3 +27,10 @@ returns-clause-clean g c = rw c.settle.ensures.left c.find_row-end.ensures.same.
 
 pub returns-clause-placed : goal.returns-clause-placed
 returns-clause-placed g c = settled_ok (λ _. c.args.behind + 1 ≤ 4294967295) c.find_row-end.result _ c.settle.ensures.told c.find_row-end.ensures.placed
+
+pub returns-clause-excused : goal.returns-clause-excused
+returns-clause-excused g c is fine few =
+    let k = c.args.self.now in
+    let end = c.find_row-end in
+    rw c.settle.ensures.left (settled_fails k.failed k.people k.boards k.cache.entries (state g.S.Store k.conn) (state g.S.Store end.new.conn) fine end.ensures.same.clean end.result _ c.settle.ensures.told
+    (λ failed clean ready s both. end.ensures.excused failed few clean ready s both.0) is)

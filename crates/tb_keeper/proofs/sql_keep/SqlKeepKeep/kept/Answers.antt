@@ -7,6 +7,7 @@ use Rattle.tb_keeper.specs.Holds.{IsAtHand}
 use Rattle.tb_keeper.specs.PeopleAtHand.{IsKnownIn}
 use Rattle.tb_keeper.proofs.Holding.{hand_after, honest, same_at_hand}
 use Rattle.tb_keeper.proofs.Settled.{settled_hand_leaves, settled_hand_told}
+use Rattle.tb_keeper.proofs.Settled.{settled_fails}
 use Rattle.tb_keeper.proofs.sql_keep.SqlKeepKeep.kept.Goals as goal
 
 pub returns-clause-answer : goal.returns-clause-answer
@@ -30,3 +31,10 @@ returns-clause-failed g c = rw (c.settle.ensures.left, c.if-self.false) refl
 
 pub returns-clause-honest : goal.returns-clause-honest
 returns-clause-honest g c = rw c.settle.ensures.left (honest (state g.S.Store c.args.self.now.conn) (state g.S.Store c.find_reply-end.new.conn) c.find_reply-end.ensures.same.clean)
+
+pub returns-clause-excused : goal.returns-clause-excused
+returns-clause-excused g c is fine =
+    let k = c.args.self.now in
+    let end = c.find_reply-end in
+    rw c.settle.ensures.left (settled_fails k.failed k.people k.boards k.cache.entries (state g.S.Store k.conn) (state g.S.Store end.new.conn) fine end.ensures.same.clean end.result _ c.settle.ensures.told
+    (λ failed clean ready s both. end.ensures.excused failed clean ready s (both.0, both.1.known_is)) is)

@@ -1,7 +1,7 @@
-use Rattle.std.proofs.Common.{◌∙◌}
+use Rattle.std.proofs.Common.{◌∙◌, Err, ap}
 use Rattle.sqlite.specs.Held.{state}
 use Rattle.tb_keeper.specs.Looking.{IsGlance}
-use Rattle.tb_keeper.proofs.Holding.{hand_after, hand_failure_leaves, hand_leaves, hand_told, honest}
+use Rattle.tb_keeper.proofs.Holding.{hand_after, hand_failure_leaves, hand_leaves, hand_told, held_of, honest}
 use Rattle.tb_keeper.proofs.Looked.{all_seen}
 use Rattle.tb_keeper.proofs.sql_keep.SqlKeepKeep.look.Goals as goal
 
@@ -37,3 +37,9 @@ returns-in-Err-Store-clause-same g c =
 
 pub returns-in-Err-Store-clause-honest : goal.returns-in-Err-Store-clause-honest
 returns-in-Err-Store-clause-honest g c = honest (state g.S.Store c.args.self.now.conn) (state g.S.Store c.look_up.new.conn) c.in-Err-Store.ensures.same.clean
+
+pub returns-in-Err-Store-clause-excused : goal.returns-in-Err-Store-clause-excused
+returns-in-Err-Store-clause-excused g c is fine clean ready s held =
+    let k = c.args.self.now in
+    let both = held_of k.failed k.people k.boards k.cache.entries (state g.S.Store k.conn) s fine (c.in-Err-Store.ensures.same.clean clean) held in
+    c.in-Err-Store.ensures.excused (ap Err c.in-Err-Store.field-0-is) clean ready s both.0
