@@ -12,6 +12,7 @@ use Rattle.tb_keeper.specs.declared.auditing.Audit.{Audit}
 use Rattle.tb_orders.specs.Auditing.{audit_line, ending_of_audit}
 use Rattle.tb_orders.specs.declared.ending.Ending.{Ending}
 use Rattle.tb_lookup.specs.Reopening.{OfContent}
+use Rattle.tb_values.specs.Appends.{AppendsFront}
 
 module _ {D : Type 0} {d : DiskGhosts D} where
   -- what is told was counted in the content that a keeper found, and the file is saved then
@@ -25,3 +26,11 @@ module _ {D : Type 0} {d : DiskGhosts D} where
         (λ content. IsCountOf content audit)
     pub told : Appends before after (audit_line audit)
     pub ends : ending ≡ ending_of_audit audit
+
+  -- it was counted so, and a prefix of that was printed
+  pub record IsCheckCut (old : SqlKeep (FileStore D d)) (before after : Option (List ℕ)) : Type 0 where
+    pub new : SqlKeep (FileStore D d)
+    pub audit : Audit
+    pub counted : OfContent (file_state old.conn) (file_state new.conn)
+        (λ content. IsCountOf content audit)
+    pub front : AppendsFront before after (audit_line audit)

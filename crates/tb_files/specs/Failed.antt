@@ -1,5 +1,5 @@
 -- What an import that failed has done to a file.
-use Rattle.std.specs.Prelude.{◌≡◌, ◌⊎◌, Bool, true, false, ℕ, List, Option, Result, Ok, Err}
+use Rattle.std.specs.Prelude.{◌≡◌, ◌⊎◌, Bool, true, false, ℕ, List, OnOk, Option, Result, Ok, Err}
 use Rattle.sqlite.specs.Held.{Held}
 use Rattle.sqlite_disk.specs.declared.Disk.{Ghosts as DiskGhosts}
 use Rattle.sqlite_store.specs.declared.store.FileStore.{FileStore}
@@ -7,7 +7,7 @@ use Rattle.tb_calls.specs.Call.{State}
 use Rattle.tb_calls.specs.Leaving.{Only}
 use Rattle.tb_calls.specs.declared.keep.Keep.{Ghosts}
 use Rattle.tb_command_line.specs.declared.order.ImportOrder.{ImportOrder}
-use Rattle.tb_files.specs.File.{BeginsSession}
+use Rattle.tb_files.specs.File.{BeginsSession, IsUnsaved}
 use Rattle.tb_files.specs.NotDone.{IsUntaken}
 use Rattle.tb_keeper.specs.declared.sql_keep.SqlKeep.{SqlKeep}
 use Rattle.tb_orders.specs.Doing.{Does}
@@ -57,6 +57,7 @@ module _ {D W : Type 0} {d : DiskGhosts D} (g : Ghosts (SqlKeep (FileStore D d))
     pub new : SqlKeep (FileStore D d)
     pub end : Result Ending Fault
     pub ends : EndsIn end told
+    pub unsaved : OnOk end (IsUnsaved new.conn)
     pub does : (s : State) → g.holds old s → Only s (g.after_stop old)
         → Does given order input s end (g.is_honest new) (g.holds new) (g.after_stop new)
         (contents before) (contents after)
@@ -67,6 +68,7 @@ module _ {D W : Type 0} {d : DiskGhosts D} (g : Ghosts (SqlKeep (FileStore D d))
     pub new : SqlKeep (FileStore D d)
     pub end : Result Ending Fault
     pub ends : EndsIn end told
+    pub unsaved : OnOk end (IsUnsaved new.conn)
     pub run : (s : State) → g.holds old s → Only s (g.after_stop old)
         → IsRunOf given order input s end (g.is_honest new) (g.holds new) (g.after_stop new)
         (contents before) (contents after)

@@ -1,12 +1,15 @@
 -- What a session over a file begins with and ends with. What a path leads to can't be named: a connection to it can.
 use Rattle.std.specs.Prelude.{◌≡◌, true}
 use Rattle.sqlite.specs.Closing.{IsCopied}
-use Rattle.sqlite.specs.Files.{file_state}
+use Rattle.sqlite.specs.Files.{FailsToClose, IsClosed, file_state}
 use Rattle.sqlite.specs.Held.{Held}
 use Rattle.sqlite.specs.State.{HasCleanDisk}
+use Rattle.sqlite.specs.declared.error.Error.{Error}
 use Rattle.sqlite_disk.specs.declared.Disk.{Ghosts as DiskGhosts}
 use Rattle.sqlite_disk.specs.declared.Files.{Files}
+use Rattle.sqlite_store.specs.FileStore.{view}
 use Rattle.sqlite_store.specs.declared.store.FileStore.{FileStore}
+use Rattle.sqlite_trees.specs.View.{IsClean}
 use Rattle.tb_calls.specs.declared.keep.Keep.{Ghosts}
 use Rattle.tb_keeper.specs.declared.sql_keep.SqlKeep.{SqlKeep}
 use Rattle.sqlite_wal.specs.Reads.{AreClean}
@@ -18,6 +21,14 @@ module _ {D : Type 0} {d : DiskGhosts D} where
   -- where the disk returned what was written, the last commit is in the database file
   abbrev pub IsSaved : Held (FileStore D d) → Files D → Type 0
   IsSaved conn files = AreClean d files.log files.db → IsCopied conn files
+
+  -- The copying failed: it left this store, and where the disk returned what was written, for this error, which the disk or the want of
+  -- memory gave.
+  pub record IsUnsaved (conn : Held (FileStore D d)) : Type 0 where
+    pub left : FileStore D d
+    pub error : Error
+    pub closed : IsClosed conn left
+    pub fails : IsClean (view left) → FailsToClose conn left error
 
 module _ {D : Type 0} {d : DiskGhosts D} (g : Ghosts (SqlKeep (FileStore D d))) where
   -- a connection found the tables of a version, and where their rows are those of a state, the keeper over it is at that state

@@ -9,7 +9,7 @@ use Rattle.sqlite_store.specs.declared.store.FileStore.{FileStore}
 use Rattle.tb_calls.specs.declared.keep.Keep.{Ghosts}
 use Rattle.tb_keeper.specs.declared.sql_keep.SqlKeep.{SqlKeep}
 use Rattle.tb_calls.specs.Call.{State}
-use Rattle.tb_files.specs.File.{IsSaved}
+use Rattle.tb_files.specs.File.{IsSaved, IsUnsaved}
 use Rattle.tb_files.specs.declared.not_done.NotDone.{NotDone}
 use Rattle.tb_files.specs.declared.not_done.NotDone.TheVariants.{Failed, Untaken}
 use Rattle.tb_headline.specs.Refusals.{IsFilled, IsUnmade}
@@ -38,11 +38,12 @@ module _ {D : Type 0} {d : DiskGhosts D} (g : Ghosts (SqlKeep (FileStore D d))) 
     pub saved : IsSaved keep.conn files
 
   -- it was made, and couldn't be saved
-  pub record IsUnsaved (found : Held (FileStore D d)) (s : State) : Type 0 where
+  pub record IsMadeUnsaved (found : Held (FileStore D d)) (s : State) : Type 0 where
     pub keep : SqlKeep (FileStore D d)
     pub at : HasCleanDisk (file_state found) → IsAt s (g.holds keep) (g.after_stop keep)
+    pub unsaved : IsUnsaved keep.conn
 
   -- none was made, for the fault that is reported; or it was made, and couldn't be saved
   abbrev pub IsNotMade : Held (FileStore D d) → State → NotDone (Held (FileStore D d)) → Type 0
   IsNotMade found s (Untaken untaken) = IsUnmadeFor found s untaken.left untaken.fault
-  IsNotMade found s (Failed failed) = (failed ≡ fault_alone fault.Store) × IsUnsaved found s
+  IsNotMade found s (Failed failed) = (failed ≡ fault_alone fault.Store) × IsMadeUnsaved found s

@@ -30,7 +30,7 @@ module _ {D : Type 0} {d : DiskGhosts D} (g : Ghosts (SqlKeep (FileStore D d)))
         → ending ≡ ending_of (shown_by s order at)
     pub same : IsStill (g.holds old) (g.after_stop old) (g.holds new) (g.after_stop new)
 
-  -- it was shown, but for what the writer didn't take
+  -- it was shown, but for what wasn't found or written
   pub record IsCutShort (order : ViewOrder) (old : SqlKeep (FileStore D d))
       (before after : Option (List ℕ)) : Type 0 where
     pub new : SqlKeep (FileStore D d)

@@ -1,8 +1,9 @@
 //! The comparison of what a file stores with what its tasks say.
-ghost use Rattle.std.specs.Prelude.{◌≡◌, false, IfErr, IfOk, true};
+ghost use Rattle.std.specs.Prelude.{◌≡◌, ◌⊎◌, false, IfErr, IfOk, OnErr, true};
 ghost use Rattle.sqlite.specs.Files.{file_state};
-ghost use Rattle.sqlite.specs.State.{HasCleanDisk, Opens};
-ghost use Rattle.tb_files.specs.Check.{IsChecked};
+ghost use Rattle.sqlite.specs.State.{HasCleanDisk};
+ghost use Rattle.tb_sql_tables.specs.Failing.{IsAtRest};
+ghost use Rattle.tb_files.specs.Check.{IsCheckCut, IsChecked};
 ghost use Rattle.tb_files.specs.Faults.{is_of_checking};
 ghost use Rattle.tb_files.specs.File.{InSession};
 ghost use Rattle.tb_files.specs.NotDone.{IsNotDone, failure_of};
@@ -29,9 +30,12 @@ pub fn check_file<D: Disk + Drop, W: Write>(
     writer: &mut W,
 ) -> Result<Ending, NotDone<Connection<FileStore<D>>>>
     requires idle { conn.in_transaction ≡ false }
-    requires opens { HasCleanDisk (file_state conn) → Opens (file_state conn) }
+    requires opens { HasCleanDisk (file_state conn) → IsAtRest (file_state conn) }
     ensures checked { IfOk result (λ ending. InSession ⟦<SqlKeep<FileStore<D>> as Keep>⟧ conn
         (λ old. IsChecked old (W.contents writer.old) (W.contents writer.new) ending)) }
+    ensures cut { IfErr result (λ undone. (writer.new ≡ writer.old)
+        ⊎ InSession ⟦<SqlKeep<FileStore<D>> as Keep>⟧ conn
+        (λ old. IsCheckCut old (W.contents writer.old) (W.contents writer.new))) }
     ensures undone { IfErr result
         (IsNotDone ⟦<SqlKeep<FileStore<D>> as Keep>⟧ is_of_answers conn) }
     ensures fault { IfErr result (λ undone. is_of_checking (failure_of undone).fault ≡ true) }
@@ -54,6 +58,8 @@ fn check_rows<D: Disk + Drop, W: Write>(
 ) -> Result<Ending, Fault>
     ensures checked { IfOk result
         (IsChecked keep (W.contents writer.old) (W.contents writer.new)) }
+    ensures cut { OnErr result ((writer.new ≡ writer.old)
+        ⊎ IsCheckCut keep (W.contents writer.old) (W.contents writer.new)) }
     ensures fault { IfErr result (λ fault. is_of_answers fault ≡ true) }
 {
     let mut keep = keep;

@@ -1,10 +1,11 @@
 //! The file of boards.
 ghost use Rattle.sqlite.specs.Files.{file_state};
 ghost use Rattle.sqlite.specs.State.{HasCleanDisk, Opens};
+ghost use Rattle.tb_sql_tables.specs.Failing.{IsAtRest};
 ghost use Rattle.std.specs.Io.KnownBytes.{Appends};
 ghost use Rattle.std.specs.Prelude.{◌≡◌, false, IfErr, IfOk, Ok, OnErr, OnOk, true};
 ghost use Rattle.tb_files.specs.Failed.{IsUnopened};
-ghost use Rattle.tb_files.specs.File.{IsBegun, IsSaved};
+ghost use Rattle.tb_files.specs.File.{IsBegun, IsSaved, IsUnsaved};
 ghost use Rattle.tb_files.specs.NotDone.{IsUntaken};
 ghost use Rattle.tb_files.specs.Notice.{notice, rest_of_notice};
 ghost use Rattle.tb_orders.specs.Faults.{is_of_files, is_of_opening};
@@ -45,6 +46,8 @@ pub fn open_file(rt: &HostRuntime, path: &str) -> Result<Connection<RealFile>, F
     ensures fault { IfErr result (λ fault. is_of_files fault ≡ true) }
     ensures idle { IfOk result (λ conn. conn.in_transaction ≡ false) }
     ensures opens { IfOk result (λ conn. HasCleanDisk (file_state conn) → Opens (file_state conn)) }
+    ensures rests { IfOk result
+        (λ conn. HasCleanDisk (file_state conn) → IsAtRest (file_state conn)) }
 {
     if fs::metadata(rt, path).is_err() {
         return Err(Fault::Store);
@@ -58,6 +61,8 @@ pub fn open_new_file(rt: &HostRuntime, path: &str) -> Result<Connection<RealFile
     ensures fault { IfErr result (λ fault. is_of_files fault ≡ true) }
     ensures idle { IfOk result (λ conn. conn.in_transaction ≡ false) }
     ensures opens { IfOk result (λ conn. HasCleanDisk (file_state conn) → Opens (file_state conn)) }
+    ensures rests { IfOk result
+        (λ conn. HasCleanDisk (file_state conn) → IsAtRest (file_state conn)) }
 {
     look_at_log(rt, path)?;
     make_private(rt, path);
@@ -95,7 +100,7 @@ pub fn open_desk<D: Disk + Drop>(
     conn: Connection<FileStore<D>>,
 ) -> Result<Desk<SqlKeep<FileStore<D>>>, Untaken<Connection<FileStore<D>>>>
     requires idle { conn.in_transaction ≡ false }
-    requires opens { HasCleanDisk (file_state conn) → Opens (file_state conn) }
+    requires opens { HasCleanDisk (file_state conn) → IsAtRest (file_state conn) }
     ensures begun { IfOk result (IsBegun ⟦<SqlKeep<FileStore<D>> as Keep>⟧ conn) }
     ensures untaken { IfErr result (λ untaken. IsUntaken conn untaken.left untaken.fault) }
     ensures fault { IfErr result (λ untaken. is_of_opening untaken.fault ≡ true) }
@@ -175,6 +180,7 @@ fn tell_rest<W: Write>(writer: &mut W, path: &str, what: &str) -> Result<(), Fau
 /// Ends a session.
 pub fn close_desk<D: Disk + Drop>(desk: Desk<SqlKeep<FileStore<D>>>) -> Result<(), Fault>
     ensures saved { OnOk result ((files : _) × IsSaved desk.conn files) }
+    ensures unsaved { OnErr result (IsUnsaved desk.conn) }
     ensures fault { IfErr result (λ fault. fault ≡ Store) }
 {
     close_keep(desk.into_keep())
@@ -187,7 +193,8 @@ pub(crate) fn close_after<D: Disk + Drop>(
 ) -> Result<Ending, OrderFault>
     ensures saved { IfOk result
         (λ told. (told ≡ ending) × ((files : _) × IsSaved desk.conn files)) }
-    ensures fault { IfErr result (λ failed. failed ≡ fault_alone Store) }
+    ensures fault { IfErr result
+        (λ failed. (failed ≡ fault_alone Store) × IsUnsaved desk.conn) }
 {
     match close_desk(desk) {
         Ok(()) => Ok(ending),
@@ -198,9 +205,18 @@ pub(crate) fn close_after<D: Disk + Drop>(
 /// Copies what was committed into the database file, and closes it.
 pub(crate) fn close_keep<D: Disk + Drop>(keep: SqlKeep<FileStore<D>>) -> Result<(), Fault>
     ensures saved { OnOk result ((files : _) × IsSaved keep.conn files) }
+    ensures unsaved { OnErr result (IsUnsaved keep.conn) }
     ensures fault { IfErr result (λ fault. fault ≡ Store) }
 {
-    match keep.close().close_files() {
+    close_conn(keep.close())
+}
+
+fn close_conn<D: Disk + Drop>(conn: Connection<FileStore<D>>) -> Result<(), Fault>
+    ensures saved { OnOk result ((files : _) × IsSaved conn files) }
+    ensures unsaved { OnErr result (IsUnsaved conn) }
+    ensures fault { IfErr result (λ fault. fault ≡ Store) }
+{
+    match conn.close_files() {
         Ok(files) => {
             drop(files);
             Ok(())

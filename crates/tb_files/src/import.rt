@@ -5,7 +5,8 @@ ghost use Rattle.tb_files.specs.Faults.{is_of_imports};
 ghost use Rattle.tb_files.specs.Import.{IsImported, IsImportedInParts, IsImportedInPartsOver, IsImportedOver};
 ghost use Rattle.tb_orders.specs.Items.{IsBadAmong, IsBadIn};
 ghost use Rattle.tb_orders.specs.Moments.{GaveOne};
-ghost use Rattle.tb_program.specs.declared.fault.Fault.TheVariants.{NoClock};
+ghost use Rattle.tb_program.specs.declared.fault.Fault.TheVariants.{NoClock, ReadFailed};
+ghost use Rattle.tb_script.specs.Watching.{IsSpent};
 
 use crate::file::{RealFile, begin, close_after};
 use sqlite::FileStore;
@@ -17,6 +18,7 @@ use tb_desk::Desk;
 use tb_keeper::SqlKeep;
 use tb_orders::{Ending, OrderFault, Progress, import_all, import_input};
 use tb_program::Clock;
+use tb_script::Watched;
 
 /// Imports an input by one call.
 #[tactic(auto, using(crate::proofs::Faults::of_opening))]
@@ -41,8 +43,9 @@ pub fn import_into_file<R: Read + Drop, C: Clock, W: Write>(
         (λ failed. IfSome failed.item (IsBadIn order.now (R.remaining reader))) }
     ensures fault { IfErr result (λ failed. is_of_imports failed.fault ≡ true) }
 {
+    let mut reader = Watched::new(reader);
     match begin(rt, order.file.as_str()) {
-        Ok(desk) => import_over(rt, desk, order, reader, clock, writer),
+        Ok(desk) => import_over(rt, desk, order, &mut reader, clock, writer),
         Err(fault) => Err(OrderFault { fault, item: None }),
     }
 }
@@ -53,24 +56,25 @@ fn import_over<D: Disk + Drop, R: Read + Drop, C: Clock, W: Write>(
     rt: &HostRuntime,
     desk: Desk<SqlKeep<FileStore<D>>>,
     order: &ImportOrder,
-    reader: R,
+    reader: &mut Watched<R>,
     clock: &mut C,
     writer: &mut W,
 ) -> Result<Ending, OrderFault>
     ensures imported { IfOk result
         (λ ending. IsImportedOver ⟦<SqlKeep<FileStore<D>> as Keep>⟧
-        (GaveOne C.gives clock.old clock.new) order.now (R.remaining reader)
+        (GaveOne C.gives clock.old clock.new) order.now (reader.old.left)
         (W.contents writer.old) (W.contents writer.new) ending desk) }
     ensures failed { IfErr result
         (λ failed. IsImportCut ⟦<SqlKeep<FileStore<D>> as Keep>⟧ W.contents
         (GaveOne C.gives clock.old clock.new) order.now
-        (R.remaining reader) writer.old writer.new failed.fault desk) }
+        (reader.old.left) writer.old writer.new failed.fault desk) }
     ensures silent { IfErr result
         (λ failed. may_print failed.fault ≡ false → writer.new ≡ writer.old) }
     ensures timeless { IfErr result
         (λ failed. failed.fault ≡ NoClock → C.gives (None ∷ []) clock.old clock.new) }
     ensures item { IfErr result
-        (λ failed. IfSome failed.item (IsBadIn order.now (R.remaining reader))) }
+        (λ failed. IfSome failed.item (IsBadIn order.now (reader.old.left))) }
+    ensures spent { IfErr result (λ failed. failed.fault ≡ ReadFailed → IsSpent reader.new) }
     ensures fault { IfErr result (λ failed. is_of_imports failed.fault ≡ true) }
 {
     let mut desk = desk;
@@ -103,8 +107,9 @@ pub fn import_parts_into_file<R: Read + Drop, C: Clock, W: Write>(
         (λ failed. IfSome failed.item (IsBadAmong order.now (R.remaining reader))) }
     ensures fault { IfErr result (λ failed. is_of_imports failed.fault ≡ true) }
 {
+    let mut reader = Watched::new(reader);
     match begin(rt, order.file.as_str()) {
-        Ok(desk) => import_parts_over(rt, desk, order, reader, clock, writer),
+        Ok(desk) => import_parts_over(rt, desk, order, &mut reader, clock, writer),
         Err(fault) => Err(OrderFault { fault, item: None }),
     }
 }
@@ -115,24 +120,25 @@ fn import_parts_over<D: Disk + Drop, R: Read + Drop, C: Clock, W: Write>(
     rt: &HostRuntime,
     desk: Desk<SqlKeep<FileStore<D>>>,
     order: &ImportOrder,
-    reader: R,
+    reader: &mut Watched<R>,
     clock: &mut C,
     writer: &mut W,
 ) -> Result<Ending, OrderFault>
     ensures imported { IfOk result
         (λ ending. IsImportedInPartsOver ⟦<SqlKeep<FileStore<D>> as Keep>⟧
         (GaveOne C.gives clock.old clock.new) order.now
-        (R.remaining reader) (W.contents writer.old) (W.contents writer.new) ending desk) }
+        (reader.old.left) (W.contents writer.old) (W.contents writer.new) ending desk) }
     ensures failed { IfErr result
         (λ failed. IsRunCut ⟦<SqlKeep<FileStore<D>> as Keep>⟧ W.contents
         (GaveOne C.gives clock.old clock.new) order.now
-        (R.remaining reader) writer.old writer.new failed.fault desk) }
+        (reader.old.left) writer.old writer.new failed.fault desk) }
     ensures silent { IfErr result
         (λ failed. may_print_parts failed.fault ≡ false → writer.new ≡ writer.old) }
     ensures timeless { IfErr result
         (λ failed. failed.fault ≡ NoClock → C.gives (None ∷ []) clock.old clock.new) }
     ensures item { IfErr result
-        (λ failed. IfSome failed.item (IsBadAmong order.now (R.remaining reader))) }
+        (λ failed. IfSome failed.item (IsBadAmong order.now (reader.old.left))) }
+    ensures spent { IfErr result (λ failed. failed.fault ≡ ReadFailed → IsSpent reader.new) }
     ensures fault { IfErr result (λ failed. is_of_imports failed.fault ≡ true) }
 {
     let mut desk = desk;

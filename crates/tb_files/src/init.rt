@@ -1,7 +1,8 @@
 //! A new file of boards.
 ghost use Rattle.std.specs.Prelude.{◌≡◌, false, IfErr, IfOk, true};
 ghost use Rattle.sqlite.specs.Files.{file_state};
-ghost use Rattle.sqlite.specs.State.{HasCleanDisk, Opens};
+ghost use Rattle.sqlite.specs.State.{HasCleanDisk};
+ghost use Rattle.tb_sql_tables.specs.Failing.{IsAtRest};
 ghost use Rattle.tb_calls.specs.Call.{opening};
 ghost use Rattle.tb_files.specs.Init.{IsMade, IsNotMade};
 ghost use Rattle.tb_files.specs.NotDone.{failure_of};
@@ -25,7 +26,7 @@ pub fn make_file<D: Disk + Drop>(
     order: &InitOrder,
 ) -> Result<Ending, NotDone<Connection<FileStore<D>>>>
     requires idle { conn.in_transaction ≡ false }
-    requires opens { HasCleanDisk (file_state conn) → Opens (file_state conn) }
+    requires opens { HasCleanDisk (file_state conn) → IsAtRest (file_state conn) }
     ensures made { IfOk result (λ ending. (ending ≡ Ending.Accepted)
         × IsMade ⟦<SqlKeep<FileStore<D>> as Keep>⟧ conn
         (opening order.now.name order.now.key)) }

@@ -2,7 +2,7 @@
 ghost use Rattle.std.specs.Prelude.{◌≡◌, ◌∷◌, [], IfErr, IfOk, IsErrOf, None, false, true};
 ghost use Rattle.tb_files.specs.Failed.{may_print};
 ghost use Rattle.tb_files.specs.Faults.{is_of_keys};
-ghost use Rattle.tb_files.specs.Key.{IsKeyGiven};
+ghost use Rattle.tb_files.specs.Key.{IsKeyFailed, IsKeyGiven};
 ghost use Rattle.tb_orders.specs.Moments.{GaveOne};
 ghost use Rattle.tb_program.specs.declared.fault.Fault.TheVariants.{NoClock};
 
@@ -26,6 +26,9 @@ pub fn give_key_in_file<R: Read + Drop, C: Clock, W: Write>(
     ensures given { IfOk result (IsKeyGiven ⟦<SqlKeep<RealFile> as Keep>⟧
         (GaveOne C.gives clock.old clock.new) order.now (R.remaining reader)
         (W.contents writer.old) (W.contents writer.new)) }
+    ensures failed { IfErr result (IsKeyFailed ⟦<SqlKeep<RealFile> as Keep>⟧ W.contents
+        (GaveOne C.gives clock.old clock.new) order.now (R.remaining reader)
+        writer.old writer.new) }
     ensures silent { IfErr result (λ fault. may_print fault ≡ false → writer.new ≡ writer.old) }
     ensures timeless { IsErrOf result NoClock → C.gives (None ∷ []) clock.old clock.new }
     ensures fault { IfErr result (λ fault. is_of_keys fault ≡ true) }

@@ -1,7 +1,8 @@
 //! Views of a board in a file.
-ghost use Rattle.std.specs.Prelude.{◌≡◌, ◌∷◌, [], false, IfErr, IfOk, IsErrOf, None, true};
+ghost use Rattle.std.specs.Prelude.{◌≡◌, ◌⊎◌, ◌∷◌, [], false, IfErr, IfOk, IsErrOf, None, OnErr, true};
 ghost use Rattle.sqlite.specs.Files.{file_state};
-ghost use Rattle.sqlite.specs.State.{HasCleanDisk, Opens};
+ghost use Rattle.sqlite.specs.State.{HasCleanDisk};
+ghost use Rattle.tb_sql_tables.specs.Failing.{IsAtRest};
 ghost use Rattle.tb_files.specs.Faults.{is_of_showing, is_of_views};
 ghost use Rattle.tb_files.specs.File.{InSession};
 ghost use Rattle.tb_files.specs.NotDone.{IsNotDone, failure_of};
@@ -32,12 +33,16 @@ pub fn print_board<D: Disk + Drop, C: Clock, W: Write>(
     writer: &mut W,
 ) -> Result<Ending, NotDone<Connection<FileStore<D>>>>
     requires idle { conn.in_transaction ≡ false }
-    requires opens { HasCleanDisk (file_state conn) → Opens (file_state conn) }
+    requires opens { HasCleanDisk (file_state conn) → IsAtRest (file_state conn) }
     ensures shown { IfOk result (λ ending. InSession ⟦<SqlKeep<FileStore<D>> as Keep>⟧ conn
         (λ old. IsShown ⟦<SqlKeep<FileStore<D>> as Keep>⟧ (GaveOne C.gives clock.old clock.new)
         order.now old (W.contents writer.old) (W.contents writer.new) ending)) }
     ensures unwritten { IfErr result (λ undone. (failure_of undone).fault ≡ WriteFailed
         → InSession ⟦<SqlKeep<FileStore<D>> as Keep>⟧ conn
+        (λ old. IsCutShort ⟦<SqlKeep<FileStore<D>> as Keep>⟧ (GaveOne C.gives clock.old clock.new)
+        order.now old (W.contents writer.old) (W.contents writer.new))) }
+    ensures cut { IfErr result (λ undone. (writer.new ≡ writer.old)
+        ⊎ InSession ⟦<SqlKeep<FileStore<D>> as Keep>⟧ conn
         (λ old. IsCutShort ⟦<SqlKeep<FileStore<D>> as Keep>⟧ (GaveOne C.gives clock.old clock.new)
         order.now old (W.contents writer.old) (W.contents writer.new))) }
     ensures timeless { IfErr result (λ undone. (failure_of undone).fault ≡ NoClock
@@ -69,6 +74,9 @@ fn show_board<D: Disk + Drop, C: Clock, W: Write>(
     ensures unwritten { IsErrOf result WriteFailed → IsCutShort ⟦<SqlKeep<FileStore<D>> as Keep>⟧
         (GaveOne C.gives clock.old clock.new) order.now desk
         (W.contents writer.old) (W.contents writer.new) }
+    ensures cut { OnErr result ((writer.new ≡ writer.old)
+        ⊎ IsCutShort ⟦<SqlKeep<FileStore<D>> as Keep>⟧ (GaveOne C.gives clock.old clock.new)
+        order.now desk (W.contents writer.old) (W.contents writer.new)) }
     ensures timeless { IsErrOf result NoClock → C.gives (None ∷ []) clock.old clock.new }
     ensures fault { IfErr result (λ fault. is_of_showing fault ≡ true) }
 {

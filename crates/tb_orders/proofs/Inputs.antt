@@ -1,5 +1,5 @@
 -- An import of an input, by what the import of its text promises.
-use Rattle.std.proofs.Common.{◌≡◌, ◌⊎◌, ℕ, Bool, true, List, [], ◌∷◌, Option, IfOk, IfSome, OnOk, Result, Ok, Err, true≢false, arith, inl, inr, refl, subst, sym}
+use Rattle.std.proofs.Common.{◌≡◌, ◌⊎◌, ℕ, Bool, true, List, [], ◌∷◌, Option, IfErr, IfOk, IfSome, OnOk, Result, Ok, Err, true≢false, arith, inl, inr, refl, subst, sym}
 use Rattle.std.specs.Io.KnownBytes.{Appends}
 use Rattle.tb_asking.specs.Asking.{asked_of}
 use Rattle.tb_asking.specs.declared.asked.Asked.{Asked}
@@ -84,3 +84,7 @@ of_import ReadFailed is = absurd (true≢false (sym is))
 of_import Store is = refl
 of_import WriteFailed is = refl
 of_import WrongVersion is = absurd (true≢false (sym is))
+
+-- once the text was read, no read fails
+pub never_unread : (r : Result Ending Fault) → IfErr r (λ fault. is_of_imports fault ≡ true) → r ≡ Err ReadFailed → ⊥
+never_unread r of is = true≢false (sym (subst (λ x. IfErr x (λ fault. is_of_imports fault ≡ true)) is of))

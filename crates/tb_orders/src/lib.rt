@@ -19,6 +19,7 @@ mod lists;
 mod message;
 mod new_key;
 mod order_fault;
+mod reading;
 mod running;
 mod status;
 mod viewing;

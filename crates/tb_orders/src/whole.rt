@@ -1,5 +1,5 @@
 //! The import of an input that is longer than one call takes.
-ghost use Rattle.std.specs.Prelude.{◌≡◌, ◌≢◌, ◌∷◌, [], ℕ, List, None, Some, Err, IfErr, IfOk, IfSome, IsErrOf, true};
+ghost use Rattle.std.specs.Prelude.{◌≡◌, ◌∷◌, [], ℕ, List, None, Some, IfErr, IfOk, IfSome, IsErrOf, true};
 ghost use Rattle.tb_calls.specs.Call.{State};
 ghost use Rattle.tb_calls.specs.Leaving.{Only};
 ghost use Rattle.tb_orders.specs.Doing.{is_unread};
@@ -8,18 +8,21 @@ ghost use Rattle.tb_orders.specs.Lists.{IsCut};
 ghost use Rattle.tb_orders.specs.Moments.{GaveOne};
 ghost use Rattle.tb_orders.specs.Running.{IsBadWhole, IsRunOf};
 ghost use Rattle.tb_orders.specs.Telling.{is_of_inputs, is_of_messages};
-ghost use Rattle.tb_program.specs.declared.fault.Fault.TheVariants.{BadBody, NoClock, Store};
+ghost use Rattle.tb_program.specs.declared.fault.Fault.TheVariants.{BadBody, NoClock, ReadFailed, Store};
+ghost use Rattle.tb_script.specs.Watching.{IsSpent};
 
 use crate::ending::Ending;
 use crate::lists::parts_of;
 use crate::order_fault::OrderFault;
+use crate::reading::read_all;
 use crate::running::{Progress, Run, import_parts};
 use std::alloc::Global;
-use std::io::{ErrorKind, Read, Write};
+use std::io::{Read, Write};
 use tb_calls::Keep;
 use tb_command_line::ImportOrder;
 use tb_desk::Desk;
 use tb_program::{Clock, Fault};
+use tb_script::Watched;
 use tb_task::Moment;
 use tb_values::Items;
 
@@ -36,21 +39,22 @@ pub fn import_all<K: Keep, R: Read + Drop, C: Clock, W: Write>(
     alloc: Global,
     desk: &mut Desk<K>,
     order: &ImportOrder,
-    reader: R,
+    reader: &mut Watched<R>,
     clock: &mut C,
     writer: &mut W,
     progress: &impl Progress,
 ) -> Result<Ending, OrderFault>
     ensures run { (s : State) → K.holds desk.old s → Only s (K.after_stop desk.old)
-        → IsRunOf (GaveOne C.gives clock.old clock.new) order.now (R.remaining reader) s
+        → IsRunOf (GaveOne C.gives clock.old clock.new) order.now (reader.old.left) s
         (end_of result) (K.is_honest desk.new) (K.holds desk.new) (K.after_stop desk.new) (W.contents writer.old) (W.contents writer.new) }
     ensures unread { IfErr (end_of result) (λ fault. is_unread fault ≡ true
         → (desk.new ≡ desk.old) × (writer.new ≡ writer.old)) }
     ensures timeless { IsErrOf (end_of result) NoClock → C.gives (None ∷ []) clock.old clock.new }
     ensures item { IfErr result
-        (λ failed. IfSome failed.item (IsBadAmong order.now (R.remaining reader))) }
+        (λ failed. IfSome failed.item (IsBadAmong order.now (reader.old.left))) }
     ensures bad { IsErrOf (end_of result) BadBody
-        → IfSome (R.remaining reader) (IsBadWhole order.now) }
+        → IfSome (reader.old.left) (IsBadWhole order.now) }
+    ensures spent { IsErrOf (end_of result) ReadFailed → IsSpent reader.new }
     ensures fault { IfErr (end_of result) (λ fault. is_of_inputs fault ≡ true) }
     ensures store { IsErrOf (end_of result) Store → K.has_failed desk.new ≡ true }
 {
@@ -71,16 +75,17 @@ pub fn import_all<K: Keep, R: Read + Drop, C: Clock, W: Write>(
 fn read_parts<R: Read + Drop, C: Clock>(
     alloc: Global,
     order: &ImportOrder,
-    reader: R,
+    reader: &mut Watched<R>,
     clock: &mut C,
 ) -> Result<Arrived, Fault>
     ensures read { IfOk result
-        (λ arrived. (text : List ℕ) × IfSome (R.remaining reader) (λ all. text ≡ all)
+        (λ arrived. (text : List ℕ) × IfSome (reader.old.left) (λ all. text ≡ all)
         × IsCut order.now.kind text (Some arrived.parts.items)
         × C.gives (Some arrived.at ∷ []) clock.old clock.new) }
     ensures timeless { IsErrOf result NoClock → C.gives (None ∷ []) clock.old clock.new }
     ensures bad { IsErrOf result BadBody
-        → IfSome (R.remaining reader) (λ text. IsCut order.now.kind text None) }
+        → IfSome (reader.old.left) (λ text. IsCut order.now.kind text None) }
+    ensures spent { IsErrOf result ReadFailed → IsSpent reader.new }
     ensures fault { IfErr result (λ fault. is_of_messages fault ≡ true) }
 {
     let text = read_all(alloc, reader)?;
@@ -90,21 +95,5 @@ fn read_parts<R: Read + Drop, C: Clock>(
     match parts_of(alloc, order.kind, text)? {
         Some(parts) => Ok(Arrived { parts, at }),
         None => Err(Fault::BadBody),
-    }
-}
-
-/// The whole text of a reader.
-fn read_all<R: Read + Drop>(alloc: Global, reader: R) -> Result<Items<u8>, Fault>
-    ensures whole { IfSome (R.remaining reader) (λ text. IfOk result (λ read. read ≡ text)) }
-    ensures long { result ≢ Err BadBody }
-    ensures timeless { result ≢ Err NoClock }
-    ensures fault { IfErr result (λ fault. is_of_messages fault ≡ true) }
-{
-    let mut reader = reader;
-    let mut bytes = Vec::new(alloc);
-    match reader.read_to_end(&mut bytes) {
-        Ok(_) => Ok(Items::from_vec(bytes)),
-        Err(error) if error.kind() == ErrorKind::OutOfMemory => Err(Fault::Memory),
-        Err(_) => Err(Fault::ReadFailed),
     }
 }

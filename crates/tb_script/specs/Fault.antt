@@ -25,3 +25,11 @@ is_unread (Err ReadFailed) = true
 is_unread (Err WriteFailed) = false
 is_unread (Err Memory) = false
 is_unread (Err Store) = false
+
+-- the answer is that a write failed
+abbrev pub is_unwritten : {T : Type 0} → Result T LinesFault → Bool
+is_unwritten (Ok x) = false
+is_unwritten (Err ReadFailed) = false
+is_unwritten (Err WriteFailed) = true
+is_unwritten (Err Memory) = false
+is_unwritten (Err Store) = false

@@ -3,7 +3,7 @@ ghost use Rattle.std.specs.Prelude.{◌≡◌, ◌⊎◌, ◌||◌, ◌∷◌, �
 ghost use Rattle.tb_calls.specs.Call.{State, once, plain, reply};
 ghost use Rattle.tb_desk.specs.Viewing.{shown_in};
 ghost use Rattle.tb_script.specs.Answering.{answered, carried_out, is_readable, request_of, view_text};
-ghost use Rattle.tb_script.specs.Fault.{is_store, is_unread};
+ghost use Rattle.tb_script.specs.Fault.{is_store, is_unread, is_unwritten};
 ghost use Rattle.tb_script.specs.Outcome.{Reads};
 ghost use Rattle.tb_script.specs.Replies.{reply_text};
 
@@ -33,6 +33,7 @@ pub(crate) fn answer_line<K: Keep>(
     ensures honest { K.is_honest desk.new ≡ true → K.is_honest desk.old ≡ true }
     ensures failed { K.has_failed desk.new ≡ (is_store result || K.has_failed desk.old) }
     ensures read { is_unread result ≡ false }
+    ensures written { is_unwritten result ≡ false }
 {
     match read_request(alloc, line) {
         Ok(asked) => carry_out(alloc, desk, &asked),
@@ -77,6 +78,7 @@ fn carry_out<K: Keep>(alloc: Global, desk: &mut Desk<K>, asked: &Asked) -> Resul
     ensures honest { K.is_honest desk.new ≡ true → K.is_honest desk.old ≡ true }
     ensures failed { K.has_failed desk.new ≡ (is_store result || K.has_failed desk.old) }
     ensures read { is_unread result ≡ false }
+    ensures written { is_unwritten result ≡ false }
 {
     match asked {
         Asked::Call(call) => answer_call(alloc, desk, call),
@@ -94,6 +96,7 @@ fn answer_call<K: Keep>(alloc: Global, desk: &mut Desk<K>, call: &Call) -> Resul
     ensures honest { K.is_honest desk.new ≡ true → K.is_honest desk.old ≡ true }
     ensures failed { K.has_failed desk.new ≡ (is_store result || K.has_failed desk.old) }
     ensures read { is_unread result ≡ false }
+    ensures written { is_unwritten result ≡ false }
 {
     let reply = desk.handle(alloc, call)?;
     Ok(write_reply(alloc, &reply)?)
@@ -109,6 +112,7 @@ fn answer_view<K: Keep>(alloc: Global, desk: &mut Desk<K>, look: &Look) -> Resul
     ensures honest { K.is_honest desk.new ≡ true → K.is_honest desk.old ≡ true }
     ensures failed { K.has_failed desk.new ≡ (is_store result || K.has_failed desk.old) }
     ensures read { is_unread result ≡ false }
+    ensures written { is_unwritten result ≡ false }
 {
     let reply = desk.view(alloc, &look.member, &look.key, &look.view, look.at)?;
     Ok(write_view(alloc, &look.view, reply)?)

@@ -21,7 +21,7 @@ ghost use Rattle.std.specs.Io.KnownBytes.{Appends};
 ghost use Rattle.tb_calls.specs.Call.{State};
 ghost use Rattle.tb_values.specs.Appends.{AppendsFront};
 ghost use Rattle.tb_script.specs.Answering.{answer, first_state};
-ghost use Rattle.tb_script.specs.Fault.{is_store, is_unread};
+ghost use Rattle.tb_script.specs.Fault.{is_store, is_unread, is_unwritten};
 ghost use Rattle.tb_script.specs.Lines.{answers_from, lines_of};
 ghost use Rattle.tb_script.specs.Runs.{LeavesSome, after_lines};
 ghost use Rattle.tb_script.specs.Watching.{IsSpent};
@@ -34,15 +34,12 @@ use std::io::{Read, Write};
 use tb_board::{Key, Name};
 use tb_calls::Keep;
 use tb_desk::{Desk, ListKeep};
-use tb_values::write_whole;
+use watched::READ_LIMIT;
 pub use watched::Watched;
-
-/// How many reads a script may take.
-const READ_LIMIT: u64 = 1_099_511_627_776;
 
 /// Writes the answers to the reader's lines, and on a fault a front of them. The world begins with the person `root`, whose key is
 /// `root-key-1` and who owns board 1. The answers to a piece that is read are written before the next one is read. It ends with
-/// `ReadFailed` only where a read failed, or the script took too many.
+/// `ReadFailed` only where a read failed, or the script took too many, and with `WriteFailed` exactly where a write failed.
 pub fn run_lines<R: Read + Drop, W: Write>(
     alloc: Global,
     reader: &mut Watched<R>,
@@ -56,6 +53,9 @@ pub fn run_lines<R: Read + Drop, W: Write>(
         (answers_from answer first_state script))) }
     ensures no_store { result ≢ Err Store }
     ensures unread { is_unread result ≡ true → IsSpent reader.new }
+    ensures heard { reader.new.read_failed ≡ true
+        → (is_unread result || reader.old.read_failed) ≡ true }
+    ensures unwritten { reader.new.write_failed ≡ (is_unwritten result || reader.old.write_failed) }
 {
     let mut desk = first_desk(alloc)?;
     run_lines_on(alloc, reader, writer, &mut desk)
@@ -82,20 +82,21 @@ pub fn run_lines_on<R: Read + Drop, W: Write, K: Keep>(
     ensures honest { K.is_honest desk.new ≡ true → K.is_honest desk.old ≡ true }
     ensures failed { K.has_failed desk.new ≡ (is_store result || K.has_failed desk.old) }
     ensures unread { is_unread result ≡ true → IsSpent reader.new }
+    ensures heard { reader.new.read_failed ≡ true
+        → (is_unread result || reader.old.read_failed) ≡ true }
+    ensures unwritten { reader.new.write_failed ≡ (is_unwritten result || reader.old.write_failed) }
 {
     let mut buffer = LineBuffer::new(alloc);
     let mut chunk = [0u8; 8192];
     'reads: for _taken in 0..READ_LIMIT {
-        let Ok(count) = reader.read(&mut chunk) else {
-            return Err(LinesFault::ReadFailed);
-        };
+        let count = reader.read(&mut chunk)?;
         let mut output = Vec::new(alloc);
         if count == 0 {
             buffer.end_line(desk, &mut output)?;
-            return write_answers(writer, output.as_slice());
+            return reader.answer(writer, output.as_slice());
         }
         buffer.feed(desk, &chunk[..count], &mut output)?;
-        write_answers(writer, output.as_slice())?;
+        reader.answer(writer, output.as_slice())?;
     }
     Err(LinesFault::ReadFailed)
 }
@@ -113,18 +114,4 @@ fn first_desk(alloc: Global) -> Result<Desk<ListKeep>, AllocError>
     };
     let keep = ListKeep::new(alloc, &name, &key)?;
     Ok(Desk::new(keep))
-}
-
-fn write_answers<W: Write>(writer: &mut W, answers: &[u8]) -> Result<(), LinesFault>
-    ensures whole { OnOk result
-        (Appends (W.contents writer.old) (W.contents writer.new) answers.now) }
-    ensures front { OnErr result
-        (AppendsFront (W.contents writer.old) (W.contents writer.new) answers.now) }
-    ensures no_store { is_store result ≡ false }
-    ensures read { is_unread result ≡ false }
-{
-    match write_whole(writer, answers) {
-        Ok(()) => Ok(()),
-        Err(_) => Err(LinesFault::WriteFailed),
-    }
 }

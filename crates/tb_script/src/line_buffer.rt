@@ -2,7 +2,7 @@
 ghost use Rattle.std.specs.Prelude.{◌≡◌, ◌⊎◌, ◌||◌, ◌++◌, [], ℕ, false, true, IfOk, OnOk, OnErr, take};
 ghost use Rattle.tb_calls.specs.Call.{State};
 ghost use Rattle.tb_script.specs.Answering.{answer};
-ghost use Rattle.tb_script.specs.Fault.{is_store, is_unread};
+ghost use Rattle.tb_script.specs.Fault.{is_store, is_unread, is_unwritten};
 ghost use Rattle.tb_script.specs.Runs.{fed, fed_byte, from};
 
 use crate::answering::answer_line;
@@ -53,6 +53,7 @@ impl LineBuffer {
         ensures honest { K.is_honest desk.new ≡ true → K.is_honest desk.old ≡ true }
         ensures failed { K.has_failed desk.new ≡ (is_store result || K.has_failed desk.old) }
         ensures read { is_unread result ≡ false }
+        ensures written { is_unwritten result ≡ false }
     {
         for byte in chunk {
             self.take_byte(desk, *byte, output)?;
@@ -81,6 +82,7 @@ impl LineBuffer {
         ensures honest { K.is_honest desk.new ≡ true → K.is_honest desk.old ≡ true }
         ensures failed { K.has_failed desk.new ≡ (is_store result || K.has_failed desk.old) }
         ensures read { is_unread result ≡ false }
+        ensures written { is_unwritten result ≡ false }
     {
         if byte == LINE_FEED {
             self.end_line(desk, output)?;
@@ -109,6 +111,7 @@ impl LineBuffer {
         ensures honest { K.is_honest desk.new ≡ true → K.is_honest desk.old ≡ true }
         ensures failed { K.has_failed desk.new ≡ (is_store result || K.has_failed desk.old) }
         ensures read { is_unread result ≡ false }
+        ensures written { is_unwritten result ≡ false }
     {
         if self.line.is_empty() {
             return Ok(());

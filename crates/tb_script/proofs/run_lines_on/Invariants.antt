@@ -8,4 +8,6 @@ invariant-reads g l = record {
   honest : g.K.Keep.is_honest l.desk ≡ true → g.K.Keep.is_honest l.fn.desk ≡ true;
   counted : l._taken ≤ l.reader.reads;
   failed : g.K.Keep.has_failed l.desk ≡ g.K.Keep.has_failed l.fn.desk;
+  heard : l.reader.read_failed ≡ l.fn.reader.read_failed;
+  unwritten : l.reader.write_failed ≡ l.fn.reader.write_failed;
 }

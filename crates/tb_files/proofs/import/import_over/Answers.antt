@@ -19,7 +19,8 @@ returns-in-Ok-clause-failed g c =
     IfErr-weaker c.close_after.result _ _ (λ failed is. record {
       new = c.import_input.new.desk;
       end = Ok c.in-Ok.ending;
-      ends = ap (λ (x : OrderFault). x.fault) is;
+      ends = ap (λ (x : OrderFault). x.fault) is.0;
+      unsaved = is.1;
       does = c.in-Ok.ensures.does;
     }) c.close_after.ensures.fault
 
@@ -28,6 +29,7 @@ returns-in-Err-clause-failed g c = record {
   new = c.import_input.new.desk;
   end = Err c.in-Err.failed.fault;
   ends = refl;
+  unsaved = tt;
   does = c.in-Err.ensures.does;
 }
 

@@ -18,7 +18,11 @@ returns-in-Ok-close_desk-clause-made g c = (
 pub returns-in-Err-close_desk-clause-unmade : goal.returns-in-Err-close_desk-clause-unmade
 returns-in-Err-close_desk-clause-unmade g c = (
   ap fault_alone c.in-Err-close_desk.ensures.fault,
-  record { keep = c.in-Ok.desk; at = λ clean. c.in-Ok.ensures.begun (c.requires.opens clean) },
+  record {
+    keep = c.in-Ok.desk;
+    at = λ clean. c.in-Ok.ensures.begun (c.requires.opens clean);
+    unsaved = c.in-Err-close_desk.ensures.unsaved;
+  },
 )
 
 pub returns-in-Err-clause-unmade : goal.returns-in-Err-clause-unmade

@@ -3,11 +3,11 @@ use Rattle.std.proofs.lemmas.Result.{IfErr-weaker}
 use Rattle.tb_asking.specs.Asking.{asked_of}
 use Rattle.tb_orders.specs.Items.{item_in}
 use Rattle.tb_orders.proofs.Doing.{done_by, none_done, unread_acts_not}
-use Rattle.tb_orders.proofs.Inputs.{made_by, of_import}
+use Rattle.tb_orders.proofs.Inputs.{made_by, never_unread, of_import}
 use Rattle.tb_orders.proofs.Items.{bad_in}
 use Rattle.tb_orders.proofs.Unasked.{unasked_bad}
 use Rattle.tb_orders.proofs.input.import_input.Goals as goal
-use Rattle.tb_program.specs.declared.fault.Fault.TheVariants.{BadBody, Memory, Store}
+use Rattle.tb_program.specs.declared.fault.Fault.TheVariants.{BadBody, Memory, ReadFailed, Store}
 
 pub returns-in-Ok-clause-made : goal.returns-in-Ok-clause-made
 returns-in-Ok-clause-made g c s held =
@@ -54,3 +54,7 @@ returns-in-Ok-clause-bad g c e =
     let read = c.in-Ok.ensures.read in
     unasked_bad c.args.order.now _ read.0 c.in-Ok.arrived.message c.in-Ok.arrived.at read.1 read.2
     (c.import_text-end.ensures.unread (subst (λ r. IsErrOf r BadBody) c.with_item.ensures.end e))
+
+pub returns-in-Ok-clause-spent : goal.returns-in-Ok-clause-spent
+returns-in-Ok-clause-spent g c e =
+    absurd (never_unread c.import_text-end.result c.import_text-end.ensures.fault (subst (λ r. IsErrOf r ReadFailed) c.with_item.ensures.end e))

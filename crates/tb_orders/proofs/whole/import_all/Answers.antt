@@ -3,7 +3,7 @@ use Rattle.std.proofs.lemmas.Result.{IfErr-weaker}
 use Rattle.tb_orders.specs.Items.{end_of}
 use Rattle.tb_orders.specs.Lists.{IsCut}
 use Rattle.tb_orders.proofs.Doing.{read_by_then}
-use Rattle.tb_orders.proofs.Inputs.{of_import}
+use Rattle.tb_orders.proofs.Inputs.{never_unread, of_import}
 use Rattle.tb_orders.proofs.Items.{bad_among}
 use Rattle.tb_orders.proofs.Runs.{unread_run}
 use Rattle.tb_orders.proofs.Unasked.{part_bad, uncut_bad}
@@ -45,3 +45,6 @@ returns-in-Ok-clause-bad g c is =
 
 pub returns-in-Err-clause-bad : goal.returns-in-Err-clause-bad
 returns-in-Err-clause-bad g c is = uncut_bad c.args.order.now _ (c.in-Err.ensures.bad (cc))
+
+pub returns-in-Ok-clause-spent : goal.returns-in-Ok-clause-spent
+returns-in-Ok-clause-spent g c e = absurd (never_unread (end_of c.import_parts.result) c.import_parts.ensures.fault e)

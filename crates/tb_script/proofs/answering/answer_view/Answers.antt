@@ -1,5 +1,5 @@
 use Rattle.std.proofs.Common.{rules}
-use Rattle.tb_script.proofs.Failures.{as_before, not_read, other_fault, told_on}
+use Rattle.tb_script.proofs.Failures.{as_before, not_read, not_written, other_fault, told_on}
 use Rattle.tb_script.proofs.answering.answer_view.Goals as goal
 
 pub returns-clause-failed : goal.returns-clause-failed
@@ -13,3 +13,6 @@ returns-in_err-reply-clause-failed g c = told_on c.in_err-reply.field-0.0 c.from
 
 pub returns-in_err-reply-clause-read : goal.returns-in_err-reply-clause-read
 returns-in_err-reply-clause-read g c = not_read c.in_err-reply.field-0.0 c.from_residual.result (search rules)
+
+pub returns-in_err-reply-clause-written : goal.returns-in_err-reply-clause-written
+returns-in_err-reply-clause-written g c = not_written c.in_err-reply.field-0.0 c.from_residual.result (search rules)
