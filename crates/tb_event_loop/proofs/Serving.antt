@@ -50,29 +50,6 @@ module _ {N V : Type 0} (asks : List Called → N → N → Type 0) (happens : B
 
   module _ (unchanged : (v : V) → happens false [] v v)
       (more : (stopped : Bool) (first more : List (ℕ × Done)) (a b c : V) → happens false first a b → happens stopped more b c → happens stopped (first ++ more) a c) where
-    pub runs_plain : (before now : Option ℕ) (a b : N × V) → Goes (Acts asks happens owed) false before now a b → Runs asks happens owed false a b
-    runs_plain before now a b goes = record {
-      deeds = goes.1.deeds;
-      farewells = [];
-      asked = subst (λ (calls : List Called). asks calls a.0 b.0) (sym (append-nil (calls_in goes.1.deeds))) goes.1.done.0;
-      does = goes.1.done.1;
-      made = acts_happens asks happens owed unchanged more false goes.1.deeds a b goes.1.done;
-      last = tt;
-      none = λ is. refl;
-    }
-
-    pub runs_last : (before now : Option ℕ) (a : N × V) (n m : N) (v : V) → Goes (Acts asks happens owed) true before now a (n, v) → SaysFarewell asks (owed v) n m
-        → Runs asks happens owed true a (m, v)
-    runs_last before now a n m v goes says = record {
-      deeds = goes.1.deeds;
-      farewells = says.calls;
-      asked = joined (calls_in goes.1.deeds) says.calls a.0 n m goes.1.done.0 says.made;
-      does = goes.1.done.1;
-      made = acts_happens asks happens owed unchanged more true goes.1.deeds a (n, v) goes.1.done;
-      last = says.are;
-      none = λ is. absurd (false≢true (sym is));
-    }
-
     abbrev RunsTo : {T E : Type 0} → Result T E → Bool → Option ℕ → N × V → N × V → Type 0
     RunsTo result stopped limit a b = (runs : Runs asks happens owed stopped a b) × EndsAll result limit (ends_in (done_in runs.deeds))
 

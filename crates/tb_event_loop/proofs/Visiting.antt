@@ -302,6 +302,7 @@ module _ {N V : Type 0} (asks : List Called → N → N → Type 0) (happens : B
           λ leaves limited. absurd (none (inr (leaving_has before.places place before.now (connection_in before.places place) leaves))),
         );
         passed = λ isnt nothing. (refl, refl);
+        freed = λ goes. not_leaving (cases_Bool (is_leaving (connection_in before.places place)));
         others = spares_same place before.places before.places refl;
         moment = refl;
       }))
@@ -309,6 +310,10 @@ module _ {N V : Type 0} (asks : List Called → N → N → Type 0) (happens : B
       not_over : (is_over_at before.places place before.now ≡ true) ⊎ (is_over_at before.places place before.now ≡ false) → is_over_at before.places place before.now ≡ false
       not_over (inl is) = absurd (none (inl is))
       not_over (inr isnt) = isnt
+
+      not_leaving : (is_leaving (connection_in before.places place) ≡ true) ⊎ (is_leaving (connection_in before.places place) ≡ false) → is_leaving (connection_in before.places place) ≡ false
+      not_leaving (inl leaves) = absurd (none (inr (leaving_has before.places place before.now (connection_in before.places place) leaves)))
+      not_leaving (inr stays) = stays
 
   begun_spares : (place : ℕ) (old placed : Places) (now : ℕ) → (is_over_at old place now ≡ true → Ends old placed place now) → (is_over_at old place now ≡ false → placed ≡ old)
       → (is_over_at old place now ≡ true) ⊎ (is_over_at old place now ≡ false) → Spares place old placed
@@ -327,8 +332,9 @@ module _ {N V : Type 0} (asks : List Called → N → N → Type 0) (happens : B
       → Quietly asks n m
       → GoesBy (ActsAt place asks happens owed) stopped (IsTurnOrEnd (files v) placed place before.now (held v place) (owed v place) before.still_to_end) before.still_to_end still (m, v) end
       → after.still_to_end ≡ still → Spares place placed turned → Spares place turned after.places → after.now ≡ before.now
+      → (stopped ≡ false → is_leaving (connection_in after.places place) ≡ false)
       → Visits asks happens files held owed stopped place before after (n, v) end
-  visited joined stopped place before after placed turned n m v end still has ends same quiet turn left spares more moment =
+  visited joined stopped place before after placed turned n m v end still has ends same quiet turn left spares more moment freed =
       let first = at_quiet asks happens owed place n m v quiet in
       let size : ends_in (done_in turn.deeds) ≡ ends_in (done_in (first.deeds ++ turn.deeds)) = omega (arith, ends_among first.deeds turn.deeds, first.ends) in
       record {
@@ -342,6 +348,7 @@ module _ {N V : Type 0} (asks : List Called → N → N → Type 0) (happens : B
               λ leaves limited. has_behind (IsClose place) first.deeds turn.deeds (says.1 leaves limited),
             );
         passed = λ isnt nothing. no_way ((after ≡ before) × (end ≡ (n, v))) has (λ over. both_ways (is_over_at before.places place before.now) isnt over) nothing;
+        freed = freed;
         others = spares_then place before.places placed after.places
             (begun_spares place before.places placed before.now ends same (cases_Bool (is_over_at before.places place before.now)))
             (spares_then place placed turned after.places spares more);

@@ -57,6 +57,8 @@ module _ {N V : Type 0} (asks : List Called → N → N → Type 0)
     -- where it has none, nothing is another
     pub passed : is_over_at before.places place before.now ≡ false
         → ¬ HasTurn before.places place before.now → (after ≡ before) × (new ≡ old)
+    -- one that leaves doesn't keep its place
+    pub freed : stopped ≡ false → is_leaving (connection_in after.places place) ≡ false
     pub others : Spares place before.places after.places
     pub moment : after.now ≡ before.now
 

@@ -1,5 +1,6 @@
-use Rattle.std.proofs.Common.{◌≡◌, ◌∙◌, Bool, rules, refl, sym, subst, is_err, true, false}
+use Rattle.std.proofs.Common.{◌≡◌, ◌∙◌, Bool, rules, refl, sym, subst, is_err, true, false, true≢false}
 use Rattle.std.proofs.lemmas.Bool.{both_ways}
+use Rattle.tb_event_loop.specs.Places.{connection_in, is_leaving}
 use Rattle.tb_event_loop.specs.Rounds.{Visits}
 use Rattle.tb_event_loop.proofs.Sparing.{spares_noted, spares_same, spares_then}
 use Rattle.tb_event_loop.proofs.Visiting.{unvisited, visited}
@@ -20,15 +21,16 @@ returns-in_err-take_turn-clause-visits g c =
     c.args.sockets.now c.begin_turn.new.sockets c.args.service.now (c.take_turn.new.sockets, c.take_turn.new.service) c.take_turn.new.self.still_to_end
     (c.begin_turn.ensures.turn.0 has) c.begin_turn.ensures.over c.begin_turn.ensures.same c.begin_turn.ensures.quiet
     c.in_err-take_turn.ensures.turn refl c.in_err-take_turn.ensures.spares (spares_same c.args.place c.take_turn.new.self.places c.take_turn.new.self.places refl)
-    c.in_err-take_turn.ensures.moment)
+    c.in_err-take_turn.ensures.moment (λ goes. absurd (true≢false goes)))
 
 pub returns-clause-visits : goal.returns-clause-visits
 returns-clause-visits g c =
     let has : c.begin_turn.result ≡ true = search rules in
+    let freed : is_leaving (connection_in c.count_time.new.self.places c.args.place) ≡ false = search rules in
     let noted = spares_noted c.args.place c.take_turn.new.self.places c.note.new.self _ c.note.ensures.holds.2.0 c.note.ensures.others in
     visited g.N.Sockets.follows g.V.Service.follows g.V.Service.gives_file g.V.Service.held_at g.V.Service.owed_at g.N.Sockets.joined false c.args.place c.args.self.now c.count_time.new.self c.begin_turn.new.self c.take_turn.new.self.places
     c.args.sockets.now c.begin_turn.new.sockets c.args.service.now (c.take_turn.new.sockets, c.take_turn.new.service) c.take_turn.new.self.still_to_end
     (c.begin_turn.ensures.turn.0 has) c.begin_turn.ensures.over c.begin_turn.ensures.same c.begin_turn.ensures.quiet
     c.in_ok-take_turn.ensures.turn c.count_time.ensures.limit c.in_ok-take_turn.ensures.spares
     (spares_then c.args.place c.take_turn.new.self.places c.note.new.self c.count_time.new.self.places noted c.count_time.ensures.spares)
-    (c.count_time.ensures.moment ∙ c.in_ok-take_turn.ensures.moment)
+    (c.count_time.ensures.moment ∙ c.in_ok-take_turn.ensures.moment) (λ goes. freed)
