@@ -25,9 +25,11 @@ pub(crate) fn key_of(rt: &HostRuntime, order: &SendOrder) -> Result<Option<Key>,
 }
 
 /// The folder of the key file, where an order's key is kept there.
-pub(crate) fn folder_of<'a>(rt: &'a HostRuntime, order: &SendOrder) -> Option<KeyFolder<'a>> {
-    if order.key.is_some() || env::var(rt, KEY_VARIABLE).is_ok() {
-        return None;
+pub(crate) fn folder_of<'a>(rt: &'a HostRuntime, order: &SendOrder) -> Option<KeyFolder<'a>>
+    ensures { IfSome result (λ folder. order.now.key ≡ None) }
+{
+    match &order.key {
+        None if env::var(rt, KEY_VARIABLE).is_err() => KeyFolder::at_home(rt),
+        _ => None,
     }
-    KeyFolder::at_home(rt)
 }
