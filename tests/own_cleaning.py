@@ -179,7 +179,7 @@ def look_at_places():
     expect("texts of places: changes", [f"changed {number}: imask is {place}" for number, place in ((901, 0), (902, 0), (903, 1), (905, 1), (906, 2))], [line for line in told if line.startswith("changed")])
     expect("texts of places: orphans", [f"orphan {number}: {why}, so it becomes a plain task" for number, why in lost.items()], [line for line in told if line.startswith("orphan")])
     (status, out, _), brought = board_with("--clean", given=text)
-    expect("texts of places: the import", (0, f"{len(lost)} instances without their template" in out), (status, True))
+    expect("texts of places: the import", (0, f"instances without a place at their template: {len(lost)}" in out), (status, True))
     expect("texts of places: the board", {ID.format(901): 0, ID.format(903): 1}, {it["uuid"]: it["imask"] for it in brought if "imask" in it})
     # (a second one goes on without its place, and the first in the order in which they are brought has it)
     waits = [template, of_template(901, imask=0, depends=[ID.format(903)]), of_template(902, imask=0), {"uuid": ID.format(903), "description": "First", "entry": "20260101T000000Z"}]

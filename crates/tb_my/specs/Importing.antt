@@ -35,7 +35,7 @@ import_words false board text =
 -- a count that isn't 0
 abbrev pub count_text : Text → Option ℕ → Text
 count_text what None = []
-count_text what (Some n) = if n == 0 then [] else codes ", " ++ (decimal n ++ what)
+count_text what (Some n) = if n == 0 then [] else codes ", " ++ (what ++ (codes ": " ++ decimal n))
 
 abbrev pub new_and_known : ℕ → ℕ → Text
 new_and_known new known = codes "Imported: "
@@ -44,9 +44,10 @@ new_and_known new known = codes "Imported: "
 -- what wasn't taken as it came
 abbrev pub other_counts : Data → Text
 other_counts value =
-    count_text (codes " attributes left out") (number_at (codes "dropped") value)
-    ++ (count_text (codes " instances without their template") (number_at (codes "orphans") value)
-    ++ count_text (codes " links to tasks that aren't there")
+    count_text (codes "attributes left out") (number_at (codes "dropped") value)
+    ++ (count_text (codes "instances without a place at their template")
+    (number_at (codes "orphans") value)
+    ++ count_text (codes "links to tasks that aren't there")
     (number_at (codes "unlinked") value))
 
 abbrev pub counts_of : Data → Option ℕ → Option ℕ → Option Text

@@ -113,15 +113,15 @@ fn push_other_counts(text: &mut String, value: &Value) -> Result<(), AllocError>
     ensures { OnOk result (string_bytes text.new
         ≡ string_bytes text.old ++ other_counts (view value.now)) }
 {
-    push_count(text, " attributes left out", number_at(value, "dropped"))?;
+    push_count(text, "attributes left out", number_at(value, "dropped"))?;
     push_count(
         text,
-        " instances without their template",
+        "instances without a place at their template",
         number_at(value, "orphans"),
     )?;
     push_count(
         text,
-        " links to tasks that aren't there",
+        "links to tasks that aren't there",
         number_at(value, "unlinked"),
     )
 }
@@ -137,6 +137,5 @@ fn push_count(text: &mut String, what: &str, count: Option<u64>) -> Result<(), A
     if count == 0 {
         return Ok(());
     }
-    write!(text, ", {count}")?;
-    text.push_str(what)
+    write!(text, ", {what}: {count}")
 }
