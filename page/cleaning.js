@@ -76,7 +76,14 @@ export function clean(given) {
     return { text: cleaned + text.slice(from), changes };
 }
 
+// The place of an instance, where it is a text with a fraction of zeros.
+function wholePlace(value) {
+    const place = Number(value.match(/^"(\d+)\.0+"$/)?.[1]);
+    return place < 2 ** 32 ? String(place) : value;
+}
+
 function cleanValue(name, value) {
+    if (name === "imask" && value.startsWith('"')) return wholePlace(value);
     if (/^-?\d+\.0+$|^-0$/.test(value)) return value.replace(/\.0+$/, "").replace(/^-0$/, "0");
     if (name !== "recur" || !value.startsWith('"')) return value;
     const recur = nameIn(value);

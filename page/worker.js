@@ -4,7 +4,7 @@
 // A browser asks for the worker at each start, and a page that stays open every few minutes; it is installed anew where a byte of it differs. The
 // next line, made by tests/page_content.py, differs with every other file, so a new version is found then, also where its files are as long as
 // before.
-// Content of the other files: c9cb6701f19a7adc2e11d56d624c65936bd7b4bfe81c8306547d6684b464f02b
+// Content of the other files: 51751e10f931b7332bf306b9a539e6805e539cb6ff40612bb3f833b987efa08b
 
 const VERSION = "taskboard ";
 const FILE = /^\/(?:[a-z0-9_.-]+\.(?:html|css|js|svg|png|ico))?$/;

@@ -29,6 +29,9 @@ class Entry:
         if isinstance(value, Whole):
             self.changes.append(f"{name} {value.text} is {int(value)}")
             return [int(value)]
+        if name == "imask" and is_text(value) and (place := whole_place(value)) is not None:
+            self.changes.append(f"imask {value} is {place}")
+            return [place]
         step = respelled(value) if name == "recur" and is_text(value) else None
         if step and step != value:
             self.changes.append(f"recur {value} is {step}")
@@ -45,6 +48,12 @@ class Entry:
 
     def name(self):
         return named(self.task)
+
+
+def whole_place(text):
+    """The place that a text with a fraction of zeros has among a template's instances, or None."""
+    found = re.fullmatch(r"([0-9]+)\.0+", text)
+    return int(found[1]) if found and int(found[1]) < 2**32 else None
 
 
 def one_line(text):
