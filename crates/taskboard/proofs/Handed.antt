@@ -1,28 +1,18 @@
 -- What `?` hands on, what is said of a fault in several clauses, and the end of an order of whose fault nothing more is told.
-use Rattle.std.proofs.Common.{◌∙◌, ◌≡◌, Bool, Result, Ok, Err, IfErr, IfOk, ap, inl, inr, refl, subst, sym, true}
+use Rattle.std.proofs.Common.{◌≡◌, Result, Ok, Err, IfErr, IfOk, inl, inr, refl, subst, sym}
 use Rattle.std.proofs.lemmas.Result.{IfErr-at_err, IfOk-at_ok}
 use Rattle.std.specs.Prelude.{◌⊎◌, IsErrAnd, OnErr}
 use Rattle.taskboard.specs.Orders.{IsNamed}
-use Rattle.taskboard.specs.Serve.{is_of_serving}
 use Rattle.tb_command_line.specs.declared.order.Order.{Order}
 use Rattle.tb_command_line.specs.declared.order.Order.TheVariants.{Init, Serve, Run, Import, ImportAll, Clean, View, Check, Key, Send, My, Help, Version}
 use Rattle.tb_orders.specs.declared.ending.Ending.{Ending}
 use Rattle.tb_orders.specs.declared.order_fault.OrderFault.{OrderFault}
 use Rattle.tb_program.specs.declared.fault.Fault.{Fault}
 
-pub of_serving : {A : Type 0} (r : Result A Fault) (told : Fault) → IsErrAnd r (λ e. e ≡ told) → is_of_serving told ≡ true → IfErr r (λ fault. is_of_serving fault ≡ true)
-of_serving (Ok x) told is of = tt
-of_serving (Err e) told is of = ap is_of_serving is ∙ of
-
 pub done_alone : (r : Result Ending OrderFault) (ended : Result Ending Fault) (P : Ending → Type 0) → IfOk r (λ ending. ended ≡ Ok ending)
     → IfOk ended P → IfOk r P
 done_alone (Ok ending) ended P same is = IfOk-at_ok P same is
 done_alone (Err failed) ended P same is = tt
-
-pub failed_alone : (r : Result Ending OrderFault) (ended : Result Ending Fault) (kind : Fault → Bool) → IfErr r (λ failed. ended ≡ Err failed.fault)
-    → IfErr ended (λ fault. kind fault ≡ true) → IfErr r (λ failed. kind failed.fault ≡ true)
-failed_alone (Ok ending) ended kind same is = tt
-failed_alone (Err failed) ended kind same is = IfErr-at_err (λ fault. kind fault ≡ true) same is
 
 pub left_by : {A E : Type 0} (r : Result A E) (told : E) (P : E → Type 0) → IsErrAnd r (λ e. e ≡ told) → P told → IfErr r P
 left_by (Ok x) told P is left = tt
@@ -41,6 +31,10 @@ always (Err e) P is = is e
 pub of_any : {A E : Type 0} (r : Result A E) (P : Type 0) → OnErr r P → IfErr r (λ e. P)
 of_any (Ok x) P is = tt
 of_any (Err e) P is = is
+
+pub both : {A E : Type 0} (r : Result A E) (P Q : E → Type 0) → IfErr r P → IfErr r Q → IfErr r (λ e. P e × Q e)
+both (Ok x) P Q first second = tt
+both (Err e) P Q first second = (first, second)
 
 pub all_three : {A E : Type 0} (r : Result A E) (P Q R : E → Type 0) → IfErr r P → IfErr r Q → IfErr r R → IfErr r (λ e. P e × Q e × R e)
 all_three (Ok x) P Q R first second third = tt

@@ -20,9 +20,11 @@ use Rattle.tb_command_line.specs.declared.order.Order.{Order}
 use Rattle.tb_command_line.specs.declared.order.Order.TheVariants.{Init, Serve, Run, Import, ImportAll, Clean, View, Check, Key, Send, My, Help, Version}
 use Rattle.tb_command_line.specs.declared.order.SendOrder.{SendOrder}
 use Rattle.tb_command_line.specs.declared.order.ViewOrder.{ViewOrder}
+use Rattle.tb_files.specs.Check.{IsCheckCut}
 use Rattle.tb_files.specs.Failed.{IsImportFailed, IsRunFailed, may_print, may_print_parts}
 use Rattle.tb_files.specs.File.{InSession}
 use Rattle.tb_files.specs.Init.{IsNotMade}
+use Rattle.tb_files.specs.Key.{IsKeyFailed}
 use Rattle.tb_files.specs.NotDone.{IsNotDone, failure_of}
 use Rattle.tb_files.specs.View.{IsCutShort}
 use Rattle.tb_files.specs.Faults.{is_of_showing}
@@ -78,18 +80,23 @@ module _ {D : Type 0} {d : DiskGhosts D} (g : Ghosts (SqlKeep (FileStore D d))) 
   IsUnmade s failed =
       IsUnfound failed ⊎ IsOver (λ found undone. IsNotMade g found s undone) failed
 
-  abbrev pub IsUnchecked : {W : Type 0} → W → W → OrderFault → Type 0
-  IsUnchecked before after failed =
-      ((after ≡ before) × IsUnfound failed) ⊎ IsOver (IsNotDone g is_of_answers) failed
-
 module _ {D W : Type 0} {d : DiskGhosts D} (g : Ghosts (SqlKeep (FileStore D d)))
     (contents : W → Option (List ℕ)) where
-  -- where the writer failed, a prefix of the view was printed
+  -- nothing was printed, or a prefix of what a session shows; where the writer failed, one had begun
   abbrev pub IsUnshown : ViewOrder → W → W → OrderFault → Type 0
   IsUnshown order before after failed = ((after ≡ before) × IsUnfound failed) ⊎ IsOver g
       (λ found undone. IsNotDone g is_of_showing found undone
       × ((failure_of undone).fault ≡ fault.WriteFailed → InSession g found
+      (λ old. IsCutShort g (λ at. Unit {0}) order old (contents before) (contents after)))
+      × ((after ≡ before) ⊎ InSession g found
       (λ old. IsCutShort g (λ at. Unit {0}) order old (contents before) (contents after)))) failed
+
+  -- nothing was printed, or a prefix of what was counted
+  abbrev pub IsUnchecked : W → W → OrderFault → Type 0
+  IsUnchecked before after failed = ((after ≡ before) × IsUnfound failed) ⊎ IsOver g
+      (λ found undone. IsNotDone g is_of_answers found undone
+      × ((after ≡ before) ⊎ InSession g found
+      (λ old. IsCheckCut old (contents before) (contents after)))) failed
 
   -- an import by one call
   abbrev pub IsUnimported : ImportOrder → Option (List ℕ) → W → W → OrderFault → Type 0
@@ -151,9 +158,10 @@ module _ {D L W : Type 0} {d : DiskGhosts D} (g : Ghosts (SqlKeep (FileStore D d
       IsUncleaned g contents order input before after failed
   IsLeft (View order) input before after failed =
       IsUnshown g contents order before after failed
-  IsLeft (Check file) input before after failed = IsUnchecked g before after failed
+  IsLeft (Check file) input before after failed = IsUnchecked g contents before after failed
   IsLeft (Key order) input before after failed =
-      may_print failed.fault ≡ false → after ≡ before
+      IsKeyFailed g contents (λ at. Unit {0}) order input before after failed.fault
+      × (may_print failed.fault ≡ false → after ≡ before)
   IsLeft (Send order) input before after failed =
       IsUnsentOver follows contents order before after failed.fault
   -- of the asking in the words of `my` nothing is said

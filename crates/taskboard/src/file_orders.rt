@@ -7,7 +7,7 @@ ghost use Rattle.tb_files.specs.Failed.{may_print};
 ghost use Rattle.tb_files.specs.Faults.{is_of_checking, is_of_keys, is_of_views};
 ghost use Rattle.tb_files.specs.File.{BeginsSession};
 ghost use Rattle.tb_files.specs.Init.{IsMade};
-ghost use Rattle.tb_files.specs.Key.{IsKeyGiven};
+ghost use Rattle.tb_files.specs.Key.{IsKeyFailed, IsKeyGiven};
 ghost use Rattle.tb_files.specs.View.{IsShown};
 ghost use Rattle.tb_orders.specs.Faults.{is_of_making};
 
@@ -61,7 +61,7 @@ pub(crate) fn check<W: Write>(
 ) -> Result<Ending, OrderFault>
     ensures checked { IfOk result (λ ending. BeginsSession ⟦<SqlKeep<RealFile> as Keep>⟧
         (λ old. IsChecked old (W.contents writer.old) (W.contents writer.new) ending)) }
-    ensures unchecked { IfErr result (IsUnchecked ⟦<SqlKeep<RealFile> as Keep>⟧
+    ensures unchecked { IfErr result (IsUnchecked ⟦<SqlKeep<RealFile> as Keep>⟧ W.contents
         writer.old writer.new) }
     ensures fault { IfErr result (λ failed. is_of_checking failed.fault ≡ true) }
 {
@@ -78,6 +78,8 @@ pub(crate) fn give_key<R: Read + Drop, W: Write>(
 ) -> Result<Ending, Fault>
     ensures given { IfOk result (IsKeyGiven ⟦<SqlKeep<RealFile> as Keep>⟧ (λ at. Unit {0})
         order.now (R.remaining reader) (W.contents writer.old) (W.contents writer.new)) }
+    ensures failed { IfErr result (IsKeyFailed ⟦<SqlKeep<RealFile> as Keep>⟧ W.contents
+        (λ at. Unit {0}) order.now (R.remaining reader) writer.old writer.new) }
     ensures silent { IfErr result (λ fault. may_print fault ≡ false → writer.new ≡ writer.old) }
     ensures fault { IfErr result (λ fault. is_of_keys fault ≡ true) }
 {

@@ -2,7 +2,7 @@ use Rattle.std.proofs.Common.{refl, subst}
 use Rattle.std.proofs.lemmas.Result.{IfErr-weaker, IfOk-weaker}
 use Rattle.std.specs.Io.KnownBytes.{Appends}
 use Rattle.tb_values.specs.Appends.{AppendsFront}
-use Rattle.taskboard.proofs.Handed.{all_three, always, done_alone, failed_alone, left_alone, of_any}
+use Rattle.taskboard.proofs.Handed.{all_three, always, both, done_alone, left_alone, of_any}
 use Rattle.taskboard.proofs.carry_out.Goals as goal
 
 pub returns-in-Init-clause-done : goal.returns-in-Init-clause-done
@@ -17,11 +17,11 @@ returns-in-Serve-clause-done g c =
 
 pub returns-in-Serve-clause-fault : goal.returns-in-Serve-clause-fault
 returns-in-Serve-clause-fault g c =
-    rw c.in-Serve.is (failed_alone c.alone.result c.serve_file.result _ c.alone.ensures.fault c.serve_file.ensures.fault)
+    rw c.in-Serve.is (left_alone c.alone.result c.serve_file.result _ c.alone.ensures.fault c.serve_file.ensures.fault)
 
 pub returns-in-Run-clause-fault : goal.returns-in-Run-clause-fault
 returns-in-Run-clause-fault g c =
-    rw c.in-Run.is (failed_alone c.alone-in-Run.result c.run_script.result _ c.alone-in-Run.ensures.fault c.run_script.ensures.fault)
+    rw c.in-Run.is (left_alone c.alone-in-Run.result c.run_script.result _ c.alone-in-Run.ensures.fault c.run_script.ensures.fault)
 
 pub returns-in-Import-clause-done : goal.returns-in-Import-clause-done
 returns-in-Import-clause-done g c = rw c.in-Import.is c.import_into_file.ensures.imported
@@ -59,7 +59,7 @@ returns-in-Key-clause-done g c =
 
 pub returns-in-Key-clause-fault : goal.returns-in-Key-clause-fault
 returns-in-Key-clause-fault g c =
-    rw c.in-Key.is (failed_alone c.alone-in-Key.result c.give_key.result _ c.alone-in-Key.ensures.fault c.give_key.ensures.fault)
+    rw c.in-Key.is (left_alone c.alone-in-Key.result c.give_key.result _ c.alone-in-Key.ensures.fault c.give_key.ensures.fault)
 
 pub returns-in-Send-clause-done : goal.returns-in-Send-clause-done
 returns-in-Send-clause-done g c =
@@ -67,11 +67,11 @@ returns-in-Send-clause-done g c =
 
 pub returns-in-Send-clause-fault : goal.returns-in-Send-clause-fault
 returns-in-Send-clause-fault g c =
-    rw c.in-Send.is (failed_alone c.alone-in-Send.result c.send.result _ c.alone-in-Send.ensures.fault c.send.ensures.fault)
+    rw c.in-Send.is (left_alone c.alone-in-Send.result c.send.result _ c.alone-in-Send.ensures.fault c.send.ensures.fault)
 
 pub returns-in-My-clause-fault : goal.returns-in-My-clause-fault
 returns-in-My-clause-fault g c =
-    rw c.in-My.is (failed_alone c.alone-in-My.result c.ask_mine.result _ c.alone-in-My.ensures.fault c.ask_mine.ensures.fault)
+    rw c.in-My.is (left_alone c.alone-in-My.result c.ask_mine.result _ c.alone-in-My.ensures.fault c.ask_mine.ensures.fault)
 
 pub returns-in-Help-clause-done : goal.returns-in-Help-clause-done
 returns-in-Help-clause-done g c =
@@ -83,7 +83,7 @@ returns-in-Help-clause-done g c =
 
 pub returns-in-Help-clause-fault : goal.returns-in-Help-clause-fault
 returns-in-Help-clause-fault g c =
-    rw c.in-Help.is (failed_alone c.alone-in-Help.result c.tell.result _ c.alone-in-Help.ensures.fault c.tell.ensures.fault)
+    rw c.in-Help.is (left_alone c.alone-in-Help.result c.tell.result _ c.alone-in-Help.ensures.fault c.tell.ensures.fault)
 
 pub returns-in-Version-clause-done : goal.returns-in-Version-clause-done
 returns-in-Version-clause-done g c =
@@ -91,7 +91,7 @@ returns-in-Version-clause-done g c =
 
 pub returns-in-Version-clause-fault : goal.returns-in-Version-clause-fault
 returns-in-Version-clause-fault g c =
-    rw c.in-Version.is (failed_alone c.alone-in-Version.result c.tell-in-Version.result _ c.alone-in-Version.ensures.fault c.tell-in-Version.ensures.fault)
+    rw c.in-Version.is (left_alone c.alone-in-Version.result c.tell-in-Version.result _ c.alone-in-Version.ensures.fault c.tell-in-Version.ensures.fault)
 
 pub returns-in-Init-clause-left : goal.returns-in-Init-clause-left
 returns-in-Init-clause-left g c = rw c.in-Init.is (IfErr-weaker c.init.result _ _ (λ failed unmade. (refl, unmade)) c.init.ensures.unmade)
@@ -120,7 +120,8 @@ returns-in-Check-clause-left g c = rw c.in-Check.is c.check.ensures.unchecked
 
 pub returns-in-Key-clause-left : goal.returns-in-Key-clause-left
 returns-in-Key-clause-left g c =
-    rw c.in-Key.is (left_alone c.alone-in-Key.result c.give_key.result _ c.alone-in-Key.ensures.fault c.give_key.ensures.silent)
+    rw c.in-Key.is (left_alone c.alone-in-Key.result c.give_key.result _ c.alone-in-Key.ensures.fault
+    (both c.give_key.result _ _ c.give_key.ensures.failed c.give_key.ensures.silent))
 
 pub returns-in-Send-clause-left : goal.returns-in-Send-clause-left
 returns-in-Send-clause-left g c =

@@ -1,8 +1,8 @@
-use Rattle.std.proofs.Common.{ap, refl, subst, sym}
+use Rattle.std.proofs.Common.{◌≡◌, ap, refl, subst, sym, true}
 use Rattle.tb_files.specs.File.{IsSaved}
 use Rattle.tb_program.specs.declared.fault.Fault.TheVariants.{Memory}
 use Rattle.taskboard.specs.Serve.{is_of_serving, server_at}
-use Rattle.taskboard.proofs.Handed.{of_serving}
+use Rattle.taskboard.proofs.Handed.{left_by}
 use Rattle.taskboard.proofs.Sessions.{does_of, ended_well}
 use Rattle.taskboard.proofs.serve.serve_file.Goals as goal
 
@@ -37,8 +37,8 @@ returns-in-Ok-clause-served c =
     )
 
 pub returns-in_err-server-clause-fault : goal.returns-in_err-server-clause-fault
-returns-in_err-server-clause-fault c = of_serving c.from_residual-in_err-server.result Memory c.from_residual-in_err-server.ensures.1 refl
+returns-in_err-server-clause-fault c = left_by c.from_residual-in_err-server.result Memory (λ fault. is_of_serving fault ≡ true) c.from_residual-in_err-server.ensures.1 refl
 
 pub returns-in_err-close_desk-in-Ok-clause-fault : goal.returns-in_err-close_desk-in-Ok-clause-fault
 returns-in_err-close_desk-in-Ok-clause-fault c =
-    of_serving c.from_residual-in_err-close_desk-in-Ok.result c.in_err-close_desk-in-Ok.field-0.0 c.from_residual-in_err-close_desk-in-Ok.ensures.1 (ap is_of_serving c.in_err-close_desk-in-Ok.ensures.fault)
+    left_by c.from_residual-in_err-close_desk-in-Ok.result c.in_err-close_desk-in-Ok.field-0.0 (λ fault. is_of_serving fault ≡ true) c.from_residual-in_err-close_desk-in-Ok.ensures.1 (ap is_of_serving c.in_err-close_desk-in-Ok.ensures.fault)
