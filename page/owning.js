@@ -4,7 +4,7 @@ import { look } from "./asking.js";
 import { changes } from "./changes.js";
 import { check, isWhole } from "./checking.js";
 import { button, fill, find, make, said, span, whenSent } from "./dom.js";
-import { FormDraft } from "./formdrafts.js";
+import { FormDraft } from "./drafts.js";
 import { tellFault } from "./notices.js";
 import { faultInTitle } from "./rules.js";
 import { keep } from "./sending.js";

@@ -2,8 +2,8 @@
 import { changes, isOfFirst } from "./changes.js";
 import { check, isWhole } from "./checking.js";
 import { button, fill, find, make, said, span, whenSent } from "./dom.js";
+import { FormDraft } from "./drafts.js";
 import { options } from "./fields.js";
-import { FormDraft } from "./formdrafts.js";
 import { tellFault } from "./notices.js";
 import { drawOwning, showBoardsOf } from "./owning.js";
 import { faultInKey, faultInName } from "./rules.js";
