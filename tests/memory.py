@@ -315,7 +315,7 @@ def can_connect():
     try:
         socket.create_connection(("127.0.0.1", PORT), timeout=10).close()
         return True
-    except ConnectionRefusedError:
+    except (ConnectionRefusedError, ConnectionResetError):
         time.sleep(0.001)
         return False
 
