@@ -14,7 +14,7 @@ import { inFull, seconds } from "./moments.js";
 import { tellFault } from "./notices.js";
 import { faultInText } from "./rules.js";
 import { keep, waiting } from "./sending.js";
-import { go, leaveTask, listen, state } from "./state.js";
+import { go, listen, state } from "./state.js";
 
 const MOST_CHOICES = 6;
 const MOMENTS = { due: "Due", wait: "Waits until", scheduled: "Scheduled", until: "Until", start: "Started", entry: "Made", modified: "Changed", end: "Ended" };
@@ -146,10 +146,10 @@ function setBehind(isBehind) {
 }
 
 function close() {
-    const uuid = state.chosen;
+    const row = document.querySelector(`[data-uuid="${CSS.escape(state.chosen)}"] .open`);
     setBehind(false);
-    leaveTask(narrow.matches);
-    document.querySelector(`[data-uuid="${CSS.escape(uuid)}"] .open`)?.focus();
+    go(state.number, state.view);
+    row?.focus();
 }
 
 function draw() {

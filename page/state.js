@@ -41,23 +41,7 @@ function addressOf(number, view, chosen) {
     return `#/${number}/${view}${chosen ? `/${chosen}` : ""}${query}`;
 }
 
-// How long Back may take, in milliseconds.
-const LATE = 1000;
 let [writing, isTyping] = [0, false];
-// What the address that was read last shows: the board and view, and what is known of the way to the task that is open there. Each address of
-// an open task knows how many steps Back leads to what was shown before it was opened, and which board and view that was.
-let shown = null;
-// While Back leads from a task that was closed: what was asked for meanwhile.
-let leaving = null;
-
-const placeNow = () => (state.view === "day" ? "day" : `${state.number} ${state.view}`);
-const further = (way) => way && { ...way, steps: way.steps + 1 };
-
-// What is known of the way to the task that is open, also where a link or a person gave its address.
-function noteWay() {
-    if (state.chosen && !history.state) history.replaceState(further(shown?.way) ?? { steps: 1, from: shown?.place ?? "" }, "");
-    shown = { place: placeNow(), way: state.chosen ? history.state : null };
-}
 
 // Keeps on the device how the board is left.
 function keepLeft() {
@@ -71,57 +55,15 @@ function write() {
     writing = 0;
     const address = addressOf(state.number, state.view, state.chosen);
     // To write what stands there would end a Back that is under way.
-    if (location.hash !== address && !leaving) history.replaceState(history.state, "", address);
+    if (location.hash !== address) history.replaceState(null, "", address);
     keepLeft();
 }
 
 const writeNow = () => writing && write();
 
 export function go(number, view = "tasks", chosen = "") {
-    if (leaving) return leaving.push(() => go(number, view, chosen));
     writeNow();
     location.hash = addressOf(Number(number), view, chosen);
-}
-
-// Goes back so many steps, and acts there before the address is read; where the browser doesn't come there, here.
-function goBack(steps, act) {
-    const [before, top] = [location.href, scrollY];
-    leaving = [];
-    const arrive = () => {
-        clearTimeout(late);
-        removeEventListener("popstate", arrive);
-        const asked = leaving;
-        leaving = null;
-        act(location.href !== before);
-        // (the list stays where it was scrolled to since)
-        requestAnimationFrame(() => asked.length > 0 || scrollTo(0, top));
-        asked.forEach((one) => one());
-    };
-    const late = setTimeout(arrive, LATE);
-    addEventListener("popstate", arrive);
-    history.go(-steps);
-}
-
-// Shows in the address what is shown without a task. On the way back to the same view that is a step of its own, where it is filtered otherwise.
-function writeLeft(isStep) {
-    const address = addressOf(state.number, state.view, "");
-    if (location.hash !== address) history[isStep ? "pushState" : "replaceState"](null, "", address);
-    shown = { place: placeNow(), way: null };
-}
-
-// Closes the open task. From then on Back leads to what was shown before it was opened, and to no task that was closed. The page goes back there
-// itself where that is the same view, or where the task hides all else; where it isn't, the view takes the task's place.
-export function leaveTask(hidesAll) {
-    if (leaving || !state.chosen) return;
-    writeNow();
-    const { steps = 1, from = "" } = history.state ?? {};
-    const isSame = from === placeNow();
-    const returns = isSame || (hidesAll && from !== "");
-    const count = returns ? steps : steps - 1;
-    state.chosen = "";
-    if (count > 0) goBack(count, (isThere) => (isSame || !returns || !isThere) && writeLeft(isSame && isThere));
-    else writeLeft(false);
-    announce("route");
 }
 
 // Goes there, so that Back doesn't lead to where one is now.
@@ -129,10 +71,9 @@ export const goInstead = (number) => location.replace(addressOf(number, "tasks",
 
 // Filters anew. A text that is being typed is one step for Back, and is written once the typing pauses.
 export function setFilter(changes, typed = false) {
-    if (!leaving && (!typed || !isTyping)) {
+    if (!typed || !isTyping) {
         writeNow();
-        history.pushState(further(history.state), "", location.href);
-        if (shown) shown.way = history.state;
+        history.pushState(null, "", location.href);
     }
     isTyping = typed;
     state.filter = { ...state.filter, ...changes };
@@ -152,9 +93,8 @@ export function readRoute() {
     [writing, isTyping] = [0, false];
     const [path, query] = location.hash.split("?");
     const [, number, view, chosen = ""] = path.split("/");
-    if (number === "day") Object.assign(state, { view: "day", chosen: "", isMineOnly: view === "mine" });
-    else Object.assign(state, { number: Number(number) || 0, view: VIEWS.includes(view) && view !== "day" ? view : "tasks", chosen });
-    noteWay();
+    if (number === "day") return Object.assign(state, { view: "day", chosen: "", isMineOnly: view === "mine" });
+    Object.assign(state, { number: Number(number) || 0, view: VIEWS.includes(view) && view !== "day" ? view : "tasks", chosen });
     if (!state.who || !state.number || state.view !== "tasks") return;
     state.filter = filterOf(query ?? readDraft("filters") ?? "");
     write();

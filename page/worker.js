@@ -4,7 +4,7 @@
 // A browser asks for the worker at each start, and a page that stays open every few minutes; it is installed anew where a byte of it differs. The
 // next line, made by tests/page_content.py, differs with every other file, so a new version is found then, also where its files are as long as
 // before.
-// Content of the other files: 0bc11c7c06d815f0991d26dff8b348af45540cb2a025ca766eb2fd50279ab229
+// Content of the other files: 4755a0355c183d40ccceab7c977ea8f07a517c17ac99631112aa3f52754db909
 
 const VERSION = "taskboard ";
 const FILE = /^\/(?:[a-z0-9_.-]+\.(?:html|css|js|svg|png|ico))?$/;

@@ -1,12 +1,10 @@
 """Scenes of the page: whose a task is, when it is due, what a search and a line understand, and what stands in the address."""
 import datetime
 
-from office import ALL_ANSWERED, BACKSPACE, ENTER, ESCAPE, IS_LISTED, IS_TOLD, LISTED, add, expect, new_board, tasks, tell
+from office import ALL_ANSWERED, BACKSPACE, ENTER, IS_LISTED, IS_TOLD, LISTED, add, expect, new_board, tasks, tell
 
 HEADINGS = "return [...document.querySelectorAll('#list .heading h3')].map((heading) => heading.textContent)"
 ARE_LISTED = LISTED.replace("return", "return JSON.stringify(", 1) + ") === JSON.stringify(arguments[0])"
-IS_VIEW = "return !document.getElementById(`${arguments[0]}-view`).hidden && document.getElementById('panel').hidden"
-ROW = "[...document.querySelectorAll('.row .open')].find((row) => row.textContent === arguments[0])"
 CHOOSE = "const select = document.getElementById(arguments[0]); select.value = arguments[1]; select.dispatchEvent(new Event('input'))"
 
 
@@ -257,77 +255,4 @@ def addresses(office):
     browser.wait(ARE_LISTED, both)
 
 
-def show_task(browser, name):
-    """Opens a task from a list."""
-    browser.wait(f"const row = {ROW}; row?.click(); return Boolean(row)", name)
-    browser.wait("return !document.getElementById('panel').hidden && document.getElementById('task-text').textContent === arguments[0]", name)
-
-
-def leave_task(office, way):
-    """Closes the task that is open in one of the ways that there are."""
-    browser = office.browser
-    if way == "Save":
-        browser.click("#edit")
-        browser.type("#edit-fields textarea", " now")
-        browser.click("#edit-save")
-        browser.wait("return !document.getElementById('edit-form').offsetParent")
-        browser.wait(ALL_ANSWERED)
-    if way == "reload":
-        browser.call("POST", "/refresh")
-        browser.wait("return document.getElementById('panel')?.checkVisibility()")
-    if way == "button":
-        browser.click("#close-panel")
-    else:
-        browser.run("document.getElementById('task-text').focus()")
-        browser.press(ESCAPE)
-    browser.wait(IS_VIEW, "tasks")
-
-
-def closed_tasks(office):
-    """A task that was closed isn't opened again by Back, which leads to what was shown before it was opened."""
-    browser, board = office.browser, new_board("Closed")
-    first, second = (add(board, description=name, due=moment(0)) for name in ("Buy milk", "Call mom"))
-    tell(f"/boards/{board}/tasks/{second}/depend", on=first)
-    office.begin(board)
-    for way in ("button", "Escape", "Save", "reload"):
-        office.go(board, "people")
-        office.go(board)
-        show_task(browser, "Call mom" if way != "reload" else "Buy milk now")
-        # (a task that is opened from another one is closed with it)
-        browser.run("document.querySelector('#task-ahead .link, #task-behind .link').click()")
-        browser.wait("return location.hash.includes(arguments[0])", second if way == "reload" else first)
-        leave_task(office, way)
-        browser.call("POST", "/back")
-        browser.wait(IS_VIEW, "people")
-    office.go(board)
-    show_task(browser, "Call mom")
-    browser.type("#filter-text", "mom")
-    browser.wait(ARE_LISTED, ["Call mom"])
-    browser.wait("return location.hash.includes('text=mom')")
-    leave_task(office, "button")
-    browser.wait("return location.hash.includes('text=mom') && !location.hash.includes(arguments[0])", second)
-    expect("found still", True, browser.run(ARE_LISTED, ["Call mom"]))
-    browser.call("POST", "/back")
-    browser.wait("return document.querySelectorAll('#list .row').length === 2")
-    expect("open afterwards", True, browser.run(IS_VIEW, "tasks"))
-
-
-def closed_on_a_day(office):
-    """A task that is opened from My day and closed leaves its board there; in a narrow window it leads back to My day at once."""
-    browser, board = office.browser, new_board("Day by day")
-    add(board, description="Buy bread", due=moment(0))
-    office.begin(board)
-    for width in (1280, 390):
-        browser.size(width, 844)
-        browser.run("location.hash = '#/day'")
-        show_task(browser, "Buy bread")
-        browser.click("#close-panel")
-        browser.wait(IS_VIEW, "tasks" if width > 1000 else "day")
-        if width > 1000:
-            browser.call("POST", "/back")
-            browser.wait(IS_VIEW, "day")
-        office.go(board)
-    browser.size(1280, 900)
-
-
-SCENES = (add_words, added_aside, pasted_list, assign, when, addresses, closed_tasks, closed_on_a_day)
+SCENES = (add_words, added_aside, pasted_list, assign, when, addresses)
