@@ -4,6 +4,7 @@
 //! for words and replies, and on `tb_asking` for what bodies hold.
 #![tactic(auto)]
 
+mod again;
 mod answering;
 mod arguments;
 mod asked;

@@ -7,6 +7,7 @@ ghost use Rattle.tb_script.specs.Fault.{is_unread};
 ghost use Rattle.tb_script.specs.Watching.{IsSpent, IsWholeOrLong};
 ghost use Rattle.tb_values.specs.Appends.{AppendsFront};
 
+use crate::again::{read_again, write_again};
 use crate::fault::LinesFault;
 use std::alloc::Global;
 use std::io::{Read, Write};
@@ -53,7 +54,7 @@ impl<R: Read + Drop> Watched<R> {
         }
     }
 
-    /// Reads once. Why a read failed isn't told.
+    /// Reads once, and again where a signal interrupts it. Why a read failed isn't told.
     pub fn read(&mut self, buf: &mut [u8]) -> Result<usize, LinesFault>
         ensures bound { ReadsAtMost result buf.new }
         ensures bytes { ReadConsumes self.old.left self.new.left result buf.new }
@@ -63,7 +64,7 @@ impl<R: Read + Drop> Watched<R> {
         ensures fault { IfErr result (λ fault. fault ≡ ReadFailed) }
     {
         self.reads = self.reads.saturating_add(1);
-        match self.reader.read(buf) {
+        match read_again(&mut self.reader, buf) {
             Ok(count) => Ok(count),
             Err(_) => {
                 self.read_failed = true;
@@ -114,7 +115,7 @@ impl<R: Read + Drop> Watched<R> {
         Ok(())
     }
 
-    /// Writes once. A write that takes nothing has failed.
+    /// Writes once, and again where a signal interrupts it. A write that takes nothing has failed.
     fn write<W: Write>(&mut self, writer: &mut W, bytes: &[u8]) -> Result<usize, LinesFault>
         requires some { 0 < length bytes.now }
         ensures taken { IfOk result (λ taken. (0 < taken) × (taken ≤ length bytes.now)) }
@@ -125,7 +126,7 @@ impl<R: Read + Drop> Watched<R> {
         ensures reads { (self.new.left ≡ self.old.left) × (self.new.reads ≡ self.old.reads)
             × (self.new.read_failed ≡ self.old.read_failed) }
     {
-        match writer.write(bytes) {
+        match write_again(writer, bytes) {
             Ok(taken) if taken > 0 => Ok(taken),
             _ => {
                 self.write_failed = true;
