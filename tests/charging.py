@@ -49,7 +49,7 @@ def task(size, **members):
 
 def add_people(server):
     with server.connect(60) as ann:
-        for number, name in enumerate((b"bob", b"eve")):
+        for number, name in enumerate((b"bob", b"eve", b"dan")):
             call(ann, message(b"POST", b"/people", b'{"key":"%s-key-01","name":"%s"}' % (name, name), identified(900_000 + number)))
 
 
@@ -112,6 +112,24 @@ def swept(server):
         return took
 
 
+def boards(server):
+    """A new board counts for 1 MiB: who makes many waits, long before the 10,000 numbers are used up."""
+    with server.connect(60) as dan:
+        call(dan, message(b"GET", ME, fields=by(b"dan")))
+        for number in range(100, 140):
+            if is_late(dan, message(b"POST", b"/boards", b'{"title":"Many"}', by(b"dan", number)), 2 * slack):
+                break
+            dan.settimeout(60)
+            dan.recv(65536)
+    if not BURST <= number - 100 <= BURST + 2:
+        sys.exit(f"{number - 100} boards were made at once, with {BURST} MiB at once")
+    with server.connect(60) as ann:
+        took = call(ann, message(b"POST", b"/boards/1/tasks", b'{"description":"B"}', identified(71)))
+        if took > KNOWN_WITHIN:
+            sys.exit(f"a call of another person took {took:.2f} s")
+        return took
+
+
 def expect_start(program):
     """The file of one who meant harm can be served again within 400 MB."""
     size = sum(pathlib.Path(name).stat().st_size for name in ("b.db", "b.db-wal") if pathlib.Path(name).exists())
@@ -130,7 +148,7 @@ def main():
         count = refused(server)
         beside = expect_at_once(server, b"bob", 51)
         spared = strangers(server)
-        other = swept(server)
+        other = max(swept(server), boards(server))
     size = expect_start(program)
     print(f"{count} refused calls of 1 MB, then they wait; others {max(beside, spared, other):.3f} s at most; the file has {size:.0f} MB")
 

@@ -2,10 +2,10 @@
 use Rattle.std.specs.Prelude.{ℕ, ◌+◌, ◌-◌, ◌^◌, ◌==◌, Bool, not, ◌&&◌, ◌||◌, nat_le, nat_lt, if◌then◌else◌, List, codes, Option, Some, None, length, max, min}
 use Rattle.std.specs.Str.{bytes_eq}
 use Rattle.tb_event_loop.specs.Connection.{asked}
-use Rattle.tb_event_loop.specs.Head.{begun, board_in, has_whole_head, is_call_in, target_in, text_of}
+use Rattle.tb_event_loop.specs.Head.{begun, board_in, has_whole_head, is_call_in, makes_board, target_in, text_of}
 use Rattle.tb_event_loop.specs.Journal.{status_in}
 use Rattle.tb_event_loop.specs.declared.connection.Connection.{Connection}
-use Rattle.tb_event_loop.specs.declared.guesses.TheConstants.{LONGEST_HOLD}
+use Rattle.tb_event_loop.specs.declared.guesses.TheConstants.{BOARD_COST, LONGEST_HOLD}
 use Rattle.tb_rooms.specs.Bucket.{charged, wait}
 use Rattle.tb_rooms.specs.Claims.{forgotten, is_claimed, number_under, taught}
 use Rattle.tb_rooms.specs.Rates.{call_cost, ledger_charged, wait_in}
@@ -51,6 +51,12 @@ debt_of rates text now =
     then max (wait_in rates.persons (member_in text) now) (wait_in rates.boards (board_in text) now)
     else 0
 
+-- A board counts for more than what it wrote, since there are 10,000 numbers for all.
+-- Rule: a new board counts for 1 MiB of what its person may write. Tried by rates.sh.
+abbrev pub cost_of : List ℕ → ℕ → ℕ
+cost_of text own =
+    if nat_lt 0 own && makes_board text then min (own + BOARD_COST) (2 ^ 64 - 1) else own
+
 -- what a call wrote itself is charged to its person, and what its sweep made to its board
 unfoldable pub person_charged_with : List ℕ → ℕ → ℕ → ℕ → Rates → Rates
 person_charged_with text own swept now rates =
@@ -67,7 +73,7 @@ board_charged_with text swept now rates =
 abbrev pub charged_with : List ℕ → ℕ → ℕ → ℕ → Rates → Rates
 charged_with held own swept now rates =
     board_charged_with (begun held) swept now
-    (person_charged_with (begun held) own swept now rates)
+    (person_charged_with (begun held) (cost_of (begun held) own) swept now rates)
 
 -- ---- a message is looked at once its head is whole, and a call again when its time has come
 

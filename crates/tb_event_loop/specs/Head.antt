@@ -1,5 +1,5 @@
 -- What the head of a message says, before the message is taken.
-use Rattle.std.specs.Prelude.{ℕ, ◌+◌, ◌-◌, ◌==◌, Bool, true, false, ◌||◌, List, [], codes, Option, Some, None, drop, find, if◌then◌else◌, length, position, take}
+use Rattle.std.specs.Prelude.{ℕ, ◌+◌, ◌-◌, ◌==◌, Bool, true, false, ◌&&◌, ◌||◌, List, [], codes, Option, Some, None, drop, find, if◌then◌else◌, length, position, take}
 use Rattle.std.specs.Char.{is_ascii_whitespace}
 use Rattle.std.specs.List.{fold, list_all, prefix_len, slice_split, suffix_len}
 use Rattle.std.specs.Str.{bytes_eq, is_utf8, str_eq_ignore_ascii_case}
@@ -88,3 +88,7 @@ text_of_line (Some line) = text_in (trimmed (behind 58 line))
 -- what the first field of this name says, if it is text, and else nothing
 abbrev pub text_of : List ℕ → List ℕ → List ℕ
 text_of name text = text_of_line (line_of name text)
+
+-- a call that makes a board: no other target leads there
+abbrev pub makes_board : List ℕ → Bool
+makes_board text = is_call_in text && bytes_eq (target_in text) (codes "/boards")

@@ -10,7 +10,7 @@ ghost use Rattle.tb_event_loop.specs.Places.{Changes, IsUntilDue, connection_in,
 
 use crate::connection::Connection;
 use crate::head;
-use crate::head::{begun, has_whole_head, target_in, text_of};
+use crate::head::{begun, has_whole_head, makes_board, target_in, text_of};
 use crate::journal::status_in as status_of;
 use crate::places::Places;
 use crate::service::Service;
@@ -19,6 +19,9 @@ use tb_rooms::{Asking, Hold, Rates, Rooms, Written, may_turn};
 
 /// How long a guess waits at most, in milliseconds: less than a message that was begun keeps its place.
 const LONGEST_HOLD: u64 = 4_900;
+
+/// What a new board counts for, in bytes.
+const BOARD_COST: u64 = 1_048_576;
 
 /// A message as far as it came, with what its head says of its sender and of what it asks for.
 #[derive(Drop)]
@@ -226,6 +229,17 @@ fn owner_of(rates: &Rates, text: &[u8]) -> u64
     rates.owner(&sight.asking)
 }
 
+/// What a call counts for that wrote so many bytes: a new board for more, since there are 10,000 numbers for all.
+fn cost_of(text: &[u8], own: u64) -> u64
+    ensures { result ≡ guesses.cost_of text.now own }
+{
+    if own > 0 && makes_board(text) {
+        own.saturating_add(BOARD_COST)
+    } else {
+        own
+    }
+}
+
 #[tactic(auto, unfolding(crate::specs::Guesses::person_charged_with))]
 fn charge_person(
     rates: &mut Rates,
@@ -363,8 +377,10 @@ impl Places {
     {
         let own = after.own.saturating_sub(before.own);
         let swept = after.swept.saturating_sub(before.swept);
-        let sight = sight_of(begun(held));
-        charge_person(&mut self.rates, self.alloc, &sight, own, swept, now)?;
+        let text = begun(held);
+        let sight = sight_of(text);
+        let cost = cost_of(text, own);
+        charge_person(&mut self.rates, self.alloc, &sight, cost, swept, now)?;
         charge_board(&mut self.rates, self.alloc, &sight, swept, now)
     }
 }

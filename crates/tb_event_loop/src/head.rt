@@ -99,6 +99,13 @@ pub(crate) fn is_call_in(text: &[u8]) -> bool
     up_to(up_to(text, b'\n'), b' ') == b"POST".as_slice()
 }
 
+/// Whether a head is that of a call that makes a board: no other target leads there.
+pub(crate) fn makes_board(text: &[u8]) -> bool
+    ensures { result ≡ head.makes_board text.now }
+{
+    is_call_in(text) && target_in(text) == b"/boards".as_slice()
+}
+
 /// The board that the target of a head names behind `/boards/`, or nothing.
 pub(crate) fn board_in(text: &[u8]) -> &str
     ensures { result.now ≡ head.board_in text.now }
