@@ -3,7 +3,7 @@ use Rattle.std.specs.Prelude.{◌≡◌, ◌⊎◌, ℕ, nat_lt, List, [], ◌�
 use Rattle.tb_causes.specs.BadText.{IsBodyText, IsPartText}
 use Rattle.tb_causes.specs.FileCause.{IsFileText}
 use Rattle.tb_causes.specs.Told.{Text}
-use Rattle.tb_causes.specs.Unanswered.{IsUnanswered}
+use Rattle.tb_causes.specs.Unanswered.{IsUnanswered, IsUnprinted}
 use Rattle.tb_causes.specs.WrongWord.{wrong_text}
 use Rattle.tb_causes.specs.declared.cause.TheConstants.{BAD, BAD_BODY, BAD_EXPORT, BAD_SEND, KEY_FILES, KEY_UNREAD, KEY_UNTOLD, LOW_PORT, MEMORY, NOT_EMPTY, NOT_OURS, NO_ANSWER, NO_CLOCK, NO_KEY, NO_KEY_FILE, NO_LISTEN, NO_NEW_KEY, NO_PAGE, READ_FAILED, STORE, TAKEN_PORT, WRITE_FAILED, WRONG_VERSION}
 use Rattle.tb_client.specs.OwnKey.{is_own_key_alone}
@@ -87,6 +87,10 @@ abbrev pub IsCauseOfSilence : Order → Text → Type 0
 IsCauseOfSilence (order.Send sent) text = IsUnanswered sent text
 IsCauseOfSilence _ text = text ≡ NO_ANSWER.now
 
+abbrev pub IsCauseOfUnwritten : Order → Text → Type 0
+IsCauseOfUnwritten (order.Send sent) text = IsUnprinted sent text
+IsCauseOfUnwritten other text = text ≡ written_text other
+
 abbrev pub IsCauseOfText : Option BadItem → Order → Text → Type 0
 IsCauseOfText item (order.Import taken) text = IsBodyText item text
 IsCauseOfText item (order.ImportAll taken) text = IsPartText item text
@@ -101,7 +105,7 @@ IsCause fault.BadBody item order text = IsCauseOfText item order text
 IsCause fault.NoListen item order text = text ≡ ports_text order
 IsCause fault.NoKey item order text = text ≡ key_text order
 IsCause fault.Bad item order text = text ≡ send_text order
-IsCause fault.WriteFailed item order text = text ≡ written_text order
+IsCause fault.WriteFailed item order text = IsCauseOfUnwritten order text
 IsCause other item order text = text ≡ text_of other
 
 -- ---- of words that are no order

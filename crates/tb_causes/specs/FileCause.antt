@@ -7,10 +7,10 @@ use Rattle.sqlite.specs.declared.error.Error.TheVariants.{SqliteFailure}
 use Rattle.sqlite.specs.declared.error.ErrorCode.TheVariants.{DatabaseBusy, DatabaseCorrupt, NotADatabase}
 use Rattle.tb_causes.specs.Told.{Text}
 use Rattle.tb_causes.specs.declared.file_cause.FileCause.{FileCause}
-use Rattle.tb_causes.specs.declared.file_cause.FileCause.TheVariants.{Closed, Folder, Log, Unseen, Unusable, Usable}
+use Rattle.tb_causes.specs.declared.file_cause.FileCause.TheVariants.{Closed, Folder, Linked, Log, Unseen, Unusable, Usable}
 use Rattle.tb_wal.specs.declared.beside.LogFault.{LogFault}
 use Rattle.tb_wal.specs.declared.beside.LogFault.TheVariants.{Damaged, Foreign, Left}
-use Rattle.tb_causes.specs.declared.file_cause.TheConstants.{BUSY, DAMAGED, FAILED_LATER, FOLDER, LOG_DAMAGED, LOG_FOREIGN, LOG_LEFT, LOOK_FAILED, NO_ACCESS, NO_DATABASE, NO_FILE, NO_LOG, NO_LOOK, OPEN_FAILED}
+use Rattle.tb_causes.specs.declared.file_cause.TheConstants.{BUSY, DAMAGED, FAILED_LATER, FOLDER, LINKED, LOG_DAMAGED, LOG_FOREIGN, LOG_LEFT, LOOK_FAILED, NO_ACCESS, NO_DATABASE, NO_FILE, NO_LOG, NO_LOOK, OPEN_FAILED}
 
 -- of one that isn't opened with its log
 abbrev pub log_text : LogFault → Text
@@ -40,6 +40,7 @@ abbrev pub file_text : FileCause → Text
 file_text (Log fault) = log_text fault
 file_text (Unseen kind) = look_text kind
 file_text Folder = FOLDER.now
+file_text Linked = LINKED.now
 file_text (Closed kind) = access_text kind
 file_text (Unusable error) = opening_text error
 file_text Usable = FAILED_LATER.now

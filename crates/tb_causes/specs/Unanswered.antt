@@ -1,9 +1,9 @@
--- What is told where no answer came.
+-- What is told where no answer came, or where it couldn't be printed.
 use Rattle.std.specs.Prelude.{ℕ, ◌==◌, Bool, true, false, ◌&&◌, List, [], ◌∷◌, ◌++◌, codes, is_some, length, Option, Some, None, if◌then◌else◌}
 use Rattle.std.specs.List.{flat_map}
 use Rattle.std.specs.Str.{bytes_eq}
 use Rattle.tb_causes.specs.Told.{IsEither, Text}
-use Rattle.tb_causes.specs.declared.unanswered.TheConstants.{GO_ON, GO_ON_KEY, UNCHANGED}
+use Rattle.tb_causes.specs.declared.unanswered.TheConstants.{GO_ON, GO_ON_KEY, UNCHANGED, UNPRINTED}
 use Rattle.tb_calls.specs.Word.{word_named}
 use Rattle.tb_calls.specs.declared.word.Word.{Word}
 use Rattle.tb_calls.specs.declared.word.Word.TheVariants as word
@@ -92,9 +92,9 @@ words_again order =
 
 -- ---- what is told
 
--- that the call is to go on, and on a line behind that by which words
-abbrev pub going_on : SendOrder → Text
-going_on order = GO_ON.now ++ (codes "\n" ++ words_again order)
+-- what happened, and on the next line the words by which a call is resumed
+abbrev pub with_words : Text → SendOrder → Text
+with_words told order = told ++ (codes "\n" ++ words_again order)
 
 -- `taskboard send SERVER MEMBER - own-key`, whose keys are in files
 abbrev pub change_again : SendOrder → Text
@@ -110,9 +110,17 @@ change_going_on order = GO_ON_KEY.now ++ (codes "\n" ++ change_again order)
 abbrev pub unanswered_text : SendOrder → Text
 unanswered_text order =
     if is_own_key_alone order.words then change_going_on order
-    else if may_have_acted order.words then going_on order
+    else if may_have_acted order.words then with_words GO_ON.now order
     else UNCHANGED.now
 
 -- without memory to tell a view from a call, or for the words, that it is to go on
 abbrev pub IsUnanswered : SendOrder → Text → Type 0
 IsUnanswered order text = IsEither (unanswered_text order) GO_ON.now text
+
+-- of an answer that couldn't be printed: a view is asked again
+abbrev pub unprinted_text : SendOrder → Text
+unprinted_text order =
+    if may_have_acted order.words then with_words UNPRINTED.now order else UNPRINTED.now
+
+abbrev pub IsUnprinted : SendOrder → Text → Type 0
+IsUnprinted order text = IsEither (unprinted_text order) UNPRINTED.now text

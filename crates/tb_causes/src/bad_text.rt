@@ -9,16 +9,16 @@ use std::alloc::{AllocError, Global};
 use tb_orders::BadItem;
 use tb_values::Text;
 
-const MEND: &str = "Nothing was taken: mend it, and import the text again.";
+const MEND: &str = "Nothing was taken: correct it, and import the text again.";
 
 const MEND_PART: &str =
-    "The parts before it were taken: mend it, and import the whole text again under the same ID.";
+    "The parts before it were taken: correct it, and import the whole text again under the same ID.";
 
 const BAD_TEXT: &str =
     "The text is longer than 1,048,576 bytes or has more than 1,000 tasks, which --all takes in parts, or it isn't of its kind: json is what `task export` prints, todo are lines of todo.txt. Nothing was taken.";
 
 const BAD_PART: &str =
-    "A line or a task is longer than 1,048,576 bytes, or a part of the text isn't of its kind: json is a list of tasks, or has one on each line, todo are lines of todo.txt. What was answered was taken: mend the rest, and import the whole text again under the same ID.";
+    "A line or a task is longer than 1,048,576 bytes, or a part of the text isn't of its kind: json is a list of tasks, or has one on each line, todo are lines of todo.txt. What was answered was taken: correct the rest, and import the whole text again under the same ID.";
 
 /// What is told of a text that goes by one call.
 pub(crate) fn told_of_body(alloc: Global, item: &Option<BadItem>) -> Told

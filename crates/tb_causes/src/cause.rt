@@ -2,7 +2,7 @@
 ghost use Rattle.std.specs.Prelude.{◌≡◌, IfErr, IfOk, List, OnErr, OnOk, drop, map, option_map};
 ghost use Rattle.std.specs.String.{string_bytes};
 ghost use Rattle.std.specs.Vec.Iter.{into_iter_items};
-ghost use Rattle.tb_causes.specs.Cause.{IsCause, IsCauseOfBadWords, IsCauseOfSilence, IsCauseOfStore, IsCauseOfText, IsCauseOfWords, file_of, key_text, port_text, ports_text, send_text, store_text, text_of, words_text, written_text};
+ghost use Rattle.tb_causes.specs.Cause.{IsCause, IsCauseOfBadWords, IsCauseOfSilence, IsCauseOfStore, IsCauseOfText, IsCauseOfUnwritten, IsCauseOfWords, file_of, key_text, port_text, ports_text, send_text, store_text, text_of, words_text, written_text};
 ghost use Rattle.tb_causes.specs.Told.{AppendsFrontOfTold, AppendsTold, Text as TextValue, told_text};
 ghost use Rattle.tb_program.specs.declared.fault.Fault.TheVariants.{WriteFailed};
 
@@ -10,7 +10,7 @@ use crate::arguments::{texts_of, words_behind_first};
 use crate::bad_text::{told_of_body, told_of_part};
 use crate::file_cause::cause_of_file;
 use crate::told::{Told, tell};
-use crate::unanswered::told_of_unanswered;
+use crate::unanswered::{told_of_unanswered, told_of_unprinted};
 use crate::wrong_word::wrong_word;
 use std::alloc::{AllocError, Global};
 use std::env::{self, Args};
@@ -26,7 +26,7 @@ use tb_values::Text;
 const FIRST_FREE_PORT: u16 = 1024;
 
 const BAD: &str =
-    "The words are no order: `taskboard --help` lists the orders, and `taskboard ORDER --help` what each takes.";
+    "The command line is invalid: `taskboard --help` lists the orders, and `taskboard ORDER --help` what each takes.";
 
 const BAD_EXPORT: &str =
     "The text is no JSON that an import takes, which is a list, an object, or an object on each line; or it has over 10,000 tasks, or more than one call takes, which --all cuts.";
@@ -50,13 +50,13 @@ const NO_KEY_FILE: &str =
 const NO_LISTEN: &str = "The port can't be listened on.";
 
 const NO_PAGE: &str =
-    "The folder of --page can't be read, has no index.html, or has more than 64 files or 4 MiB of a page: write its name right, or let this user read it and its files.";
+    "The folder of --page can't be read, has no index.html, or has more than 64 files or 4 MiB of a page: correct the name, or let this user read it and its files.";
 
 const NOT_EMPTY: &str =
     "The file has tables already, and is as it was: give a name that no file has.";
 
 const NOT_OURS: &str =
-    "The file is no file of boards, or a newer taskboard made it: write its name right, or use that program.";
+    "This isn't a file of boards, or a newer taskboard made it: correct the name, or use that program.";
 
 const READ_FAILED: &str =
     "Standard input couldn't be read, or the machine gave no random bytes for an identifier or a key.";
@@ -64,16 +64,16 @@ const READ_FAILED: &str =
 const STORE: &str = "The file can't be used.";
 
 const KEY_FILES: &str =
-    "key, key.new or key.next in ~/.config/taskboard can't be read, written or renamed, or key.new is of another server or person, whom its second line names. No key was lost. End that change by `taskboard send SERVER MEMBER - own-key`, or remove key.new where it has no key that you need.";
+    "key, key.new or key.next in ~/.config/taskboard can't be read, written or renamed, or key.new is of another server or person, whom its second line names. No key was lost. Complete that change with `taskboard send SERVER MEMBER - own-key`, or remove key.new if you need no key in it.";
 
 const WRITE_FAILED: &str =
-    "Standard output couldn't be written: what was asked for may have been done. Send a call again under its identifier.";
+    "Standard output couldn't be written: what was asked for may have been done. Look, or send the same call again under its identifier.";
 
 const WRONG_VERSION: &str =
     "The file is of another version of taskboard: use the program that made it.";
 
 const BAD_SEND: &str =
-    "The words behind KEY are no call and no view, or a board or a task among them isn't one: `taskboard send --help` has their forms.";
+    "The words after KEY are no call and no view, or a board or a task among them isn't one: `taskboard send --help` has their forms.";
 
 const NO_NEW_KEY: &str =
     "The first line of standard input is no key: a key has 8 to 64 visible ASCII characters. Nothing was changed.";
@@ -82,7 +82,7 @@ const KEY_UNREAD: &str =
     "Standard output couldn't be written: the key may have been changed to one that was made, which nobody has seen. Give another with `taskboard key`.";
 
 const KEY_UNTOLD: &str =
-    "Standard output couldn't be written: the key that was read may have been given. Run the same `taskboard key` again, which tells what came of it.";
+    "Standard output couldn't be written: the key that was read may have been given. Run the same `taskboard key` again to see what happened.";
 
 const LOW_PORT: &str =
     "Ports below 1,024 are the system's, or another program has this one: take a higher one, as 8080.";
@@ -118,7 +118,7 @@ fn cause_of(rt: &HostRuntime, failed: &OrderFault, order: &Order) -> Told
         Fault::NoListen => Told::Fixed(ports_text(order)),
         Fault::NoKey => Told::Fixed(key_text(order)),
         Fault::Bad => Told::Fixed(send_text(order)),
-        Fault::WriteFailed => Told::Fixed(written_text(order)),
+        Fault::WriteFailed => told_of_unwritten(rt.alloc(), order),
         fault => Told::Fixed(text_of(fault)),
     }
 }
@@ -209,6 +209,15 @@ fn told_of_silence(alloc: Global, order: &Order) -> Told
     match order {
         Order::Send(order) => told_of_unanswered(alloc, order),
         _ => Told::Fixed(NO_ANSWER),
+    }
+}
+
+fn told_of_unwritten(alloc: Global, order: &Order) -> Told
+    ensures { IsCauseOfUnwritten order.now (told_text result) }
+{
+    match order {
+        Order::Send(order) => told_of_unprinted(alloc, order),
+        _ => Told::Fixed(written_text(order)),
     }
 }
 

@@ -5,12 +5,13 @@ ghost use Rattle.tb_causes.specs.FileCause.{IsFileText, access_text, file_text, 
 use sqlite::{Connection, Error, ErrorCode};
 use std::fs;
 use std::io::ErrorKind;
+use std::os::unix::fs::MetadataExt;
 use tb_wal::{LogFault, find_log_fault};
 
 const FOLDER: &str = "The file's name is that of a folder.";
 
 const NO_FILE: &str =
-    "There is no such file: write its name right, or make it with `taskboard init`.";
+    "There is no such file or folder: correct the name, or make the file with `taskboard init`.";
 
 const NO_LOOK: &str = "This user may not look at the file.";
 
@@ -20,12 +21,15 @@ const NO_ACCESS: &str = "This user may not read and write the file.";
 
 const OPEN_FAILED: &str = "The file can't be opened.";
 
+const LINKED: &str =
+    "The file has another name, by a hard link, and two names can't share one log: remove that link.";
+
 const BUSY: &str =
-    "Another program has the file, as a server that runs: ask that one, or end it first.";
+    "Another program has the file open, such as a running server: ask that server, or stop it first.";
 
-const NO_DATABASE: &str = "The file is no database: write its name right.";
+const NO_DATABASE: &str = "The file is no database: correct its name.";
 
-const DAMAGED: &str = "The file is damaged: keep it as it is, and go back to the newest good copy.";
+const DAMAGED: &str = "The file is damaged: keep it as it is, and restore the newest good copy.";
 
 const NO_LOG: &str = "The file can't be opened as a database, or its log beside it can't.";
 
@@ -33,13 +37,13 @@ const LOG_LEFT: &str =
     "The file isn't there or is empty, and its log, of the same name with -wal, has what was committed to it: bring the file back, or put the log aside.";
 
 const LOG_DAMAGED: &str =
-    "Its log, of the same name with -wal, is damaged before commits that were made later. Nothing was changed. Go back to the newest good copy, or put the log aside to go on without what is in it.";
+    "Its log, of the same name with -wal, is damaged before commits that were made later. Nothing was changed. Restore the newest good copy, or put the log aside to go on without what is in it.";
 
 const LOG_FOREIGN: &str =
     "The file is younger than its log, of the same name with -wal, which has commits of another file, or of this one before it was restored. Put the log aside. If the two do belong together, copy the log, and put the copy in its place.";
 
 const FAILED_LATER: &str =
-    "The file failed while it was used: its disk is full or fails, or another program changed its rows. Look at `taskboard check FILE`.";
+    "The file failed while it was used: its disk is full or fails, or another program changed its rows. Run `taskboard check FILE`. An import may have acted: import again under the same ID. A key may have changed: give another.";
 
 /// What a file is when it is looked at again.
 #[derive(Drop)]
@@ -49,6 +53,8 @@ enum FileCause {
     /// It can't be looked at.
     Unseen(ErrorKind),
     Folder,
+    /// It has another name.
+    Linked,
     /// It can't be read and written.
     Closed(ErrorKind),
     /// It is no database that can be used.
@@ -71,6 +77,7 @@ fn look_at(rt: &HostRuntime, path: &str) -> FileCause {
     match fs::metadata(rt, path) {
         Err(error) => FileCause::Unseen(error.kind()),
         Ok(found) if found.is_dir() => FileCause::Folder,
+        Ok(found) if found.nlink() > 1 => FileCause::Linked,
         Ok(_) => open_at(rt, path),
     }
 }
@@ -92,6 +99,7 @@ fn file_text(cause: &FileCause) -> &'static str
         FileCause::Log(fault) => log_text(*fault),
         FileCause::Unseen(kind) => look_text(*kind),
         FileCause::Folder => FOLDER,
+        FileCause::Linked => LINKED,
         FileCause::Closed(kind) => access_text(*kind),
         FileCause::Unusable(error) => opening_text(error),
         FileCause::Usable => FAILED_LATER,

@@ -1,8 +1,8 @@
-//! What to do where no answer came.
+//! What to do where no answer came, or where it couldn't be printed.
 ghost use Rattle.std.specs.Prelude.{◌≡◌, ◌++◌, IfOk, OnOk};
 ghost use Rattle.std.specs.String.{string_bytes};
 ghost use Rattle.tb_causes.specs.Told.{told_text};
-ghost use Rattle.tb_causes.specs.Unanswered.{change_going_on, IsUnanswered, escaped, first_of, going_on, has_body, id_words, may_have_acted, quoted_word, quoted_words, second_of, shown_first, shown_second, shown_words, unanswered_text, unless_none, words_again};
+ghost use Rattle.tb_causes.specs.Unanswered.{IsUnanswered, IsUnprinted, change_going_on, escaped, first_of, has_body, id_words, may_have_acted, quoted_word, quoted_words, second_of, shown_first, shown_second, shown_words, unanswered_text, unless_none, unprinted_text, with_words, words_again};
 
 use crate::told::Told;
 use std::alloc::{AllocError, Global};
@@ -13,13 +13,16 @@ use tb_task::TaskId;
 use tb_values::{Duplicate, Items, Text};
 
 const UNCHANGED: &str =
-    "No answer came in the time, and nothing was to change: look whether a server runs at ADDRESS:PORT, and ask again.";
+    "No answer came in time, and nothing was to change: check that a server runs at ADDRESS:PORT, and ask again.";
 
 const GO_ON: &str =
-    "No answer came, and the call may have acted. Go on with it under its identifier, with KEY as before: it acts once.";
+    "No answer came, and the call may have acted. Resume it under its identifier, with your key for KEY: it acts once.";
+
+const UNPRINTED: &str =
+    "Standard output couldn't be written: what was asked for may have been done. Resume a call under its identifier, with your key for KEY: it acts once.";
 
 const GO_ON_KEY: &str =
-    "No answer came, and the key may have changed. Both keys are kept: the next order with - as KEY ends the change first, and so does";
+    "No answer came, and the key may have changed. Both keys are kept: the next order with - as KEY completes the change first, and so does";
 
 /// What is told where no answer came. Without memory it is told as a call, without the words to go on by.
 pub(crate) fn told_of_unanswered(alloc: Global, order: &SendOrder) -> Told
@@ -38,7 +41,7 @@ fn told_of_sent(alloc: Global, order: &SendOrder) -> Result<Told, AllocError>
         return Ok(Told::Made(change_going_on(alloc, order)?));
     }
     if may_have_acted(alloc, order.words.as_slice())? {
-        Ok(Told::Made(going_on(alloc, order)?))
+        Ok(Told::Made(with_words(alloc, GO_ON, order)?))
     } else {
         Ok(Told::Fixed(UNCHANGED))
     }
@@ -76,14 +79,34 @@ fn change_going_on(alloc: Global, order: &SendOrder) -> Result<Text, AllocError>
     Ok(Text::from_string(text))
 }
 
-/// That a call is to go on which got no answer, and by which words.
-fn going_on(alloc: Global, order: &SendOrder) -> Result<Text, AllocError>
-    ensures { IfOk result (λ text. text ≡ going_on order.now) }
+/// What is told where an answer couldn't be printed. Without memory it is told without the words to resume a call by.
+pub(crate) fn told_of_unprinted(alloc: Global, order: &SendOrder) -> Told
+    ensures { IsUnprinted order.now (told_text result) }
+{
+    match told_of_answered(alloc, order) {
+        Ok(told) => told,
+        Err(_) => Told::Fixed(UNPRINTED),
+    }
+}
+
+fn told_of_answered(alloc: Global, order: &SendOrder) -> Result<Told, AllocError>
+    ensures { IfOk result (λ told. told_text told ≡ unprinted_text order.now) }
+{
+    if may_have_acted(alloc, order.words.as_slice())? {
+        Ok(Told::Made(with_words(alloc, UNPRINTED, order)?))
+    } else {
+        Ok(Told::Fixed(UNPRINTED))
+    }
+}
+
+/// What happened, and on the next line the words by which a call is resumed.
+fn with_words(alloc: Global, told: &str, order: &SendOrder) -> Result<Text, AllocError>
+    ensures { IfOk result (λ text. text ≡ with_words told.now order.now) }
 {
     let words = words_again(alloc, order)?;
     let words = words.as_str();
     let mut text = String::new(alloc);
-    write!(text, "{GO_ON}\n{words}")?;
+    write!(text, "{told}\n{words}")?;
     Ok(Text::from_string(text))
 }
 

@@ -60,7 +60,7 @@ const SERVE_USAGE: &str =
     "`serve` takes FILE --port P, P from 1 to 65535, and --connections N, N from 1 to 1,000,000, or --forever, and --page FOLDER, --growth KIB from 0 to 1,048,576, --burst MIB from 1 to 1,048,576, and --log.";
 
 const SEND_USAGE: &str =
-    "`send` takes [--id UUID] [--for SECONDS] ADDRESS:PORT MEMBER KEY WORD ARGUMENTS...";
+    "`send` takes [--id UUID] [--for SECONDS] ADDRESS:PORT MEMBER KEY WORD ARGUMENTS..";
 
 const NO_ORDER: &str =
     "The first word is no order: init, serve, send, my, import, list, export, todo, check, key or run. `taskboard --help` tells more.";
@@ -84,7 +84,7 @@ const WRONG_SERVER: &str =
     "The server is wrong: an address, a colon and a port from 1 to 65535, as 127.0.0.1:8080.";
 
 const WRONG_DASH: &str =
-    "The word behind NAME is wrong: - reads the new key from standard input, and no word makes one.";
+    "The word after NAME is wrong: - reads the new key from standard input, and no word makes one.";
 
 /// What is wrong with the words behind the program's name.
 pub(crate) fn wrong_word(alloc: Global, words: &[&str]) -> Result<&'static str, AllocError>

@@ -51,7 +51,7 @@ module _ {D : Type 0} {d : DiskGhosts D} (g : Ghosts (SqlKeep (FileStore D d))) 
 
 module _ {D W : Type 0} {d : DiskGhosts D} (g : Ghosts (SqlKeep (FileStore D d)))
     (contents : W → Option (List ℕ)) where
-  -- no key was read or made and no session began, so that nothing was printed; or a session began
+  -- a fault of reading or making a key, and nothing was printed (of the file nothing is said); or the file wasn't opened; or a session began
   abbrev pub IsKeyFailed : (ℕ → Type 0) → KeyOrder → Option (List ℕ) → W → W → Fault → Type 0
   IsKeyFailed given order input before after told =
       ((is_of_new_keys told ≡ true) × (after ≡ before))
