@@ -111,7 +111,7 @@ class Judge:
     """What a run without a fault answers and leaves, to which others are held."""
 
     def __init__(self, program, port):
-        self.program, self.port, self.failing = program, port, []
+        self.program, self.port, self.failing, self.signal = program, port, [], 0
         make_file(program)
         self.answers, self.states = [], []
         with self.start() as it:
@@ -135,6 +135,7 @@ class Judge:
         with self.start(before, seconds) as it:
             answers = it.calls_from(answered)
             ended = not it.runs()
+            self.signal = max(-it.process.returncode, 0) if ended else 0
         self.failing.append(len(answers))
         expect(f"answers from call {answered} on", self.answers[answered : answered + len(answers)], answers)
         return answered + len(answers), ended

@@ -12,7 +12,7 @@ import time
 from drawing import seeded
 from failing import CALLS, TASKS, Judge, Wrong, expect
 from talking import make_file
-from tracing import counted, injected
+from tracing import counted, injected, without_memory
 
 PROGRAM, PORT, TRIES, KINDS = os.path.abspath(sys.argv[1]), int(sys.argv[2]), int(sys.argv[3]), sys.argv[4:]
 IMPORT = next(at for at, (target, _) in enumerate(CALLS) if target == "/boards/1/import")
@@ -29,6 +29,8 @@ FILES = {
 }
 SOCKETS = {"accept4": "ECONNABORTED EMFILE EINTR", "recvfrom": "ECONNRESET ENOBUFS EINTR", "sendto": "EPIPE ENOBUFS EINTR", "epoll_wait": "EINTR"}
 MEMORY = ("brk", "mmap")
+# How often the loader asks for memory before the program does.
+LOADED = 10
 STOPPED = ("openat", "pread64", "pwrite64", "fsync", "fdatasync", "ftruncate", "recvfrom", "sendto")
 wrong = []
 
@@ -47,14 +49,16 @@ def tally(what, trials):
     print(f"{what}: {count} tries, {ended} ended the program, {sum(judge.failing)} calls answered, {len(wrong) - before} wrong", flush=True)
 
 
-def session(*befores, seconds=None, all_answered=False):
-    """Sessions in a row, each on a machine that fails in its way; then the file is judged."""
+def session(*befores, seconds=None, all_answered=False, signals=True):
+    """Sessions in a row, each on a machine that fails in its way; then the file is judged. Where no signal may end one, none does."""
 
     def trial():
         answered, any_ended = 0, False
         for before in befores:
             answered, ended = judge.run(before, answered, seconds)
             any_ended = any_ended or ended
+            if judge.signal and not signals:
+                raise Wrong(f"it was ended by the signal {judge.signal}")
         if all_answered and answered < len(CALLS):
             raise Wrong(f"{answered} calls were answered")
         judge.judge(answered)
@@ -130,7 +134,9 @@ def calls_fail():
                 trials += [(f"{error} at {count} of {kind}", order(injected((call,), f"error={error}", count))) for count in numbers]
         tally(f"{call} fails with {errors.replace(' ', ' or ')}", trials)
     asked = max(in_session[call] for call in MEMORY)
-    tally("no memory from one asking on", [(f"at {count}", session(injected(MEMORY, "error=ENOMEM", count, True))) for count in some(asked, 3 * TRIES)])
+    # (what the loader is refused ends it before the program begins)
+    numbers = [count + LOADED for count in some(asked - LOADED, 3 * TRIES)]
+    tally("no memory from one asking on", [(f"at {count}", session(without_memory(count), signals=False)) for count in numbers])
 
 
 def memory_bounded():
@@ -183,14 +189,13 @@ def stops():
     tally("killed at a system call, and once more", [(f"{first[-1]}, {second[-1]}", session(first, second)) for first, second in again])
 
 
-def at_the_end(seconds):
-    """Killed that long after its last connection is over, when it ends by itself."""
+def whole_session(after=lambda it: None, **how):
+    """A session in which each call is answered, and what is done after it; then the file is judged."""
 
     def trial():
-        with judge.start(words=("--connections", "1")) as it:
+        with judge.start(**how) as it:
             answers = it.calls_from(0)
-            it.caller.disconnect()
-            time.sleep(seconds)
+            after(it)
             ended = not it.runs()
         expect("the answers", judge.answers, answers)
         judge.failing.append(len(answers))
@@ -198,6 +203,16 @@ def at_the_end(seconds):
         return ended
 
     return trial
+
+
+def at_the_end(seconds):
+    """Killed that long after its last connection is over, when it ends by itself."""
+
+    def leave(it):
+        it.caller.disconnect()
+        time.sleep(seconds)
+
+    return whole_session(leave, words=("--connections", "1"))
 
 
 def kills():
@@ -214,7 +229,16 @@ def kills():
         tally(f"killed at any moment of its {what}", [(f"after {at:.4f} s", trial(at) if trial else session((), seconds=at)) for at in moments])
 
 
-TRIED = {"calls": calls_fail, "stops": stops, "kills": kills, "memory": memory_bounded, "size": files_bounded, "disk": disk_full}
+def streams_closed():
+    """Standard streams are closed, and no connection gets their descriptors: else the log would go to a client."""
+
+    def trial(closed):
+        return whole_session(before=("sh", "-c", f'exec "$@" {closed}', "sh"), words=("--forever", "--log"))
+
+    tally("standard streams closed", [(closed, trial(closed)) for closed in ("2>&-", "<&- 2>&-", "<&- >&- 2>&-")])
+
+
+TRIED = {"calls": calls_fail, "stops": stops, "kills": kills, "memory": memory_bounded, "size": files_bounded, "disk": disk_full, "streams": streams_closed}
 begun = time.monotonic()
 seeded()
 judge = Judge(PROGRAM, PORT)

@@ -7,7 +7,7 @@ set -eu
 
 # How often each way is tried at least.
 tries=${TRIES:-${1:-2}}
-kinds=${KINDS:-kills memory size disk}
+kinds=${KINDS:-kills memory size disk streams}
 traced=${TRACED-calls stops}
 . "$(dirname "$0")/prepare.sh"
 

@@ -1,6 +1,7 @@
-"""A server whose file is moved, removed or replaced ends, and answers no call any more: moved.py PROGRAM
+"""A server whose file or log is moved, removed or replaced ends, and answers no call any more: moved.py PROGRAM
 
-While a client adds tasks, and with no client at all. SLACK is how many times longer than on an idle machine it may take."""
+What was answered is in the file that was open. While a client adds tasks, and with no client at all. SLACK is how many times longer than on an idle machine it may take."""
+import json
 import os
 import subprocess
 import sys
@@ -14,7 +15,7 @@ program = os.path.abspath(sys.argv[1])
 SLACK = float(os.environ.get("LONGEST", 1))
 # How soon a server ends, and after how long no call is answered, in seconds.
 ENDS_WITHIN, ANSWERS_WITHIN = 1.5 * SLACK, 0.1 * SLACK
-TOLD = "taskboard: b.db was moved, removed or replaced while it was served"
+TOLD = "taskboard: b.db or its log was moved, removed or replaced while it was served: what was answered was written into the file that was open"
 
 
 def replace():
@@ -22,7 +23,30 @@ def replace():
     os.replace("new.db", "b.db")
 
 
-WAYS = {"moved": lambda: os.rename("b.db", "other.db"), "removed": lambda: os.remove("b.db"), "replaced": replace}
+def replace_log():
+    with open("new.log", "wb") as log:
+        log.write(b"another log")
+    os.replace("new.log", "b.db-wal")
+
+
+WAYS = {
+    "moved": lambda: os.rename("b.db", "other.db"),
+    "removed": lambda: os.remove("b.db"),
+    "replaced": replace,
+    "log moved": lambda: os.rename("b.db-wal", "other.log"),
+    "log removed": lambda: os.remove("b.db-wal"),
+    "log replaced": replace_log,
+}
+# Where the file is then that was open, if it still has a name.
+LEFT = {"moved": "other.db", "log moved": "b.db", "log removed": "b.db", "log replaced": "b.db"}
+
+
+def expect_all(way, count):
+    """All tasks that were answered are in the file that was open, without its log."""
+    os.replace(LEFT[way], "left.db")
+    listed = subprocess.run([program, "export", "left.db", "ann", "ann-key-1", "1"], capture_output=True, text=True, check=True).stdout
+    if len(json.loads(listed)) < count:
+        sys.exit(f"{way}: {count} tasks were answered, and {len(json.loads(listed))} are left")
 
 
 def add_until(server, number, moment):
@@ -67,6 +91,8 @@ def try_way(way, change, is_busy):
         said = errors.read()
     if status != 1 or TOLD not in said:
         sys.exit(f"{way}: status {status}, and on standard error: {said}")
+    if way in LEFT:
+        expect_all(way, number)
     return took
 
 
@@ -74,7 +100,7 @@ def main():
     with tempfile.TemporaryDirectory() as folder:
         os.chdir(folder)
         slowest = max(try_way(way, change, is_busy) for way, change in WAYS.items() for is_busy in (True, False))
-    print(f"a server whose file was moved, removed or replaced ended within {slowest:.2f} s")
+    print(f"a server whose file or log was moved, removed or replaced ended within {slowest:.2f} s")
 
 
 main()

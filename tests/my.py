@@ -162,24 +162,24 @@ def refused():
     for words in (["frobnicate"], ["tomorrow", "x"]):
         expect(words, 2, told=f'"{words[0]}" is none of my words.')
     for words in (["boards", "x"], ["people", "1"], ["export", "x"], ["todo", "x"], ["undo", "x"], ["setup", "x"]):
-        expect(words, 2, told="Nothing belongs behind this word.")
+        expect(words, 2, told="This word takes nothing after it.")
     for words in (["list", "--sort"], ["list", "--sort", "age"], ["list", "--jsn"]):
-        expect(words, 2, told="Behind `list` belong")
+        expect(words, 2, told="After `list` belong")
     expect(["list", "due:frday"], 2, told='"frday" is no day.')
-    expect(["use"], 2, told="One board belongs behind `use`")
-    expect(["import"], 2, told="One file belongs behind `import`")
-    expect(["add"], 2, told="What is to be done belongs behind `add`")
-    expect(["add", "+Home", "due:today"], 2, told="What is to be done belongs behind `add`")
+    expect(["use"], 2, told="One board belongs after `use`")
+    expect(["import"], 2, told="One file belongs after `import`")
+    expect(["add"], 2, told="What is to be done belongs after `add`")
+    expect(["add", "+Home", "due:today"], 2, told="What is to be done belongs after `add`")
     for words in (["change"], ["change", "1"]):
-        expect(words, 2, told="A task and what changes belong behind `change`")
+        expect(words, 2, told="A task and what changes belong after `change`")
     for word in ("done", "delete", "reopen", "start", "stop"):
-        expect([word], 2, told="Tasks belong behind this word")
+        expect([word], 2, told="Tasks belong after this word")
     for words in (["note"], ["note", "1"], ["unnote", "1"]):
-        expect(words, 2, told="A task and the words of a note belong behind this word")
+        expect(words, 2, told="A task and the words of a note belong after this word")
     for words in (["needs", "1"], ["free", "1", "2", "3"]):
-        expect(words, 2, told="Two tasks belong behind this word")
+        expect(words, 2, told="Two tasks belong after this word")
     for words in (["show"], ["show", "1", "2"]):
-        expect(words, 2, told="One task belongs behind `show`")
+        expect(words, 2, told="One task belongs after `show`")
     for place in ("0", "01", str(count + 1), "4294967296", "-1", "x", str(uuid.uuid4())):
         expect(["done", "1", place], 1, told=f"There is no task {place} on board 1 ({count} tasks).")
     for day in ("frday", "Friday", "0d", "+d", "10000d", "2026-02-30", "2026-1-1", "1m", "++3d", "-3d", "T14:00", "todayT24:00", "todayT1:00", "todayT12:60", "todayT12:00:00", "2026-12-01t14:00"):
@@ -339,7 +339,7 @@ def log():
     if not 0 < len(about) < len(told):
         fail(f"{len(about)} of {len(told)} entries are about the first task")
     expect(["log", "1"], 0, "".join(log_line(entry, places) for entry in about), TZ="UTC")
-    expect(["log", "1", "2"], 2, told="Nothing belongs behind `log`, or one task")
+    expect(["log", "1", "2"], 2, told="Nothing belongs after `log`, or one task")
     expect(["log", "999999"], 1, told="There is no task 999999 on board 1")
 
 
@@ -380,6 +380,10 @@ def titles():
     expect(["use", "1"], 0, "From now on: board 1\n")
     if tb("list").stdout != tb("list", TASKBOARD_BOARD="1").stdout:
         fail("use 1")
+    for _ in range(2):
+        send("board", "Twice")
+    for words in (["--board", "Twice", "add", "Lost"], ["use", "Twice"]):
+        expect(words, 1, told='"Twice" is the title of more than one of your boards: take its number, which `tb boards` lists.')
 
 
 def zones():

@@ -171,7 +171,7 @@ def look_at_no_server():
     for words in (["list", "1"], ["done", "1", "3"]):
         ran = send(*words, server=THERE, options=["--for", "1"])
         expect(f"no server for {words}", ran, 1, "", "taskboard: NoAnswer")
-        if "--id" in ran.stderr or "look whether a server runs" not in ran.stderr:
+        if "--id" in ran.stderr or "check that a server runs" not in ran.stderr:
             fail(f"no server for {words}: {ran.stderr!r} speaks of a call")
 
 

@@ -11,6 +11,12 @@ def injected(calls, how, count, onward=False):
     return *STRACE, "/dev/null", f"--trace={','.join(calls)}", *words
 
 
+def without_memory(count):
+    """Refuses memory from this asking on. The system refuses a brk by the break that stands, never by an error, which the C library would take for a new break."""
+    refusals = ("brk:retval=0", "mmap:error=ENOMEM")
+    return *STRACE, "/dev/null", "--trace=brk,mmap", *(f"--inject={refusal}:when={count}+" for refusal in refusals)
+
+
 def taken_down(run, words=()):
     """The lines of the system calls that something makes, which is run behind the words that it is given."""
     run((*STRACE, "calls.txt", *words))

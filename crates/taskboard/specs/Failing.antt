@@ -164,7 +164,7 @@ module _ {D L W : Type 0} {d : DiskGhosts D} (g : Ghosts (SqlKeep (FileStore D d
       × (may_print failed.fault ≡ false → after ≡ before)
   IsLeft (Send order) input before after failed =
       IsUnsentOver follows contents order before after failed.fault
-  -- of the asking in the words of `my` nothing is said
+  -- of words of `my` that meet a fault nothing is said
   IsLeft (My order) input before after failed = Unit {0}
   IsLeft (Help topic) input before after failed =
       AppendsFront (contents before) (contents after) (help_text topic)

@@ -1,4 +1,5 @@
 pub mod Failing
+pub mod Mine
 pub mod Orders
 pub mod Page
 pub mod Running

@@ -4,6 +4,7 @@ use Rattle.std.specs.Io.KnownBytes.{Appends}
 use Rattle.sqlite.specs.Held.{Held}
 use Rattle.sqlite_disk.specs.declared.Disk.{Ghosts as DiskGhosts}
 use Rattle.sqlite_store.specs.declared.store.FileStore.{FileStore}
+use Rattle.taskboard.specs.Mine.{IsMine}
 use Rattle.taskboard.specs.Serve.{IsServerRun, is_of_serving}
 use Rattle.taskboard.specs.declared.TheConstants.{VERSION}
 use Rattle.tb_calls.specs.Call.{opening}
@@ -27,11 +28,12 @@ use Rattle.tb_files.specs.Init.{IsMade}
 use Rattle.tb_files.specs.Key.{IsKeyGiven}
 use Rattle.tb_files.specs.View.{IsShown}
 use Rattle.tb_keeper.specs.declared.sql_keep.SqlKeep.{SqlKeep}
+use Rattle.tb_mine.specs.Faults.{is_of_asking}
 use Rattle.tb_orders.specs.Faults.{is_of_making, is_of_scripts}
 use Rattle.tb_orders.specs.declared.ending.Ending.{Ending}
 use Rattle.tb_orders.specs.declared.ending.Ending.TheVariants.{Accepted, Refused}
 use Rattle.tb_program.specs.declared.fault.Fault.{Fault}
-use Rattle.tb_program.specs.declared.fault.Fault.TheVariants.{NoClock, WriteFailed}
+use Rattle.tb_program.specs.declared.fault.Fault.TheVariants.{WriteFailed}
 use Rattle.tb_script.specs.Answering.{answer, first_state}
 use Rattle.tb_script.specs.Lines.{answers_from}
 use Rattle.tb_sending.specs.Changing.{Sends}
@@ -46,10 +48,9 @@ abbrev pub is_of_telling : Fault → Bool
 is_of_telling WriteFailed = true
 is_of_telling _ = false
 
--- of words of `my`, which need the clock
+-- of words of `my`
 abbrev pub is_of_mine : Fault → Bool
-is_of_mine NoClock = true
-is_of_mine fault = is_of_sending fault
+is_of_mine fault = is_of_asking fault
 
 abbrev pub is_of_order : Order → Fault → Bool
 is_of_order (Init order) fault = is_of_making fault
@@ -153,8 +154,8 @@ module _ {D L W : Type 0} {d : DiskGhosts D} (g : Ghosts (SqlKeep (FileStore D d
       IsKeyGiven g (λ at. Unit {0}) order input (contents before) (contents after) ending
   IsDone (Send order) input before after ending =
       IsSentOver follows contents order before after ending
-  -- what the words become is `sent_of` of `tb_my`; of the asking as a whole nothing is said
-  IsDone (My order) input before after ending = Unit {0}
+  IsDone (My order) input before after ending =
+      IsMine order.words (contents before) (contents after) ending
   IsDone (Help topic) input before after ending =
       IsTold (contents before) (contents after) ending (help_text topic)
   IsDone Version input before after ending =

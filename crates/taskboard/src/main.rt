@@ -24,6 +24,7 @@ mod running;
 mod sending;
 mod serve;
 mod served_file;
+mod standard_streams;
 
 use crate::cleaning::clean_into_file;
 use crate::clock::MachineClock;
@@ -31,6 +32,7 @@ use crate::file_orders::{check, give_key, init, view};
 use crate::mine::ask_mine;
 use crate::sending::send;
 use crate::serve::serve_file;
+use crate::standard_streams::hold_standard_streams;
 use std::alloc::Global;
 use std::io::{Read, Write};
 use std::process::ExitCode;
@@ -55,6 +57,7 @@ proved with logic dac8208d650f15bf
 ";
 
 fn main(rt: HostRuntime) -> ExitCode {
+    let _held = hold_standard_streams(&rt);
     let end = match read_order(&rt) {
         Ok(order) => end_of(&rt, order, rt.stdin(), &mut rt.stdout()),
         Err(fault) => {

@@ -4,13 +4,14 @@ ghost use Rattle.taskboard.specs.Orders.{is_of_mine};
 ghost use Rattle.tb_command_line.specs.declared.order.ImportKind.TheVariants.{Json, Todo};
 ghost use Rattle.tb_my.specs.Importing.{is_json};
 
-use crate::mine::{Answer, Caller, Named, ask, number_of, refused, wrong};
+use crate::mine::{Caller, unasked};
 use crate::my_cleaning::{Brought, cleaned_text};
 use crate::my_settings::{CONFIG, config_text};
 use std::io::{BufRead, BufReader, Read, Write};
 use std::{fs, str};
 use tb_board::Key;
 use tb_command_line::ImportKind;
+use tb_mine::{Answer, Asks, number_of, refused};
 use tb_my::{
     Asker, ImportMode, MyFault, Sent, SettingName, asker_of, import_told, import_words, is_json,
     kept_sent, read_settings, refusal_text, settings_text, undo_head, undone_in, with_board,
@@ -34,12 +35,12 @@ pub(crate) const UNREAD: &str = "That file can't be read, or isn't UTF-8.";
 
 const LONG_LINE: &str = "A task is longer than 1,048,576 bytes. Nothing was imported.";
 
-const WRITTEN: &str = "Written: ~/.config/taskboard/config. Try it: tb boards";
+const WRITTEN: &str = "Written: ~/.config/taskboard/config. Try it: taskboard my boards";
 
 /// Keeps what takes back a call that was accepted, behind what takes back those before it.
 pub(crate) fn keep_undo(
     rt: &HostRuntime,
-    caller: &Caller,
+    asker: &Asker,
     sent: &Sent,
     kept: &mut Text,
 ) -> Result<(), Fault>
@@ -50,7 +51,6 @@ pub(crate) fn keep_undo(
         return Ok(());
     }
     if kept.is_empty() {
-        let asker = &caller.asker;
         *kept = undo_head(rt.alloc(), asker.server.as_str(), asker.name.as_str())?;
     }
     kept.push_str(line.as_str())?;
@@ -64,7 +64,7 @@ pub(crate) fn keep_undo(
 /// Takes back the last calls of this person to this server.
 pub(crate) fn undo<W: Write>(
     rt: &HostRuntime,
-    caller: &Caller,
+    caller: &mut Caller<'_>,
     writer: &mut W,
 ) -> Result<Ending, Fault>
     ensures { IfErr result (λ fault. is_of_mine fault ≡ true) }
@@ -87,11 +87,12 @@ pub(crate) fn undo<W: Write>(
     }
     let mut ending = Ending::Accepted;
     for sent in all.as_slice() {
-        let answer = ask(rt, caller, sent.words.duplicate()?, None)?;
-        if answer.ending == Ending::Refused {
-            ending = refused(rt, &answer)?;
-        } else {
+        let answer = caller.ask(sent.words.duplicate()?, None)?;
+        if answer.is_accepted {
             print_line(writer, sent.told.as_str())?;
+        } else {
+            refused(rt.alloc(), &answer, &mut rt.stderr())?;
+            ending = Ending::Refused;
         }
     }
     let _ = folder.put(UNDO, "");
@@ -109,21 +110,22 @@ pub(crate) fn told(rt: &HostRuntime, text: &str) -> Result<Ending, Fault>
 /// Writes another board into the settings, if it is there.
 pub(crate) fn use_board<W: Write>(
     rt: &HostRuntime,
-    caller: &Caller,
+    caller: &mut Caller<'_>,
     board: &Text,
     writer: &mut W,
 ) -> Result<Ending, Fault>
     ensures { IfErr result (λ fault. is_of_mine fault ≡ true) }
 {
-    if let Named::Ended(ending) = number_of(rt, caller, board.as_str())? {
-        return Ok(ending);
+    let errors = &mut rt.stderr();
+    if number_of(rt.alloc(), caller, board.as_str(), errors)?.is_none() {
+        return Ok(Ending::Refused);
     }
     let Some(folder) = KeyFolder::at_home(rt) else {
         return told(rt, NO_HOME);
     };
     let text = match config_text(rt) {
         Ok(text) => text,
-        Err(fault) => return wrong(rt, "", 0, &fault),
+        Err(fault) => return unasked(rt, &fault),
     };
     folder.make()?;
     let text = with_board(rt.alloc(), text.as_str(), board.as_str())?;
@@ -146,7 +148,7 @@ pub(crate) fn set_up<R: Read + Drop, W: Write>(
     };
     let before = match config_text(rt) {
         Ok(text) => text,
-        Err(fault) => return wrong(rt, "", 0, &fault),
+        Err(fault) => return unasked(rt, &fault),
     };
     let Ok(mut reader) = BufReader::new(rt.alloc(), reader) else {
         return Err(Fault::Memory);
@@ -154,7 +156,7 @@ pub(crate) fn set_up<R: Read + Drop, W: Write>(
     let text = ask_settings(rt, before.as_str(), &mut reader, writer)?;
     let asker = match tried(rt, text.as_str()) {
         Ok(asker) => asker,
-        Err(fault) => return wrong(rt, "", 0, &fault),
+        Err(fault) => return unasked(rt, &fault),
     };
     folder.make()?;
     folder.put(CONFIG, text.as_str())?;
@@ -209,7 +211,7 @@ fn keep_key<W: Write>(
 {
     if !key.is_empty() {
         if Key::read(rt.alloc(), key)?.is_none() {
-            return wrong(rt, "", 0, &MyFault::Unfit(SettingName::KeyFile));
+            return unasked(rt, &MyFault::Unfit(SettingName::KeyFile));
         }
         let line = format!(in rt.alloc(); "{key}\n")?;
         folder.put(KEY, line.as_str())?;
@@ -240,7 +242,7 @@ fn answer_to<R: Read + Drop, W: Write>(
 /// Imports a file, or standard input, of any length, in parts.
 pub(crate) fn import_file<R: Read + Drop, W: Write>(
     rt: &HostRuntime,
-    caller: &Caller,
+    caller: &mut Caller<'_>,
     board: &Text,
     path: &str,
     mode: ImportMode,
@@ -286,7 +288,7 @@ fn text_to_bring(rt: &HostRuntime, text: &str, mode: ImportMode) -> Result<Broug
 /// Imports a text in parts.
 fn import_text<W: Write>(
     rt: &HostRuntime,
-    caller: &Caller,
+    caller: &mut Caller<'_>,
     board: &Text,
     kind: ImportKind,
     bytes: Items<u8>,
@@ -302,7 +304,7 @@ fn import_text<W: Write>(
         let Ok(body) = str::from_utf8(answer.body.as_slice()) else {
             return Err(Fault::NoAnswer);
         };
-        if answer.ending == Ending::Refused {
+        if !answer.is_accepted {
             return refused_part(rt, &answer, body.trim_end());
         }
         print_line(writer, import_told(rt.alloc(), body)?.as_str())?;
@@ -317,12 +319,13 @@ fn refused_part(rt: &HostRuntime, answer: &Answer, body: &str) -> Result<Ending,
     if refusal_text(rt.alloc(), body)?.as_str() != body {
         let _ = print_line(&mut rt.stderr(), body);
     }
-    refused(rt, answer)
+    refused(rt.alloc(), answer, &mut rt.stderr())?;
+    Ok(Ending::Refused)
 }
 
 fn import_part(
     rt: &HostRuntime,
-    caller: &Caller,
+    caller: &mut Caller<'_>,
     board: &Text,
     kind: ImportKind,
     part: &Items<u8>,
@@ -334,7 +337,7 @@ fn import_part(
     };
     let is_json = kind == ImportKind::Json;
     let words = import_words(rt.alloc(), is_json, board, text)?;
-    ask(rt, caller, words, None)
+    caller.ask(words, None)
 }
 
 /// The text of a file, or of standard input where its name is a hyphen.

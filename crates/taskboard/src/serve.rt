@@ -16,6 +16,7 @@ use std::io::Write;
 use std::os::unix::fs::PermissionsExt;
 use tb_calls::Keep;
 use tb_command_line::{Connections, ServeOrder};
+use tb_desk::Desk;
 use tb_event_loop::{EventLoop, Journal, LoopFault, MioSockets};
 use tb_files::{RealFile, close_desk, open_desk, open_file};
 use tb_keeper::SqlKeep;
@@ -43,7 +44,7 @@ pub(crate) fn serve_file(rt: &HostRuntime, order: &ServeOrder) -> Result<Ending,
     let page = page_of(rt, order)?;
     let conn = open_file(rt, order.file.as_str())?;
     let desk = open_desk(rt, order.file.as_str(), conn)?;
-    let mut watch = ServedFile::of(rt, order.file.as_str());
+    let mut watch = ServedFile::of(rt, order.file.as_str())?;
     let mut sockets = listen(rt, order)?;
     let mut event_loop = loop_for(rt, order)?;
     let server = Server::new(rt.alloc(), desk, MachineClock { rt }, page)?;
@@ -60,8 +61,10 @@ pub(crate) fn serve_file(rt: &HostRuntime, order: &ServeOrder) -> Result<Ending,
             close_desk(desk)?;
             Ok(Ending::Accepted)
         }
-        Err((fault, _)) => {
-            tell_moved(rt, order, fault);
+        Err((fault, desk)) => {
+            if fault == LoopFault::Moved {
+                leave_moved(rt, order, desk);
+            }
             Err(fault_of_loop(fault))
         }
     }
@@ -159,15 +162,19 @@ fn tell_start(rt: &HostRuntime, order: &ServeOrder) {
     }
 }
 
-// Tells that the file isn't there any more, where the server ends for that.
-fn tell_moved(rt: &HostRuntime, order: &ServeOrder, fault: LoopFault) {
-    if fault == LoopFault::Moved {
-        let _ = writeln!(
-            rt.stderr(),
-            "taskboard: {} was moved, removed or replaced while it was served: what was answered is in the file that was moved",
-            order.file.as_str()
-        );
-    }
+// Writes what was answered into the file that was open, whose log may be gone too, and tells so.
+fn leave_moved(rt: &HostRuntime, order: &ServeOrder, desk: Desk<SqlKeep<RealFile>>) {
+    let left = match close_desk(desk) {
+        Ok(()) => "what was answered was written into the file that was open",
+        Err(_) => {
+            "what was answered couldn't be written into the file that was open: keep its log beside it"
+        }
+    };
+    let _ = writeln!(
+        rt.stderr(),
+        "taskboard: {} or its log was moved, removed or replaced while it was served: {left}",
+        order.file.as_str()
+    );
 }
 
 fn is_open_to_others(rt: &HostRuntime, path: &str) -> bool {

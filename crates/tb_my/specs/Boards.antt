@@ -1,5 +1,7 @@
 -- Boards by their numbers or titles, and the line of the settings that names one.
 use Rattle.std.specs.Prelude.{ℕ, Bool, true, false, not, ◌||◌, is_some, List, [], ◌∷◌, ◌++◌, codes, decimal, Option, Some, None, option_and_then, if◌then◌else◌}
+use Rattle.std.specs.Char.{is_ascii_digit}
+use Rattle.std.specs.List.{list_all}
 use Rattle.std.specs.Str.{bytes_eq, trim}
 use Rattle.serde_json.specs.Data.{Data, Items, no_items, item}
 use Rattle.serde_json.specs.Find.{as_array, get}
@@ -8,15 +10,19 @@ use Rattle.tb_my.specs.Days.{Text}
 use Rattle.tb_my.specs.Settings.{is_note, lines_of, value_of}
 use Rattle.tb_my.specs.Shown.{number_at, text_at}
 
--- ---- the board that a text names
+-- ---- the boards that a text names
+
+abbrev pub is_number : Text → Bool
+is_number name = list_all is_ascii_digit name
 
 abbrev pub is_text : Text → Option Text → Bool
 is_text name None = false
 is_text name (Some title) = bytes_eq title name
 
--- its number, or its title
+-- by its number, and by its title where that is no number
 abbrev pub is_named : Text → ℕ → Option Text → Bool
-is_named name number title = bytes_eq (decimal number) name || is_text name title
+is_named name number title =
+    if is_number name then bytes_eq (decimal number) name else is_text name title
 
 abbrev pub if_named : Text → Option ℕ → Option Text → Option ℕ
 if_named name None title = None
@@ -26,24 +32,28 @@ abbrev pub named_in : Text → Data → Option ℕ
 named_in name board =
     if_named name (number_at (codes "board") board) (text_at (codes "title") board)
 
-abbrev pub or_number : Option ℕ → Option ℕ → Option ℕ
-or_number (Some number) other = Some number
-or_number None other = other
+abbrev pub with_named : List ℕ → Option ℕ → List ℕ
+with_named numbers None = numbers
+with_named numbers (Some number) = numbers ++ number ∷ []
 
-abbrev pub first_named : Text → Items → Option ℕ
-first_named name no_items = None
-first_named name (item board boards) = or_number (named_in name board) (first_named name boards)
+abbrev pub with_all_named : Text → List ℕ → Items → List ℕ
+with_all_named name numbers no_items = numbers
+with_all_named name numbers (item board boards) =
+    with_all_named name (with_named numbers (named_in name board)) boards
 
-abbrev pub first_of : Text → Option Items → Option ℕ
-first_of name None = None
-first_of name (Some boards) = first_named name boards
+abbrev pub named_of : Text → Option Items → List ℕ
+named_of name None = []
+named_of name (Some boards) = with_all_named name [] boards
 
--- the number of the first board of an answer of `me` that has the number or title
--- Rule: a board may be named by its number or by its title, the first of that title. Tried by my.sh.
-abbrev pub board_named : Text → Text → Option ℕ
-board_named name body =
-    option_and_then
-    (λ value. first_of name (option_and_then as_array (get (codes "boards") value))) (read body)
+abbrev pub named_by : Text → Option Data → List ℕ
+named_by name None = []
+named_by name (Some value) =
+    named_of name (option_and_then as_array (get (codes "boards") value))
+
+-- the numbers of the boards of an answer of `me` that have the number or title
+-- Rule: a board may be named by its number, or by a title that no other board has. Tried by my.sh.
+abbrev pub boards_named : Text → Text → List ℕ
+boards_named name body = named_by name (read body)
 
 -- ---- the settings with another board
 

@@ -2,7 +2,7 @@
 use Rattle.std.specs.Prelude.{◌≡◌, Result, Ok, Err, Option, Some, None}
 use Rattle.tb_values.specs.Outcome.{Gives}
 use Rattle.tb_my.specs.declared.fault.MyFault.{MyFault}
-use Rattle.tb_my.specs.declared.fault.MyFault.TheVariants.{BadLine, Lacks, Memory, NoBoard, NoDay, NoForm, NoPriority, NoTask, NoWord, Unfit}
+use Rattle.tb_my.specs.declared.fault.MyFault.TheVariants.{BadLine, Lacks, Memory, NoBoard, NoDay, NoForm, NoPriority, NoTask, NoWord, TwoBoards, Unfit}
 
 -- the fault is the one that is expected, unless memory ran out
 abbrev pub Fails : {X : Type 0} → MyFault → Result X MyFault → Type 0
@@ -13,6 +13,7 @@ Fails (NoDay word) expected = expected ≡ Err (NoDay word)
 Fails (NoPriority word) expected = expected ≡ Err (NoPriority word)
 Fails (NoTask word) expected = expected ≡ Err (NoTask word)
 Fails (NoBoard name) expected = expected ≡ Err (NoBoard name)
+Fails (TwoBoards name) expected = expected ≡ Err (TwoBoards name)
 Fails (BadLine line) expected = expected ≡ Err (BadLine line)
 Fails (Lacks name) expected = expected ≡ Err (Lacks name)
 Fails (Unfit name) expected = expected ≡ Err (Unfit name)

@@ -6,10 +6,10 @@ use Rattle.serde_json.specs.Find.{as_str, get}
 use Rattle.serde_json.specs.Read.{read}
 use Rattle.tb_my.specs.Days.{Text}
 use Rattle.tb_my.specs.declared.fault.MyFault.{MyFault}
-use Rattle.tb_my.specs.declared.fault.MyFault.TheVariants.{BadLine, Lacks, Memory, NoBoard, NoDay, NoForm, NoPriority, NoTask, NoWord, Unfit}
+use Rattle.tb_my.specs.declared.fault.MyFault.TheVariants.{BadLine, Lacks, Memory, NoBoard, NoDay, NoForm, NoPriority, NoTask, NoWord, TwoBoards, Unfit}
 use Rattle.tb_my.specs.declared.settings.SettingName.{SettingName}
 use Rattle.tb_my.specs.declared.settings.SettingName.TheVariants as setting
-use Rattle.tb_my.specs.declared.telling.TheConstants.{BAD_BOARD, BAD_LINE, BAD_NAME, BAD_SERVER, BAD_TASK, BOARD_OR_TASK, CHANGES, CYCLE, FIXED, FULL, LIST_WORDS, NEW_TASK, NOT_ALLOWED, NO_ARGUMENTS, NO_BOARD, NO_BOARD_HERE, NO_CONFIG, NO_DAY, NO_KEY_FILE, NO_LINK, NO_MEMORY, NO_NAME, NO_PRIORITY, NO_ROLE, NO_SERVER, NO_SUCH_TASK, NO_WORD, ONE_BOARD, ONE_FILE, ONE_TASK, TASKS, TASK_AND_TEXT, TWO_TASKS, UNKNOWN_CALLER, WRONG_STATUS}
+use Rattle.tb_my.specs.declared.telling.TheConstants.{BAD_BOARD, BAD_LINE, BAD_NAME, BAD_SERVER, BAD_TASK, BOARD_OR_TASK, CHANGES, CYCLE, FIXED, FULL, LIST_WORDS, NEW_TASK, NOT_ALLOWED, NO_ARGUMENTS, NO_BOARD, NO_BOARD_HERE, NO_CONFIG, NO_DAY, NO_KEY_FILE, NO_LINK, NO_MEMORY, NO_NAME, NO_PRIORITY, NO_ROLE, NO_SERVER, NO_SUCH_TASK, NO_WORD, ONE_BOARD, ONE_FILE, ONE_TASK, TASKS, TASK_AND_TEXT, TWO_BOARDS, TWO_TASKS, UNKNOWN_CALLER, WRONG_STATUS}
 use Rattle.tb_my.specs.declared.word.MyWord.{MyWord}
 use Rattle.tb_my.specs.declared.word.MyWord.TheVariants as word
 
@@ -91,6 +91,7 @@ fault_text board count (NoDay word) = quoted_text word NO_DAY.now
 fault_text board count (NoPriority word) = quoted_text word NO_PRIORITY.now
 fault_text board count (NoTask word) = no_task_text word board count
 fault_text board count (NoBoard name) = quoted_text name NO_BOARD_HERE.now
+fault_text board count (TwoBoards name) = quoted_text name TWO_BOARDS.now
 fault_text board count (BadLine line) = quoted_text line BAD_LINE.now
 fault_text board count (Lacks name) = lacking_text name
 fault_text board count (Unfit name) = unfit_text name

@@ -1,50 +1,58 @@
 //! Boards by their numbers or titles, and the line of the settings that names one.
-ghost use Rattle.std.specs.Prelude.{◌≡◌, ◌++◌, IfOk, OnOk, map, option_map, string_bytes};
+ghost use Rattle.std.specs.Prelude.{◌≡◌, ◌++◌, [], IfOk, OnOk, map, option_map, string_bytes};
 ghost use Rattle.serde_json.specs.Read.{read};
 ghost use Rattle.serde_json.specs.View.{items_view, view};
-ghost use Rattle.tb_my.specs.Boards.{asked_lines, board_line, board_named, first_named, first_of, if_named, is_asked_line, is_board_line, is_named, is_text, is_unasked, kept_line, kept_lines, left_line, left_lines, named_in, settings_text, with_board};
+ghost use Rattle.tb_my.specs.Boards.{asked_lines, board_line, boards_named, if_named, is_asked_line, is_board_line, is_named, is_number as is_digits, is_text, is_unasked, kept_line, kept_lines, left_line, left_lines, named_in, named_of, settings_text, with_all_named, with_board, with_named};
 
 use crate::settings::{is_note, lines_of, value_of};
 use crate::shown::{number_at, text_at};
 use serde_json::Value;
 use std::alloc::{AllocError, Global};
 use tb_json::parse;
-use tb_values::Text;
+use tb_values::{Items, Text};
 
-/// The number of the board of an answer of `me` that has this number or title, the first of that title.
-pub fn board_named(alloc: Global, name: &str, body: &str) -> Result<Option<u64>, AllocError>
-    ensures { IfOk result (λ number. number ≡ board_named name.now body.now) }
+/// The numbers of the boards of an answer of `me` that have this number or title.
+pub fn boards_named(alloc: Global, name: &str, body: &str) -> Result<Items<u64>, AllocError>
+    ensures { IfOk result (λ numbers. numbers ≡ boards_named name.now body.now) }
 {
-    let Some(value) = parse(alloc, body)? else {
-        return Ok(None);
-    };
-    first_of(alloc, name, value.get("boards").and_then(Value::as_array))
+    match parse(alloc, body)? {
+        Some(value) => named_of(alloc, name, value.get("boards").and_then(Value::as_array)),
+        None => Ok(Items::new(alloc)),
+    }
 }
 
-fn first_of(
+fn named_of(
     alloc: Global,
     name: &str,
     boards: Option<&Vec<Value>>,
-) -> Result<Option<u64>, AllocError>
-    ensures { IfOk result (λ number. number ≡ first_of name.now
+) -> Result<Items<u64>, AllocError>
+    ensures { IfOk result (λ numbers. numbers ≡ named_of name.now
         (option_map (λ list. items_view list.now.items) boards.entry)) }
 {
     match boards {
-        Some(boards) => first_named(alloc, name, boards),
-        None => Ok(None),
+        Some(boards) => all_named(alloc, name, boards),
+        None => Ok(Items::new(alloc)),
     }
 }
 
-fn first_named(alloc: Global, name: &str, boards: &Vec<Value>) -> Result<Option<u64>, AllocError>
-    ensures { IfOk result (λ number. number ≡ first_named name.now (items_view boards.now.items)) }
+fn all_named(alloc: Global, name: &str, boards: &Vec<Value>) -> Result<Items<u64>, AllocError>
+    ensures { IfOk result (λ numbers. numbers
+        ≡ with_all_named name.now [] (items_view boards.now.items)) }
 {
+    let mut numbers = Items::new(alloc);
     for board in boards {
-        let number = named_in(alloc, name, board)?;
-        if number.is_some() {
-            return Ok(number);
-        }
+        push_named(&mut numbers, named_in(alloc, name, board)?)?;
     }
-    Ok(None)
+    Ok(numbers)
+}
+
+fn push_named(numbers: &mut Items<u64>, named: Option<u64>) -> Result<(), AllocError>
+    ensures { OnOk result (numbers.new ≡ with_named numbers.old named) }
+{
+    match named {
+        Some(number) => numbers.push(number),
+        None => Ok(()),
+    }
 }
 
 fn named_in(alloc: Global, name: &str, board: &Value) -> Result<Option<u64>, AllocError>
@@ -64,8 +72,18 @@ fn is_named(alloc: Global, name: &str, number: u64, title: Option<&str>) -> Resu
     ensures { IfOk result (λ is. is
         ≡ is_named name.now number (option_map (λ text. text.now) title.entry)) }
 {
+    if !is_number(name) {
+        return Ok(is_text(name, title));
+    }
     let digits = format!(in alloc; "{number}")?;
-    Ok(digits.as_str() == name || is_text(name, title))
+    Ok(digits.as_str() == name)
+}
+
+/// Whether a text that names a board is its number.
+pub fn is_number(name: &str) -> bool
+    ensures { result ≡ is_digits name.now }
+{
+    name.as_bytes().iter().all(|byte| byte.is_ascii_digit())
 }
 
 fn is_text(name: &str, title: Option<&str>) -> bool

@@ -24,6 +24,8 @@ pub enum MyFault {
     NoTask(Text),
     /// The person has no board of this number or title.
     NoBoard(Text),
+    /// The person has more than one board of this title.
+    TwoBoards(Text),
     /// It isn't one of the settings.
     BadLine(Text),
     /// The setting is missing.

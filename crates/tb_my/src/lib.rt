@@ -23,7 +23,7 @@ mod undo;
 mod word;
 mod zone;
 
-pub use boards::{board_named, settings_text, with_board};
+pub use boards::{boards_named, is_number, settings_text, with_board};
 pub use bringing::{ImportMode, import_of};
 pub use days::{after_key, before_key, moment_named, weekdays_are_next};
 pub use fault::MyFault;

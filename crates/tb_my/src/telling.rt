@@ -23,36 +23,39 @@ const NO_PRIORITY: &str = " is no priority. Write pri:H, pri:M or pri:L, or pri:
 const BAD_LINE: &str =
     " is no line of the settings. Write server = .., name = .., board = .. or key-file = .., or begin it with #.";
 
-const NO_ARGUMENTS: &str = "Nothing belongs behind this word. `tb --help` says what each takes.";
+const NO_ARGUMENTS: &str = "This word takes nothing after it. `tb --help` says what each takes.";
 
 const LIST_WORDS: &str =
-    "Behind `list` belong +PROJECT, @TAG, for:NAME, mine, due:today, due:week, overdue, blocked, waiting, done:week or a text, --sort urgency, due or project, and --json.";
+    "After `list` belong +PROJECT, @TAG, for:NAME, mine, due:today, due:week, overdue, blocked, waiting, done:week or a text, --sort urgency, due or project, and --json.";
 
-const ONE_BOARD: &str = "One board belongs behind `use`: its number or its title.";
+const ONE_BOARD: &str = "One board belongs after `use`: its number or its title.";
 
 const ONE_FILE: &str =
-    "One file belongs behind `import`, or - for standard input: JSON, or lines of todo.txt. After it may stand --check, --clean or --skip.";
+    "One file belongs after `import`, or - for standard input: JSON, or lines of todo.txt. --check, --clean or --skip may follow it.";
 
 const NO_BOARD_HERE: &str = " is no board of yours. `tb boards` lists them.";
 
-const ONE_TASK: &str = "One task belongs behind `show`: its number in the list, or its uuid.";
+const TWO_BOARDS: &str =
+    " is the title of more than one of your boards: take its number, which `tb boards` lists.";
+
+const ONE_TASK: &str = "One task belongs after `show`: its number in the list, or its uuid.";
 
 const BOARD_OR_TASK: &str =
-    "Nothing belongs behind `log`, or one task: its number in the list, or its uuid.";
+    "Nothing belongs after `log`, or one task: its number in the list, or its uuid.";
 
 const TASKS: &str =
-    "Tasks belong behind this word, one or more: their numbers in the list, or uuids.";
+    "Tasks belong after this word, one or more: their numbers in the list, or uuids.";
 
 const TASK_AND_TEXT: &str =
-    "A task and the words of a note belong behind this word: note 3 call after six.";
+    "A task and the words of a note belong after this word: note 3 call after six.";
 
-const TWO_TASKS: &str = "Two tasks belong behind this word: needs 3 5 says that 3 waits for 5.";
+const TWO_TASKS: &str = "Two tasks belong after this word: needs 3 5 says that 3 waits for 5.";
 
 const NEW_TASK: &str =
-    "What is to be done belongs behind `add`: add Buy milk due:friday +Home @shop.";
+    "What is to be done belongs after `add`: add Buy milk due:friday +Home @shop.";
 
 const CHANGES: &str =
-    "A task and what changes belong behind `change`: change 3 due:friday pri:H +Home @shop -@phone New words.";
+    "A task and what changes belong after `change`: change 3 due:friday pri:H +Home @shop -@phone New words.";
 
 const NO_CONFIG: &str =
     "~/.config/taskboard/config can't be read, or others may read or write it: chmod 600 ~/.config/taskboard/config.";
@@ -67,16 +70,16 @@ const NO_BOARD: &str =
     "Which board? `tb boards` lists yours, and `tb use 1` writes board 1 into ~/.config/taskboard/config. Or set TASKBOARD_BOARD.";
 
 const NO_KEY_FILE: &str =
-    "The file of the key can't be read, has no key, or others may read it (chmod 600). Mend the line `key-file = ..` of ~/.config/taskboard/config, or TASKBOARD_KEY_FILE.";
+    "The file of the key can't be read, has no key, or others may read it (chmod 600). Correct the line `key-file = ..` of ~/.config/taskboard/config, or TASKBOARD_KEY_FILE.";
 
 const BAD_SERVER: &str =
-    "The server has another form than ADDRESS:PORT, as 127.0.0.1:8080, without http://. Mend the line `server = ..` of ~/.config/taskboard/config, or TASKBOARD_SERVER.";
+    "The server has another form than ADDRESS:PORT, as 127.0.0.1:8080, without http://. Correct the line `server = ..` of ~/.config/taskboard/config, or TASKBOARD_SERVER.";
 
 const BAD_NAME: &str =
-    "A name has 1 to 32 bytes of a to z, 0 to 9, _ and -. Mend the line `name = ..` of ~/.config/taskboard/config, or TASKBOARD_NAME.";
+    "A name has 1 to 32 bytes of a to z, 0 to 9, _ and -. Correct the line `name = ..` of ~/.config/taskboard/config, or TASKBOARD_NAME.";
 
 const BAD_BOARD: &str =
-    "A board is named by its number or its title. `tb boards` lists yours. Mend the line `board = ..` of ~/.config/taskboard/config, or TASKBOARD_BOARD.";
+    "A board is named by its number or its title. `tb boards` lists yours. Correct the line `board = ..` of ~/.config/taskboard/config, or TASKBOARD_BOARD.";
 
 const UNKNOWN_CALLER: &str =
     "The server knows nobody of this name and key. Look at the name in ~/.config/taskboard/config, and at the key.";
@@ -99,7 +102,7 @@ const FIXED: &str =
 const NO_LINK: &str = "That note or dependency isn't there, so nothing is left to do.";
 
 const CYCLE: &str =
-    "The tasks would wait for each other in a circle. Free one of another dependency first.";
+    "The tasks would wait for each other in a circle. Remove another dependency first.";
 
 const FULL: &str = "The board is full: it has 10,000 tasks.";
 
@@ -166,6 +169,7 @@ pub fn fault_text(
         MyFault::NoPriority(word) => quoted_text(alloc, word.as_str(), NO_PRIORITY),
         MyFault::NoTask(word) => no_task_text(alloc, word.as_str(), board, count),
         MyFault::NoBoard(name) => quoted_text(alloc, name.as_str(), NO_BOARD_HERE),
+        MyFault::TwoBoards(name) => quoted_text(alloc, name.as_str(), TWO_BOARDS),
         MyFault::BadLine(line) => quoted_text(alloc, line.as_str(), BAD_LINE),
         MyFault::Lacks(name) => Text::from_str(alloc, lacking_text(*name)),
         MyFault::Unfit(name) => Text::from_str(alloc, unfit_text(*name)),

@@ -69,6 +69,10 @@ pub returns-in-Send-clause-fault : goal.returns-in-Send-clause-fault
 returns-in-Send-clause-fault g c =
     rw c.in-Send.is (left_alone c.alone-in-Send.result c.send.result _ c.alone-in-Send.ensures.fault c.send.ensures.fault)
 
+pub returns-in-My-clause-done : goal.returns-in-My-clause-done
+returns-in-My-clause-done g c =
+    rw c.in-My.is (done_alone c.alone-in-My.result c.ask_mine.result _ c.alone-in-My.ensures.ended c.ask_mine.ensures.done)
+
 pub returns-in-My-clause-fault : goal.returns-in-My-clause-fault
 returns-in-My-clause-fault g c =
     rw c.in-My.is (left_alone c.alone-in-My.result c.ask_mine.result _ c.alone-in-My.ensures.fault c.ask_mine.ensures.fault)
