@@ -3,7 +3,7 @@ import { PRIORITIES } from "./board.js";
 import { changes } from "./changes.js";
 import { check, isWhole } from "./checking.js";
 import { names } from "./crew.js";
-import { button, counted, fill, find, make, said, span, whenSent } from "./dom.js";
+import { button, counted, fill, find, make, refill, said, span, whenSent } from "./dom.js";
 import { keepDraft, readDraft, whenTypedElsewhere } from "./drafts.js";
 import { Fields } from "./fields.js";
 import { shown } from "./filters.js";
@@ -51,7 +51,7 @@ function drawUnderstood() {
     const odd = misread.map(([word, why]) => make("span", { class: "misread" }, make("q", {}, said(word, 60)), ` ${why}.`));
     const ask = odd.length && asked === find("add-line").value ? " What isn't understood stays in the description if you press Enter again." : "";
     const chips = parts.map(([name, text]) => chip(name, said(text, 60)));
-    fill(find("understood"), chips, odd, ask, chips.length || odd.length ? "" : hint);
+    refill(find("understood"), chips, odd, ask, chips.length || odd.length ? "" : hint);
 }
 
 // A line with words that look like attributes and aren't understood is added by a second Enter: until then it is told.

@@ -10,6 +10,8 @@ import { changed, unseen } from "./pending.js";
 const SLICE = 8;
 // Urgency is counted in parts, of which so many make one; then each term is whole.
 const UNIT = 110376000;
+// A text as it is searched: capitals don't count, nor whether an accent is a character of its own.
+export const folded = (text) => text.toLowerCase().normalize();
 export const PRIORITIES = { H: "high", M: "medium", L: "low" };
 // When a task is due; this week is the seven days that begin today.
 export const DUES = { overdue: "Overdue", today: "Today", week: "This week", later: "Later", none: "No date" };
@@ -31,7 +33,7 @@ export class Task {
         this.entry = seconds(told.entry);
         this.isListed = status === "pending" || status === "waiting";
         this.isOpen = this.isListed || status === "recurring";
-        this.searched = [description, project, ...tags, ...annotations.map((note) => note.description)].join("\n").toLowerCase();
+        this.searched = folded([description, project, ...tags, ...annotations.map((note) => note.description)].join("\n"));
     }
 }
 

@@ -2,7 +2,7 @@
 import { changes } from "./changes.js";
 import { choices } from "./crew.js";
 import { button, counted, fill, find, make, oneLine, whenSent } from "./dom.js";
-import { MomentField, options, tagsIn } from "./fields.js";
+import { MomentField, openByKeys, options, tagsIn } from "./fields.js";
 import { leftBehind, moves } from "./moving.js";
 import { tellFault, toast } from "./notices.js";
 import { faultInTags, faultInText } from "./rules.js";
@@ -131,6 +131,7 @@ function draw() {
 }
 
 function whenChosen(id, work, nothing) {
+    openByKeys(find(id));
     find(id).addEventListener("change", ({ target }) => {
         const { value } = target;
         target.value = nothing;

@@ -81,18 +81,25 @@ function cardOf(task, place) {
     return card;
 }
 
+// What shows more of a column: as it stands there, where it says the same.
+function moreOf({ lastChild: known }, name, count, left) {
+    const label = `Show ${counted(Math.min(left, MORE))} more`;
+    if (known?.count === count && known.textContent === label) return known;
+    const show = () => {
+        most[name] = count + MORE;
+        draw();
+    };
+    return Object.assign(make("li", {}, button(label, show, { class: "quiet" })), { count });
+}
+
 function drawColumn(name, tasks, place, drawn) {
     const column = find(`column-${name}`);
     const first = tasks.slice(0, most[name] ?? FIRST).map((task) => cardOf(task, place));
     for (const card of first) drawn.set(card.task.uuid, card);
     const left = tasks.length - first.length;
-    const more = button(`Show ${counted(Math.min(left, MORE))} more`, () => {
-        most[name] = first.length + MORE;
-        draw();
-    }, { class: "quiet" });
     column.querySelector(".about").textContent = counted(tasks.length);
     const list = column.querySelector("ul");
-    const wanted = left > 0 ? [...first, make("li", {}, more)] : first;
+    const wanted = left > 0 ? [...first, moreOf(list, name, first.length, left)] : first;
     if (wanted.length !== list.children.length || wanted.some((card, at) => list.children[at] !== card)) list.replaceChildren(...wanted);
 }
 

@@ -1,7 +1,7 @@
 // My day: what is overdue, due today or this week, or started, on all boards of a person; what is theirs comes first.
 import { Board, DUES } from "./board.js";
 import { BEYOND, lookFrom } from "./deeds.js";
-import { counted, fill, find, make } from "./dom.js";
+import { counted, fill, find, make, refill } from "./dom.js";
 import { List } from "./list.js";
 import { agoInWords, now } from "./moments.js";
 import { lookOf, makeRow, setUnanswered } from "./rows.js";
@@ -54,7 +54,7 @@ function draw() {
     const ofAll = known < state.boards.length ? `${counted(known)} of ` : "";
     const told = `${counted(count)} ${count === 1 ? "task" : "tasks"} of ${ofAll}${counted(state.boards.length)} ${state.boards.length === 1 ? "board" : "boards"}${lacks}`;
     const ages = state.boards.map(({ board }) => seenAt.get(board)).filter(Boolean);
-    fill(find("day-told"), told, ages.length > 0 ? [", as seen here ", make("span", { "aria-live": "off" }, agoInWords(Math.min(...ages)))] : []);
+    refill(find("day-told"), told, ages.length > 0 ? [", as seen here ", make("span", { "aria-live": "off" }, agoInWords(Math.min(...ages)))] : []);
     const nothing = state.isMineOnly ? "Nothing of yours is due in the next seven days, and nothing is started." : "Nothing is due in the next seven days, and nothing is started.";
     fill(find("day-nothing"), count > 0 ? [] : isAsking ? "Asking the server for your boards." : nothing);
     find("day-all").ariaCurrent = state.isMineOnly ? null : "page";

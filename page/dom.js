@@ -18,6 +18,12 @@ export function make(tag, settings = {}, ...children) {
     return made;
 }
 
+// Fills an element where what it shows is other than before: so the focus stays where it is, and nothing is read out once more.
+export function refill(element, ...children) {
+    const fresh = make("div", {}, ...children);
+    if (fresh.innerHTML !== element.innerHTML) fill(element, ...fresh.childNodes);
+}
+
 export const span = (kind, ...children) => make("span", { class: kind }, ...children);
 export const button = (label, act, settings = {}) => make("button", { type: "button", click: act, ...settings }, label);
 

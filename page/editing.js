@@ -56,6 +56,12 @@ export function beginTask(task) {
     else closeEdit();
 }
 
+// Closes the form and keeps its draft; what opened it has the focus again.
+export function leaveEdit() {
+    closeEdit();
+    (find("edit") ?? find("task-text")).focus();
+}
+
 export const isEditing = () => fields !== null;
 
 function keepEdit() {
@@ -74,8 +80,7 @@ function drop() {
     // (other tabs hear that the form was left, and not that it says by chance what it said before)
     if (readDraft("edit", edited.uuid)) keepDraft("edit", edited.uuid, { isLeft: true });
     keepDraft("edit", edited.uuid, null);
-    closeEdit();
-    (find("edit") ?? find("task-text")).focus();
+    leaveEdit();
 }
 
 // The list with my additions and removals laid over it.

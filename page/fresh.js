@@ -48,7 +48,25 @@ export async function lookAtBoards() {
     lastBoards = text;
     setBoards(text);
     keepSeen(who, "/me", text);
-    forgetSeen([who.name], (path) => path === "/me" || state.boards.some(({ board }) => path.startsWith(`/boards/${board}/`)));
+    const isAllowed = (path) => path === "/me" || state.boards.some(({ board }) => path.startsWith(`/boards/${board}/`));
+    forgetSeen((name, path) => name === who.name && !isAllowed(path));
+}
+
+// Nothing that was seen stays of who isn't signed in any more. A lock says who is, in some tab: what is seen there stays.
+const lockOf = (name) => `taskboard in ${name}`;
+let leave = () => {};
+
+function enter() {
+    leave();
+    const left = new Promise((done) => (leave = done));
+    navigator.locks?.request(lockOf(state.who.name), { mode: "shared" }, () => left);
+}
+
+async function forgetOthers(leaver = "") {
+    leave();
+    const { held } = (await navigator.locks?.query()) ?? { held: [] };
+    const isIn = (name) => name !== leaver && held.some((lock) => lock.name === lockOf(name));
+    await forgetSeen((name) => !isIn(name));
 }
 
 async function showSeenBoards(who) {
@@ -233,9 +251,10 @@ const changesBoards = ({ path }) => ["roles", "take", "title"].includes(path.spl
 // Looks at what an answer has changed. While others wait that is done now and then: each look loads the whole board, and thousands may wait. (A
 // refusal may mean that one's role is another by now.)
 function lookAfter({ change, status }) {
-    const withBoards = status !== 200 || change.board === 0 || changesBoards(change);
-    if (document.hidden || (!withBoards && isTooSoon())) return;
-    lookAgain(withBoards);
+    const isOfBoards = change.board === 0 || changesBoards(change);
+    wantsBoards ||= isOfBoards || status !== 200;
+    if (document.hidden || (!isOfBoards && isTooSoon())) return;
+    lookAgain(wantsBoards);
 }
 
 export function beginLooking() {
@@ -244,9 +263,9 @@ export function beginLooking() {
     document.addEventListener("visibilitychange", lookIfSeen);
     document.addEventListener("input", () => (lastTyped = performance.now()));
     for (const act of ACTS) addEventListener(act, () => (lastAct = performance.now()), { passive: true });
-    // Nothing that was seen stays where nobody is signed in any more.
-    queueMicrotask(() => state.who || forgetSeen());
-    listen("left", () => forgetSeen());
+    queueMicrotask(() => state.who || forgetOthers());
+    listen("left", forgetOthers);
+    listen("signed", enter);
     listen("signed", () => showSeenBoards(state.who));
     for (const news of ["boards", "route"]) listen(news, showSeen);
     listen("route", drawAge);

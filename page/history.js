@@ -4,7 +4,7 @@ import { NoAnswer } from "./asking.js";
 import { changes } from "./changes.js";
 import { names } from "./crew.js";
 import { deedsIn, hasHistory, isHistoryKnown, labelOf, lookAtDeedsOf, lookAtLast, lookFrom, saidBy, toldOf, worded, WORDS } from "./deeds.js";
-import { button, counted, fill, find, make, said, span } from "./dom.js";
+import { button, counted, fill, find, make, refill, said, span } from "./dom.js";
 import { keepDraft, readDraft } from "./drafts.js";
 import { options } from "./fields.js";
 import { dayInWords, inFull, seconds, timeOf } from "./moments.js";
@@ -22,12 +22,6 @@ let board = { number: 0, entries: new Map(), last: 0, isRead: false };
 let task = { number: 0, uuid: "", entries: new Map(), isWhole: false, deeds: [] };
 // From which number on entries are new to the reader, and the first of those that were when they were told; and what two changed at once.
 let [newFrom, firstNew, overlaps] = [0, Infinity, []];
-
-// Fills an element where what it shows is other than before, so that the focus stays where it is.
-function refill(element, ...children) {
-    const fresh = make("div", {}, ...children);
-    if (fresh.innerHTML !== element.innerHTML) fill(element, ...fresh.childNodes);
-}
 
 const inOrder = (entries) => [...entries.values()].sort((one, other) => one.number - other.number);
 const isMine = ({ member }) => member === state.who.name;
@@ -287,7 +281,10 @@ export function beginHistory() {
     listen("board", (isNew) => isNew && [drawOverlaps, drawTask, drawView].forEach((part) => part()));
     for (const news of ["route", "deeds", "reach"]) listen(news, (told) => told === false || [askForTask, askForLast].forEach((part) => part().catch(console.error)));
     listen("route", () => {
-        find("news").hidden ||= board.number !== state.number;
+        if (board.number !== state.number && !find("news").hidden) {
+            find("news").hidden = true;
+            drawTitle(0);
+        }
         drawView();
     });
 }

@@ -70,7 +70,20 @@ function act(event) {
     else element.click();
 }
 
+// A double click acts once: where the first click moved something else under the pointer, as the next row or another button, the second one isn't
+// meant for that. So does Enter that is held, but for the lines of a text.
+let clicked = null;
+function actOnce(event) {
+    const hit = event.target.closest?.("label, button, a, summary") ?? event.target;
+    const isMeant = event.type === "click" ? event.detail < 2 || hit === clicked : !event.repeat || event.key !== "Enter" || hit.matches?.("textarea");
+    if (event.type === "click") clicked = hit;
+    if (isMeant) return;
+    event.preventDefault();
+    event.stopImmediatePropagation();
+}
+
 export function beginKeys() {
+    for (const kind of ["click", "keydown"]) document.addEventListener(kind, actOnce, true);
     document.addEventListener("keydown", act);
     find("show-keys").addEventListener("click", show);
     find("keys-close").addEventListener("click", () => find("keys-dialog").close());

@@ -58,10 +58,11 @@ export function signOut(leave) {
         changes.some(cantStay) && "Without TLS this browser can't hide keys, so a change that has one is thrown away in either case.",
         changes.some(isOwnKey) && "The change of your key may have acted already. Kept, it is finished when you sign in with either key. Thrown away, it leaves you with one of the two: try both.",
     ].filter(Boolean);
+    const begun = rows.length > changes.length ? " What is begun isn't sent: it stands in its form again then." : "";
     fill(
         find("leave-parts"),
-        make("p", {}, `This isn't sent yet, ${rows.length} in all. Keep it here, and it is sent when ${state.who.name} signs in on this device again.`),
-        make("ul", { class: "lines" }, rows.slice(0, MOST_SHOWN), rows.length > MOST_SHOWN ? make("li", {}, `and ${rows.length - MOST_SHOWN} more`) : ""),
+        make("p", {}, `This isn't sent yet, ${counted(rows.length)} in all. Keep it here, and it is sent when ${state.who.name} signs in on this device again.${begun}`),
+        make("ul", { class: "lines" }, rows.slice(0, MOST_SHOWN), rows.length > MOST_SHOWN ? make("li", {}, `and ${counted(rows.length - MOST_SHOWN)} more`) : ""),
         told.map((text) => make("p", { class: "fault" }, text)),
         make("div", { class: "line" },
             button("Keep it and sign out", end(cantStay, false), { class: "primary", id: "leave-keep" }),

@@ -63,7 +63,9 @@ function drawBoards() {
     document.body.classList.toggle("reader", !isDay && here()?.role === "reader");
     const title = isDay ? "My day" : oneLine(here()?.title ?? "");
     find("heading").textContent = title;
-    document.title = title ? `${oneLine(title, 60)} · taskboard` : "taskboard";
+    // (what others did is counted there while it is told)
+    const [count] = find("news").hidden ? [""] : document.title.match(/^(\(\d+\) )?/);
+    document.title = title ? `${count}${oneLine(title, 60)} · taskboard` : "taskboard";
 }
 
 // In a narrow window the link of the view that is shown may stand beyond the edge.

@@ -2,7 +2,7 @@
 import { openAgain, sendRest, textsOf, wayOf } from "./again.js";
 import { NoAnswer } from "./asking.js";
 import { changes, isOwnKey, reason } from "./changes.js";
-import { button, counted, fill, find, make, said, span, tasksTold } from "./dom.js";
+import { button, counted, fill, find, make, oneLine, said, span, tasksTold } from "./dom.js";
 import { ago } from "./moments.js";
 import { forget, keep, sendAgain, sendAllTheSame, sendHidden, sendNow, settled, vainTries, waiting } from "./sending.js";
 import { go, listen, state } from "./state.js";
@@ -18,6 +18,11 @@ function endToast() {
     fill(find("toast"));
 }
 
+// Who points at it, or has come to it by Tab, may be about to press its button.
+function endLater() {
+    timer = setTimeout(() => (find("toast").matches(":hover, :focus-within") ? endLater() : endToast()), TOLD_FOR);
+}
+
 const quoted = (text) => make("q", {}, said(text, 120));
 const about = (change) => [`${change.verb} `, quoted(change.subject)];
 
@@ -25,7 +30,7 @@ export function toast(...children) {
     offered = "";
     fill(find("toast"), ...children, button("Close", () => {}, { class: "quiet" }));
     clearTimeout(timer);
-    timer = setTimeout(endToast, TOLD_FOR);
+    endLater();
 }
 
 // A change that couldn't be put on the device isn't sent.
@@ -44,7 +49,7 @@ function drawState() {
     if (all.length > 0 && !isLate) setTimeout(drawState, LATE);
     if (all.length === 0) find("unanswered").hidden = true;
     const words = isThere ? (all.length === 0 ? "All is answered" : "Sending") : "The server doesn't answer";
-    find("state").textContent = isLate ? `${all.length} ${all.length === 1 ? "change isn't" : "changes aren't"} answered yet` : words;
+    find("state").textContent = isLate ? `${counted(all.length)} ${all.length === 1 ? "change isn't" : "changes aren't"} answered yet` : words;
     find("state").className = `state ${isThere && !isLate ? "good" : "busy"}`;
     find("state").disabled = all.length === 0;
     find("state").setAttribute("aria-expanded", !find("unanswered").hidden);
@@ -53,13 +58,14 @@ function drawState() {
 function drawUnanswered() {
     if (find("unanswered").hidden) return;
     const all = waiting();
-    const giveUp = (one) => confirm("Send this change no more? It may have acted already, if only its answer was lost.") && forget(one);
+    const nameOf = ({ verb, subject }) => `${verb} “${oneLine(subject, 120)}”`;
+    const giveUp = (one) => confirm(`Send this change no more: ${nameOf(one)}? It may have acted already, if only its answer was lost.`) && forget(one);
     // A change of the own key that has acted is needed to go on with the new one.
-    const end = (one) => (isOwnKey(one) ? "" : button("Give up", () => giveUp(one), { class: "quiet" }));
+    const end = (one) => (isOwnKey(one) ? "" : button("Give up", () => giveUp(one), { class: "quiet", "aria-label": `Give up: ${nameOf(one)}` }));
     const row = (one) => make("li", {}, make("span", {}, about(one)), span("about", ago(one.made), end(one)));
     const away = `The server doesn't answer (${vainTries()} tries). They are on this device, and are sent again until it does; none happens twice.`;
     find("unanswered-why").textContent = isThere ? "They are on this device, and go to the server in this order." : away;
-    fill(find("unanswered-list"), all.slice(0, MOST_SHOWN).map(row), all.length > MOST_SHOWN ? make("li", {}, `and ${all.length - MOST_SHOWN} more`) : "");
+    fill(find("unanswered-list"), all.slice(0, MOST_SHOWN).map(row), all.length > MOST_SHOWN ? make("li", {}, `and ${counted(all.length - MOST_SHOWN)} more`) : "");
 }
 
 const buttons = (...children) => make("div", { class: "line" }, children);
@@ -141,14 +147,27 @@ function report(parts) {
     return make("li", { class: "notice" }, make("div", {}, text, losses), button("Dismiss", () => forget(...parts)));
 }
 
+const TOLD = { asks: question, refused: refusal, already };
+
+// Where there are too many to be told each, the others stand in one line with what can be done with all of them.
+function others(all, count) {
+    const refused = all.filter((one) => one.state === "refused" && !one.reports && !one.isSecret);
+    const end = () => confirm(`Throw away all ${counted(all.length)} changes that these messages tell of? What they say is lost.`) && forget(...all);
+    const again = refused.length > 0 ? button(`Send ${counted(refused.length)} again`, attempt(() => sendAgain(...refused))) : "";
+    return make("li", { class: "notice" }, make("div", {}, `And ${counted(count)} more such messages.`), buttons(again, button("Throw all away", attempt(end), { class: "quiet" })));
+}
+
 function drawNotices() {
     const all = settled();
-    const seen = all.map((one) => [one.order, one.state, ["refused", "asks"].includes(one.state) && wayOf(one)]).join();
+    const of = (state) => all.filter((one) => one.state === state);
+    const told = Object.keys(TOLD).flatMap(of);
+    const [first, imports] = [told.slice(0, MOST_SHOWN), of("done")];
+    const seen = [told.length, ...[...first, ...imports].map((one) => [one.order, one.state, ["refused", "asks"].includes(one.state) && wayOf(one)])].join();
     if (seen === look) return;
     look = seen;
-    const of = (state) => all.filter((one) => one.state === state);
-    const imports = Object.groupBy(of("done"), (one) => one.group || one.id);
-    fill(find("notices"), of("asks").map(question), of("refused").map(refusal), of("already").map(already), Object.values(imports).map(report));
+    const rest = told.length - first.length;
+    const reports = Object.values(Object.groupBy(imports, (one) => one.group || one.id)).map(report);
+    fill(find("notices"), first.map((one) => TOLD[one.state](one)), rest > 0 ? others(told, rest) : "", reports);
 }
 
 // (a message that was on its way when its person left fails after that, and nothing of it is told any more)

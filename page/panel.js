@@ -6,7 +6,7 @@ import { check, isWhole } from "./checking.js";
 import { button, fill, find, make, oneLine, said, span, whenSent } from "./dom.js";
 import { isGone } from "./crew.js";
 import { keepDraft, readDraft, whenTypedElsewhere } from "./drafts.js";
-import { beginTask, closeEdit, isEditing, openEdit } from "./editing.js";
+import { beginTask, isEditing, leaveEdit, openEdit } from "./editing.js";
 import { shown as select } from "./filters.js";
 import { authorOf, lastBy } from "./history.js";
 import { linked } from "./links.js";
@@ -172,7 +172,10 @@ export function beginPanel() {
     find("close-panel").addEventListener("click", close);
     find("panel").addEventListener("keydown", (event) => {
         // (while letters are composed, as those of Japanese, Escape is theirs)
-        if (event.key === "Escape" && !event.isComposing) isEditing() ? closeEdit() : close();
+        if (event.key !== "Escape" || event.isComposing) return;
+        // (what had the focus may be gone with the form, and doesn't say any more that it was in here)
+        event.preventDefault();
+        isEditing() ? leaveEdit() : close();
     });
     find("depend-text").addEventListener("input", drawChoices);
     whenSent("depend-form", () => find("depend-choices").querySelector("button")?.click());

@@ -3,7 +3,7 @@ import { changes, isOfFirst } from "./changes.js";
 import { check, isWhole } from "./checking.js";
 import { button, fill, find, make, said, span, whenSent } from "./dom.js";
 import { FormDraft } from "./drafts.js";
-import { options } from "./fields.js";
+import { openByKeys, options } from "./fields.js";
 import { tellFault } from "./notices.js";
 import { drawOwning, showBoardsOf } from "./owning.js";
 import { faultInKey, faultInName } from "./rules.js";
@@ -70,7 +70,6 @@ async function letGo(name) {
 const KEY_ACTS = [["New key", giveKey], ["Let go", letGo]];
 const keyButtons = (name) => KEY_ACTS.map(([word, act]) => button(word, () => act(name).catch(tellFault), { class: "quiet", "aria-label": `${word}: ${name}` }));
 
-// (an arrow key chooses the next role at once)
 const GIVE_UP = "Give up your role of owner? Only another owner can make you one again.";
 
 function row({ name, role }, isFirst, owners) {
@@ -83,6 +82,7 @@ function row({ name, role }, isFirst, owners) {
         else target.value = role;
     };
     const select = make("select", { "aria-label": `Role of ${name}`, change: choose }, choices(role));
+    openByKeys(select);
     const keys = isFirst && !isMine ? keyButtons(name) : [];
     return make("li", {}, span("person", said(name), isMine ? span("about", " (you)") : ""), ...(isOwner() ? [select, ...keys, end] : [span("chip", said(role)), ...keys]));
 }

@@ -1,5 +1,5 @@
 // What a repeat comes to: its next dates as they will be where its reader is, what summer time does to them, and how many tasks come at once.
-import { counted, fill, make } from "./dom.js";
+import { counted, make, refill } from "./dom.js";
 import { inFull, now, timeOf, utcTimeOf } from "./moments.js";
 import { countAtOnce, dueOf, stepOf } from "./recurrence.js";
 
@@ -43,11 +43,11 @@ export function isMeant(first, recur, until) {
 // Draws the preview of a step from a due date, in seconds.
 export function drawPreview(place, first, recur) {
     const step = first === undefined ? undefined : stepOf(recur);
-    if (!step) return fill(place);
+    if (!step) return refill(place);
     const begin = Math.max(first, now());
     const next = [];
     for (const second of datesFrom(first, step, begin)) if (next.push(inFull(second)) === SHOWN) break;
     const count = tasksAtOnce(first, recur);
     const warning = count > 1 && first < now() ? `${counted(count)} tasks come at once, since the first date, ${inFull(first)}, is past.` : "";
-    fill(place, warning ? make("p", { class: "fault" }, warning) : "", make("p", {}, `Next: ${next.join("; ")}. ${aboutClock(first, step, begin)}`));
+    refill(place, warning ? make("p", { class: "fault" }, warning) : "", make("p", {}, `Next: ${next.join("; ")}. ${aboutClock(first, step, begin)}`));
 }

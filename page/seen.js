@@ -63,14 +63,10 @@ export async function lookOrSeen(who, path) {
     }
 }
 
-// Throws away what was seen: all of it, or what these people have seen, but for views that they may still see.
-export function forgetSeen(names = null, isAllowed = () => false) {
-    const isGone = (key) => {
-        const [name, path] = key.split(" ");
-        return !names || (names.includes(name) && !isAllowed(path));
-    };
+// Throws away what was seen; `isGone` says of whom, and of which views.
+export function forgetSeen(isGone) {
     const drop = (store) => {
-        store.getAllKeys().onsuccess = ({ target }) => target.result.filter(isGone).forEach((key) => store.delete(key));
+        store.getAllKeys().onsuccess = ({ target }) => target.result.filter((key) => isGone(...key.split(" "))).forEach((key) => store.delete(key));
     };
     return within("readwrite", (...stores) => stores.forEach(drop));
 }

@@ -208,12 +208,12 @@ export async function sendHidden(change, key) {
     return text !== null;
 }
 
-// Sends again what was refused, and what was to follow it, under new identifiers.
-export async function sendAgain(change) {
+// Sends again what was refused, each with what was to follow it, under new identifiers.
+export async function sendAgain(...refused) {
     const made = ({ board, path, body, verb, subject, task, known, adds, base, form, isSecret }) => ({ board, path, body, verb, subject, task, known, adds, base, form, isSecret });
-    const all = await Promise.all([change, ...change.behind].map(async (one) => made({ ...one, body: await bodyOf(one) })));
-    await keep(...all);
-    await forget(change);
+    const again = (change) => Promise.all([change, ...change.behind].map(async (one) => made({ ...one, body: await bodyOf(one) })));
+    await keepGroups(await Promise.all(refused.map(again)));
+    await forget(...refused);
 }
 
 // Lets go of changes that were settled and read, or of one that the person gives up.

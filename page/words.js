@@ -1,5 +1,5 @@
 // The words that say something of a task, in the line that adds one and in a search: +project, @tag, for:bob, due:friday, priority:H.
-import { DUES, PRIORITIES } from "./board.js";
+import { DUES, folded, PRIORITIES } from "./board.js";
 import { dayAhead, dayOf, fromFields, isTimed, seconds, toFields } from "./moments.js";
 
 const WEEKDAYS = "sunday monday tuesday wednesday thursday friday saturday".split(" ");
@@ -76,9 +76,9 @@ export function faultInTime(word, { member, value }) {
 
 // Those of the texts that are meant: the one itself and its parts, or else those that begin so, as while someone types.
 function meant(texts, wanted, hasParts) {
-    const [text, front] = [wanted.toLowerCase(), hasParts ? `${wanted.toLowerCase()}.` : "\n"];
-    const same = texts.filter((one) => one.toLowerCase() === text || one.toLowerCase().startsWith(front));
-    return new Set(same.length > 0 ? same : texts.filter((one) => one.toLowerCase().startsWith(text)));
+    const [text, front] = [folded(wanted), hasParts ? `${folded(wanted)}.` : "\n"];
+    const same = texts.filter((one) => folded(one) === text || folded(one).startsWith(front));
+    return new Set(same.length > 0 ? same : texts.filter((one) => folded(one).startsWith(text)));
 }
 
 function dayTest(name, value) {
@@ -109,7 +109,7 @@ const TESTS = {
 // The test that a word of a search makes of a task: what it says of one; or else, and where no task is so, whether the task has it in a text.
 function testOf(word, board, me) {
     const { name, value } = partsOf(word);
-    const text = word.toLowerCase();
+    const text = folded(word);
     const test = value && (MOMENTS.includes(name) ? dayTest(name, value) : TESTS[name]?.(value, board, me));
     return test || ((task) => task.searched.includes(text));
 }

@@ -4,7 +4,7 @@
 // A browser asks for the worker at each start, and a page that stays open every few minutes; it is installed anew where a byte of it differs. The
 // next line, made by tests/page_content.py, differs with every other file, so a new version is found then, also where its files are as long as
 // before.
-// Content of the other files: 4755a0355c183d40ccceab7c977ea8f07a517c17ac99631112aa3f52754db909
+// Content of the other files: fa014999f862519c5b757e15e8667b0bb3d2cf5241bcc1ef1de3746aab9d8eaf
 
 const VERSION = "taskboard ";
 const FILE = /^\/(?:[a-z0-9_.-]+\.(?:html|css|js|svg|png|ico))?$/;

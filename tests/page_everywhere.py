@@ -74,6 +74,29 @@ def without_a_line(office):
     browser.wait("return !document.getElementById('age').offsetParent")
 
 
+def seen_beside(office):
+    """What someone has seen stays for their next start without a line, though another person signs in and out in a tab beside, and goes when they do."""
+    browser, board = office.browser, new_board("Beside", bob="member")
+    add(board, description="Seen before")
+    office.begin(board)
+    browser.wait(IS_LISTED, "Seen before")
+    browser.wait(IS_SEEN, f"ann /boards/{board}/export")
+    [anns] = browser.tabs()
+    browser.new_tab()
+    office.begin(board, "bob")
+    browser.wait(IS_SEEN, f"bob /boards/{board}/export")
+    browser.click("#sign-out")
+    browser.wait(f"return new Promise((done) => setTimeout(done, 100)).then(() => {{ {IS_SEEN} }}).then((is) => !is)", f"bob /boards/{board}/export")
+    browser.call("DELETE", "/window")
+    browser.to_tab(anns)
+    office.server.end()
+    browser.call("POST", "/refresh")
+    browser.wait(IS_LISTED, "Seen before")
+    office.start()
+    browser.run("dispatchEvent(new Event('online'))")
+    browser.wait("return !document.getElementById('age').offsetParent")
+
+
 def newer_version(office):
     """A server with other files: what is open goes on as it is, says so, and the next start has the new files, all of them and no old one."""
     browser, board = office.browser, new_board("Renewed")
@@ -182,6 +205,57 @@ def held_key(office):
     expect("done by a key that is held", ["add", "add", "done"], [entry["what"] for entry in told])
 
 
+def click_twice(browser, selector, is_done, *arguments):
+    """A double click, of which the second click comes once the first one has done this."""
+    x, y = browser.run("const { x, y, width, height } = document.querySelector(arguments[0]).getBoundingClientRect(); return [x + width / 2, y + height / 2]", selector)
+    for count in (1, 2):
+        for kind in ("mousePressed", "mouseReleased"):
+            browser.tell("Input.dispatchMouseEvent", type=kind, x=x, y=y, button="left", clickCount=count)
+        browser.wait(is_done, *arguments)
+
+
+def hold_enter(browser):
+    for repeats in (False, True, True, True):
+        browser.tell("Input.dispatchKeyEvent", type="keyDown", key="Enter", code="Enter", text="\r", windowsVirtualKeyCode=13, autoRepeat=repeats)
+    browser.tell("Input.dispatchKeyEvent", type="keyUp", key="Enter", code="Enter", windowsVirtualKeyCode=13)
+
+
+def acts_once(office):
+    """A double click acts on what its first click hit: not on the row that comes to stand there, nor on the next message. Enter that is held acts once."""
+    browser, board = office.browser, new_board("Once")
+    for name in ("First", "Second", "Third"):
+        add(board, description=name)
+    office.begin(board)
+    browser.wait(IS_LISTED, "Third")
+    click_twice(browser, "#list .tick", "return document.querySelectorAll('#list .row').length <= 2")
+    browser.wait(ALL_ANSWERED)
+    office.go(board, "tasks", next(task["uuid"] for task in tasks(board) if task["status"] == "pending"))
+    browser.wait("return document.querySelectorAll('#task-actions button')[1]?.textContent === 'Start'")
+    browser.run("document.querySelectorAll('#task-actions button')[1].focus()")
+    hold_enter(browser)
+    browser.wait("return document.querySelectorAll('#task-actions button')[1].textContent === 'Stop'")
+    browser.wait(ALL_ANSWERED)
+    office.go(board, "people")
+    browser.wait(IS_SHOWN, "#invite-form")
+    browser.type("#title-text", "")
+    browser.run("document.getElementById('title-text').value = 'At once'")
+    hold_enter(browser)
+    browser.wait("return document.getElementById('heading').textContent === 'At once'")
+    browser.wait(ALL_ANSWERED)
+    told = json.loads(ask(f"/boards/{board}/history"))["entries"]
+    expect("done by a double click and by Enter that is held", ["add", "add", "add", "done", "start", "title"], [entry["what"] for entry in told])
+    refused = "return document.querySelectorAll('#notices .refused').length === arguments[0]"
+    for count, name in enumerate(("nobody-1", "nobody-2"), 1):
+        browser.type("#invite-name", name + ENTER)
+        browser.wait(refused, count)
+    click_twice(browser, "#notices .refused button.quiet", "return document.querySelectorAll('#notices .refused').length <= 1")
+    browser.wait(ALL_ANSWERED)
+    time.sleep(0.3)
+    expect("messages that are left", True, browser.run(refused, 1))
+    browser.click("#notices .refused button.quiet")
+    browser.wait(refused, 0)
+
+
 def keeps_its_button(office):
     """What is done by a button of the open task leaves the focus where it was, and never on one that completes or gives up; Undo ends with Reopen."""
     browser, board = office.browser, new_board("Buttons")
@@ -197,8 +271,19 @@ def keeps_its_button(office):
         browser.wait(ALL_ANSWERED)
         expect(f"focus after {label}", after, browser.run(focused))
     expect("a way back from what is back", "", browser.run("return document.getElementById('toast').textContent"))
+    browser.run("const wait = setTimeout; window.setTimeout = (work, time, ...words) => wait(work, time === 10000 ? 300 : time, ...words)")
+    browser.run(f"{at_button}.focus()", "Delete")
+    browser.press(ENTER)
+    browser.wait("const [undo] = document.querySelectorAll('#toast button'); undo?.focus(); return document.activeElement.textContent === 'Undo'")
+    time.sleep(0.8)
+    expect("a way back that has the focus", "Undo", browser.run(focused))
+    browser.press(ENTER)
+    browser.wait(f"return Boolean({at_button})", "Done")
+    browser.wait(ALL_ANSWERED)
     browser.click("#edit")
-    browser.press(*" but well", ENTER)
+    browser.press(*" but", ESCAPE)
+    expect("focus after Escape", "Edit", browser.run(focused))
+    browser.press(ENTER, *" well", ENTER)
     expect("typed behind the text", "Slowly but well\n", browser.run("return document.activeElement.value"))
     browser.run("document.getElementById('edit-save').focus()")
     browser.press(ENTER)
@@ -235,6 +320,43 @@ def gone_by_keys(office, board, task):
     browser.press(ENTER)
     browser.wait("return document.querySelectorAll('#notices .refused').length === 0")
     expect("focus after a notice is gone", True, browser.run(HAS_FOCUS))
+
+
+# From here on counts what is written into an element, and the news that the page's parts hear of.
+WRITTEN = """window.written = 0;
+new MutationObserver((all) => (window.written += all.length)).observe(document.querySelector(arguments[0]), { childList: true, subtree: true, characterData: true });"""
+HEAR = "const [name, detail] = arguments; return import('./state.js').then(({ announce }) => announce(name, detail)).then(() => new Promise((done) => setTimeout(done, 100)))"
+
+
+def read_out_once(office):
+    """What is read out to those who don't see the page isn't written anew where it says the same; nor is a long column, whose card keeps the focus."""
+    browser, board = office.browser, new_board("Read out")
+    for number in range(27):
+        add(board, description=f"Task {number}", due="20260101T000000Z", project="House")
+    office.begin(board)
+    browser.wait(IS_LISTED, "Task 0")
+    browser.type("#add-line", "+House M")
+    browser.wait("return document.querySelectorAll('#understood .chip').length === 1")
+    browser.run(WRITTEN, "#understood")
+    browser.type("#add-line", "end the roof")
+    expect("written of what is understood", 0, browser.run("return window.written"))
+    browser.run("const line = document.getElementById('add-line'); line.value = ''; line.dispatchEvent(new Event('input', { bubbles: true }))")
+    browser.click("#as-columns")
+    browser.wait("return document.querySelectorAll('#column-todo .card').length === 25")
+    browser.run("document.querySelector('#column-todo .open').focus()")
+    browser.run(WRITTEN, "#column-todo ul")
+    browser.run(HEAR, "board", False)
+    expect("written of a column", 0, browser.run("return window.written"))
+    expect("more of it", "Show 2 more", browser.run("return document.querySelector('#column-todo button.quiet').textContent"))
+    browser.click("#column-todo button.quiet")
+    browser.wait("return document.querySelectorAll('#column-todo .card').length === 27")
+    browser.click("#as-list")
+    browser.run("location.hash = '/day'")
+    browser.wait("return /^[0-9,]+ tasks of [0-9,]+ boards$/.test(document.getElementById('day-told').textContent)")
+    browser.run(HEAR, "kept", None)
+    browser.run(WRITTEN, "#day-told")
+    browser.run(HEAR, "kept", None)
+    expect("written of the day", 0, browser.run("return window.written"))
 
 
 def on_paper(office):
@@ -394,4 +516,4 @@ def asked_seldom(office):
     end_without()
 
 
-SCENES = (asked_seldom, without_a_line, newer_version, by_keys, keeps_its_button, on_paper, on_a_phone, for_readers, on_no_board)
+SCENES = (asked_seldom, without_a_line, seen_beside, newer_version, by_keys, acts_once, keeps_its_button, read_out_once, on_paper, on_a_phone, for_readers, on_no_board)

@@ -2,7 +2,7 @@
 import json
 import time
 
-from office import ALL_ANSWERED, DOWN, ENTER, IS_TOLD, add, ask, expect, new_board, tasks
+from office import ALL_ANSWERED, DOWN, ENTER, IS_TOLD, UP, add, ask, expect, new_board, tasks, tell
 from page_views import ARE_LISTED, moment
 from page_words import WAITED
 from relay import LOSES_ANSWERS, LOSES_POSTS
@@ -88,6 +88,32 @@ def several(office):
     expect("deleted", ["deleted"] * 4, of_all(board, "status"))
 
 
+def chosen_by_keys(office):
+    """A key on a list of people or roles opens it, and does nothing on the way to what is chosen there."""
+    browser, board = office.browser, new_board("By keys", bob="member")
+    add(board, description="Whose", assignee="bob")
+    office.begin(board)
+    browser.wait(ARE_LISTED, ["Whose"])
+    pick(browser, "Whose")
+    is_open = "return document.activeElement.matches(':open') === arguments[0]"
+    browser.run("document.getElementById('bulk-assign').focus()")
+    press(browser, DOWN)
+    browser.wait(is_open, True)
+    press(browser, DOWN, DOWN, ENTER)
+    browser.wait(IS_TOLD, "Assigned to ann: 1 task.")
+    browser.wait(ALL_ANSWERED)
+    office.go(board, "people")
+    role = "[aria-label='Role of bob']"
+    browser.wait("const select = document.querySelector(arguments[0]); select?.focus(); return Boolean(select)", role)
+    press(browser, "o")
+    browser.wait(is_open, True)
+    press(browser, UP, ENTER)
+    browser.wait("return document.querySelector(arguments[0]).value === 'owner'", role)
+    browser.wait(ALL_ANSWERED)
+    told = json.loads(ask(f"/boards/{board}/history"))["entries"]
+    expect("chosen by keys", [["ann"], "owner", ["role", "add", "modify", "role"]], [of_all(board, "assignee"), json.loads(ask(f"/boards/{board}/people"))["people"][1]["role"], [entry["what"] for entry in told]])
+
+
 def back_unheard(office):
     """Several tasks changed and changed back over a line that breaks: all of it is sent, and nothing is asked."""
     browser, board = office.browser, new_board("Back unheard")
@@ -164,6 +190,49 @@ JSON.stringify = (...words) => {
     window.counts.made += 1;
     return stringify(...words);
 };"""
+
+
+def counted_waiting(office):
+    """Thousands of changes that wait are told as tasks are, with a comma."""
+    browser, board = office.browser, new_board("Counted")
+    office.begin(board)
+    office.relay.break_off(LOSES_POSTS)
+    browser.run(ADD_MANY, board, 1020)
+    browser.wait(IS_TOLD, "1,020 changes aren't answered yet")
+    browser.click("#state")
+    browser.wait(IS_TOLD, "and 1,000 more")
+    browser.click("#sign-out")
+    browser.wait(IS_TOLD, "This isn't sent yet, 1,020 in all.")
+    browser.click("#leave-drop")
+    browser.wait("return document.getElementById('sign-in-form').offsetParent")
+    office.relay.heal()
+    office.begin(board)
+    browser.wait(ALL_ANSWERED)
+    expect("sent of what was thrown away", [], tasks(board))
+
+
+def many_refused(office):
+    """Of many changes that are refused the first are told each, and all of them are sent again, or thrown away, at once."""
+    browser, board = office.browser, new_board("Refused", bob="member")
+    office.begin(board, "bob")
+    told = "return document.querySelectorAll('#notices .refused').length === arguments[0]"
+    for role, press_at, left in (("member", "Send 30 again", 30), ("reader", "Throw all away", 30)):
+        office.relay.break_off(LOSES_POSTS)
+        browser.run(ADD_MANY, board, 30)
+        browser.wait(IS_TOLD, "30 changes aren't answered yet")
+        tell(f"/boards/{board}/roles", member="bob", role="reader")
+        office.relay.heal()
+        browser.run("dispatchEvent(new Event('online'))")
+        browser.wait(told, 20)
+        browser.wait(IS_TOLD, "And 10 more such messages.")
+        browser.wait(ALL_ANSWERED)
+        tell(f"/boards/{board}/roles", member="bob", role=role)
+        browser.run("const [words] = arguments; setTimeout(() => [...document.querySelectorAll('#notices button')].find((button) => button.textContent === words).click())", press_at)
+        if role == "reader":
+            expect("asked", "Throw away all 30 changes that these messages tell of? What they say is lost.", browser.answer_question())
+        browser.wait(told, 0)
+        browser.wait(ALL_ANSWERED)
+        expect("each once, in their order", [f"Task {at}" for at in range(left)], of_all(board, "description"))
 
 
 def hundreds_wait(office):
@@ -261,4 +330,4 @@ def left_behind(office):
     expect("of what is closed", True, told.startswith("Move 1 task to Beyond?") and told.endswith("What is closed stays: 1 task."))
 
 
-SCENES = (several, back_unheard, many_wait, hundreds_wait, moves, left_behind)
+SCENES = (several, chosen_by_keys, back_unheard, many_wait, counted_waiting, many_refused, hundreds_wait, moves, left_behind)

@@ -172,7 +172,7 @@ def when(office):
         ("Pay the tax", -2, {"project": "Finance.tax", "priority": "H", "tags": ["bank"]}),
         ("Close the books", 6, {"project": "Finance", "assignee": "bob", "tags": ["banking"]}),
         ("Go away", 7, {"project": "Finances"}),
-        ("Any time", None, {"priority": "L"}),
+        ("Any time", None, {"priority": "L", "tags": ["cafe\u0301"]}),
     ):
         add(board, description=text, **({} if ahead is None else {"due": moment(ahead)}), **more)
     office.begin(board)
@@ -205,6 +205,8 @@ def when(office):
     search(browser, f"due:{day(40)}", "Plan the party")
     search(browser, "due:overdue priority:H", "Pay the tax")
     search(browser, "the for:nobody", "Pay the tax", "Plan the party")
+    for word in ("caf\u00e9", "CAFE\u0301", "@caf\u00e9"):
+        search(browser, word, "Any time")
 
 
 def addresses(office):

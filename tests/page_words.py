@@ -148,6 +148,7 @@ def refused_keep_text(office):
     browser.wait(HAS_VALUE, "#note-text", "Two tins, not three")
     browser.wait(HAS_FOCUS, "note-text")
     browser.press(ENTER)
+    browser.wait("return document.querySelectorAll('#notices .refused').length === 1")
     press(browser, "Edit and send again")
     browser.wait(HAS_VALUE, "#add-line", "Sand the door +House")
     browser.wait(HAS_FOCUS, "add-line")
@@ -517,10 +518,34 @@ def edited_before_sending(office):
     press(browser, "Save", "#edit-form")
     browser.wait("return document.querySelectorAll('#edit-conflicts fieldset').length === 1")
     expect("before the choice", "Buy red paint", one_of(board, task)["description"])
+    browser.press(ESCAPE)
+    expect("Escape from the choice", [False, "Edit"], browser.run("return [document.getElementById('panel').hidden, document.activeElement.textContent]"))
+    browser.press(ENTER)
+    browser.wait(EDITED, "Buy green paint")
+    press(browser, "Save", "#edit-form")
+    browser.wait("return document.querySelectorAll('#edit-conflicts fieldset').length === 1")
     browser.click("#edit-conflicts input[value=mine]")
     save(browser)
     expect("after it", "Buy green paint", one_of(board, task)["description"])
     expect_nothing_open(browser)
+
+
+def given_up(office):
+    """Who gives a change up is asked about it by its name, since another one may stand in its place by then."""
+    browser, board = office.browser, new_board("Given up")
+    office.begin(board)
+    office.relay.break_off(LOSES_POSTS)
+    for number, name in enumerate(("Buy paint", "Paint the fence"), 1):
+        browser.type("#add-line", name + ENTER)
+        browser.wait(IS_TOLD, "1 change isn't answered yet" if number == 1 else "2 changes aren't answered yet")
+    browser.click("#state")
+    browser.wait(IS_SHOWN, "#unanswered-list button")
+    expect("named", ["Give up: Add “Buy paint”", "Give up: Add “Paint the fence”"], browser.run("return [...document.querySelectorAll('#unanswered-list button')].map((button) => button.ariaLabel)"))
+    browser.run("setTimeout(() => document.querySelector('#unanswered-list button').click())")
+    expect("asked", True, browser.answer_question().startswith("Send this change no more: Add “Buy paint”?"))
+    browser.wait(IS_TOLD, "1 change isn't answered yet")
+    heal(office)
+    expect("sent", ["Paint the fence"], [task["description"] for task in tasks(board)])
 
 
 def new_key_without_tls(office):
@@ -577,6 +602,11 @@ def signing_out(office):
             browser.wait(IS_TOLD, "3 changes aren't answered yet")
         heal(office)
         office.begin(board)
+    browser.type("#add-line", "Begun")
+    browser.click("#sign-out")
+    browser.wait(IS_TOLD, "What is begun isn't sent: it stands in its form again")
+    browser.press(ESCAPE)
+    put_into(browser, "#add-line", "")
     expect("sent", ["Secret task", "Unsent keep"], sorted(one["description"] for one in tasks(board)))
     expect("people", ["ann", "erin-keep"], [one["name"] for one in json.loads(ask(f"/boards/{board}/people"))["people"]])
 
@@ -632,4 +662,4 @@ def unsent_looks_done(office):
     expect("the first", task, stored["Slow one"]["uuid"])
 
 
-SCENES = (refused_keep_text, refused_person, refused_board, board_made_late, told_before, drafts_stay, forms_stay, in_two_tabs, device_is_full, two_edit_one_task, two_complete_one_task, changed_while_waiting, edited_before_sending, new_key_without_tls, signing_out, unsent_stands_once, unsent_looks_done)
+SCENES = (refused_keep_text, refused_person, refused_board, board_made_late, told_before, drafts_stay, forms_stay, in_two_tabs, device_is_full, two_edit_one_task, two_complete_one_task, changed_while_waiting, edited_before_sending, given_up, new_key_without_tls, signing_out, unsent_stands_once, unsent_looks_done)
