@@ -6,6 +6,7 @@ import json
 import os
 import re
 import resource
+import socket
 import sys
 import threading
 import time
@@ -104,8 +105,8 @@ def unread():
         call(bob, message(b"GET", b"/me", fields=BOB))
         deaf = ending.enter_context(server.connect(60))
         deaf.sendall(EXPORT)
-        # The answer is made in one turn, for which all wait; behind it nobody does.
-        call(bob, message(b"GET", b"/me", fields=BOB))
+        # The answer is made in one turn, for which all wait, and ends before its first byte is here; after that nobody waits.
+        deaf.recv(1, socket.MSG_PEEK)
         worst = slowest(bob, message(b"GET", b"/me", fields=BOB), 3)
         expect(f"bob waited {worst:.2f} s", worst <= KNOWN_WITHIN)
         # Another message of the same person is answered once the answer was let go of.
