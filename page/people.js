@@ -121,9 +121,17 @@ async function addPerson(form) {
     tellKey(name, key);
 }
 
+// Whoever is on the board already gets another role only if that is meant.
+function isMeant(name, role) {
+    const now = shown && JSON.parse(shown).people.find((person) => person.name === name)?.role;
+    if (!now || now === role) return true;
+    return confirm(name === state.who.name ? GIVE_UP : `${name} is on this board already, as ${now}. Make ${name} ${role}?`);
+}
+
 async function invite(form) {
-    const made = changes.role(state.number, find("invite-name").value.trim(), find("invite-role").value);
-    if (isWhole(form)) await drafts.invite.send(() => keepFrom(form, made));
+    const [name, role] = ["invite-name", "invite-role"].map((id) => find(id).value.trim());
+    if (!isWhole(form) || !isMeant(name, role)) return;
+    await drafts.invite.send(() => keepFrom(form, changes.role(state.number, name, role)));
 }
 
 function beginKeysOfOthers() {

@@ -4,7 +4,7 @@
 // A browser asks for the worker at each start, and a page that stays open every few minutes; it is installed anew where a byte of it differs. The
 // next line, made by tests/page_content.py, differs with every other file, so a new version is found then, also where its files are as long as
 // before.
-// Content of the other files: fa014999f862519c5b757e15e8667b0bb3d2cf5241bcc1ef1de3746aab9d8eaf
+// Content of the other files: 181908a239f11a68f6fd7dbbc1677283b4f887a51d11f59ef9888ed44f129db0
 
 const VERSION = "taskboard ";
 const FILE = /^\/(?:[a-z0-9_.-]+\.(?:html|css|js|svg|png|ico))?$/;

@@ -181,6 +181,13 @@ def refused_person(office):
     browser.wait(HAS_VALUE, "#invite-name", "nobody-here")
     type_into(browser, "#invite-name", "bob" + ENTER)
     browser.wait(ALL_ANSWERED)
+    role_of = lambda: next(each["role"] for each in json.loads(ask(f"/boards/{board}/people"))["people"] if each["name"] == "bob")
+    for is_meant, role in ((False, "member"), (True, "reader")):
+        browser.run("document.getElementById('invite-role').value = 'reader'")
+        type_into(browser, "#invite-name", "bob" + ENTER)
+        expect("asked of who is here", "bob is on this board already, as member. Make bob reader?", browser.answer_question(is_meant))
+        browser.wait(ALL_ANSWERED)
+        expect(f"the role, meant: {is_meant}", role, role_of())
     expect_nothing_open(browser)
 
 
@@ -347,6 +354,7 @@ def forms_stay(office):
             browser.wait(HAS_VALUE, field, text)
     type_into(browser, "#title-text", "A whole title" + ENTER)
     type_into(browser, "#invite-name", "ann" + ENTER)
+    expect("asked of an owner", True, browser.answer_question().startswith("Give up your role of owner?"))
     browser.wait(ALL_ANSWERED)
     for field in ("#person-name", "#keys-name", "#take-number"):
         browser.run("const field = document.querySelector(arguments[0]); field.value = ''; field.dispatchEvent(new Event('input'))", field)
