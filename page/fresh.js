@@ -164,6 +164,12 @@ async function lookOnce() {
     if (withBoards || here()) setReach(true);
 }
 
+// No answer came. Where no board is known yet, they are what is asked for next.
+function missAnswer() {
+    setReach(false);
+    wantsBoards ||= state.boards.length === 0;
+}
+
 // Asks anew, once more where something happened meanwhile.
 async function ask(withBoard = false, withBoards = false) {
     isWanted = true;
@@ -178,7 +184,7 @@ async function ask(withBoard = false, withBoards = false) {
         while (isWanted && state.who) await lookOnce();
     } catch (fault) {
         // Where a board is refused its people have changed.
-        if (fault instanceof NoAnswer) setReach(false);
+        if (fault instanceof NoAnswer) missAnswer();
         else if (fault.status !== 401) lookAtBoards().catch(console.error);
         else if (who.key === key) doubtKey(who, key).catch(console.error);
         else isRekeyed = true;

@@ -68,6 +68,13 @@ function drawBoards() {
     document.title = title ? `${count}${oneLine(title, 60)} · taskboard` : "taskboard";
 }
 
+// Where the server doesn't answer and this device has no copy of the boards, there is nothing else to show.
+function drawUnreached(isReached) {
+    if (isReached || state.boards.length > 0 || !find("no-board").hidden) return;
+    find("unknown-board").textContent = "The server doesn't answer, and this device hasn't seen your boards. They come when it answers.";
+    find("unknown-board").hidden = false;
+}
+
 // In a narrow window the link of the view that is shown may stand beyond the edge.
 function showLink(link) {
     const nav = link.parentElement;
@@ -153,6 +160,7 @@ function begin() {
     find("board").addEventListener("change", (event) => go(event.target.value, state.view === "day" ? "tasks" : state.view));
     addEventListener("hashchange", showRoute);
     listen("boards", () => [drawBoards, lookAgain].forEach((part) => part()));
+    listen("reach", drawUnreached);
     listen("answered", (news) => showMade(news).catch(() => {}));
     beginSigning(enter);
 }

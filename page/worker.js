@@ -4,7 +4,7 @@
 // A browser asks for the worker at each start, and a page that stays open every few minutes; it is installed anew where a byte of it differs. The
 // next line, made by tests/page_content.py, differs with every other file, so a new version is found then, also where its files are as long as
 // before.
-// Content of the other files: 181908a239f11a68f6fd7dbbc1677283b4f887a51d11f59ef9888ed44f129db0
+// Content of the other files: b0653bafcd6c2438169cb843fb9f603b419a27b0c4491c5c1f50df50841d834b
 
 const VERSION = "taskboard ";
 const FILE = /^\/(?:[a-z0-9_.-]+\.(?:html|css|js|svg|png|ico))?$/;

@@ -97,6 +97,31 @@ def seen_beside(office):
     browser.wait("return !document.getElementById('age').offsetParent")
 
 
+# Takes the copies of views off the device.
+FORGET = """return new Promise((done) => (indexedDB.open("taskboard-seen", 1).onsuccess = ({ target }) => {
+    const all = target.result.transaction(["texts", "moments"], "readwrite");
+    for (const name of all.objectStoreNames) all.objectStore(name).clear();
+    all.oncomplete = () => done(true);
+}))"""
+
+
+def without_copies(office):
+    """A page that has no copies and no server says so, and shows the boards once the server answers."""
+    browser, board = office.browser, new_board("Never seen")
+    add(board, description="Not kept here")
+    office.begin(board)
+    browser.wait(IS_LISTED, "Not kept here")
+    browser.wait(IS_CONTROLLED)
+    office.server.end()
+    browser.run(FORGET)
+    browser.call("POST", "/refresh")
+    browser.wait(IS_TOLD, "The server doesn't answer, and this device hasn't seen your boards.")
+    office.start()
+    browser.run("dispatchEvent(new Event('online'))")
+    browser.wait(IS_LISTED, "Not kept here")
+    expect("told of an answer", False, browser.run(IS_TOLD, "hasn't seen your boards"))
+
+
 def newer_version(office):
     """A server with other files: what is open goes on as it is, says so, and the next start has the new files, all of them and no old one."""
     browser, board = office.browser, new_board("Renewed")
@@ -516,4 +541,4 @@ def asked_seldom(office):
     end_without()
 
 
-SCENES = (asked_seldom, without_a_line, seen_beside, newer_version, by_keys, acts_once, keeps_its_button, read_out_once, on_paper, on_a_phone, for_readers, on_no_board)
+SCENES = (asked_seldom, without_a_line, seen_beside, without_copies, newer_version, by_keys, acts_once, keeps_its_button, read_out_once, on_paper, on_a_phone, for_readers, on_no_board)
