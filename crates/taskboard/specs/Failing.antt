@@ -4,6 +4,7 @@ use Rattle.sqlite.specs.Held.{Held}
 use Rattle.sqlite_disk.specs.declared.Disk.{Ghosts as DiskGhosts}
 use Rattle.sqlite_store.specs.declared.store.FileStore.{FileStore}
 use Rattle.taskboard.specs.Orders.{is_skip, script_text}
+use Rattle.taskboard.specs.Sent.{IsUnsentOver}
 use Rattle.taskboard.specs.declared.TheConstants.{VERSION}
 use Rattle.tb_calls.specs.Call.{State, opening}
 use Rattle.tb_calls.specs.declared.keep.Keep.{Ghosts}
@@ -36,7 +37,7 @@ use Rattle.tb_orders.specs.Telling.{is_of_answers}
 use Rattle.tb_orders.specs.declared.order_fault.OrderFault.{OrderFault}
 use Rattle.tb_program.specs.declared.fault.Fault.{Fault}
 use Rattle.tb_program.specs.declared.fault.Fault.TheVariants as fault
-use Rattle.tb_sending.specs.Changing.{SendsNot}
+use Rattle.tb_sending.specs.declared.server_line.ServerLine.{ServerLine}
 use Rattle.tb_values.specs.Appends.{AppendsFront}
 
 -- no connection to a file was opened
@@ -52,20 +53,6 @@ IsUnclean skips text told = told ≡ fault.Memory
 -- an input can't be read to its end
 abbrev pub IsUnread : Fault → Type 0
 IsUnread told = (told ≡ fault.ReadFailed) ⊎ (told ≡ fault.Memory)
-
-module _ {L W : Type 0} (follows : List Event → L → L → Type 0)
-    (contents : W → Option (List ℕ)) where
-  -- the call or view was sent up to the fault, over a line to the server
-  pub record IsCutOver (order : SendOrder) (before after : W) (told : Fault) : Type 0 where
-    pub ready : SendOrder
-    pub old : L
-    pub new : L
-    pub fails : SendsNot follows contents order ready old new before after told
-
-  -- or there was no memory for a line
-  abbrev pub IsUnsentOver : SendOrder → W → W → Fault → Type 0
-  IsUnsentOver order before after told =
-      IsCutOver order before after told ⊎ ((told ≡ fault.Memory) × (after ≡ before))
 
 module _ {D : Type 0} {d : DiskGhosts D} (g : Ghosts (SqlKeep (FileStore D d))) where
   -- it was carried out over what some connection found, up to this fault
@@ -141,8 +128,9 @@ module _ {D W : Type 0} {d : DiskGhosts D} (g : Ghosts (SqlKeep (FileStore D d))
   IsUncleaned order input before after failed =
       ((after ≡ before) × IsUnread failed.fault) ⊎ IsCutWith order input before after failed
 
-module _ {D L W : Type 0} {d : DiskGhosts D} (g : Ghosts (SqlKeep (FileStore D d)))
-    (follows : List Event → L → L → Type 0) (contents : W → Option (List ℕ)) where
+module _ {D M W : Type 0} {d : DiskGhosts D} (g : Ghosts (SqlKeep (FileStore D d)))
+    (follows : List Event → ServerLine M → ServerLine M → Type 0)
+    (contents : W → Option (List ℕ)) where
   -- With an input, and a writer before and after it.
   abbrev pub IsLeft : Order → Option (List ℕ) → W → W → OrderFault → Type 0
   IsLeft (Init order) input before after failed =

@@ -1,14 +1,34 @@
--- What words of `my` that a server alone answers come to.
-use Rattle.std.specs.Prelude.{◌≡◌, ◌⊎◌, ℕ, Bool, true, false, not, ◌||◌, is_some, List, [], ◌∷◌, codes, Option, Some, None, if◌then◌else◌}
+-- What words of `my` come to.
+use Rattle.std.specs.Prelude.{◌≡◌, ◌⊎◌, Bool, true, false, IfSome, List, [], ◌∷◌, ◌++◌, codes, Ok, Option, Some, None, if◌then◌else◌}
+use Rattle.std.specs.Io.KnownBytes.{Appends}
 use Rattle.std.specs.Str.{bytes_eq}
-use Rattle.tb_mine.specs.Asked.{Asked}
-use Rattle.tb_mine.specs.Asked as asked
+use Rattle.taskboard.specs.Asking.{AreSentBy}
+use Rattle.taskboard.specs.Ending.{ending_if}
+use Rattle.tb_cleaning.specs.Cleaning.{Cleans}
+use Rattle.tb_cleaning.specs.declared.cleaning.Cleaned.{Cleaned}
+use Rattle.tb_client.specs.Asking.{Event}
+use Rattle.tb_command_line.specs.declared.order.ImportKind.{ImportKind}
+use Rattle.tb_command_line.specs.declared.order.ImportKind.TheVariants.{Json, Todo}
+use Rattle.tb_mine.specs.Asked.{Asked, IsAskedFor, IsDone, IsRefused, Output}
+use Rattle.tb_mine.specs.Found.{IsDoneOnBoard}
+use Rattle.tb_mine.specs.Imported.{AreImported}
+use Rattle.tb_mine.specs.Naming.{IsFound, IsNumbered}
+use Rattle.tb_mine.specs.Printed.{told_line}
 use Rattle.tb_mine.specs.declared.context.Context.{Context}
 use Rattle.tb_my.specs.Bringing.{import_of}
 use Rattle.tb_my.specs.Days.{Text}
-use Rattle.tb_my.specs.Options.{words_after_board}
+use Rattle.tb_my.specs.Importing.{is_json, without_mark}
+use Rattle.tb_my.specs.Options.{board_given, words_after_board}
+use Rattle.tb_my.specs.Undo.{undone_in}
+use Rattle.tb_my.specs.declared.bringing.ImportMode.{ImportMode}
+use Rattle.tb_my.specs.declared.bringing.ImportMode.TheVariants as mode
+use Rattle.tb_my.specs.declared.settings.Asker.{Asker}
+use Rattle.tb_orders.specs.Lists.{IsCut}
 use Rattle.tb_orders.specs.declared.ending.Ending.{Ending}
-use Rattle.tb_orders.specs.declared.ending.Ending.TheVariants.{Accepted, Refused}
+use Rattle.tb_orders.specs.declared.ending.Ending.TheVariants.{Refused}
+use Rattle.tb_sending.specs.declared.server_line.ServerLine.{ServerLine}
+
+-- ---- which words they are
 
 abbrev pub is_alone : List Text → Text → Bool
 is_alone [] name = false
@@ -22,34 +42,174 @@ argument_of (word ∷ []) name = None
 argument_of (word ∷ argument ∷ []) name = if bytes_eq word name then Some argument else None
 argument_of (word ∷ argument ∷ next ∷ words) name = None
 
-abbrev pub is_use : List Text → Bool
-is_use words = is_some (argument_of words (codes "use"))
+-- the board of `use` or of `--board`, which goes before that of the settings
+abbrev pub or_given : Option Text → Option Text → Option Text
+or_given (Some board) given = Some board
+or_given None given = given
 
-abbrev pub is_import : List Text → Bool
-is_import words = is_some (import_of words)
+abbrev pub named_board : List Text → Option Text
+named_board all = or_given (argument_of (words_after_board all) (codes "use")) (board_given all)
 
--- no file is read or written but that of the settings
-abbrev pub is_of_board : List Text → Bool
-is_of_board words = not (is_alone words (codes "setup") || is_alone words (codes "undo")
-    || is_use words || is_import words)
+abbrev pub if_check : ImportMode → Text → Option Text
+if_check mode.Check path = Some path
+if_check how path = None
 
-abbrev pub ending_of : Bool → Ending
-ending_of true = Accepted
-ending_of false = Refused
+abbrev pub checked_in : Option (Text × ImportMode) → Option Text
+checked_in None = None
+checked_in (Some file) = if_check file.1 file.0
 
--- The board isn't found, and nothing is printed; or the words come to what they ask for, at some moment, of some board.
-abbrev pub IsAskedOfBoard : List Text → Option (List ℕ) → Option (List ℕ) → Ending → Type 0
-IsAskedOfBoard words before after ending =
-    ((ending ≡ Refused) × (after ≡ before))
-    ⊎ ((context : Context) × (list : List Asked) × (is_accepted : Bool)
-    × (ending ≡ ending_of is_accepted)
-    × asked.IsDone context words list before after is_accepted)
+-- the file of an import that is only looked at
+abbrev pub checked_path : List Text → Option Text
+checked_path words = checked_in (import_of words)
 
-abbrev pub IsMineIf : Bool → List Text → Option (List ℕ) → Option (List ℕ) → Ending → Type 0
-IsMineIf true words before after ending = IsAskedOfBoard words before after ending
-IsMineIf false words before after ending = Unit {0}
+-- ---- words of a board
 
--- of words that read or write files too nothing is said
-abbrev pub IsMine : List Text → Option (List ℕ) → Option (List ℕ) → Ending → Type 0
-IsMine all before after ending =
-    IsMineIf (is_of_board (words_after_board all)) (words_after_board all) before after ending
+-- boards are listed without one
+abbrev pub IsDoneIf : Bool → Context → List Text → Asker → List Asked → Output → Output → Bool
+    → Type 0
+IsDoneIf true context words asker asked before after is_accepted =
+    IsDone context words asked before after is_accepted
+IsDoneIf false context words asker asked before after is_accepted =
+    (asker.board ≡ Some context.board)
+    × IsDoneOnBoard context words asked before after is_accepted
+
+-- Which moment, zone and terminal the machine gives isn't known.
+abbrev pub IsDoneOfBoard : List Text → Output → Output → Asker → List Asked → Bool → Type 0
+IsDoneOfBoard words before after asker asked is_accepted =
+    (context : Context) × (context.me ≡ asker.name)
+    × IsDoneIf (is_alone words (codes "boards")) context words asker asked before after is_accepted
+
+-- ---- another board
+
+abbrev pub used_line : Text → Text
+used_line board = (codes "From now on: board " ++ board) ++ 10 ∷ []
+
+-- Where it can't be kept, that is refused.
+abbrev pub IsWritten : Text → Output → Output → Bool → Type 0
+IsWritten name before after is_accepted = ((after ≡ before) × (is_accepted ≡ false))
+    ⊎ (Appends before after (used_line name) × (is_accepted ≡ true))
+
+-- It is kept where the person has it.
+abbrev pub IsKept : Option Text → Text → Output → Output → Bool → Type 0
+IsKept None name before after is_accepted = (after ≡ before) × (is_accepted ≡ false)
+IsKept (Some board) name before after is_accepted = IsWritten name before after is_accepted
+
+abbrev pub IsUsed : Text → Output → Output → Asker → List Asked → Bool → Type 0
+IsUsed name before after asker asked is_accepted = (look : Asked) × (asked ≡ look ∷ [])
+    × (board : Option Text) × IsNumbered name look board
+    × IsKept board name before after is_accepted
+
+-- ---- what takes back the last calls
+
+-- none was kept, or what some text says of this person and server, since which one was kept isn't known
+abbrev pub IsUndone : Output → Output → Asker → List Asked → Bool → Type 0
+IsUndone before after asker asked is_accepted = IsRefused asked before after is_accepted
+    ⊎ ((kept : Text) × IsAskedFor told_line (undone_in asker.server asker.name kept)
+    asked before after is_accepted)
+
+-- ---- imports
+
+-- the input, or a file, of which nothing is known
+abbrev pub IsTextIf : Bool → Option Text → Text → Type 0
+IsTextIf true input text = IfSome input (λ all. text ≡ all)
+IsTextIf false input text = Unit {0}
+
+abbrev pub IsTextOf : Text → Option Text → Text → Type 0
+IsTextOf path input text = IsTextIf (bytes_eq path (codes "-")) input text
+
+-- unless tasks are skipped, all of them are taken
+pub record IsCleanText (skips : Bool) (text bytes : Text) : Type 0 where
+  pub cleaned : Cleaned
+  pub cleans : Cleans skips text (Ok cleaned)
+  pub whole : skips ≡ false → cleaned.is_whole ≡ true
+  pub is : bytes ≡ cleaned.text
+
+abbrev pub IsBringing : ImportMode → Text → Text → Type 0
+IsBringing mode.AsItIs text bytes = bytes ≡ without_mark text
+IsBringing mode.Skip text bytes = IsCleanText true text bytes
+IsBringing mode.Clean text bytes = IsCleanText false text bytes
+IsBringing mode.Check text bytes = IsCleanText false text bytes
+
+abbrev pub kind_of : Text → ImportKind
+kind_of text = if is_json text then Json else Todo
+
+-- a text, as it is or cleaned, in parts
+pub record IsImportedInto (board path : Text) (how : ImportMode) (input : Option Text)
+    (before after : Output) (asked : List Asked) (is_accepted : Bool) : Type 0 where
+  pub text : Text
+  pub of : IsTextOf path input text
+  pub bytes : Text
+  pub bringing : IsBringing how text bytes
+  pub parts : List Text
+  pub cut : IsCut (kind_of text) bytes (Some parts)
+  pub imported : AreImported (is_json text) board parts asked before after is_accepted
+
+-- What can't be read, cleaned or cut is refused.
+abbrev pub IsImportedAt : Option Text → Text → ImportMode → Option Text → Output → Output
+    → List Asked → Bool → Type 0
+IsImportedAt None path how input before after asked is_accepted =
+    IsRefused asked before after is_accepted
+IsImportedAt (Some board) path how input before after asked is_accepted =
+    IsRefused asked before after is_accepted
+    ⊎ IsImportedInto board path how input before after asked is_accepted
+
+pub record IsImported (path : Text) (how : ImportMode) (input : Option Text)
+    (before after : Output) (asker : Asker) (asked : List Asked) (is_accepted : Bool) : Type 0 where
+  pub name : Text
+  pub named : asker.board ≡ Some name
+  pub look : List Asked
+  pub board : Option Text
+  pub found : IsFound name look board
+  pub more : List Asked
+  pub first : asked ≡ look ++ more
+  pub imported : IsImportedAt board path how input before after more is_accepted
+
+-- Nothing is asked for. What can't be read or cleaned is refused.
+abbrev pub IsChecked : Text → Option Text → Output → Output → Ending → Type 0
+IsChecked path input before after ending = ((ending ≡ Refused) × (after ≡ before))
+    ⊎ ((text : Text) × IsTextOf path input text × (cleaned : Cleaned)
+    × Cleans false text (Ok cleaned) × (ending ≡ ending_if cleaned.is_whole)
+    × Appends before after cleaned.notes)
+
+-- ---- all words
+
+abbrev pub ComesBy : Option Text → Option (Text × ImportMode) → Bool → List Text → Option Text
+    → Output → Output → Asker → List Asked → Bool → Type 0
+ComesBy (Some board) import undo words input before after asker asked is_accepted =
+    IsUsed board before after asker asked is_accepted
+ComesBy None (Some file) undo words input before after asker asked is_accepted =
+    IsImported file.0 file.1 input before after asker asked is_accepted
+ComesBy None None true words input before after asker asked is_accepted =
+    IsUndone before after asker asked is_accepted
+ComesBy None None false words input before after asker asked is_accepted =
+    IsDoneOfBoard words before after asker asked is_accepted
+
+abbrev pub ComesTo : List Text → Option Text → Output → Output → Asker → List Asked → Bool → Type 0
+ComesTo words = ComesBy (argument_of words (codes "use")) (import_of words)
+    (is_alone words (codes "undo")) words
+
+module _ {M : Type 0} (follows : List Event → ServerLine M → ServerLine M → Type 0) where
+  -- By some settings of the machine, with the board that is named, this was sent, and nothing else.
+  pub record IsAsked (board : Option Text) (words : List Text) (input : Option Text)
+      (before after : Output) (ending : Ending) : Type 0 where
+    pub asker : Asker
+    pub key : Option Text
+    pub named : IfSome board (λ name. asker.board ≡ Some name)
+    pub asked : List Asked
+    pub sent : AreSentBy follows asker key asked
+    pub is_accepted : Bool
+    pub is : ending ≡ ending_if is_accepted
+    pub comes : ComesTo words input before after asker asked is_accepted
+
+  -- of `setup` nothing is said
+  abbrev pub IsMineBy : Bool → Option Text → List Text → Option Text → Output → Output
+      → Ending → Type 0
+  IsMineBy true checked all input before after ending = Unit {0}
+  IsMineBy false (Some path) all input before after ending =
+      IsChecked path input before after ending
+  IsMineBy false None all input before after ending =
+      IsAsked (named_board all) (words_after_board all) input before after ending
+
+  abbrev pub IsMine : List Text → Option Text → Output → Output → Ending → Type 0
+  IsMine all = IsMineBy (is_alone (words_after_board all) (codes "setup"))
+      (checked_path (words_after_board all)) all

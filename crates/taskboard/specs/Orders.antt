@@ -4,7 +4,9 @@ use Rattle.std.specs.Io.KnownBytes.{Appends}
 use Rattle.sqlite.specs.Held.{Held}
 use Rattle.sqlite_disk.specs.declared.Disk.{Ghosts as DiskGhosts}
 use Rattle.sqlite_store.specs.declared.store.FileStore.{FileStore}
+use Rattle.taskboard.specs.Ending.{ending_if}
 use Rattle.taskboard.specs.Mine.{IsMine}
+use Rattle.taskboard.specs.Sent.{IsSentOver}
 use Rattle.taskboard.specs.Serve.{IsServerRun, is_of_serving}
 use Rattle.taskboard.specs.declared.TheConstants.{VERSION}
 use Rattle.tb_calls.specs.Call.{opening}
@@ -19,7 +21,6 @@ use Rattle.tb_command_line.specs.declared.order.CleanOrder.{CleanOrder}
 use Rattle.tb_command_line.specs.declared.order.ImportOrder.{ImportOrder}
 use Rattle.tb_command_line.specs.declared.order.Order.{Order}
 use Rattle.tb_command_line.specs.declared.order.Order.TheVariants.{Init, Serve, Run, Import, ImportAll, Clean, View, Check, Key, Send, My, Help, Version}
-use Rattle.tb_command_line.specs.declared.order.SendOrder.{SendOrder}
 use Rattle.tb_files.specs.Check.{IsChecked}
 use Rattle.tb_files.specs.File.{InSession}
 use Rattle.tb_files.specs.Faults.{is_of_checking, is_of_imports, is_of_keys, is_of_views}
@@ -36,8 +37,8 @@ use Rattle.tb_program.specs.declared.fault.Fault.{Fault}
 use Rattle.tb_program.specs.declared.fault.Fault.TheVariants.{WriteFailed}
 use Rattle.tb_script.specs.Answering.{answer, first_state}
 use Rattle.tb_script.specs.Lines.{answers_from}
-use Rattle.tb_sending.specs.Changing.{Sends}
 use Rattle.tb_sending.specs.Faults.{is_of_sending}
+use Rattle.tb_sending.specs.declared.server_line.ServerLine.{ServerLine}
 
 -- the answers to the lines of a script
 abbrev pub script_text : List ℕ → List ℕ
@@ -74,11 +75,6 @@ abbrev pub IsNamed : Order → Order → Type 0
 IsNamed (Send order) named = (id : Option ℕ) × (named ≡ Send (record order { id = id }))
 IsNamed order named = named ≡ order
 
--- all tasks of a text can be taken, or not
-abbrev pub ending_if : Bool → Ending
-ending_if true = Accepted
-ending_if false = Refused
-
 abbrev pub is_skip : CleanMode → Bool
 is_skip mode.Check = false
 is_skip mode.Clean = false
@@ -87,15 +83,6 @@ is_skip mode.Skip = true
 -- what is printed, if that alone is to be known
 abbrev pub IsTold : Option (List ℕ) → Option (List ℕ) → Ending → List ℕ → Type 0
 IsTold before after ending text = (ending ≡ Accepted) × Appends before after text
-
-module _ {L W : Type 0} (follows : List Event → L → L → Type 0)
-    (contents : W → Option (List ℕ)) where
-  -- the call or view was sent over a line to the server
-  pub record IsSentOver (order : SendOrder) (before after : W) (ending : Ending) : Type 0 where
-    pub ready : SendOrder
-    pub old : L
-    pub new : L
-    pub comes : Sends follows contents order ready old new before after ending
 
 module _ {D W : Type 0} {d : DiskGhosts D} (g : Ghosts (SqlKeep (FileStore D d)))
     (contents : W → Option (List ℕ)) where
@@ -128,8 +115,9 @@ module _ {D W : Type 0} {d : DiskGhosts D} (g : Ghosts (SqlKeep (FileStore D d))
     pub cleans : Cleans (is_skip order.mode) text (Ok cleaned)
     pub brings : IsCleanedBy order.mode order.is_all order.import cleaned before after ending
 
-module _ {D L W : Type 0} {d : DiskGhosts D} (g : Ghosts (SqlKeep (FileStore D d)))
-    (follows : List Event → L → L → Type 0) (contents : W → Option (List ℕ)) where
+module _ {D M W : Type 0} {d : DiskGhosts D} (g : Ghosts (SqlKeep (FileStore D d)))
+    (follows : List Event → ServerLine M → ServerLine M → Type 0)
+    (contents : W → Option (List ℕ)) where
   -- With an input, and a writer before and after it. Which file a path leads to, and which moments the machine's clock gives, isn't known.
   abbrev pub IsDone : Order → Option (List ℕ) → W → W → Ending → Type 0
   IsDone (Init order) input before after ending =
@@ -155,7 +143,7 @@ module _ {D L W : Type 0} {d : DiskGhosts D} (g : Ghosts (SqlKeep (FileStore D d
   IsDone (Send order) input before after ending =
       IsSentOver follows contents order before after ending
   IsDone (My order) input before after ending =
-      IsMine order.words (contents before) (contents after) ending
+      IsMine follows order.words input (contents before) (contents after) ending
   IsDone (Help topic) input before after ending =
       IsTold (contents before) (contents after) ending (help_text topic)
   IsDone Version input before after ending =

@@ -1,8 +1,9 @@
 //! Imports into a file whose text is cleaned first.
 ghost use Rattle.std.specs.Io.KnownBytes.{Appends};
 ghost use Rattle.std.specs.Prelude.{◌≡◌, IfErr, IfOk, IfSome, List, Ok, Some, true, ℕ};
+ghost use Rattle.taskboard.specs.Ending.{ending_if};
 ghost use Rattle.taskboard.specs.Failing.{IsCutAfter, IsUnbrought, IsUnclean, IsUncleaned, IsUnread};
-ghost use Rattle.taskboard.specs.Orders.{IsBrought, IsCleaned, IsCleanedBy, ending_if, is_skip};
+ghost use Rattle.taskboard.specs.Orders.{IsBrought, IsCleaned, IsCleanedBy, is_skip};
 ghost use Rattle.tb_cleaning.specs.Cleaning.{Cleans};
 ghost use Rattle.tb_files.specs.Faults.{is_of_imports};
 ghost use Rattle.tb_program.specs.declared.fault.Fault.TheVariants.{WriteFailed};
@@ -93,7 +94,8 @@ fn bring<W: Write>(
     }
 }
 
-fn tell_notes<W: Write>(cleaned: &Cleaned, writer: &mut W) -> Result<Ending, Fault>
+/// Prints what cleaning did, or would do, and says whether all tasks can be taken.
+pub(crate) fn tell_notes<W: Write>(cleaned: &Cleaned, writer: &mut W) -> Result<Ending, Fault>
     ensures told { IfOk result (λ ending. (ending ≡ ending_if cleaned.now.is_whole)
         × Appends (W.contents writer.old) (W.contents writer.new) cleaned.now.notes) }
     ensures cut { IfErr result (λ fault. (fault ≡ WriteFailed)

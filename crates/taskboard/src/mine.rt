@@ -1,9 +1,11 @@
-//! The order that asks a server in the words of `my`: the settings are read, and `tb_mine` asks for what the words say of a board, over
+//! The order that asks a server in the words of `my`: the settings are read, and `tb_mine` asks for what the words say, over
 //! `send_order`. Words that read or write files besides are in `my_deeds.rt`.
-ghost use Rattle.std.specs.Prelude.{◌≡◌, IfErr, IfOk, option_copied, true};
-ghost use Rattle.taskboard.specs.Mine.{IsAskedOfBoard, IsMine, argument_of, ending_of, is_alone, is_import, is_of_board, is_use};
+ghost use Rattle.std.specs.Prelude.{◌≡◌, IfErr, IfOk, IfSome, List, Some, option_copied, refl, true};
+ghost use Rattle.taskboard.specs.Asking.{IsAskedBy, asked_joined};
+ghost use Rattle.taskboard.specs.Ending.{ending_if};
+ghost use Rattle.taskboard.specs.Mine.{ComesTo, IsDoneOfBoard, IsMine, argument_of, checked_path, is_alone, named_board};
 ghost use Rattle.taskboard.specs.Orders.{is_of_mine};
-ghost use Rattle.tb_orders.specs.declared.ending.Ending.TheVariants.{Refused};
+ghost use Rattle.tb_mine.specs.Asked.{Asked};
 
 use crate::my_cleaning::check_file;
 use crate::my_deeds::{import_file, keep_undo, set_up, undo, use_board};
@@ -11,15 +13,16 @@ use crate::my_settings::{key_of, read_asker};
 use crate::my_terminal::{clock_at, style_of};
 use std::io::{Read, Write};
 use tb_board::Key;
+use tb_client::Line;
 use tb_command_line::{MyOrder, SendOrder};
-use tb_mine::{Answer, Asks, Context, ask_words, find_board, wrong};
+use tb_mine::{Answer, Asks, Context, ask_on_board, ask_words, wrong};
 use tb_my::{
     Asker, ImportMode, MyFault, Sent, board_given, import_of, needed_board, words_after_board,
 };
 use tb_orders::{Ending, MachineChance};
 use tb_program::{Fault, machine_moment};
-use tb_sending::{MachineDial, name_call, new_id, send_order};
-use tb_task::{Moment, TaskId};
+use tb_sending::{MachineDial, ServerLine, name_call, new_id, send_order};
+use tb_task::TaskId;
 use tb_values::{Duplicate, Items, Text};
 
 /// How long a call is sent again, in seconds.
@@ -35,11 +38,13 @@ pub(crate) struct Caller<'a> {
 }
 
 impl Asks for Caller<'_> {
-    ghost follows = { λ _ _ _. Unit {0} };
+    ghost follows = { λ asked old new.
+        IsAskedBy ⟦<ServerLine<MachineDial<'static>> as Line>⟧.follows asked old new };
 
-    ghost unchanged = { λ _. tt };
+    ghost unchanged = { λ caller. (refl, refl, tt) };
 
-    ghost joined = { λ _ _ _ _ _ _ _. tt };
+    ghost joined = { λ first more a b c.
+        asked_joined ⟦<ServerLine<MachineDial<'static>> as Line>⟧.follows first more a b c };
 
     fn ask(&mut self, words: Items<Text>, call: Option<TaskId>) -> Result<Answer, Fault> {
         let mut order = SendOrder {
@@ -56,7 +61,7 @@ impl Asks for Caller<'_> {
         let dial = MachineDial::new(self.rt);
         match send_order(self.rt, &mut order, dial, &mut chance, &mut body) {
             Ok(ending) => Ok(Answer {
-                is_accepted: ending == Ending::Accepted,
+                is_accepted: is_accepted(ending),
                 body: Items::from_vec(body),
             }),
             Err(fault) => Err(fault),
@@ -76,103 +81,115 @@ pub(crate) fn ask_mine<R: Read + Drop, W: Write>(
     reader: R,
     writer: &mut W,
 ) -> Result<Ending, Fault>
-    ensures done { IfOk result (IsMine order.now.words
-        (W.contents writer.old) (W.contents writer.new)) }
+    ensures done { IfOk result (IsMine ⟦<ServerLine<MachineDial<'static>> as Line>⟧.follows
+        order.now.words (R.remaining reader) (W.contents writer.old) (W.contents writer.new)) }
     ensures fault { IfErr result (λ fault. is_of_mine fault ≡ true) }
 {
-    let Some(now) = machine_moment(rt) else {
-        return Err(Fault::NoClock);
-    };
     let words = words_after_board(order.words.as_slice());
-    if is_of_board(words) {
-        ask_of_board(rt, order.words.as_slice(), words, now, writer)
-    } else {
-        ask_apart(rt, order.words.as_slice(), words, reader, writer)
+    if is_alone(words, "setup") {
+        return set_up(rt, reader, writer);
     }
+    if let Some(path) = checked_path(words) {
+        return check_file(rt, path.as_str(), reader, writer);
+    }
+    let mut caller = match read_caller(rt, named_board(order.words.as_slice())) {
+        Ok(caller) => caller,
+        Err(fault) => return Err(unfit(rt, &fault)),
+    };
+    let is_accepted = ask_as(rt, &mut caller, words, reader, writer)?;
+    Ok(ending_if(is_accepted))
 }
 
-/// Whether words are answered by a server alone.
-fn is_of_board(words: &[Text]) -> bool
-    ensures { result ≡ is_of_board words.now }
+/// Asks for what the words say, and says whether it was accepted.
+fn ask_as<R: Read + Drop, W: Write>(
+    rt: &HostRuntime,
+    caller: &mut Caller<'_>,
+    words: &[Text],
+    reader: R,
+    writer: &mut W,
+) -> Result<bool, Fault>
+    ensures asked { IfOk result (λ is_accepted. (asked : List Asked)
+        × IsAskedBy ⟦<ServerLine<MachineDial<'static>> as Line>⟧.follows asked caller.old caller.new
+        × ComesTo words.now (R.remaining reader) (W.contents writer.old) (W.contents writer.new)
+        caller.old.asker asked is_accepted) }
+    ensures fault { IfErr result (λ fault. is_of_mine fault ≡ true) }
 {
-    !(is_alone(words, "setup") || is_alone(words, "undo") || is_use(words) || is_import(words))
-}
-
-fn is_use(words: &[Text]) -> bool
-    ensures { result ≡ is_use words.now }
-{
-    argument_of(words, "use").is_some()
-}
-
-fn is_import(words: &[Text]) -> bool
-    ensures { result ≡ is_import words.now }
-{
-    import_of(words).is_some()
+    if let Some(board) = argument_of(words, "use") {
+        return use_board(rt, caller, board, writer);
+    }
+    if let Some((path, mode)) = import_of(words) {
+        return import_file(rt, caller, path.as_str(), mode, reader, writer);
+    }
+    if is_alone(words, "undo") {
+        return undo(rt, caller, writer);
+    }
+    ask_of_board(rt, caller, words, writer)
 }
 
 /// Asks for what words say of a board.
 fn ask_of_board<W: Write>(
     rt: &HostRuntime,
-    all: &[Text],
-    words: &[Text],
-    now: Moment,
-    writer: &mut W,
-) -> Result<Ending, Fault>
-    ensures done { IfOk result
-        (IsAskedOfBoard words.now (W.contents writer.old) (W.contents writer.new)) }
-    ensures fault { IfErr result (λ fault. is_of_mine fault ≡ true) }
-{
-    let mut caller = match read_caller(rt, board_given(all)) {
-        Ok(caller) => caller,
-        Err(fault) => return unasked(rt, &fault),
-    };
-    let Some(board) = board_of(rt, &mut caller, words)? else {
-        return Ok(Ending::Refused);
-    };
-    let context = Context {
-        clock: clock_at(rt, now)?,
-        style: style_of(rt),
-        me: Text::from_str(rt.alloc(), caller.asker.name.as_str())?,
-        board,
-        call: new_id(&mut MachineChance::new(rt)),
-    };
-    let errors = &mut rt.stderr();
-    let is_accepted = ask_words(rt.alloc(), &mut caller, &context, words, writer, errors)?;
-    Ok(ending_of(is_accepted))
-}
-
-/// The board of words, if it is there: boards are listed without one.
-fn board_of(
-    rt: &HostRuntime,
     caller: &mut Caller<'_>,
     words: &[Text],
-) -> Result<Option<Text>, Fault>
-    ensures { IfErr result (λ fault. is_of_mine fault ≡ true) }
-{
-    if is_alone(words, "boards") {
-        return Ok(Some(Text::new(rt.alloc())));
-    }
-    let name = match needed_board(&caller.asker) {
-        Ok(name) => name,
-        Err(fault) => {
-            unasked(rt, &fault)?;
-            return Ok(None);
-        }
-    };
-    find_board(rt.alloc(), caller, &name, &mut rt.stderr())
-}
-
-/// Tells why nothing is asked.
-pub(crate) fn unasked(rt: &HostRuntime, fault: &MyFault) -> Result<Ending, Fault>
-    ensures refused { IfOk result (λ ending. ending ≡ Refused) }
+    writer: &mut W,
+) -> Result<bool, Fault>
+    ensures asked { IfOk result (λ is_accepted. (asked : List Asked)
+        × IsAskedBy ⟦<ServerLine<MachineDial<'static>> as Line>⟧.follows asked caller.old caller.new
+        × IsDoneOfBoard words.now (W.contents writer.old) (W.contents writer.new)
+        caller.old.asker asked is_accepted) }
     ensures fault { IfErr result (λ fault. is_of_mine fault ≡ true) }
 {
-    wrong(rt.alloc(), "", 0, fault, &mut rt.stderr())?;
-    Ok(Ending::Refused)
+    let errors = &mut rt.stderr();
+    if is_alone(words, "boards") {
+        let context = context_of(rt, &caller.asker, Text::new(rt.alloc()))?;
+        return ask_words(rt.alloc(), caller, &context, words, writer, errors);
+    }
+    let board = board_of(rt, &caller.asker)?;
+    let context = context_of(rt, &caller.asker, board)?;
+    ask_on_board(rt.alloc(), caller, context, words, writer, errors)
 }
 
-pub(crate) fn ending_of(is_accepted: bool) -> Ending
-    ensures { result ≡ ending_of is_accepted }
+/// What words mean, by the clock, the zone and the terminal of the machine.
+fn context_of(rt: &HostRuntime, asker: &Asker, board: Text) -> Result<Context, Fault>
+    ensures me { IfOk result (λ context. context.me ≡ asker.now.name) }
+    ensures board { IfOk result (λ context. context.board ≡ board) }
+    ensures fault { IfErr result (λ fault. is_of_mine fault ≡ true) }
+{
+    let Some(now) = machine_moment(rt) else {
+        return Err(Fault::NoClock);
+    };
+    Ok(Context {
+        clock: clock_at(rt, now)?,
+        style: style_of(rt),
+        me: Text::from_str(rt.alloc(), asker.name.as_str())?,
+        board,
+        call: new_id(&mut MachineChance::new(rt)),
+    })
+}
+
+/// The board that is named, by its number or its title.
+pub(crate) fn board_of(rt: &HostRuntime, asker: &Asker) -> Result<Text, Fault>
+    ensures board { IfOk result (λ board. asker.now.board ≡ Some board) }
+    ensures fault { IfErr result (λ fault. is_of_mine fault ≡ true) }
+{
+    match needed_board(asker) {
+        Ok(board) => Ok(board),
+        Err(fault) => Err(unfit(rt, &fault)),
+    }
+}
+
+/// Tells what is wrong of settings, so that nothing is asked.
+pub(crate) fn unfit(rt: &HostRuntime, fault: &MyFault) -> Fault
+    ensures { is_of_mine result ≡ true }
+{
+    match wrong(rt.alloc(), "", 0, fault, &mut rt.stderr()) {
+        Ok(()) => Fault::Bad,
+        Err(fault) => fault,
+    }
+}
+
+pub(crate) fn ending_if(is_accepted: bool) -> Ending
+    ensures { result ≡ ending_if is_accepted }
 {
     if is_accepted {
         Ending::Accepted
@@ -181,56 +198,12 @@ pub(crate) fn ending_of(is_accepted: bool) -> Ending
     }
 }
 
-/// Carries out words that read or write files too.
-fn ask_apart<R: Read + Drop, W: Write>(
-    rt: &HostRuntime,
-    all: &[Text],
-    words: &[Text],
-    reader: R,
-    writer: &mut W,
-) -> Result<Ending, Fault>
-    ensures { IfErr result (λ fault. is_of_mine fault ≡ true) }
+fn is_accepted(ending: Ending) -> bool
+    ensures { ending ≡ ending_if result }
 {
-    if is_alone(words, "setup") {
-        return set_up(rt, reader, writer);
-    }
-    if let Some((path, ImportMode::Check)) = import_of(words) {
-        return check_file(rt, path.as_str(), reader, writer);
-    }
-    let used = argument_of(words, "use");
-    let named = if used.is_some() {
-        used
-    } else {
-        board_given(all)
-    };
-    let mut caller = match read_caller(rt, named) {
-        Ok(caller) => caller,
-        Err(fault) => return unasked(rt, &fault),
-    };
-    if let Some(board) = used {
-        return use_board(rt, &mut caller, board, writer);
-    }
-    if is_alone(words, "undo") {
-        return undo(rt, &mut caller, writer);
-    }
-    import_into_board(rt, &mut caller, words, reader, writer)
-}
-
-fn import_into_board<R: Read + Drop, W: Write>(
-    rt: &HostRuntime,
-    caller: &mut Caller<'_>,
-    words: &[Text],
-    reader: R,
-    writer: &mut W,
-) -> Result<Ending, Fault>
-    ensures { IfErr result (λ fault. is_of_mine fault ≡ true) }
-{
-    let Some(board) = board_of(rt, caller, words)? else {
-        return Ok(Ending::Refused);
-    };
-    match import_of(words) {
-        Some((path, mode)) => import_file(rt, caller, &board, path.as_str(), mode, reader, writer),
-        None => Ok(Ending::Refused), // Never: these words are those of an import.
+    match ending {
+        Ending::Accepted => true,
+        Ending::Refused => false,
     }
 }
 
@@ -258,7 +231,32 @@ fn argument_of<'w>(words: &'w [Text], name: &str) -> Option<&'w Text>
     }
 }
 
-fn read_caller<'a>(rt: &'a HostRuntime, board: Option<&Text>) -> Result<Caller<'a>, MyFault> {
+/// The file of an import that is only looked at.
+fn checked_path(words: &[Text]) -> Option<&Text>
+    ensures { option_copied result ≡ checked_path words.now }
+{
+    match import_of(words) {
+        Some((path, ImportMode::Check)) => Some(path),
+        _ => None,
+    }
+}
+
+/// The board that the words name: that of `use`, or that of `--board`.
+fn named_board(all: &[Text]) -> Option<&Text>
+    ensures { option_copied result ≡ named_board all.now }
+{
+    let used = argument_of(words_after_board(all), "use");
+    if used.is_some() {
+        used
+    } else {
+        board_given(all)
+    }
+}
+
+fn read_caller<'a>(rt: &'a HostRuntime, board: Option<&Text>) -> Result<Caller<'a>, MyFault>
+    ensures { IfOk result (λ caller. IfSome (option_copied board.entry)
+        (λ name. caller.asker.board ≡ Some name)) }
+{
     let asker = read_asker(rt, board)?;
     let key = key_of(rt, &asker)?;
     Ok(Caller {
@@ -270,7 +268,8 @@ fn read_caller<'a>(rt: &'a HostRuntime, board: Option<&Text>) -> Result<Caller<'
 }
 
 fn twin(key: &Option<Key>) -> Result<Option<Key>, Fault>
-    ensures { IfErr result (λ fault. is_of_mine fault ≡ true) }
+    ensures twin { IfOk result (λ twin. twin ≡ key.now) }
+    ensures fault { IfErr result (λ fault. is_of_mine fault ≡ true) }
 {
     match key {
         Some(key) => Ok(Some(key.duplicate()?)),

@@ -1,8 +1,11 @@
 //! Imports of `my` whose text is cleaned first.
-ghost use Rattle.std.specs.Prelude.{◌≡◌, IfErr, true};
+ghost use Rattle.std.specs.Prelude.{◌≡◌, IfErr, IfOk, IfSome, Ok, true};
+ghost use Rattle.taskboard.specs.Mine.{IsChecked, IsCleanText};
 ghost use Rattle.taskboard.specs.Orders.{is_of_mine};
+ghost use Rattle.tb_cleaning.specs.Cleaning.{Cleans};
 
-use crate::my_deeds::{UNREAD, kind_of, text_of, told};
+use crate::cleaning::tell_notes;
+use crate::my_deeds::{UNREAD, kind_of, refuse, text_of};
 use std::io::{Read, Write};
 use tb_cleaning::{Cleaned, CleaningFault, clean};
 use tb_command_line::ImportKind;
@@ -20,49 +23,44 @@ const TOO_MANY: &str = "A board takes 10,000 tasks, and this text has more. Cut 
 const NOTHING_CAME: &str =
     "Nothing was imported. --skip leaves out what can't be taken, and imports the rest.";
 
-/// A text that is to be imported, or how the order ended without one.
-#[derive(Drop)]
-pub(crate) enum Brought {
-    Text(Items<u8>),
-    Ended(Ending),
-}
-
-/// A text that was cleaned, or how the order ended without one.
-#[derive(Drop)]
-enum Tried {
-    Cleaned(Cleaned),
-    Ended(Ending),
-}
-
-fn try_cleaning(rt: &HostRuntime, text: &str, skips: bool) -> Result<Tried, Fault>
-    ensures { IfErr result (λ fault. is_of_mine fault ≡ true) }
+/// What cleaning makes of a text; none where it makes nothing of it, which is told.
+fn try_cleaning(rt: &HostRuntime, text: &str, skips: bool) -> Result<Option<Cleaned>, Fault>
+    ensures cleaned { IfOk result (λ tried. IfSome tried
+        (λ cleaned. Cleans skips text.now (Ok cleaned))) }
+    ensures fault { IfErr result (λ fault. is_of_mine fault ≡ true) }
 {
     if kind_of(text) == ImportKind::Todo {
-        return Ok(Tried::Ended(told(rt, ONLY_JSON)?));
+        refuse(rt, ONLY_JSON);
+        return Ok(None);
     }
-    match clean(rt.alloc(), text.as_bytes(), skips) {
-        Ok(cleaned) => Ok(Tried::Cleaned(cleaned)),
-        Err(CleaningFault::NotJson) => Ok(Tried::Ended(told(rt, NO_JSON)?)),
-        Err(CleaningFault::TooMany) => Ok(Tried::Ended(told(rt, TOO_MANY)?)),
-        Err(CleaningFault::Memory) => Err(Fault::Memory),
-    }
+    let why = match clean(rt.alloc(), text.as_bytes(), skips) {
+        Ok(cleaned) => return Ok(Some(cleaned)),
+        Err(CleaningFault::NotJson) => NO_JSON,
+        Err(CleaningFault::TooMany) => TOO_MANY,
+        Err(CleaningFault::Memory) => return Err(Fault::Memory),
+    };
+    refuse(rt, why);
+    Ok(None)
 }
 
 /// The cleaned text. Its notes go to standard error, and a text with tasks that can't be taken is refused, unless they are skipped.
-pub(crate) fn cleaned_text(rt: &HostRuntime, text: &str, skips: bool) -> Result<Brought, Fault>
-    ensures { IfErr result (λ fault. is_of_mine fault ≡ true) }
+pub(crate) fn cleaned_text(
+    rt: &HostRuntime,
+    text: &str,
+    skips: bool,
+) -> Result<Option<Items<u8>>, Fault>
+    ensures cleaned { IfOk result (λ brought. IfSome brought (IsCleanText skips text.now)) }
+    ensures fault { IfErr result (λ fault. is_of_mine fault ≡ true) }
 {
-    match try_cleaning(rt, text, skips)? {
-        Tried::Ended(ending) => Ok(Brought::Ended(ending)),
-        Tried::Cleaned(cleaned) => {
-            let _ = print_text(&mut rt.stderr(), cleaned.notes.as_str());
-            if cleaned.is_whole || skips {
-                return Ok(Brought::Text(cleaned.text));
-            }
-            let _ = print_line(&mut rt.stderr(), NOTHING_CAME);
-            Ok(Brought::Ended(Ending::Refused))
-        }
+    let Some(cleaned) = try_cleaning(rt, text, skips)? else {
+        return Ok(None);
+    };
+    let _ = print_text(&mut rt.stderr(), cleaned.notes.as_str());
+    if cleaned.is_whole || skips {
+        return Ok(Some(cleaned.text));
     }
+    refuse(rt, NOTHING_CAME);
+    Ok(None)
 }
 
 /// Tells what cleaning does to a file, and whether all its tasks can be taken.
@@ -72,20 +70,16 @@ pub(crate) fn check_file<R: Read + Drop, W: Write>(
     reader: R,
     writer: &mut W,
 ) -> Result<Ending, Fault>
-    ensures { IfErr result (λ fault. is_of_mine fault ≡ true) }
+    ensures checked { IfOk result (IsChecked path.now (R.remaining reader)
+        (W.contents writer.old) (W.contents writer.new)) }
+    ensures fault { IfErr result (λ fault. is_of_mine fault ≡ true) }
 {
     let Some(text) = text_of(rt, path, reader) else {
-        return told(rt, UNREAD);
+        refuse(rt, UNREAD);
+        return Ok(Ending::Refused);
     };
     match try_cleaning(rt, text.as_str(), false)? {
-        Tried::Ended(ending) => Ok(ending),
-        Tried::Cleaned(cleaned) => {
-            print_text(writer, cleaned.notes.as_str())?;
-            if cleaned.is_whole {
-                Ok(Ending::Accepted)
-            } else {
-                Ok(Ending::Refused)
-            }
-        }
+        Some(cleaned) => tell_notes(&cleaned, writer),
+        None => Ok(Ending::Refused),
     }
 }

@@ -1,26 +1,28 @@
 //! The words of `my` that ask for more than one call, or for none: they read and write files.
-ghost use Rattle.std.specs.Prelude.{◌≡◌, IfErr, true, if◌then◌else◌};
+ghost use Rattle.std.specs.Prelude.{◌≡◌, IfErr, IfOk, IfSome, List, Some, false, true};
+ghost use Rattle.std.specs.String.{string_bytes};
+ghost use Rattle.taskboard.specs.Asking.{IsAskedBy};
+ghost use Rattle.taskboard.specs.Mine.{IsBringing, IsImported, IsImportedAt, IsTextOf, IsUndone, IsUsed, IsWritten, kind_of};
 ghost use Rattle.taskboard.specs.Orders.{is_of_mine};
-ghost use Rattle.tb_command_line.specs.declared.order.ImportKind.TheVariants.{Json, Todo};
-ghost use Rattle.tb_my.specs.Importing.{is_json};
+ghost use Rattle.tb_mine.specs.Asked.{Asked};
 
-use crate::mine::{Caller, unasked};
-use crate::my_cleaning::{Brought, cleaned_text};
+use crate::mine::{Caller, board_of, unfit};
+use crate::my_cleaning::cleaned_text;
 use crate::my_settings::{CONFIG, config_text};
+use std::fs;
 use std::io::{BufRead, BufReader, Read, Write};
-use std::{fs, str};
 use tb_board::Key;
+use tb_client::Line;
 use tb_command_line::ImportKind;
-use tb_mine::{Answer, Asks, number_of, refused};
+use tb_mine::{find_board, import_parts, number_of, take_back};
 use tb_my::{
-    Asker, ImportMode, MyFault, Sent, SettingName, asker_of, import_told, import_words, is_json,
-    kept_sent, read_settings, refusal_text, settings_text, undo_head, undone_in, with_board,
-    without_mark,
+    Asker, ImportMode, MyFault, Sent, SettingName, asker_of, is_json, kept_sent, read_settings,
+    settings_text, undo_head, undone_in, with_board, without_mark,
 };
 use tb_orders::{Ending, parts_of};
 use tb_program::{Fault, print_line};
-use tb_sending::KeyFolder;
-use tb_values::{Duplicate, Items, Text};
+use tb_sending::{KeyFolder, MachineDial, ServerLine};
+use tb_values::{Items, Text};
 
 /// What takes back the last calls, in the folder of the key.
 const UNDO: &str = "undo";
@@ -66,14 +68,18 @@ pub(crate) fn undo<W: Write>(
     rt: &HostRuntime,
     caller: &mut Caller<'_>,
     writer: &mut W,
-) -> Result<Ending, Fault>
-    ensures { IfErr result (λ fault. is_of_mine fault ≡ true) }
+) -> Result<bool, Fault>
+    ensures asked { IfOk result (λ is_accepted. (asked : List Asked)
+        × IsAskedBy ⟦<ServerLine<MachineDial<'static>> as Line>⟧.follows asked caller.old caller.new
+        × IsUndone (W.contents writer.old) (W.contents writer.new)
+        caller.old.asker asked is_accepted) }
+    ensures fault { IfErr result (λ fault. is_of_mine fault ≡ true) }
 {
     let Some(folder) = KeyFolder::at_home(rt) else {
-        return told(rt, NO_HOME);
+        return Ok(refuse(rt, NO_HOME));
     };
     let Some(kept) = folder.private_text(UNDO) else {
-        return told(rt, NOTHING);
+        return Ok(refuse(rt, NOTHING));
     };
     let asker = &caller.asker;
     let all = undone_in(
@@ -83,28 +89,20 @@ pub(crate) fn undo<W: Write>(
         kept.as_str(),
     )?;
     if all.is_empty() {
-        return told(rt, NOTHING);
+        return Ok(refuse(rt, NOTHING));
     }
-    let mut ending = Ending::Accepted;
-    for sent in all.as_slice() {
-        let answer = caller.ask(sent.words.duplicate()?, None)?;
-        if answer.is_accepted {
-            print_line(writer, sent.told.as_str())?;
-        } else {
-            refused(rt.alloc(), &answer, &mut rt.stderr())?;
-            ending = Ending::Refused;
-        }
-    }
+    let errors = &mut rt.stderr();
+    let is_accepted = take_back(rt.alloc(), caller, all.as_slice(), writer, errors)?;
     let _ = folder.put(UNDO, "");
-    Ok(ending)
+    Ok(is_accepted)
 }
 
 /// Tells why nothing is done, which is a refusal.
-pub(crate) fn told(rt: &HostRuntime, text: &str) -> Result<Ending, Fault>
-    ensures { IfErr result (λ fault. is_of_mine fault ≡ true) }
+pub(crate) fn refuse(rt: &HostRuntime, text: &str) -> bool
+    ensures { result ≡ false }
 {
     let _ = print_line(&mut rt.stderr(), text);
-    Ok(Ending::Refused)
+    false
 }
 
 /// Writes another board into the settings, if it is there.
@@ -113,26 +111,40 @@ pub(crate) fn use_board<W: Write>(
     caller: &mut Caller<'_>,
     board: &Text,
     writer: &mut W,
-) -> Result<Ending, Fault>
-    ensures { IfErr result (λ fault. is_of_mine fault ≡ true) }
+) -> Result<bool, Fault>
+    ensures asked { IfOk result (λ is_accepted. (asked : List Asked)
+        × IsAskedBy ⟦<ServerLine<MachineDial<'static>> as Line>⟧.follows asked caller.old caller.new
+        × IsUsed board.now (W.contents writer.old) (W.contents writer.new)
+        caller.old.asker asked is_accepted) }
+    ensures fault { IfErr result (λ fault. is_of_mine fault ≡ true) }
 {
-    let errors = &mut rt.stderr();
-    if number_of(rt.alloc(), caller, board.as_str(), errors)?.is_none() {
-        return Ok(Ending::Refused);
-    }
+    let Some(_) = number_of(rt.alloc(), caller, board.as_str(), &mut rt.stderr())? else {
+        return Ok(false);
+    };
+    keep_board(rt, board, writer)
+}
+
+/// Writes another board into the settings.
+fn keep_board<W: Write>(rt: &HostRuntime, board: &Text, writer: &mut W) -> Result<bool, Fault>
+    ensures kept { IfOk result (IsWritten board.now
+        (W.contents writer.old) (W.contents writer.new)) }
+    ensures fault { IfErr result (λ fault. is_of_mine fault ≡ true) }
+{
     let Some(folder) = KeyFolder::at_home(rt) else {
-        return told(rt, NO_HOME);
+        return Ok(refuse(rt, NO_HOME));
     };
     let text = match config_text(rt) {
         Ok(text) => text,
-        Err(fault) => return unasked(rt, &fault),
+        Err(fault) => return Err(unfit(rt, &fault)),
     };
     folder.make()?;
-    let text = with_board(rt.alloc(), text.as_str(), board.as_str())?;
+    let board = board.as_str();
+    let text = with_board(rt.alloc(), text.as_str(), board)?;
     folder.put(CONFIG, text.as_str())?;
-    let line = format!(in rt.alloc(); "From now on: board {}", board.as_str())?;
+    let mut line = Text::from_str(rt.alloc(), "From now on: board ")?;
+    line.push_str(board)?;
     print_line(writer, line.as_str())?;
-    Ok(Ending::Accepted)
+    Ok(true)
 }
 
 /// Asks whom to ask, and writes it into the settings. Notes in them stay, and where the key is.
@@ -144,11 +156,12 @@ pub(crate) fn set_up<R: Read + Drop, W: Write>(
     ensures { IfErr result (λ fault. is_of_mine fault ≡ true) }
 {
     let Some(folder) = KeyFolder::at_home(rt) else {
-        return told(rt, NO_HOME);
+        refuse(rt, NO_HOME);
+        return Ok(Ending::Refused);
     };
     let before = match config_text(rt) {
         Ok(text) => text,
-        Err(fault) => return unasked(rt, &fault),
+        Err(fault) => return Err(unfit(rt, &fault)),
     };
     let Ok(mut reader) = BufReader::new(rt.alloc(), reader) else {
         return Err(Fault::Memory);
@@ -156,7 +169,7 @@ pub(crate) fn set_up<R: Read + Drop, W: Write>(
     let text = ask_settings(rt, before.as_str(), &mut reader, writer)?;
     let asker = match tried(rt, text.as_str()) {
         Ok(asker) => asker,
-        Err(fault) => return unasked(rt, &fault),
+        Err(fault) => return Err(unfit(rt, &fault)),
     };
     folder.make()?;
     folder.put(CONFIG, text.as_str())?;
@@ -211,7 +224,7 @@ fn keep_key<W: Write>(
 {
     if !key.is_empty() {
         if Key::read(rt.alloc(), key)?.is_none() {
-            return unasked(rt, &MyFault::Unfit(SettingName::KeyFile));
+            return Err(unfit(rt, &MyFault::Unfit(SettingName::KeyFile)));
         }
         let line = format!(in rt.alloc(); "{key}\n")?;
         folder.put(KEY, line.as_str())?;
@@ -243,28 +256,65 @@ fn answer_to<R: Read + Drop, W: Write>(
 pub(crate) fn import_file<R: Read + Drop, W: Write>(
     rt: &HostRuntime,
     caller: &mut Caller<'_>,
+    path: &str,
+    mode: ImportMode,
+    reader: R,
+    writer: &mut W,
+) -> Result<bool, Fault>
+    ensures asked { IfOk result (λ is_accepted. (asked : List Asked)
+        × IsAskedBy ⟦<ServerLine<MachineDial<'static>> as Line>⟧.follows asked caller.old caller.new
+        × IsImported path.now mode (R.remaining reader)
+        (W.contents writer.old) (W.contents writer.new) caller.old.asker asked is_accepted) }
+    ensures fault { IfErr result (λ fault. is_of_mine fault ≡ true) }
+{
+    let name = board_of(rt, &caller.asker)?;
+    let Some(board) = find_board(rt.alloc(), caller, &name, &mut rt.stderr())? else {
+        return Ok(false);
+    };
+    import_into_board(rt, caller, &board, path, mode, reader, writer)
+}
+
+fn import_into_board<R: Read + Drop, W: Write>(
+    rt: &HostRuntime,
+    caller: &mut Caller<'_>,
     board: &Text,
     path: &str,
     mode: ImportMode,
     reader: R,
     writer: &mut W,
-) -> Result<Ending, Fault>
-    ensures { IfErr result (λ fault. is_of_mine fault ≡ true) }
+) -> Result<bool, Fault>
+    ensures asked { IfOk result (λ is_accepted. (asked : List Asked)
+        × IsAskedBy ⟦<ServerLine<MachineDial<'static>> as Line>⟧.follows asked caller.old caller.new
+        × IsImportedAt (Some board.now) path.now mode (R.remaining reader)
+        (W.contents writer.old) (W.contents writer.new) asked is_accepted) }
+    ensures fault { IfErr result (λ fault. is_of_mine fault ≡ true) }
 {
     let Some(text) = text_of(rt, path, reader) else {
-        return told(rt, UNREAD);
+        return Ok(refuse(rt, UNREAD));
     };
-    match text_to_bring(rt, text.as_str(), mode)? {
-        Brought::Text(bytes) => {
-            import_text(rt, caller, board, kind_of(text.as_str()), bytes, writer)
-        }
-        Brought::Ended(ending) => Ok(ending),
-    }
+    let text = text.as_str();
+    let Some(bytes) = text_to_bring(rt, text, mode)? else {
+        return Ok(false);
+    };
+    let Some(parts) = parts_of(rt.alloc(), kind_of(text), bytes)? else {
+        return Ok(refuse(rt, LONG_LINE));
+    };
+    let errors = &mut rt.stderr();
+    let parts = parts.as_slice();
+    import_parts(
+        rt.alloc(),
+        caller,
+        board,
+        is_json(text),
+        parts,
+        writer,
+        errors,
+    )
 }
 
 /// JSON by its first bracket, or lines of todo.txt.
 pub(crate) fn kind_of(text: &str) -> ImportKind
-    ensures { result ≡ (if is_json text.now then Json else Todo) }
+    ensures { result ≡ kind_of text.now }
 {
     if is_json(text) {
         ImportKind::Json
@@ -273,79 +323,26 @@ pub(crate) fn kind_of(text: &str) -> ImportKind
     }
 }
 
-/// The text as it is, or cleaned.
-fn text_to_bring(rt: &HostRuntime, text: &str, mode: ImportMode) -> Result<Brought, Fault>
-    ensures { IfErr result (λ fault. is_of_mine fault ≡ true) }
+/// The text as it is, or cleaned; none where it can't be cleaned, which is told.
+fn text_to_bring(rt: &HostRuntime, text: &str, mode: ImportMode) -> Result<Option<Items<u8>>, Fault>
+    ensures bringing { IfOk result (λ brought. IfSome brought
+        (λ bytes. IsBringing mode text.now bytes)) }
+    ensures fault { IfErr result (λ fault. is_of_mine fault ≡ true) }
 {
-    if mode != ImportMode::AsItIs {
-        return cleaned_text(rt, text, mode == ImportMode::Skip);
-    }
-    let bytes = without_mark(text).as_bytes();
-    let bytes = Items::from_vec(Vec::from_slice(rt.alloc(), bytes)?);
-    Ok(Brought::Text(bytes))
-}
-
-/// Imports a text in parts.
-fn import_text<W: Write>(
-    rt: &HostRuntime,
-    caller: &mut Caller<'_>,
-    board: &Text,
-    kind: ImportKind,
-    bytes: Items<u8>,
-    writer: &mut W,
-) -> Result<Ending, Fault>
-    ensures { IfErr result (λ fault. is_of_mine fault ≡ true) }
-{
-    let Some(parts) = parts_of(rt.alloc(), kind, bytes)? else {
-        return told(rt, LONG_LINE);
-    };
-    for part in parts.as_slice() {
-        let answer = import_part(rt, caller, board, kind, part)?;
-        let Ok(body) = str::from_utf8(answer.body.as_slice()) else {
-            return Err(Fault::NoAnswer);
-        };
-        if !answer.is_accepted {
-            return refused_part(rt, &answer, body.trim_end());
+    match mode {
+        ImportMode::AsItIs => {
+            let bytes = without_mark(text).as_bytes();
+            Ok(Some(Items::from_vec(Vec::from_slice(rt.alloc(), bytes)?)))
         }
-        print_line(writer, import_told(rt.alloc(), body)?.as_str())?;
+        ImportMode::Skip => cleaned_text(rt, text, true),
+        ImportMode::Check | ImportMode::Clean => cleaned_text(rt, text, false),
     }
-    Ok(Ending::Accepted)
-}
-
-/// Tells why a part is refused: as it came, which says of which task, and in words where there are some.
-fn refused_part(rt: &HostRuntime, answer: &Answer, body: &str) -> Result<Ending, Fault>
-    ensures { IfErr result (λ fault. is_of_mine fault ≡ true) }
-{
-    if refusal_text(rt.alloc(), body)?.as_str() != body {
-        let _ = print_line(&mut rt.stderr(), body);
-    }
-    refused(rt.alloc(), answer, &mut rt.stderr())?;
-    Ok(Ending::Refused)
-}
-
-fn import_part(
-    rt: &HostRuntime,
-    caller: &mut Caller<'_>,
-    board: &Text,
-    kind: ImportKind,
-    part: &Items<u8>,
-) -> Result<Answer, Fault>
-    ensures { IfErr result (λ fault. is_of_mine fault ≡ true) }
-{
-    let Ok(text) = str::from_utf8(part.as_slice()) else {
-        return Err(Fault::BadBody);
-    };
-    let is_json = kind == ImportKind::Json;
-    let words = import_words(rt.alloc(), is_json, board, text)?;
-    caller.ask(words, None)
 }
 
 /// The text of a file, or of standard input where its name is a hyphen.
-pub(crate) fn text_of<R: Read + Drop>(
-    rt: &HostRuntime,
-    path: &str,
-    mut reader: R,
-) -> Option<String> {
+pub(crate) fn text_of<R: Read + Drop>(rt: &HostRuntime, path: &str, mut reader: R) -> Option<String>
+    ensures { IfSome result (λ text. IsTextOf path.now (R.remaining reader) (string_bytes text)) }
+{
     if path != "-" {
         return fs::read_to_string(rt, path).ok();
     }

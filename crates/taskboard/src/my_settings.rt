@@ -1,5 +1,5 @@
 //! Where the settings of `my` are: the environment, and a file that its owner alone may read. What they hold isn't known before.
-ghost use Rattle.std.specs.Prelude.{◌≡◌, IfErr, None, Ok};
+ghost use Rattle.std.specs.Prelude.{◌≡◌, IfErr, IfOk, IfSome, None, Ok, Some, option_copied};
 ghost use Rattle.tb_my.specs.declared.fault.MyFault.TheVariants.{Unfit};
 ghost use Rattle.tb_my.specs.declared.settings.SettingName.TheVariants.{Config};
 
@@ -13,7 +13,10 @@ use tb_values::{Duplicate, Text};
 pub(crate) const CONFIG: &str = "config";
 
 /// Whom to ask, by a board that is named before all else, by the environment, and by the file where that lacks a setting.
-pub(crate) fn read_asker(rt: &HostRuntime, board: Option<&Text>) -> Result<Asker, MyFault> {
+pub(crate) fn read_asker(rt: &HostRuntime, board: Option<&Text>) -> Result<Asker, MyFault>
+    ensures { IfOk result (λ asker. IfSome (option_copied board.entry)
+        (λ name. asker.board ≡ Some name)) }
+{
     let file = settings_in_file(rt)?;
     let board = match board {
         Some(board) => Some(board.duplicate()?),

@@ -1,7 +1,6 @@
 //! Calls and views that are sent to a server.
 ghost use Rattle.std.specs.Prelude.{◌≡◌, IfErr, IfOk, true};
-ghost use Rattle.taskboard.specs.Failing.{IsUnsentOver};
-ghost use Rattle.taskboard.specs.Orders.{IsSentOver};
+ghost use Rattle.taskboard.specs.Sent.{IsSentOver, IsUnsentOver};
 ghost use Rattle.tb_sending.specs.Faults.{is_of_sending};
 
 use std::io::Write;

@@ -3,12 +3,11 @@ use Rattle.std.proofs.Common.{◌≡◌, ◌∙◌, ℕ, ◌+◌, ◌<◌, Bool,
 use Rattle.std.specs.Io.KnownBytes.{Appends}
 use Rattle.std.proofs.lemmas.List.{append-nil, take_more}
 use Rattle.tb_mine.specs.Asked.{AreOf, Asked, IsAskedFor, IsOf, Output, all_accepted, is_refusal, printed_by}
-use Rattle.tb_mine.specs.Printed.{printed_of}
-use Rattle.tb_mine.specs.declared.context.Context.{Context}
+use Rattle.tb_mine.specs.declared.asks.Answer.{Answer}
 use Rattle.tb_my.specs.Outcome.{Fails}
 use Rattle.tb_my.specs.declared.fault.MyFault.{MyFault}
 use Rattle.tb_my.specs.declared.fault.MyFault.TheVariants.{BadLine, Lacks, Memory, NoBoard, NoDay, NoForm, NoPriority, NoTask, NoWord, TwoBoards, Unfit}
-use Rattle.tb_my.specs.declared.look.Seen.{Seen}
+use Rattle.tb_my.specs.Days.{Text}
 use Rattle.tb_my.specs.declared.sent.Sent.{Sent}
 use Rattle.tb_values.proofs.Appends.{Appends-then}
 
@@ -42,50 +41,50 @@ accepted_more [] asked = refl
 accepted_more (a ∷ list) asked =
     ap (λ b. a.answer.is_accepted && b) (accepted_more list asked) ∙ both_first a.answer.is_accepted asked.answer.is_accepted (all_accepted list)
 
-printed_more : (context : Context) (tasks : List Seen) (all : List Sent) (list : List Asked) (sent : Sent) (asked : Asked) → AreOf all list
-    → printed_by context tasks (all ++ sent ∷ []) (list ++ asked ∷ []) ≡ printed_by context tasks all list ++ printed_of context.clock tasks sent asked.answer
-printed_more context tasks [] [] sent asked are = append-nil (printed_of context.clock tasks sent asked.answer)
-printed_more context tasks [] (a ∷ list) sent asked are = absurd are
-printed_more context tasks (s ∷ all) [] sent asked are = absurd are
-printed_more context tasks (s ∷ all) (a ∷ list) sent asked are =
-    let first = printed_of context.clock tasks s a.answer in
-    ap (λ text. first ++ text) (printed_more context tasks all list sent asked are.1)
-    ∙ sym (append_assoc first (printed_by context tasks all list) (printed_of context.clock tasks sent asked.answer))
+printed_more : (print : Sent → Answer → Text) (all : List Sent) (list : List Asked) (sent : Sent) (asked : Asked) → AreOf all list
+    → printed_by print (all ++ sent ∷ []) (list ++ asked ∷ []) ≡ printed_by print all list ++ print sent asked.answer
+printed_more print [] [] sent asked are = append-nil (print sent asked.answer)
+printed_more print [] (a ∷ list) sent asked are = absurd are
+printed_more print (s ∷ all) [] sent asked are = absurd are
+printed_more print (s ∷ all) (a ∷ list) sent asked are =
+    let first = print s a.answer in
+    ap (λ text. first ++ text) (printed_more print all list sent asked are.1)
+    ∙ sym (append_assoc first (printed_by print all list) (print sent asked.answer))
 
-asked_more : (context : Context) (tasks : List Seen) (all : List Sent) (list : List Asked) (sent : Sent) (asked : Asked) (a b c : Output) (is : Bool)
-    → IsAskedFor context tasks all list a b is → IsOf sent asked → Appends b c (printed_of context.clock tasks sent asked.answer)
-    → IsAskedFor context tasks (all ++ sent ∷ []) (list ++ asked ∷ []) a c (asked.answer.is_accepted && is)
-asked_more context tasks all list sent asked a b c is so of printed = record {
+asked_more : (print : Sent → Answer → Text) (all : List Sent) (list : List Asked) (sent : Sent) (asked : Asked) (a b c : Output) (is : Bool)
+    → IsAskedFor print all list a b is → IsOf sent asked → Appends b c (print sent asked.answer)
+    → IsAskedFor print (all ++ sent ∷ []) (list ++ asked ∷ []) a c (asked.answer.is_accepted && is)
+asked_more print all list sent asked a b c is so of printed = record {
   each = of_more all list sent asked so.each of;
   accepted = ap (λ so. asked.answer.is_accepted && so) so.accepted ∙ sym (accepted_more list asked);
-  printed = subst (Appends a c) (sym (printed_more context tasks all list sent asked so.each)) (Appends-then a b c _ _ so.printed printed);
+  printed = subst (Appends a c) (sym (printed_more print all list sent asked so.each)) (Appends-then a b c _ _ so.printed printed);
 }
 
 -- so many were asked for
-pub record Going {A : Type 0} (follows : List Asked → A → A → Type 0) (context : Context) (tasks : List Seen) (all : List Sent) (is : Bool) (before after : Output)
+pub record Going {A : Type 0} (follows : List Asked → A → A → Type 0) (print : Sent → Answer → Text) (all : List Sent) (is : Bool) (before after : Output)
     (old new : A) : Type 0 where
   pub list : List Asked
   pub follow : follows list old new
-  pub so : IsAskedFor context tasks all list before after is
+  pub so : IsAskedFor print all list before after is
 
 abbrev pub Joins : {A : Type 0} → (List Asked → A → A → Type 0) → Type 0
 Joins {A} follows = (first more : List Asked) (a b c : A) → follows first a b → follows more b c → follows (first ++ more) a c
 
 -- one that was asked for
-abbrev pub IsOne : {A : Type 0} → (List Asked → A → A → Type 0) → Context → List Seen → Sent → Output → Output → A → A → Bool → Type 0
-IsOne follows context tasks sent before after old new is = (asked : Asked) × follows (asked ∷ []) old new × IsOf sent asked × (is ≡ asked.answer.is_accepted)
-    × Appends before after (printed_of context.clock tasks sent asked.answer)
+abbrev pub IsOne : {A : Type 0} → (List Asked → A → A → Type 0) → (Sent → Answer → Text) → Sent → Output → Output → A → A → Bool → Type 0
+IsOne follows print sent before after old new is = (asked : Asked) × follows (asked ∷ []) old new × IsOf sent asked × (is ≡ asked.answer.is_accepted)
+    × Appends before after (print sent asked.answer)
 
-pub going_on : {A : Type 0} (follows : List Asked → A → A → Type 0) (joined : Joins follows) (context : Context) (tasks : List Seen) (all : List Sent) (i : ℕ) (sent : Sent)
+pub going_on : {A : Type 0} (follows : List Asked → A → A → Type 0) (joined : Joins follows) (print : Sent → Answer → Text) (all : List Sent) (i : ℕ) (sent : Sent)
     (is one : Bool) (a b c : Output) (x y z : A) → i < length all → sent ≡ get_or all i sent
-    → Going follows context tasks (take i all) is a b x y → IsOne follows context tasks sent b c y z one
-    → Going follows context tasks (take (i + 1) all) (one && is) a c x z
-going_on follows joined context tasks all i sent is one a b c x y z within at so now =
+    → Going follows print (take i all) is a b x y → IsOne follows print sent b c y z one
+    → Going follows print (take (i + 1) all) (one && is) a c x z
+going_on follows joined print all i sent is one a b c x y z within at so now =
     let next : take (i + 1) all ≡ take i all ++ sent ∷ [] = take_more all i sent within ∙ ap (λ s. take i all ++ s ∷ []) (sym at) in
-    let more = asked_more context tasks (take i all) so.list sent now.0 a b c is so.so now.2 now.4 in
+    let more = asked_more print (take i all) so.list sent now.0 a b c is so.so now.2 now.4 in
     record {
       list = so.list ++ now.0 ∷ [];
       follow = joined so.list (now.0 ∷ []) x y z so.follow now.1;
-      so = subst (λ sents. IsAskedFor context tasks sents (so.list ++ now.0 ∷ []) a c (one && is)) (sym next)
-          (subst (λ b. IsAskedFor context tasks (take i all ++ sent ∷ []) (so.list ++ now.0 ∷ []) a c (b && is)) (sym now.3) more);
+      so = subst (λ sents. IsAskedFor print sents (so.list ++ now.0 ∷ []) a c (one && is)) (sym next)
+          (subst (λ b. IsAskedFor print (take i all ++ sent ∷ []) (so.list ++ now.0 ∷ []) a c (b && is)) (sym now.3) more);
     }

@@ -47,17 +47,17 @@ all_accepted [] = true
 all_accepted (asked ∷ more) = asked.answer.is_accepted && all_accepted more
 
 -- what is printed of each, in this order
-abbrev pub printed_by : Context → List Seen → List Sent → List Asked → List ℕ
-printed_by context tasks [] asked = []
-printed_by context tasks (sent ∷ all) [] = []
-printed_by context tasks (sent ∷ all) (asked ∷ more) =
-    printed_of context.clock tasks sent asked.answer ++ printed_by context tasks all more
+abbrev pub printed_by : (Sent → Answer → Text) → List Sent → List Asked → Text
+printed_by print [] asked = []
+printed_by print (sent ∷ all) [] = []
+printed_by print (sent ∷ all) (asked ∷ more) =
+    print sent asked.answer ++ printed_by print all more
 
-pub record IsAskedFor (context : Context) (tasks : List Seen) (all : List Sent) (asked : List Asked)
+pub record IsAskedFor (print : Sent → Answer → Text) (all : List Sent) (asked : List Asked)
     (before after : Output) (is_accepted : Bool) : Type 0 where
   pub each : AreOf all asked
   pub accepted : is_accepted ≡ all_accepted asked
-  pub printed : Appends before after (printed_by context tasks all asked)
+  pub printed : Appends before after (printed_by print all asked)
 
 -- ---- refusals before anything is asked for
 
@@ -77,7 +77,7 @@ IsRefused asked before after is_accepted =
 abbrev pub IsAskedSo : Context → List Seen → Result (List Sent) MyFault → List Asked
     → Output → Output → Bool → Type 0
 IsAskedSo context tasks (Ok all) asked before after is_accepted =
-    IsAskedFor context tasks all asked before after is_accepted
+    IsAskedFor (printed_of context.clock tasks) all asked before after is_accepted
 IsAskedSo context tasks (Err fault) asked before after is_accepted =
     (is_refusal fault ≡ true) × IsRefused asked before after is_accepted
 

@@ -38,6 +38,13 @@ shown_by clock tasks sent body =
     told_or sent.told (view_text clock tasks (first_word sent.words) body)
 
 -- of what was refused nothing is printed
+abbrev pub if_accepted : Answer → Text → Text
+if_accepted answer text = if answer.is_accepted then text else []
+
 abbrev pub printed_of : Clock → List Seen → Sent → Answer → Text
 printed_of clock tasks sent answer =
-    if answer.is_accepted then shown_by clock tasks sent answer.body else []
+    if_accepted answer (shown_by clock tasks sent answer.body)
+
+-- of a call that takes another back: what is said of it, in a line
+abbrev pub told_line : Sent → Answer → Text
+told_line sent answer = if_accepted answer (sent.told ++ 10 ∷ [])

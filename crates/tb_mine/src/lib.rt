@@ -5,14 +5,18 @@
 
 mod asks;
 mod context;
+mod importing;
 mod listing;
 mod naming;
 mod sending;
 mod telling;
+mod undoing;
 mod words;
 
 pub use asks::{Answer, Asks};
 pub use context::Context;
+pub use importing::import_parts;
 pub use naming::{find_board, number_of};
-pub use telling::{refused, wrong};
-pub use words::ask_words;
+pub use telling::wrong;
+pub use undoing::take_back;
+pub use words::{ask_on_board, ask_words};

@@ -54,7 +54,7 @@ fn ask_all<A: Asks, W: Write, E: Write>(
 ) -> Result<bool, Fault>
     ensures asked { IfOk result (λ is_accepted. (asked : List Asked)
         × A.follows asked asks.old asks.new
-        × IsAskedFor context.now tasks.now all.now asked
+        × IsAskedFor (printed_of context.now.clock tasks.now) all.now asked
         (W.contents writer.old) (W.contents writer.new) is_accepted) }
     ensures fault { IfErr result (λ fault. is_of_asking fault ≡ true) }
 {

@@ -2,11 +2,13 @@
 ghost use Rattle.std.specs.Prelude.{◌≡◌, IfErr, IfOk, List, Some, true};
 ghost use Rattle.tb_mine.specs.Asked.{Asked, IsAskedOfTasks, IsDone};
 ghost use Rattle.tb_mine.specs.Faults.{is_of_asking};
+ghost use Rattle.tb_mine.specs.Found.{IsDoneOnBoard};
 ghost use Rattle.tb_my.specs.Look.{seen_in};
 
 use crate::asks::Asks;
 use crate::context::Context;
 use crate::listing::{ask_list, look_at};
+use crate::naming::find_board;
 use crate::sending::ask_seen;
 use crate::telling::text_in;
 use std::alloc::Global;
@@ -34,6 +36,31 @@ pub fn ask_words<A: Asks, W: Write, E: Write>(
         Some(listed) => ask_list(alloc, asks, context, listed, writer, errors),
         None if looks(words) => ask_of_tasks(alloc, asks, context, words, writer, errors),
         None => ask_seen(alloc, asks, context, &[], words, writer, errors),
+    }
+}
+
+/// The same of the board that the context names, by its number or its title, which is found first.
+pub fn ask_on_board<A: Asks, W: Write, E: Write>(
+    alloc: Global,
+    asks: &mut A,
+    context: Context,
+    words: &[Text],
+    writer: &mut W,
+    errors: &mut E,
+) -> Result<bool, Fault>
+    ensures asked { IfOk result (λ is_accepted. (asked : List Asked)
+        × A.follows asked asks.old asks.new
+        × IsDoneOnBoard context words.now asked
+        (W.contents writer.old) (W.contents writer.new) is_accepted) }
+    ensures fault { IfErr result (λ fault. is_of_asking fault ≡ true) }
+{
+    match find_board(alloc, asks, &context.board, errors)? {
+        Some(board) => {
+            let mut found = context;
+            found.board = board;
+            ask_words(alloc, asks, &found, words, writer, errors)
+        }
+        None => Ok(false),
     }
 }
 

@@ -12,15 +12,15 @@ returns-in_ok-tasks-in-Some-clause-asked g c =
     let look : (look : Asked) × follows (look ∷ []) c.args.asks.now c.look_at.new.asks × IsLookAt c.args.context.now.board look (Some export) = search rules in
     let seen : seen_in export ≡ Some tasks = search rules in
     IfOk-weaker c.ask_seen.result _ _
-    (λ is_accepted p. (
-      look.0 ∷ p.0,
+    (λ is_accepted p. let all = look.0 ∷ p.0 in (
+      all,
       g.A.Asks.joined (look.0 ∷ []) p.0 c.args.asks.now c.look_at.new.asks c.ask_seen.new.asks look.1 p.1,
       record {
         look = look.0;
         export = Some export;
         is = look.2;
         more = p.0;
-        first = refl;
+        first = refl {a = all};
         goes = record { tasks = tasks; seen = seen; asked = p.2 };
       },
     ))

@@ -1,0 +1,27 @@
+use Rattle.std.proofs.Common.{rules, refl, subst, sym}
+use Rattle.taskboard.specs.Sent.{IsSentOver}
+use Rattle.taskboard.proofs.mine.CallerAsks.ask.Goals as goal
+
+pub returns-in-Ok-clause-asked : goal.returns-in-Ok-clause-asked
+returns-in-Ok-clause-asked c =
+    let sent = c.in-Ok.ensures.sent in (
+      refl,
+      refl,
+      (
+        record {
+          order = c.name_call.new.order;
+          server = search rules;
+          member = search rules;
+          under = search rules;
+          words = search rules;
+          call = search rules;
+          before = c.new-body.result;
+          after = c.send_order.new.writer;
+          none = c.new-body.ensures.items;
+          body = sym c.from_vec.ensures;
+          sent = subst (IsSentOver _ _ c.name_call.new.order c.new-body.result c.send_order.new.writer) c.is_accepted.ensures
+              (record { ready = c.send_order.new.order; machine = c.new-dial.result; old = sent.0; new = sent.1; to = sent.2; comes = sent.3 });
+        },
+        tt,
+      ),
+    )

@@ -1,0 +1,14 @@
+use Rattle.std.proofs.Common.{rules, ◌≡◌, ◌∷◌, ◌++◌, [], true, refl, sym}
+use Rattle.std.specs.Io.KnownBytes.{Appends}
+use Rattle.tb_mine.specs.Asked.{Asked, asked_of}
+use Rattle.tb_mine.proofs.undoing.take_back_one.Goals as goal
+
+pub returns-clause-asked : goal.returns-clause-asked
+returns-clause-asked g c =
+    let sent = c.args.sent.now in
+    let answer = c.in_ok-answer.answer in
+    let accepted : answer.is_accepted ≡ true = search rules in
+    let asked : Asked = asked_of sent.words sent.call answer in
+    let first : g.A.Asks.follows (asked ∷ []) c.args.asks.now c.ask.new.self = search rules in
+    let told : Appends (g.W.Write.contents c.args.writer.now) (g.W.Write.contents c.print_line.new.writer) (sent.told ++ 10 ∷ []) = search rules in
+    (asked, first, (refl, refl), sym accepted, rw accepted told)
