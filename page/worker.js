@@ -2,7 +2,7 @@
 // version, which is named by their content. The worker answers for these files alone; what is asked of the boards never comes by here.
 //
 // A browser asks for the worker at each start, and a page that stays open every few minutes; it is installed anew where a byte of it differs. The
-// next line, made by tests/page_content.py, differs with every other file, so a new version is found then, also where its files are as long as
+// next line, made by tests/page/page_content.py, differs with every other file, so a new version is found then, also where its files are as long as
 // before.
 // Content of the other files: b0653bafcd6c2438169cb843fb9f603b419a27b0c4491c5c1f50df50841d834b
 

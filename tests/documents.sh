@@ -3,10 +3,10 @@
 # program's, and what their commands print. It needs python3, curl for most commands and sqlite3 for one, and takes seconds once the program is there.
 set -eu
 
-. "$(dirname "$0")/prepare.sh"
+. "$(dirname "$0")/lib/prepare.sh"
 
-python3 "$top/tests/document_names.py"
-python3 "$top/tests/document_tables.py" "$program"
-PYTHONPATH=$top/tests python3 "$top/tests/document_runs.py" "$program" "$port"
+python3 "$top/tests/documents/document_names.py"
+python3 "$top/tests/documents/document_tables.py" "$program"
+python3 "$top/tests/documents/document_runs.py" "$program" "$port"
 # What the rules name beside their definitions: tests and refusals.
 python3 "$top/tools/rules.py" --check

@@ -19,12 +19,13 @@ export SYNC_TASKS=${SYNC_TASKS:-60} SYNC_DAYS=${SYNC_DAYS:-2}
 # Runs a test, for MOST seconds at most, and then prints what it said, whole.
 MOST=1200
 run() {
+    said=$room/${1##*/}
     case $1 in
     *.py) timeout "$MOST" python3 "tests/$1" "$(./taskboard --where)" ;;
     *) timeout "$MOST" sh "tests/$1" ;;
-    esac >"$room/$1" 2>&1
+    esac >"$said" 2>&1
     status=$?
-    (flock 9 && echo "$1:" && cat "$room/$1") 9>"$room/lock"
+    (flock 9 && echo "$1:" && cat "$said") 9>"$room/lock"
     return "$status"
 }
 
@@ -41,7 +42,7 @@ attempt() {
     done
     run "$name" && return
     case $name in
-    browser.sh | page.sh | firefox.sh)
+    page/*)
         echo "$name: FAILED, and is run once more"
         run "$name" && return
         ;;
@@ -50,52 +51,52 @@ attempt() {
 }
 
 of_pages() {
-    attempt page.sh python3
-    attempt wire.py python3
-    attempt sums.py python3
-    attempt client.sh python3
+    attempt page/page.sh python3
+    attempt serve/wire.py python3
+    attempt crash/sums.py python3
+    attempt run/client.sh python3
 }
 
 of_orders() {
-    attempt scripts.py python3
-    attempt mutations.sh python3
-    attempt serve.sh python3
-    attempt keys.sh python3
-    attempt import.sh python3
-    attempt kill.sh python3
-    attempt store_fails.sh python3
-    attempt strange_rows.sh python3
-    attempt old_file.py python3
-    attempt logs.py python3
-    attempt moved.py python3
-    attempt curl.sh python3 curl
-    attempt silent.sh python3
-    attempt own_key.sh python3
-    attempt my.sh python3
-    attempt kits.py python3
-    attempt sync.sh python3
-    attempt own_cleaning.sh python3
-    attempt clean.sh python3 task
-    attempt remind.sh python3
+    attempt run/scripts.py python3
+    attempt hostile/mutations.sh python3
+    attempt serve/serve.sh python3
+    attempt run/keys.sh python3
+    attempt run/import.sh python3
+    attempt crash/kill.sh python3
+    attempt crash/store_fails.sh python3
+    attempt hostile/strange_rows.sh python3
+    attempt run/old_file.py python3
+    attempt crash/logs.py python3
+    attempt serve/moved.py python3
+    attempt serve/curl.sh python3 curl
+    attempt hostile/silent.sh python3
+    attempt run/own_key.sh python3
+    attempt run/my.sh python3
+    attempt tools/kits.py python3
+    attempt sync/sync.sh python3
+    attempt sync/own_cleaning.sh python3
+    attempt sync/clean.sh python3 task
+    attempt operate/remind.sh python3
     attempt documents.sh python3
 }
 
 of_machines() {
-    attempt browser.sh python3
-    attempt firefox.sh python3
-    attempt crowd.sh python3
-    attempt rates.sh python3
-    attempt rooms.sh python3
-    attempt clients.sh python3
-    attempt backup.sh python3
-    attempt restore.sh python3
-    attempt watch.sh python3
-    attempt proxy.sh python3
-    attempt install.sh sh
-    attempt ship.sh python3
-    attempt faults.sh python3
-    attempt power.sh python3 strace
-    attempt memory.sh python3 cc
+    attempt page/browser.sh python3
+    attempt page/firefox.sh python3
+    attempt hostile/crowd.sh python3
+    attempt hostile/rates.sh python3
+    attempt hostile/rooms.sh python3
+    attempt serve/clients.sh python3
+    attempt operate/backup.sh python3
+    attempt operate/restore.sh python3
+    attempt operate/watch.sh python3
+    attempt operate/proxy.sh python3
+    attempt operate/install.sh sh
+    attempt operate/ship.sh python3
+    attempt crash/faults.sh python3
+    attempt crash/power.sh python3 strace
+    attempt crash/memory.sh python3 cc
 }
 
 room=$(mktemp -d)

@@ -135,8 +135,8 @@ def read_rules(lines):
 def tests():
     """What a rule may be tried by: a case of the test crates, a script or a function of tests/."""
     cases = {path.stem for path in TOP.glob("crates/tests/data/*") if path.suffix in (".script", ".wire", ".steps", ".case")}
-    functions = {name for path in TOP.glob("tests/*.py") for name in re.findall(r"(?m)^def (\w+)", path.read_text())}
-    return cases | functions | {path.name for path in TOP.glob("tests/*.sh")} | {path.name for path in TOP.glob("tests/*.py")}
+    functions = {name for path in TOP.glob("tests/**/*.py") for name in re.findall(r"(?m)^def (\w+)", path.read_text())}
+    return cases | functions | {path.name for ending in ("sh", "py") for path in TOP.glob(f"tests/**/*.{ending}")}
 
 
 def faults_of(rules):

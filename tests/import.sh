@@ -1,7 +1,0 @@
-#!/bin/sh
-# Imports texts that one call doesn't take, and tries what is wrong with them. It needs python3, and takes seconds once the program is there.
-set -eu
-
-. "$(dirname "$0")/prepare.sh"
-
-python3 "$top/tests/importing.py" "$program"

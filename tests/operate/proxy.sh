@@ -1,0 +1,17 @@
+#!/bin/sh
+# Serves a file behind a real nginx by contrib/nginx.conf: what it adds to answers, that an identifier goes on once, that wrong keys lock their
+# address out and nobody else. It needs python3, nginx with its Lua module, and openssl, and takes some seconds once the program is there.
+set -eu
+
+. "$(dirname "$0")/../lib/prepare.sh"
+
+for needed in nginx openssl; do
+    if ! command -v "$needed" >/dev/null 2>&1; then
+        echo "skipped, since $needed isn't there"
+        exit 0
+    fi
+done
+openssl req -x509 -newkey rsa:2048 -nodes -days 2 -subj /CN=boards.example.org -addext subjectAltName=DNS:boards.example.org \
+    -keyout key.pem -out certificate.pem 2>/dev/null
+chmod 711 "$folder"
+python3 "$top/tests/operate/proxy.py" "$program" "$port" "$top/contrib/nginx.conf" "$top/page"
