@@ -33,23 +33,22 @@ usage() {
 parts() {
     cat <<PARTS
 755 bin/taskboard PROGRAM
-755 bin/taskboard-backup contrib/backup.sh
-755 bin/tb contrib/tb
-644 share/bash-completion/completions/taskboard contrib/taskboard.bash
-644 share/bash-completion/completions/tb contrib/taskboard.bash
-644 share/doc/taskboard/nginx.conf contrib/nginx.conf
+644 share/bash-completion/completions/taskboard contrib/completion/taskboard.bash
+644 share/bash-completion/completions/tb contrib/completion/taskboard.bash
+644 share/doc/taskboard/nginx.conf contrib/nginx/nginx.conf
 644 share/doc/taskboard/README.md README.md
 PARTS
-    for path in "$contrib"/* "$contrib"/taskboard_*/*.py "$top"/page/* "$top"/docs/*; do
+    for path in "$contrib"/*/* "$contrib"/*/taskboard_*/*.py "$top"/page/* "$top"/docs/*; do
         [ -f "$path" ] || continue
         name=${path##*/}
-        case $path in
-        "$top"/page/*) echo "644 share/taskboard/page/$name page/$name" ;;
-        "$top"/docs/*) echo "644 share/doc/taskboard/docs/$name docs/$name" ;;
-        *.py) echo "644 lib/taskboard/${path#"$contrib"/} contrib/${path#"$contrib"/}" ;;
-        *.1) echo "644 share/man/man1/$name contrib/$name" ;;
-        *.service | *.timer) echo "644 $units/$name contrib/$name" ;;
-        */taskboard-* | */*-sync | */*-clean) echo "755 bin/$name contrib/$name" ;;
+        source=${path#"$top"/}
+        case $source in
+        page/*) echo "644 share/taskboard/page/$name $source" ;;
+        docs/*) echo "644 share/doc/taskboard/docs/$name $source" ;;
+        contrib/*/taskboard_*/*.py) echo "644 lib/taskboard/${source#contrib/*/} $source" ;;
+        contrib/man/*) echo "644 share/man/man1/$name $source" ;;
+        contrib/systemd/*) echo "644 $units/$name $source" ;;
+        contrib/bin/* | contrib/bridges/* | contrib/ship/*) echo "755 bin/$name $source" ;;
         esac
     done
 }

@@ -226,13 +226,13 @@ def check_words():
     read = {word for row in rows for word in re.findall(r"`([a-z-]+)", row)}
     help_text = (TOP / "crates/tb_command_line/src/help.rt").read_text()
     helped = set(re.findall(r"[a-z-]+", help_text.partition("\n    WORD ")[2].partition("\n    TASK ")[0]))
-    shell = re.search(r'(?s)_of_send\(\).*?\n +\*\) _taskboard_words "([^"]*)"', (TOP / "contrib/taskboard.bash").read_text())
+    shell = re.search(r'(?s)_of_send\(\).*?\n +\*\) _taskboard_words "([^"]*)"', (TOP / "contrib/completion/taskboard.bash").read_text())
     offered = set(shell[1].split()) if shell else set()
     if not words:
         faults.append("crates/tb_calls/src/word.rt names no words")
-    for place, told in (("docs/USING.md", read), ("the help of send", helped), ("contrib/taskboard.bash", offered)):
+    for place, told in (("docs/USING.md", read), ("the help of send", helped), ("contrib/completion/taskboard.bash", offered)):
         faults.extend(f"{place} lacks the word {word}" for word in sorted(words - told))
-    faults.extend(f"contrib/taskboard.bash offers {word}, which is no word" for word in sorted(offered - words))
+    faults.extend(f"contrib/completion/taskboard.bash offers {word}, which is no word" for word in sorted(offered - words))
 
 
 def check_deeds():
@@ -255,14 +255,14 @@ def check_my_words():
     read = set(re.findall(r"`([a-z]+)`", section))
     help_text = (TOP / "crates/tb_command_line/src/help.rt").read_text().partition("\ntaskboard my ")[2].partition("\n    N, M ")[0]
     told = set(re.findall(r"[a-z]+", re.sub(r"(?m)  .*$", "", re.sub(r"(?m)^    ", "", help_text))))
-    page = (TOP / "contrib/taskboard.1").read_text().partition("\n.B my")[2].partition("\n.TP\n")[0]
-    shell = re.search(r'(?s)_of_my\(\).*?_taskboard_words "([^"]*)"', (TOP / "contrib/taskboard.bash").read_text())
+    page = (TOP / "contrib/man/taskboard.1").read_text().partition("\n.B my")[2].partition("\n.TP\n")[0]
+    shell = re.search(r'(?s)_of_my\(\).*?_taskboard_words "([^"]*)"', (TOP / "contrib/completion/taskboard.bash").read_text())
     offered = set(shell[1].split()) if shell else set()
     if not words:
         faults.append("crates/tb_my/src/word.rt names no words")
-    for place, named in (("docs/USING.md", read), ("the help of my", told), ("contrib/taskboard.1", set(re.findall(r"[a-z]+", page))), ("contrib/taskboard.bash", offered)):
+    for place, named in (("docs/USING.md", read), ("the help of my", told), ("contrib/man/taskboard.1", set(re.findall(r"[a-z]+", page))), ("contrib/completion/taskboard.bash", offered)):
         faults.extend(f"{place} lacks the word {word} of my" for word in sorted(words - named))
-    faults.extend(f"contrib/taskboard.bash offers {word}, which is no word of my" for word in sorted(offered - words))
+    faults.extend(f"contrib/completion/taskboard.bash offers {word}, which is no word of my" for word in sorted(offered - words))
 
 
 def check_routes():

@@ -204,7 +204,7 @@ def operating():
             sys.exit(f"{name}: no shell reads\n{block}")
     if not shutil.which("curl"):
         return
-    os.symlink("contrib/backup.sh", "taskboard-backup")
+    os.symlink("contrib/bin/taskboard-backup", "taskboard-backup")
     made = [*block_with(name, "install -d -o taskboard -g taskboard -m 0700 /var/lib/taskboard /var/backups/taskboard"), *block_with(name, "key=$(head")]
     run(on_this_machine(made) + '\nprintf %s "$key" >key')
     with Server(PROGRAM, PORT, "lib/boards.db", words=("--forever",), errors=subprocess.DEVNULL):
@@ -213,7 +213,7 @@ def operating():
         expect(name, on_this_machine(keys_and_boards(name)), '{"person":"bob"}\n' * 2 + '{"added":0,"board":1,"more":false}\n' * 2 + "all")
         given, lost = (re.search(rf"`({begin} [^`]+)`", (TOP / name).read_text())[1] for begin in ("taskboard send [^`]+ key bob", "runuser [^`]+ taskboard key"))
         expect(name, f"bobs=bob-key-03\nTASKBOARD_KEY=$(cat key) {given}", '{"person":"bob"}')
-        run("sh taskboard-backup lib/boards.db backups")
+        run("taskboard-backup lib/boards.db backups")
     tried = block_with(name, "newest=$(ls")
     expect(name, on_this_machine(["key=$(cat key)", *tried]), "boards 1 tasks 0 faults 0")
     expect(name, on_this_machine([f"key=$({lost})", 'taskboard list lib/boards.db ann "$key" 1 >listed && echo in']), "in")

@@ -14,7 +14,7 @@ import uuid
 from connecting import connected
 from talking import end_by_signal, make_file
 
-CONTRIB = os.path.join(os.path.dirname(os.path.abspath(__file__)), "..", "..", "contrib")
+BRIDGES = os.path.join(os.path.dirname(os.path.abspath(__file__)), "..", "..", "contrib", "bridges")
 # What happens at a message: the run or the server is killed, before the message goes on or once it was answered; or somebody edits both
 # sides before a view. (An edit between a look at a task and the call on it isn't seen by any client, so none is made there.)
 STOPS = ("run before", "run after", "server before", "server after", "edit")

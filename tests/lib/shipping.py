@@ -1,4 +1,4 @@
-"""What the tests of contrib/taskboard-ship share: a server with its shipper, many clients, and what is restored from the other place."""
+"""What the tests of contrib/ship/taskboard-ship share: a server with its shipper, many clients, and what is restored from the other place."""
 import contextlib
 import json
 import os

@@ -36,12 +36,12 @@ make_later_clone() {
     printf '#!/bin/sh\necho later\n' >later/program
     printf '#!/bin/sh\necho "%s"\n' "$folder/later/program" >later/taskboard
     chmod 755 later/program later/taskboard
-    for changed in page/index.html contrib/taskboard.service docs/OPERATING.md; do
+    for changed in page/index.html contrib/systemd/taskboard.service docs/OPERATING.md; do
         echo "# later" >>"later/$changed"
     done
     echo "later" >later/page/later.js
-    cp later/contrib/taskboard-backup.1 later/contrib/taskboard-later.1
-    rm later/contrib/taskboard-watch
+    cp later/contrib/man/taskboard-backup.1 later/contrib/man/taskboard-later.1
+    rm later/contrib/bin/taskboard-watch
 }
 
 installs_twice() {
@@ -143,7 +143,7 @@ man_page_has_names() {
     names=$(sed -n 's/^ *Fault::.* => "\(.*\)",$/\1/p' "$top/crates/tb_program/src/fault.rt"
         sed -n 's/^| [0-9]* \([A-Z][A-Za-z]*\) |.*/\1/p' "$top/docs/HTTP.md")
     for name in $names; do
-        grep -qw "$name" "$contrib/taskboard.1" || fail "the man page lacks $name"
+        grep -qw "$name" "$contrib/man/taskboard.1" || fail "the man page lacks $name"
     done
     [ "$(echo "$names" | wc -l)" -gt 20 ] || fail "the names of faults and refusals weren't found"
 }
@@ -155,7 +155,7 @@ offered() {
         shift
         COMP_WORDS=("$@") COMP_CWORD=$(($# - 1))
         _taskboard taskboard "${COMP_WORDS[COMP_CWORD]}" "${COMP_WORDS[COMP_CWORD - 1]}"
-        echo "${COMPREPLY[*]}"' bash "$contrib/taskboard.bash" "$@" 2>/dev/null
+        echo "${COMPREPLY[*]}"' bash "$contrib/completion/taskboard.bash" "$@" 2>/dev/null
 }
 
 expect_offered() {
@@ -188,16 +188,16 @@ if is_there systemctl; then
     systemd_finds_units
 fi
 if is_there shellcheck; then
-    for script in "$contrib"/*; do
+    for script in "$contrib"/install.sh "$contrib"/bin/*; do
         [ -f "$script" ] || continue
         case $(head -n 1 "$script") in
         '#!/bin/sh') shellcheck "$script" ;;
         esac
     done
-    shellcheck "$contrib/taskboard.bash"
+    shellcheck "$contrib/completion/taskboard.bash"
 fi
 if is_there groff; then
-    groff -man -Tutf8 -ww "$contrib"/*.1 >page 2>warnings
+    groff -man -Tutf8 -ww "$contrib"/man/*.1 >page 2>warnings
     [ ! -s warnings ] || fail "the man pages: $(cat warnings)"
 fi
 man_page_has_names

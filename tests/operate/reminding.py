@@ -11,7 +11,7 @@ import time
 import uuid
 import zoneinfo
 
-from bridging import CONTRIB, Editor, Server, expect, text
+from bridging import BRIDGES, Editor, Server, expect, text
 from drawing import seeded
 from mailing import STEPS, MailServer
 
@@ -146,7 +146,7 @@ class Reminding:
         return ["--config", f"{name}.conf"]
 
     def start(self, *words):
-        return subprocess.Popen([f"{CONTRIB}/taskboard-remind", *words], stdout=subprocess.PIPE, stderr=subprocess.PIPE, text=True)
+        return subprocess.Popen([f"{BRIDGES}/taskboard-remind", *words], stdout=subprocess.PIPE, stderr=subprocess.PIPE, text=True)
 
     def run(self, *words, status=0):
         process = self.start(*words)

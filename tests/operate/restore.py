@@ -1,4 +1,4 @@
-"""Restores copies by the script taskboard-restore: python3 restore.py PROGRAM PORT, in a folder that has it and backup.sh."""
+"""Restores copies by the script taskboard-restore: python3 restore.py PROGRAM PORT, in a folder that has it and taskboard-backup."""
 import datetime
 import json
 import os
@@ -42,7 +42,7 @@ def ran(*words, **more):
 
 
 def backed_up():
-    done = ran("backup.sh", "b.db", COPIES)
+    done = ran("taskboard-backup", "b.db", COPIES)
     expect(f"a copy was made: {done.stderr}", done.returncode == 0)
     return pathlib.Path(done.stdout.split(" ", 1)[0])
 

@@ -1,12 +1,12 @@
 #!/bin/sh
-# Restores copies by contrib/taskboard-restore: it refuses while somebody has the file open, is killed at each renaming and run again, and
-# tells since when answers are gone; clients then send their calls again. What was restored from stays when contrib/backup.sh thins.
+# Restores copies by contrib/bin/taskboard-restore: it refuses while somebody has the file open, is killed at each renaming and run again, and
+# tells since when answers are gone; clients then send their calls again. What was restored from stays when contrib/bin/taskboard-backup thins.
 # It needs python3, and root for what one user can't see of another's processes. It takes some ten seconds once the program is there.
 set -eu
 
 . "$(dirname "$0")/../lib/prepare.sh"
 cp "$program" taskboard
-cp "$top/contrib/backup.sh" "$top/contrib/taskboard-restore" .
+cp "$top/contrib/bin/taskboard-backup" "$top/contrib/bin/taskboard-restore" .
 
 if command -v shellcheck >/dev/null 2>&1; then
     shellcheck taskboard-restore

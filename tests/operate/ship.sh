@@ -1,5 +1,5 @@
 #!/bin/sh
-# Ships a file of boards by contrib/taskboard-ship: over ends of either side, checkpoints, a disk that is full, a damaged series and real ssh;
+# Ships a file of boards by contrib/ship/taskboard-ship: over ends of either side, checkpoints, a disk that is full, a damaged series and real ssh;
 # then under load, where all is killed at a random moment and the file is lost, also while the line is cut, the receiver killed, and files may
 # not grow. What is restored has to be the state after a prefix of the calls, 2 seconds short at most. It needs python3 with its sqlite3,
 # and takes half a minute. `sh tests/operate/ship.sh 200` tries 200 times in place of 10, one after the other, and measures how much shipping slows a server.
@@ -10,7 +10,7 @@ tries=${1:-10}
 jobs=${JOBS:-$([ "$tries" -gt 20 ] && echo 1 || echo 4)}
 . "$(dirname "$0")/../lib/prepare.sh"
 
-ship=$top/contrib/taskboard-ship
+ship=$top/contrib/ship/taskboard-ship
 failed=
 # Runs a test in a folder of its own, with the words that it needs.
 run_in() {

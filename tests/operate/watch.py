@@ -21,7 +21,7 @@ import uuid
 from talking import KNOWN, Server, answer_to, make_file, message, status_of
 
 PROGRAM, PORT, CONTRIB = sys.argv[1], int(sys.argv[2]), pathlib.Path(sys.argv[3])
-WATCH = CONTRIB / "taskboard-watch"
+WATCH = CONTRIB / "bin/taskboard-watch"
 # Most looks are by the program's own function, since Python takes long to start on a busy machine.
 sys.dont_write_bytecode = True
 loader = importlib.machinery.SourceFileLoader("watch", str(WATCH))
@@ -143,7 +143,7 @@ def looks_at_copies():
     COPIES.mkdir()
     finds(CRITICAL, "there is no copy", "--copies", COPIES)
     environment = {**os.environ, "TASKBOARD": PROGRAM}
-    done = subprocess.run(["sh", CONTRIB / "backup.sh", "b.db", COPIES], env=environment, capture_output=True, text=True, check=True)
+    done = subprocess.run([CONTRIB / "bin/taskboard-backup", "b.db", COPIES], env=environment, capture_output=True, text=True, check=True)
     copy = pathlib.Path(done.stdout.split(" ", 1)[0])
     finds(OK, "the newest copy is", "--copies", COPIES)
     (COPIES / f"b-{stamp(-3 * DAY)}.db").write_text("of a clock that was wrong")
@@ -231,7 +231,7 @@ def looks_at_units(wanted):
 
 def command_of(unit, name, setting):
     """A command of a unit, as systemd runs it for the unit of this name, but in this folder."""
-    line = re.search(rf"(?m)^{setting}=\+?(.*)$", (CONTRIB / unit).read_text())[1]
+    line = re.search(rf"(?m)^{setting}=\+?(.*)$", (CONTRIB / "systemd" / unit).read_text())[1]
     here = line.replace("/etc/taskboard/", "./").replace("/run/", "./")
     return shlex.split(here.replace("$$", "$").replace("%n", name).replace("%i", name))
 

@@ -10,17 +10,17 @@ import sys
 import time
 import uuid as uuids
 
-from bridging import CONTRIB, expect, moment, text
+from bridging import BRIDGES, expect, moment, text
 from drawing import seeded
 
-sys.path.insert(0, CONTRIB)
+sys.path.insert(0, BRIDGES)
 sys.dont_write_bytecode = True
 from taskboard_bridges import steps
 from taskboard_bridges.cleaning import Cleaning, parts_of
 from taskboard_bridges.json_texts import NotJson
 
 PROGRAM = sys.argv[1]
-PAGE = pathlib.Path(CONTRIB, "..", "page")
+PAGE = pathlib.Path(BRIDGES, "..", "..", "page")
 SEED, RANDOM = seeded()
 # What Taskwarrior calls its steps, and what boards call them.
 STEPS = {"daily": "daily", "day": "day", "3days": "3d", "2d": "2d", "weekdays": "weekdays", "week": "weekly", "2wks": "biweekly", "3weeks": "21d", "6w": "6w",
@@ -50,7 +50,7 @@ def random_uuid():
 def clean(given, *options):
     """What the filter writes, what it tells, and its status."""
     given = given if isinstance(given, bytes) else given.encode()
-    ran = subprocess.run([f"{CONTRIB}/taskwarrior-clean", *options], input=given, stdout=subprocess.PIPE, stderr=subprocess.PIPE, timeout=120)
+    ran = subprocess.run([f"{BRIDGES}/taskwarrior-clean", *options], input=given, stdout=subprocess.PIPE, stderr=subprocess.PIPE, timeout=120)
     return ran.stdout, ran.stderr.decode(), ran.returncode
 
 
@@ -212,14 +212,14 @@ def there_and_back():
 
 def look_at_documents():
     """What USING.md says for the way to a board and back is done as it stands there."""
-    blocks = re.findall(r"(?m)(?:^    .*\n)+", pathlib.Path(CONTRIB, "..", "docs", "USING.md").read_text())
+    blocks = re.findall(r"(?m)(?:^    .*\n)+", pathlib.Path(BRIDGES, "..", "..", "docs", "USING.md").read_text())
     there, back = (next(block for block in blocks if word in block) for word in ("taskwarrior-clean --check", "TASKDATA"))
     new_taskwarrior()
     task("rc.recurrence=off", "add", "recur:2wks", "due:now-40d", "A round")
     task("rc.recurrence=off", "add", "pages:3", "Plain")
     board_of(b"")
     pathlib.Path("bin").mkdir()
-    for name, path in (("taskboard", PROGRAM), ("taskwarrior-clean", f"{CONTRIB}/taskwarrior-clean")):
+    for name, path in (("taskboard", PROGRAM), ("taskwarrior-clean", f"{BRIDGES}/taskwarrior-clean")):
         pathlib.Path("bin", name).symlink_to(os.path.abspath(path))
     script = f"set -e\nPATH={os.getcwd()}/bin:$PATH\nid={ID.format(next(calls))}\n{there}{back}"
     ran = subprocess.run(["sh", "-c", script], stdout=subprocess.PIPE, stderr=subprocess.PIPE, timeout=60)
@@ -423,7 +423,7 @@ def look_at_layouts():
     written, told, status = clean(b'{"uuid":"' + ID.format(1).encode() + b'","description":"\xff"}')
     expect("no UTF-8", (b"", 1, True), (written, status, "aren't UTF-8" in told))
     with open("/dev/full", "wb") as full:
-        ran = subprocess.run([f"{CONTRIB}/taskwarrior-clean"], input=wanted, stdout=full, stderr=subprocess.PIPE)
+        ran = subprocess.run([f"{BRIDGES}/taskwarrior-clean"], input=wanted, stdout=full, stderr=subprocess.PIPE)
     expect("a full disk", (1, True), (ran.returncode, b"taskwarrior-clean: the output isn't whole: " in ran.stderr))
 
 

@@ -9,10 +9,10 @@ import subprocess
 import sys
 import uuid as uuids
 
-from bridging import CONTRIB
+from bridging import BRIDGES
 from drawing import seeded
 
-sys.path.insert(0, CONTRIB)
+sys.path.insert(0, BRIDGES)
 sys.dont_write_bytecode = True
 from taskboard_bridges.cleaning import Cleaning, text_of
 from taskboard_bridges.json_texts import NotJson

@@ -7,7 +7,7 @@
 set -eu
 
 . "$(dirname "$0")/../lib/prepare.sh"
-contrib=$top/contrib
+bridges=$top/contrib/bridges
 tasks=${SYNC_TASKS:-800}
 days=${SYNC_DAYS:-7}
 
@@ -26,13 +26,13 @@ part() {
     (cd "$1" && python3 "$top/tests/sync/$1" "$program" "$port" "$tasks" "$days")
 }
 
-PYTHONPYCACHEPREFIX=$folder/compiled python3 -m compileall -q "$contrib" || fail "contrib/taskboard_bridges can't be compiled"
+PYTHONPYCACHEPREFIX=$folder/compiled python3 -m compileall -q "$bridges" || fail "contrib/bridges can't be compiled"
 for script in taskwarrior-sync taskwarrior-clean todotxt-sync taskboard-remind; do
-    python3 "$contrib/$script" --help >help || fail "$script --help"
+    python3 "$bridges/$script" --help >help || fail "$script --help"
     grep -q "^usage: $script " help || fail "$script says nothing of its words"
 done
 if is_there pyflakes3; then
-    pyflakes3 "$contrib"/taskboard_bridges/*.py "$contrib/taskwarrior-sync" "$contrib/taskwarrior-clean" "$contrib/todotxt-sync" "$contrib/taskboard-remind"
+    pyflakes3 "$bridges"/taskboard_bridges/*.py "$bridges/taskwarrior-sync" "$bridges/taskwarrior-clean" "$bridges/todotxt-sync" "$bridges/taskboard-remind"
 else
     echo "what pyflakes3 says: skipped, since pyflakes3 isn't there"
 fi

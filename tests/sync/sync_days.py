@@ -12,7 +12,7 @@ import sys
 import time as clock
 import zoneinfo
 
-from bridging import CONTRIB, Editor, Server, expect
+from bridging import BRIDGES, Editor, Server, expect
 
 PROGRAM, PORT = sys.argv[1], int(sys.argv[2])
 UTC = datetime.timezone.utc
@@ -44,7 +44,7 @@ def run_here(script, *words):
     said, sys.argv = io.StringIO(), [script, *words]
     with contextlib.redirect_stdout(said), contextlib.redirect_stderr(said):
         try:
-            runpy.run_path(f"{CONTRIB}/{script}", run_name="__main__")
+            runpy.run_path(f"{BRIDGES}/{script}", run_name="__main__")
         except SystemExit as ended:
             return said.getvalue(), ended.code
     sys.exit(f"{script} has no status")

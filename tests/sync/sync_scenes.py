@@ -7,7 +7,7 @@ import sys
 import time
 import uuid as uuids
 
-sys.path.insert(0, os.path.join(os.path.dirname(os.path.abspath(__file__)), "..", "..", "contrib"))
+sys.path.insert(0, os.path.join(os.path.dirname(os.path.abspath(__file__)), "..", "..", "contrib", "bridges"))
 sys.dont_write_bytecode = True
 from taskboard_bridges.lines import Line as TodoLine
 from taskboard_bridges.lines import spell

@@ -10,7 +10,7 @@ import sys
 import time
 import uuid as uuids
 
-from bridging import CONTRIB, STOPS, Editor, Line, Runs, Server, expect, in_turn, moment, text
+from bridging import BRIDGES, STOPS, Editor, Line, Runs, Server, expect, in_turn, moment, text
 from drawing import seeded
 from ledger import Ledger, expect_alike, is_template
 
@@ -135,7 +135,7 @@ class Week:
         self.server = Server(PROGRAM, PORT)
         self.line, self.user, self.editor = Line(self.server), User(), Editor(PORT)
         self.line.edit = lambda: self.edit(3)
-        self.words = [f"{CONTRIB}/taskwarrior-sync", "--key", "key", "--for", "20", "--state", "state.json", f"127.0.0.1:{self.line.port}", "ann", "1"]
+        self.words = [f"{BRIDGES}/taskwarrior-sync", "--key", "key", "--for", "20", "--state", "state.json", f"127.0.0.1:{self.line.port}", "ann", "1"]
         self.runs = Runs(self.words, self.line, {**os.environ, "PATH": f"{here}/bin:{os.environ['PATH']}"})
         self.ledger, self.gone = Ledger(self.line), set()
         self.closed_edits, self.kinds = 0, in_turn(RANDOM, (*STOPS, *IMPORTS))

@@ -10,7 +10,7 @@ import sys
 import time
 import uuid as uuids
 
-from bridging import CONTRIB, STOPS, Editor, Line, Runs, Server, expect, in_turn, moment
+from bridging import BRIDGES, STOPS, Editor, Line, Runs, Server, expect, in_turn, moment
 from drawing import seeded
 from ledger import Ledger, is_template
 
@@ -91,7 +91,7 @@ class Week:
         self.server, self.file = Server(PROGRAM, PORT), File()
         self.line, self.editor, self.boards = Line(self.server), Editor(PORT), 1
         self.line.edit = lambda: self.edit(3)
-        command = [f"{CONTRIB}/todotxt-sync", "--key", "key", "--for", "60", "--state", "state.json", f"127.0.0.1:{self.line.port}", "ann", "1", "todo.txt"]
+        command = [f"{BRIDGES}/todotxt-sync", "--key", "key", "--for", "60", "--state", "state.json", f"127.0.0.1:{self.line.port}", "ann", "1", "todo.txt"]
         self.runs = Runs(command, self.line, dict(os.environ))
         self.ledger, self.gone, self.kinds = Ledger(self.line), set(), in_turn(RANDOM, STOPS)
 

@@ -1,4 +1,4 @@
-# Completion of taskboard's orders, options and files for bash: read by bash-completion, or by `source contrib/taskboard.bash`.
+# Completion of taskboard's orders, options and files for bash: read by bash-completion, or by `source contrib/completion/taskboard.bash`.
 
 # Names of files and folders that begin with the word.
 _taskboard_files() {
