@@ -152,12 +152,6 @@ def table_of(sums, wall):
     return "\n".join(lines) + "\n"
 
 
-def untold(lines, names):
-    """The crates of which `rt ci` doesn't say that it proved them, now or earlier on this machine."""
-    told = {said[1] for said in map(re.compile(r"rt: (\w+) (?:proved$|is kept: )").match, lines) if said}
-    return sorted(set(names) - told)
-
-
 def end_by_signals():
     """Has a signal that ends this program end its provers too."""
     for number in (signal.SIGTERM, signal.SIGHUP, signal.SIGINT):

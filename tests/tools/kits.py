@@ -1,7 +1,8 @@
 """Meets the tools of the test command with kits that are made up here: python3 kits.py
 
 `fits` of `tools/wrong_bodies.py` and of `tools/plan.py` takes a kit that has the functions which it calls, and none that lacks one or has it in another form. A plan
-begins each task after those that it waits for, the longest chain first, within the jobs and the memory that there are. `is_as_shipped` of `tools/gate.py` compares the program of `dist/` whatever kit built it: a difference under the same letter fails, and under another it is told."""
+begins each task after those that it waits for, the longest chain first, within the jobs and the memory that there are. `is_as_shipped` of `tools/gate.py` compares the program of `dist/` whatever kit built it: a difference under the same letter fails, and under another it is told. `demands.py` wants a line of each
+crate, test, program and edit."""
 import contextlib
 import gzip
 import io
@@ -13,9 +14,9 @@ import time
 
 TOP = pathlib.Path(__file__).resolve().parents[2]
 sys.path.insert(0, str(TOP / "tools"))
+import demands
 import gate
 import plan
-import proving
 import wrong_bodies
 
 FORMS = {
@@ -111,6 +112,30 @@ def try_programs(folder):
         expect(what, (wanted, True), (is_good, words in said))
 
 
+def try_demands(folder):
+    """A made-up repository: a library with a test and an edit, and a program; then the same with a line less, each in turn."""
+    (folder / "crates.txt").write_text("values:\nboard: values # a program\n")
+    for path, text in (("values/src/lib.rt", "#[test]\nfn adds() {}\n"), ("values/must-fail/subtracts.edit", "file: src/lib.rt\n"), ("values/must-fail/README.md", ""), ("board/src/main.rt", "fn main() {}\n")):
+        (folder / "crates" / path).parent.mkdir(parents=True, exist_ok=True)
+        (folder / "crates" / path).write_text(text)
+    wants = demands.wanted(folder)
+    said = [
+        "rt: values is kept: an earlier run on this machine proved the same", "rt: board proved", "rt: values: its tests passed",
+        "rt: board ran, and wrote what its file stdout has", "rt: board ran (built by Rattle's own compiler), and wrote what its file stdout has",
+        "must-fail values/subtracts.edit: refused, as it must be: fn adds: not proved",
+    ]
+    others = ["rt: values: its tests are proved", "rt: must-fail values/subtracts.edit: BAD EDIT: there is no file src/lib.rt", "5 passed, 0 failed"]
+    expect("all that is demanded", (True, ["2 of 2", "1 of 1", "2 of 2", "1 of 1"]), whole(wants, said + others))
+    for at, line in enumerate(said):
+        expect(f"without {line}", False, whole(wants, said[:at] + said[at + 1 :] + others)[0])
+
+
+def whole(wants, lines):
+    """Whether all is heard, and how much of each kind."""
+    is_whole, told = demands.compare(wants, lines)
+    return is_whole, [line.rpartition(": ")[2] for line in told]
+
+
 def planned(most_jobs, memory):
     """What a plan did with the made-up crates: whether each began after those that it waits for, and how often more than there is was taken."""
     begun, ended, taken, beyond = [], set(), {}, []
@@ -137,8 +162,8 @@ for most_jobs, memory in ((1, 1e9), (2, 6e9), (5, 8e9), (5, 50e9)):
     expect(f"a plan with {most_jobs} jobs", wanted, (given, sorted(begun), beyond))
     if most_jobs == 1:
         expect("the longest chain first", ["values", "rows", "calls", "keeper", "names"], [name for name, _ in begun])
-SAID = ["rt: values proved", "rt: rows is kept: an earlier run", "rt: calls NOT PROVED", "rt: keeper: its tests are proved", "2 passed, 3 failed"]
-expect("crates of which no proof is told", ["calls", "keeper", "names"], proving.untold(SAID, TASKS))
+with tempfile.TemporaryDirectory() as room:
+    try_demands(pathlib.Path(room))
 for kit, (command, is_wanted) in PLANNED_KITS.items():
     expect(f"{kit}, to plan", is_wanted, fits(command, plan))
 for kit, (command, is_wanted) in KITS.items():
