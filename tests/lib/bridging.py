@@ -50,6 +50,8 @@ class Line:
     def __init__(self, server):
         self.server, self.run, self.at, self.stop, self.count, self.posts = server, None, None, None, 0, 0
         self.edit, self.edits = None, 0
+        # Which message's answer is cut within its head, once.
+        self.cuts = None
         # How often a run looked at both sides, whether one has the board's tasks and did nothing since, and the looks of runs that were killed.
         self.looks, self.asked, self.cut, self.before = 0, False, set(), 0
         self.listener = socket.create_server(("127.0.0.1", 0))
@@ -72,6 +74,8 @@ class Line:
                 if answer is None:
                     return
                 client.sendall(answer)
+                if not is_whole(answer):
+                    return
 
     def count_look(self):
         """Counts a look of a run that has the board's tasks and goes on. One that asks for them again at once only named lines."""
@@ -116,16 +120,24 @@ class Line:
                 self.server.start()
                 return None
             self.asked = asks
+            if self.cuts and self.cuts(message):
+                self.cuts = None
+                return answer[: answer.index(b"\n") + 1]
             return answer
+
+
+def is_whole(got):
+    """Whether a message or an answer has its head and its body."""
+    head, end, body = got.partition(b"\r\n\r\n")
+    length = LENGTH.search(head)
+    return bool(end) and len(body) >= (int(length[1]) if length else 0)
 
 
 def whole(connection):
     """A message or an answer with its body; nothing where the connection ends before."""
     got = b""
     while True:
-        head, end, body = got.partition(b"\r\n\r\n")
-        length = LENGTH.search(head)
-        if end and len(body) >= (int(length[1]) if length else 0):
+        if is_whole(got):
             return got
         more = connection.recv(1 << 16)
         if not more:

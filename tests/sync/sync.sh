@@ -39,11 +39,13 @@ fi
 
 if is_there task && task --version | grep -q '^2\.6'; then
     part sync_days.py
+    part sync_boards.py
     part sync_scenes.py
     part syncing.py
 else
     echo "Taskwarrior: skipped, since task 2.6 isn't there"
 fi
+part sync_answers.py
 part sync_lines.py
 part sync_words.py
 if is_there todo-txt || is_there todo.sh; then

@@ -95,6 +95,28 @@ class Scenes(Week):
         self.runs.complete()
         expect("taken back on the board", ([], []), tuple(side[D].get("tags", []) for side in (self.editor.tasks(), self.user.tasks())))
 
+    def cut(self):
+        """A run is stopped once its call was made, a colleague takes it back, and the answer that says that it was made is cut within its
+        head: it isn't made again."""
+        def answers_whether_made(message):
+            return b"/denotate " in message.partition(b"\r")[0]
+
+        for words, back, body in ((("done",), "reopen", {}), (("annotate", "Noted once"), "denotate", {"description": "Noted once"}), (("modify", "+once"), "modify", {"tags": []})):
+            self.user.task(D, *words)
+            # (the messages: who one is, the board, the task, the call)
+            expect("the fourth message", True, self.runs.stop(4, "run after"))
+            self.editor.change(D, back, body)
+            calls = self.calls(D)
+            self.line.cuts = answers_whether_made
+            self.runs.complete()
+            expect(f"{words}: the answer was cut", None, self.line.cuts)
+            expect(f"{words}: the calls on the task", calls, self.calls(D))
+            expect_alike(f"{words}, taken back", *({D: side[D]} for side in (self.editor.tasks(), self.user.tasks())))
+
+    def calls(self, task):
+        """The calls on a task of the board, in their order."""
+        return [entry["what"] for entry in self.editor.ask("GET", f"/boards/1/tasks/{task}/history")[1]["entries"]]
+
     @staticmethod
     def next_second():
         """Waits until the clock shows another second."""
@@ -303,6 +325,7 @@ if __name__ == "__main__":
         scenes.unfit()
         scenes.refused()
         scenes.stopped()
+        scenes.cut()
         stops = scenes.conflicts() + scenes.closed()
         scenes.taken_over()
         scenes.met_first()

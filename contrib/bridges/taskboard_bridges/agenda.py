@@ -33,11 +33,10 @@ class Board:
 def boards_of(server, chosen=None):
     """All boards on which the caller has a role, or those of them that were chosen."""
     boards = []
-    for board in server.view("/me").json()["boards"]:
+    for board in server.me():
         number = board["board"]
         if chosen is None or number in chosen:
-            people = [it["name"] for it in server.view(f"/boards/{number}/people").json()["people"]]
-            boards.append(Board(number, board["title"], server.tasks(number), people))
+            boards.append(Board(number, board["title"], server.tasks(number), server.people(number)))
     return boards
 
 

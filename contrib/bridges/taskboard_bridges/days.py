@@ -4,7 +4,7 @@ A zone is None where it is the machine's own, by TZ or /etc/localtime."""
 import datetime
 import zoneinfo
 
-from taskboard_bridges.asking import Fault
+from taskboard_bridges.fault import Fault
 
 UTC = datetime.timezone.utc
 SPELLED = "%Y%m%dT%H%M%SZ"

@@ -8,10 +8,23 @@ import subprocess
 import tempfile
 import uuid
 
-from taskboard_bridges.asking import Fault
+from taskboard_bridges.fault import Fault
+from taskboard_bridges.forms import Either, Values, fits
 
 VERSION = 1
-KEPT = ("replica", "tasks", "pending", "owed", "reopened", "told", "more")
+UUID = re.compile(r"[0-9a-f]{8}(-[0-9a-f]{4}){3}-[0-9a-f]{12}")
+VIEW = Either(Values(Either(str, int, float, bool)), None)
+CALL = {"id": str, "target": str, "body": str, "keys": [str]}
+# What is kept, and its form.
+KEPT = {
+    "replica": str,
+    "tasks": Values({"turn": int, "left": VIEW, "right": VIEW, "refused": Values(str)}),
+    "pending": Either(Values(Either({"calls": [CALL], "new": [VIEW]}, {"calls": [CALL], "left": [str], "right": [str], "pairs": Values([object])})), None),
+    "owed": [{"id": str, "task": str, "key": str, "left_wins": bool, "note": str, "left": object, "right": object}],
+    "reopened": Values({"id": str, "status": str}),
+    "told": [str],
+    "more": dict,
+}
 
 
 def replace_file(path, data, mode=None):
@@ -137,9 +150,9 @@ class State:
         try:
             with open(self.path, encoding="utf-8") as file:
                 kept = json.load(file)
-        except (OSError, ValueError) as fault:
+        except (OSError, ValueError, RecursionError) as fault:
             raise Fault(f"{self.path} can't be read: {fault}") from None
-        if not isinstance(kept, dict) or kept.get("version") != VERSION or not {"about", *KEPT} <= {*kept}:
+        if not fits(kept, {"version": int, "about": {"address": str, "board": int}, **KEPT}) or kept["version"] != VERSION or not UUID.fullmatch(kept["replica"]):
             raise Fault(f"{self.path} is of another version of this program, or no state at all: name another by --state")
         if kept["about"] != self.about:
             raise Fault(f"{self.path} belongs to board {kept['about']['board']} at {kept['about']['address']}: name another by --state")

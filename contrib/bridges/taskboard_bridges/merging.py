@@ -4,6 +4,8 @@ A task is seen as a flat dictionary, so that each part of it is compared by itse
 `deleted`), `started`, `=NAME` for an attribute, `#TAG`, `>UUID` for a task that it waits for, and `!TEXT` for notes, whose value is how
 many there are with this text. What isn't there has no key. The left side is the board, the right one the other tool."""
 
+import math
+
 # What a side can't hold.
 UNFIT = object()
 STATUS, STARTED, VALUE, TAG, LINK, NOTE = "status", "started", "=", "#", ">", "!"
@@ -49,7 +51,7 @@ def plain(value):
     """A value as a text; numbers as their digits, whatever type a side keeps them in."""
     if isinstance(value, bool):
         return "true" if value else "false"
-    if isinstance(value, float):
+    if isinstance(value, float) and math.isfinite(value):
         return str(int(value)) if value == int(value) else repr(round(value, 6))
     return str(value)
 
@@ -57,9 +59,10 @@ def plain(value):
 def number_of(value):
     """The number that a value says; None where it is none."""
     try:
-        return round(float(plain(value)), 6)
+        number = round(float(plain(value)), 6)
     except (ValueError, OverflowError):
         return None
+    return number if math.isfinite(number) else None
 
 
 def same(one, other):

@@ -15,12 +15,15 @@ import sys
 import uuid
 
 from taskboard_bridges.agenda import NEW, OVERDUE, TODAY, WEEK, assignee, boards_of, is_shown, parts_of
-from taskboard_bridges.asking import Fault, read_key
+from taskboard_bridges.asking import read_key
 from taskboard_bridges.days import day_of, moment_of
+from taskboard_bridges.fault import Fault
+from taskboard_bridges.forms import Either, Values, fits
 from taskboard_bridges.icalendar_text import calendar
 from taskboard_bridges.keeping import replace_file
 
 VERSION = 1
+KEPT = {"version": int, "people": Values({"day": str, "state": str, "hers": Either([str], None)}), "paths": Values(str)}
 SPACE = uuid.UUID("8d7c0a2e-0d0e-5c8a-9a55-6f1b8f5e1c11")
 
 
@@ -33,14 +36,18 @@ class Kept:
     def __init__(self, path):
         self.path, self.people, self.paths = path, {}, {}
         if os.path.exists(path):
-            try:
-                with open(path, encoding="utf-8") as file:
-                    kept = json.load(file)
-                if kept["version"] != VERSION:
-                    raise ValueError("it is of another version")
-                self.people, self.paths = kept["people"], kept["paths"]
-            except (OSError, ValueError, TypeError, KeyError) as fault:
-                raise Fault(f"{path} can't be read: {fault}") from None
+            self.load()
+
+    def load(self):
+        """Takes what the file keeps."""
+        try:
+            with open(self.path, encoding="utf-8") as file:
+                kept = json.load(file)
+        except (OSError, ValueError, RecursionError) as fault:
+            raise Fault(f"{self.path} can't be read: {fault}") from None
+        if not fits(kept, KEPT) or kept["version"] != VERSION:
+            raise Fault(f"{self.path} can't be read: it is of another version of this program, or something else")
+        self.people, self.paths = kept["people"], kept["paths"]
 
     def save(self):
         """Replaces the file."""

@@ -2,8 +2,9 @@
 import configparser
 import os
 
-from taskboard_bridges.asking import Boards, Fault, read_key
+from taskboard_bridges.asking import Boards, read_key
 from taskboard_bridges.days import zone_named
+from taskboard_bridges.fault import Fault
 
 KNOWN = {
     "boards": ("address", "member", "key", "page", "boards", "zone", "state", "cacert"),

@@ -7,8 +7,9 @@ import json
 import re
 
 from taskboard_bridges import board_tasks
-from taskboard_bridges.asking import REASONS, Fault
+from taskboard_bridges.asking import REASONS
 from taskboard_bridges.board_tasks import Call, calls_of, identifier, is_template, view_of
+from taskboard_bridges.fault import Fault
 from taskboard_bridges.merging import LINK, NOTE, STARTED, STATUS, UNFIT, VALUE, after, merge, plain
 
 MOST_PASSES = 5
@@ -113,8 +114,9 @@ class Sync:
     def was_made(self, task, call):
         """Whether a call was made and accepted. Its identifier is used for what is refused in any case: where it was used before, the
         answer says so, and the call itself gets the answer that was kept; where not, it is used now, and the call can't come any more."""
-        answer = self.boards.call(call["id"], f"/boards/{self.board}/tasks/{task}/denotate", Call("denotate", {"description": str(call["id"])}, []).bytes())
-        return answer.name() == "IdReused" and self.boards.call(call["id"], call["target"], call["body"].encode("utf-8", "replace")).is_accepted()
+        probe = Call("denotate", {"description": str(call["id"])}, [])
+        return (self.boards.was_used(call["id"], probe.target(self.board, task), probe.bytes())
+                and self.boards.call(call["id"], call["target"], call["body"].encode("utf-8", "replace")).is_accepted())
 
     def take(self, task, done, made, is_written):
         """Takes what was done for a task as what both sides have; what wasn't is found again."""

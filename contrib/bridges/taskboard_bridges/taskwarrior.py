@@ -3,7 +3,8 @@ import json
 import re
 import subprocess
 
-from taskboard_bridges.asking import Fault
+from taskboard_bridges.fault import Fault
+from taskboard_bridges.forms import Either, fits
 from taskboard_bridges.board_tasks import MOST_BYTES, SETTABLE, now, view_of
 from taskboard_bridges.days import MIDNIGHT, day_alone, day_of, midnight
 from taskboard_bridges.merging import LINK, NOTE, STARTED, STATUS, TAG, UNFIT, VALUE, number_of, plain
@@ -14,8 +15,14 @@ SETTINGS = ("rc.hooks=off", "rc.confirmation=off", "rc.verbose=nothing", "rc.jso
 # Taskwarrior 2.6 reads these days and no others, and crashes on the rest.
 FIRST, LAST = "19800101T000000Z", "99990101T000000Z"
 MOMENT = re.compile(r"\d{8}T\d{6}Z")
+# What each task that it exports has, and may have.
+TASK = {
+    **dict.fromkeys(("uuid", "status", "entry", "description"), str),
+    **dict.fromkeys(("modified?", "due?", "wait?", "scheduled?", "until?", "end?", "start?", "project?", "priority?", "recur?", "parent?"), str),
+    "tags?": [str], "depends?": Either(str, [str]), "annotations?": [{"entry": str, "description": str}],
+}
 # How many tasks are asked for by their names.
-FEW = 100
+FEW = 20
 DATES = ("due", "wait", "scheduled", "until")
 # Dates that are days where they have no time: midnight in UTC on a board, and here in Taskwarrior.
 DAYS = ("due", "scheduled")
@@ -69,9 +76,12 @@ class Taskwarrior:
             if ran.returncode:
                 raise ValueError(ran.stderr.decode("utf-8", "replace").strip() or f"status {ran.returncode}")
             # Taskwarrior writes control characters as they are.
-            return json.loads(ran.stdout.decode("utf-8", "replace"), strict=False)
-        except ValueError as fault:
+            tasks = json.loads(ran.stdout.decode("utf-8", "replace"), strict=False)
+            if not fits(tasks, [TASK]):
+                raise ValueError("it prints something else than tasks")
+        except (ValueError, RecursionError) as fault:
             raise Fault(f"task {' '.join(words)} export: {fault}") from None
+        return tasks
 
     def prepare(self, _run):
         """The types of the user's attributes: one of another type than a value breaks Taskwarrior's own export."""
@@ -149,7 +159,7 @@ class Taskwarrior:
     def write(self, changes):
         """Brings tasks to what they have to be, but for those that changed since they were read; which were written, and which Taskwarrior refused."""
         # The last look is short where it can be.
-        present = {raw["uuid"]: raw for raw in self.exported(*(changes if len(changes) <= FEW else ()))}
+        present = {raw["uuid"]: raw for raw in self.exported(*(named(changes) if len(changes) <= FEW else ()))}
         texts = {}
         for task, change in changes.items():
             raw = present.get(task)
@@ -171,6 +181,11 @@ class Taskwarrior:
         done, refused = self.bring(dict(items[:middle]))
         more, others = self.bring(dict(items[middle:]))
         return done | more, {**refused, **others}
+
+
+def named(tasks):
+    """Tasks as words of Taskwarrior name them. Without `uuid:` it reads some as sums: `0000000d-..` as a duration of no days, less another."""
+    return " or ".join(f"uuid:{task}" for task in tasks).split()
 
 
 def is_nameable(key):

@@ -7,7 +7,7 @@ import os
 import re
 import uuid
 
-from taskboard_bridges.asking import Fault
+from taskboard_bridges.fault import Fault
 from taskboard_bridges.board_tasks import is_template
 from taskboard_bridges.days import day_alone, moved
 from taskboard_bridges.keeping import clear_up, sync_folder, write_beside

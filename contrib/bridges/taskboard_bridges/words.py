@@ -4,7 +4,8 @@ import os
 import re
 import sys
 
-from taskboard_bridges.asking import Boards, Fault, read_key
+from taskboard_bridges.asking import Boards, read_key
+from taskboard_bridges.fault import Fault
 from taskboard_bridges.keeping import Lock, Marks, State, state_path
 from taskboard_bridges.syncing import Sync
 
