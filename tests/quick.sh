@@ -73,6 +73,7 @@ of_orders() {
     attempt hostile/silent.sh python3
     attempt run/own_key.sh python3
     attempt run/my.sh python3
+    attempt run/tls.sh python3
     attempt tools/kits.py python3
     attempt sync/sync.sh python3
     attempt sync/own_cleaning.sh python3

@@ -64,6 +64,14 @@ _taskboard_of_my() {
     _taskboard_words "list boards people show log add change done delete reopen start stop note unnote needs free undo use import export todo setup" "$1"
 }
 
+_taskboard_of_tb() {
+    local words
+    _taskboard_of_my "$1"
+    words=("${COMPREPLY[@]}")
+    _taskboard_words send "$1"
+    COMPREPLY+=("${words[@]}")
+}
+
 # What stands behind the first word of `my`.
 _taskboard_behind_my() {
     case $1 in
@@ -81,10 +89,12 @@ _taskboard_behind_my() {
 
 _tb() {
     COMPREPLY=()
-    if [ "$COMP_CWORD" -eq 1 ] && [ "${2#-}" != "$2" ]; then
+    if [ "${COMP_WORDS[1]}" = send ] && [ "$COMP_CWORD" -gt 1 ]; then
+        _taskboard_of_send "$@"
+    elif [ "$COMP_CWORD" -eq 1 ] && [ "${2#-}" != "$2" ]; then
         _taskboard_words "--board" "$2"
     elif [ "$COMP_CWORD" -eq 1 ]; then
-        _taskboard_of_my "$2"
+        _taskboard_of_tb "$2"
     elif [ "${COMP_WORDS[COMP_CWORD - 1]}" = --sort ]; then
         _taskboard_behind_my --sort "$2"
     else

@@ -102,7 +102,7 @@ class Boards:
         if self.wire and (self.messages >= MOST_MESSAGES or time.monotonic() - self.used > MOST_IDLE):
             self.disconnect()
         if not self.wire or not self.wire.is_open:
-            self.wire, self.messages = Wire(self.place.host, self.place.port, self.context, TIMEOUT), 0
+            self.wire, self.messages = Wire(self.place, self.context, TIMEOUT), 0
         return self.wire
 
     def disconnect(self):

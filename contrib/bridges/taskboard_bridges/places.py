@@ -2,7 +2,6 @@
 import os
 import re
 import ssl
-from typing import NamedTuple
 
 from taskboard_bridges.fault import Fault
 
@@ -11,13 +10,11 @@ LOOPBACK = ("127.0.0.1", "localhost", "::1")
 LAST_PORT = 65_535
 
 
-class Place(NamedTuple):
+class Place:
     """A server's host and port, its name in messages, and whether it is reached by TLS."""
 
-    host: str
-    port: int
-    name: str
-    is_secure: bool
+    def __init__(self, host: str, port: int, name: str, is_secure: bool) -> None:
+        self.host, self.port, self.name, self.is_secure = host, port, name, is_secure
 
 
 def place_of(address: str) -> Place:

@@ -3,7 +3,8 @@ import re
 import socket
 import ssl
 from collections.abc import Mapping
-from typing import NamedTuple
+
+from taskboard_bridges.places import Place
 
 STATUS_LINE = re.compile(rb"HTTP/1\.[01] ([1-5][0-9]{2})( [^\r\n]*)?")
 FIELD = re.compile(rb"([!#$%&'*+.^_`|~0-9A-Za-z-]+):[ \t]*([^\r\n]*?)[ \t]*")
@@ -17,12 +18,11 @@ class NoAnswer(Exception):
     """No whole answer came: nothing is known of the message."""
 
 
-class Head(NamedTuple):
-    """The head of an answer: its status, its fields by their names in small letters, and how many bytes its body has."""
+class Head:
+    """The head of an answer: its first line, its status, its fields by their names in small letters, and how many bytes its body has."""
 
-    status: int
-    fields: Mapping[bytes, bytes]
-    length: int
+    def __init__(self, first: bytes, status: int, fields: Mapping[bytes, bytes], length: int) -> None:
+        self.first, self.status, self.fields, self.length = first, status, fields, length
 
 
 def read_head(data: bytes) -> Head:
@@ -36,7 +36,7 @@ def read_head(data: bytes) -> Head:
     lengths = [value for name, value in fields if name == b"content-length"]
     if len(lengths) != 1 or not LENGTH.fullmatch(lengths[0]) or any(name == b"transfer-encoding" for name, _ in fields):
         raise NoAnswer
-    return Head(int(status[1]), dict(fields), int(lengths[0]))
+    return Head(first, int(status[1]), dict(fields), int(lengths[0]))
 
 
 def message(method: str, target: str, fields: Mapping[str, str], body: bytes | None) -> bytes:
@@ -49,12 +49,12 @@ def message(method: str, target: str, fields: Mapping[str, str], body: bytes | N
 class Wire:
     """A connection to a server, by TLS where there is a context for it. Faults of the network are OSError."""
 
-    def __init__(self, host: str, port: int, context: ssl.SSLContext | None, timeout: float) -> None:
+    def __init__(self, place: Place, context: ssl.SSLContext | None, timeout: float) -> None:
         self.got, self.is_open = bytearray(), True
-        plain = socket.create_connection((host, port), timeout=timeout)
+        plain = socket.create_connection((place.host, place.port), timeout=timeout)
         try:
             plain.setsockopt(socket.IPPROTO_TCP, socket.TCP_NODELAY, 1)
-            self.socket = context.wrap_socket(plain, server_hostname=host) if context else plain
+            self.socket = context.wrap_socket(plain, server_hostname=place.host) if context else plain
         except BaseException:
             plain.close()
             raise
