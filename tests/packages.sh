@@ -20,6 +20,7 @@ sshd openssh-server
 task taskwarrior
 todo-txt todotxt-cli
 pyflakes3 pyflakes3
+mypy mypy
 '
 
 is_there() {

@@ -186,7 +186,22 @@ class Reminding:
             expect("by TLS, with a password", (2, 2), (self.mails.secure, self.mails.logins))
         self.run(*words, "mail")
         expect("once a day", 2, len(self.mails.accepted))
+        self.editor.ask("POST", "/people", {"name": "zed", "key": "zed-key-001"})
+        self.editor.call("roles", {"member": "zed", "role": "member"})
+        self.editor.call("tasks", {"description": "For zed", "due": f"{now():%Y%m%dT000000Z}", "assignee": "zed"})
+        for _ in range(2):
+            self.run(*words, "mail")
+            expect("a mail once there is something to say, and one", ["ann", "bob", "zed"], [to[0].partition("@")[0] for to, _ in self.mails.accepted])
         return len(self.mails.accepted)
+
+    def unread(self):
+        """Where nobody reads what is printed, all is done nevertheless."""
+        words = self.config("unread", {name: f"{name}@example.org" for name in ("ann", "bob", "zed")})
+        reading, writing = os.pipe()
+        os.close(reading)
+        ran = subprocess.run([f"{BRIDGES}/taskboard-remind", *words, "mail"], stdout=writing, stderr=subprocess.PIPE, text=True, timeout=300)
+        os.close(writing)
+        expect("nobody reads", (0, "", {"ann", "bob", "zed"}), (ran.returncode, ran.stderr, {to[0].partition("@")[0] for to, _ in self.mails.accepted[-3:]}))
 
     def next_day(self):
         """What was assigned since the last mail is told as new, and what was hers before isn't."""
@@ -303,7 +318,7 @@ class Reminding:
         os.makedirs("calendars")
         self.run(*words, "calendar")
         paths = {name: "calendars/" + address.rpartition("/")[2] for name, address in self.addresses(words).items()}
-        expect("which there are", ["board 1", "board 2", "person ann", "person bob", "person reminder"], sorted(paths))
+        expect("which there are", ["board 1", "board 2", "person ann", "person bob", "person reminder", "person zed"], sorted(paths))
         due = {it: task for it, task in self.editor.tasks().items() if task["status"] in ("pending", "waiting") and "due" in task and ("recur" not in task or "parent" in task)}
         count = self.expect_events("board 1", paths["board 1"], due)
         count += self.expect_events("person bob", paths["person bob"], {it: task for it, task in due.items() if task.get("assignee") == "bob"})
@@ -344,6 +359,7 @@ class Reminding:
     def run_all(self):
         begun = time.monotonic()
         self.whole_mails()
+        self.unread()
         self.next_day()
         self.stops()
         self.refusals()

@@ -55,7 +55,7 @@ def part_of(task, now, zone):
 
 def parts_of(tasks, now, zone, new=()):
     """The tasks under their headings, in the order of their dates."""
-    parts = {OVERDUE: [], TODAY: [], WEEK: [], NEW: []}
+    parts: dict[str, list[dict]] = {OVERDUE: [], TODAY: [], WEEK: [], NEW: []}
     for task in tasks:
         if is_shown(task, now):
             part = part_of(task, now, zone)

@@ -168,8 +168,10 @@ class Cleaning:
 
     def find_losses(self):
         """What an import drops of the tasks that it takes."""
-        self.dropped, self.orphans, self.unlinked = {}, [], []
-        places, templates = set(), {entry.id: entry for entry in self.taken if makes_instances(entry.task)}
+        self.dropped: dict = {}
+        self.orphans, self.unlinked = [], []
+        places: set = set()
+        templates = {entry.id: entry for entry in self.taken if makes_instances(entry.task)}
         parts = dict(zip((entry.id for entry in self.taken), parts_of(self.taken)))
         for entry in self.taken:
             for member in dropped_from(entry.task).items():

@@ -17,7 +17,9 @@ def escaped(text):
 
 def folded(line):
     """A line cut into parts of 75 octets, none within a character."""
-    parts, part, size = [], [], 0
+    parts: list[str] = []
+    part: list[str] = []
+    size = 0
     for character in line:
         octets = len(character.encode("utf-8", "replace"))
         if size + octets > MOST_OCTETS:

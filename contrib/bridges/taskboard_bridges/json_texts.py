@@ -43,6 +43,12 @@ def line_of(text, at):
     return text.count("\n", 0, at) + 1
 
 
+def after_between(text, at):
+    """The place after what stands between two values."""
+    found = BETWEEN.match(text, at)
+    return found.end() if found else at
+
+
 def value_at(text, at):
     """The value that begins at a place, and where it ends."""
     try:
@@ -56,7 +62,7 @@ def value_at(text, at):
 def objects_of(given):
     """The objects of bytes with their own texts: in a list, in several, one after the other, or a mixture of these."""
     text = given.decode("utf-8", "surrogateescape")
-    found, opened, at = [], None, BETWEEN.match(text).end()
+    found, opened, at = [], None, after_between(text, 0)
     while at < len(text):
         if text[at] == "[" and opened is None or text[at] == "]" and opened is not None:
             opened, end = (at if text[at] == "[" else None), at + 1
@@ -65,7 +71,7 @@ def objects_of(given):
             if not isinstance(value, dict):
                 raise NotJson(f"line {line_of(text, at)}: a task is an object, with {{ and }} around it")
             found.append((value, text[at:end]))
-        at = BETWEEN.match(text, end).end()
+        at = after_between(text, end)
     if opened is not None:
         raise NotJson(f"line {line_of(text, len(text.rstrip()))}: the text breaks off; the list that begins in line {line_of(text, opened)} has no end")
     return found

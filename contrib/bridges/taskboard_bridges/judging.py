@@ -34,7 +34,7 @@ def is_moment(value):
     if not found or found[1] < "1970":
         return False
     try:
-        datetime.datetime(*map(int, found.groups()))
+        datetime.datetime.strptime(value, "%Y%m%dT%H%M%SZ")
     except ValueError:
         return False
     return True

@@ -40,7 +40,7 @@ class Line:
         self.letter = None
         if re.match(r"\([A-Z]\) ", text) and not is_blank(text[4:]):
             self.letter, text = text[1], text[4:]
-        dates = []
+        dates: list[str] = []
         while len(dates) < (2 if self.done else 1):
             date = read_date(text[:10])
             if date is None or text[10:11] != " " or is_blank(text[11:]):
@@ -72,7 +72,7 @@ class Line:
 
     def view(self):
         """The keys of the line's task."""
-        values = {"description": self.description, "project": self.project, "due": self.due, "priority": PRIORITIES.get(self.letter)}
+        values = {"description": self.description, "project": self.project, "due": self.due, "priority": PRIORITIES.get(self.letter or "")}
         view = {VALUE + name: value for name, value in values.items() if value is not None}
         view[STATUS] = "completed" if self.done else "open"
         view.update((TAG + tag, True) for tag in self.tags)

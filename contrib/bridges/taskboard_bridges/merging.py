@@ -101,8 +101,8 @@ def merge(base, left, right, fits, left_wins):
 def merge_key(merged, key, before, has_base, left, right, fits, left_wins):
     """Merges one key into what is merged."""
     if key[0] == NOTE:
-        counts = merge_counts([it or 0 for it in before], left or 0, right or 0)
-        merge_to(merged, key, left, right, *(it or None for it in counts), fits)
+        by_left, by_right = merge_counts([it or 0 for it in before], left or 0, right or 0)
+        merge_to(merged, key, left, right, by_left or None, by_right or None, fits)
         return
     if same(fits.to_right(key, left, right), right):
         merged.put(key, left, right, left, right)

@@ -1,4 +1,6 @@
 """Where a server is, and whom to trust there. Nothing is kept here."""
+from __future__ import annotations
+
 import os
 import re
 import ssl

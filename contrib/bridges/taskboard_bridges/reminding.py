@@ -9,7 +9,6 @@ import os
 import re
 import secrets
 import smtplib
-import ssl
 import subprocess
 import sys
 import uuid
@@ -21,6 +20,8 @@ from taskboard_bridges.fault import Fault
 from taskboard_bridges.forms import Either, Values, fits
 from taskboard_bridges.icalendar_text import calendar
 from taskboard_bridges.keeping import replace_file
+from taskboard_bridges.places import trusting
+from taskboard_bridges.saying import say
 
 VERSION = 1
 KEPT = {"version": int, "people": Values({"day": str, "state": str, "hers": Either([str], None)}), "paths": Values(str)}
@@ -143,13 +144,15 @@ def smtp_connection(settings):
     """A connection to the mail server, by TLS but where the configuration says that it isn't wanted."""
     host, _, port = settings.need("mail", "smtp").partition(":")
     tls = settings.mail.get("tls", "starttls")
-    context = ssl.create_default_context(cafile=settings.mail.get("cacert"))
+    context = trusting(settings.mail.get("cacert"))
     if tls not in ("starttls", "tls", "none"):
         raise settings.fault(f"tls has to be starttls, tls or none, and is {tls}")
     if tls == "none" and (host not in ("127.0.0.1", "localhost", "::1") or "user" in settings.mail):
         raise settings.fault("tls = none is for a mail server of this machine that asks for no password")
+    if not re.fullmatch(r"[0-9]{0,5}", port):
+        raise settings.fault(f"smtp has to be HOST:PORT, and is {settings.mail['smtp']}")
     if tls == "tls":
-        server = smtplib.SMTP_SSL(host, int(port or 465), timeout=60, context=context)
+        server: smtplib.SMTP = smtplib.SMTP_SSL(host, int(port or 465), timeout=60, context=context)
     else:
         server = smtplib.SMTP(host, int(port or 587), timeout=60)
     try:
@@ -192,7 +195,7 @@ def send_by_smtp(settings, message, about_to_send, sent):
 class Reminder:
     """One run: who gets a mail today, and the calendars. All that it keeps stands in `kept`."""
 
-    def __init__(self, settings, now, is_dry, tell=print):
+    def __init__(self, settings, now, is_dry, tell=say):
         self.settings, self.now, self.is_dry, self.tell = settings, now, is_dry, tell
         self.kept = Kept(settings.state)
         self.today = now.astimezone(settings.zone).date().isoformat()
@@ -214,9 +217,10 @@ class Reminder:
         print(f"taskboard-remind: {text}", file=sys.stderr)
 
     def mail(self, boards, person):
-        """Sends a person her mail of this day, unless `kept` says that it went, or may have gone."""
+        """Sends a person her mail of this day, unless `kept` says that it went, or may have gone. Where there was nothing to say it is looked
+        again."""
         before = self.kept.people.get(person, {})
-        if before.get("day") == self.today and not self.is_dry:
+        if before.get("day") == self.today and before["state"] != "nothing" and not self.is_dry:
             if before["state"] == "sending":
                 self.keep(person, "unknown", before["hers"])
                 self.trouble(f"the mail of {self.today} to {person} may have gone or not, since a run was stopped meanwhile: it isn't sent again")

@@ -1,4 +1,6 @@
 """Asks for the settings of `tb`, tries them at the server, and writes them for their owner alone. Nothing else is kept."""
+from __future__ import annotations
+
 import getpass
 import os
 import re
@@ -91,8 +93,8 @@ def ask_server(before: str) -> str:
 
 def ask_board(boards: list[dict[str, object]], before: str) -> str:
     """The board that `tb` asks of, by its number or its title; none where none is named."""
-    for board in boards:
-        print(f"  {board['board']}  {board['title']}", file=sys.stderr)
+    for it in boards:
+        print(f"  {it['board']}  {it['title']}", file=sys.stderr)
     board = ask("Board, by its number or title, or nothing", before) if boards else ""
     found = [it for it in boards if board in (str(it["board"]), it["title"])]
     if board and len(found) != 1 and not any(str(it["board"]) == board for it in found):

@@ -45,8 +45,9 @@ class Settings:
             if section not in KNOWN:
                 raise self.fault(f"[{section}] isn't known: there are {', '.join(f'[{name}]' for name in KNOWN)}")
             for name in self.parser[section]:
-                if KNOWN[section] and name not in KNOWN[section]:
-                    raise self.fault(f"{name} isn't known in [{section}]: there are {', '.join(KNOWN[section])}")
+                known = KNOWN[section]
+                if known and name not in known:
+                    raise self.fault(f"{name} isn't known in [{section}]: there are {', '.join(known)}")
         if not self.parser.has_section("boards"):
             raise self.fault("[boards] is missing")
 

@@ -1,4 +1,6 @@
 """HTTP messages over one connection. An answer is whole, with as many bytes as its head says, or there is none. Nothing is kept here."""
+from __future__ import annotations
+
 import re
 import socket
 import ssl
