@@ -36,6 +36,11 @@ if is_there pyflakes3; then
 else
     echo "what pyflakes3 says: skipped, since pyflakes3 isn't there"
 fi
+if is_there mypy; then
+    (cd "$bridges" && mypy --cache-dir "$folder/types" --check-untyped-defs --no-error-summary taskboard_bridges)
+else
+    echo "what mypy says: skipped, since mypy isn't there"
+fi
 
 if is_there task && task --version | grep -q '^2\.6'; then
     part sync_days.py

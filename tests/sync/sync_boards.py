@@ -36,8 +36,7 @@ class Boards(Week):
         self.user.task("rc.bulk=0", "status:pending", "delete")
         for number in WHOLE:
             editor = Editor(self.editor.port, number)
-            self.runs.words = [*self.words[:-1], str(number), f"project:B{number}"]
-            self.runs.words = [word.replace("state.json", f"{number}.json") for word in self.runs.words]
+            self.runs.words = [*(word.replace("state.json", f"{number}.json") for word in self.words[:-1]), "--another", str(number), f"project:B{number}"]
             task = editor.call("tasks", {"description": "Made on the board", "project": f"B{number}"})["uuid"]
             expect(f"the uuid on board {number}", made(number, 1), task)
             self.runs.complete()

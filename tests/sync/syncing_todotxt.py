@@ -4,6 +4,7 @@ The file is edited as by an editor and by the real todo.txt program, the board b
 and the server is killed. What a line says is what the server makes of it, on a board of its own."""
 import json
 import os
+import re
 import shutil
 import subprocess
 import sys
@@ -247,9 +248,21 @@ class Week:
         uuid = next(it for it, task in left.items() if task["status"] == "pending" and self.file.at(it) is not None and it not in self.gone)
         self.file.todo("del", str(self.file.at(uuid) + 1))
         told = self.runs.complete()
-        expect(f"a line that is gone: {told}", True, f"gone from todo.txt: {uuid[:8]}" in told)
+        expect(f"a line that is gone: {told}", True, re.search(r"gone from todo.txt: \d+ ", told) is not None)
         expect("its task", "pending", self.editor.tasks()[uuid]["status"])
         self.gone.add(uuid)
+
+    def elsewhere(self):
+        """A file that is in step with a board isn't poured into another by mistake."""
+        board = self.editor.ask("POST", "/boards", {"title": "Another"})[1]["board"]
+        self.boards = board
+        words, number = self.runs.words, next(at for at, word in enumerate(self.runs.words) if word == "1")
+        self.runs.words = [word.replace("state.json", "another.json") for word in words]
+        self.runs.words[number] = str(board)
+        told, before = self.runs.complete(statuses=(1,)), self.file.lines()
+        expect(f"another board: {told}", (True, {}), ("is in step with board 1 at" in told, Editor(PORT, board).tasks()))
+        expect("the file", before, self.file.lines())
+        self.runs.words = words
 
     def run(self):
         begun = time.monotonic()
@@ -278,6 +291,7 @@ class Week:
         self.same_identifier()
         self.mentioned_identifier()
         self.opened_again()
+        self.elsewhere()
         left = self.expect_alike("the end")
         self.delete_missing()
         expect("what stopped runs left", [], [name for name in os.listdir() if "taskboard-" in name])
@@ -307,13 +321,14 @@ class Week:
         expect("it came", 1, sum(task["description"] == "Saved meanwhile" for task in self.editor.tasks().values()))
 
     def same_identifier(self):
-        """Of two lines with one identifier the first is the task, and the other is told and left as it is."""
+        """Of two lines with one identifier the first is the task, and the other is left as it is: each run says so, and ends with 1."""
         uuid = next(it for it, task in self.editor.tasks().items() if task["status"] == "pending" and self.file.at(it) is not None)
         lines = self.file.lines()
         self.file.write([*lines[:-1], f"A copy uuid:{uuid}", lines[-1]])
         self.editor.change(uuid, "modify", {"description": "The first of two"})
-        told = self.runs.complete()
-        expect(f"what is told: {told}", True, "has the identifier of a line before it" in told)
+        for _ in range(2):
+            told = self.runs.complete(statuses=(1,))
+            expect(f"what is told: {told}", True, "has the identifier of a line before it" in told)
         lines = self.file.lines()
         expect("both lines", (1, 1), (sum("The first of two" in line for line in lines), lines.count(f"A copy uuid:{uuid}")))
         lines.remove(f"A copy uuid:{uuid}")

@@ -18,6 +18,8 @@ AWAY = {429, 500, 502, 503, 504}
 MOST_MESSAGES, MOST_IDLE = 900, 60
 # How many seconds nothing may come of an answer.
 TIMEOUT = 30
+# The highest number that an entry may have.
+LAST_NUMBER = 2**32 - 1
 # What each task of an export has, and may have.
 TASK = {
     **dict.fromkeys(("uuid", "status", "entry", "description"), str),
@@ -186,6 +188,14 @@ class Boards:
     def people(self, board):
         """The names of who has a role on a board."""
         return [person["name"] for person in self.shown(f"/boards/{board}/people", {"people": [{"name": str}]})["people"]]
+
+    def history(self, board, number):
+        """The entries of a board from a number on, 100 at most, and the number of the last."""
+        return self.shown(f"/boards/{board}/history/{number}", {"entries": [dict], "last": int})
+
+    def last_entry(self, board):
+        """The number of a board's last entry."""
+        return self.history(board, LAST_NUMBER)["last"]
 
     def role(self, board):
         """The person's role on a board; None where there is none."""

@@ -25,6 +25,8 @@ KEPT = {
     "told": [str],
     "more": dict,
 }
+# What a state has of the board and of the other side.
+ABOUT = {"about": {"address": str, "board": int}, "more": {"place": str}}
 
 
 def replace_file(path, data, mode=None):
@@ -82,6 +84,15 @@ def state_folder():
 def state_path(kind, address, board, more=""):
     """The file that a bridge keeps for a board, where the user names none."""
     return os.path.join(state_folder(), re.sub(r"[^\w.-]+", "-", f"{kind}-{address}-{board}{more}") + ".json")
+
+
+def read_json(path):
+    """What a file of JSON says."""
+    try:
+        with open(path, encoding="utf-8") as file:
+            return json.load(file)
+    except (OSError, ValueError, RecursionError) as fault:
+        raise Fault(f"{path} can't be read: {fault}") from None
 
 
 class Lock:
@@ -147,11 +158,7 @@ class State:
 
     def load(self):
         """Takes what the file keeps."""
-        try:
-            with open(self.path, encoding="utf-8") as file:
-                kept = json.load(file)
-        except (OSError, ValueError, RecursionError) as fault:
-            raise Fault(f"{self.path} can't be read: {fault}") from None
+        kept = read_json(self.path)
         if not fits(kept, {"version": int, "about": {"address": str, "board": int}, **KEPT}) or kept["version"] != VERSION or not UUID.fullmatch(kept["replica"]):
             raise Fault(f"{self.path} is of another version of this program, or no state at all: name another by --state")
         if kept["about"] != self.about:
@@ -159,6 +166,16 @@ class State:
         for name in KEPT:
             setattr(self, name, kept[name])
         self.saved = self.data()
+
+    def others(self, place):
+        """What each other state is about that is of the same place on the other side, beside this one or where states are kept."""
+        for folder in {os.path.dirname(os.path.abspath(self.path)), state_folder()}:
+            for name in sorted(os.listdir(folder)) if os.path.isdir(folder) else ():
+                path = os.path.join(folder, name)
+                with contextlib.suppress(Fault):
+                    kept = read_json(path) if name.endswith(".json") and path != os.path.abspath(self.path) else None
+                    if fits(kept, ABOUT) and kept["more"]["place"] == place and kept["about"] != self.about:
+                        yield kept["about"]
 
     def data(self):
         """The bytes of the file."""

@@ -5,12 +5,13 @@ whether it was made, and makes none twice; it takes what was done as what both s
 import hashlib
 import json
 import re
+import uuid
 
 from taskboard_bridges import board_tasks
 from taskboard_bridges.asking import REASONS
 from taskboard_bridges.board_tasks import Call, calls_of, identifier, is_template, view_of
 from taskboard_bridges.fault import Fault
-from taskboard_bridges.merging import LINK, NOTE, STARTED, STATUS, UNFIT, VALUE, after, merge, plain
+from taskboard_bridges.merging import LINK, NOTE, STARTED, STATUS, TAG, UNFIT, VALUE, after, merge, plain
 
 MOST_PASSES = 5
 # A note has to be shorter than a text of the board.
@@ -29,19 +30,23 @@ class Plan:
     """What one pass does: the tasks that are new on the board, those that change, and the changes of the other side."""
 
     def __init__(self):
-        self.lefts, self.rights, self.linkable = {}, {}, set()
-        self.adds, self.merges, self.changes, self.bases = {}, {}, {}, {}
+        self.lefts, self.rights, self.linkable, self.places = {}, {}, set(), {}
+        self.adds, self.merges, self.changes, self.bases, self.templates = {}, {}, {}, {}, {}
         self.skipped, self.calls = set(), {}
+
+    def is_empty(self):
+        """Whether there is nothing to do."""
+        return not (self.adds or self.merges or self.changes or self.templates or self.skipped)
 
 
 class Sync:
     """A run between a board and another tool. What it keeps stands in its state alone, which is saved before calls that a stopped run
     has to know of, and after each pass."""
 
-    def __init__(self, boards, board, right, state, options, tell=print):
-        self.boards, self.board, self.right, self.state, self.options, self.tell_user = boards, board, right, state, options, tell
+    def __init__(self, boards, board, right, state, seen, options, tell=print):
+        self.boards, self.board, self.right, self.state, self.seen, self.options, self.tell_user = boards, board, right, state, seen, options, tell
         self.counts = dict.fromkeys(("added", "changed", "made", "written", "conflicts", "refused", "gone"), 0)
-        self.refusals = set()
+        self.refusals, self.not_taken = set(), 0
 
     def say(self, text, is_important=False):
         """Tells the user something; only what is important where it has to be quiet."""
@@ -53,13 +58,19 @@ class Sync:
         role = self.boards.role(self.board)
         if role not in ("owner", "member"):
             raise Fault(f"board {self.board}: " + ("there is none on which you have a role" if role is None else f"a {role} may change nothing") + ". Ask an owner for the role member")
+        self.right.begin()
+        self.look_elsewhere()
         if self.options.dry_run:
             self.dry_run()
             return True
+        self.seen.forget()
         self.right.prepare(self)
         self.state.save()
         for _ in range(MOST_PASSES):
             self.settle()
+            files = self.right.files()
+            mark = self.seen.look(self.boards, self.board, files) if files else None
+            self.not_taken = 0
             plan = self.plan()
             self.act(plan)
             if not plan.skipped:
@@ -67,7 +78,19 @@ class Sync:
         else:
             self.say(f"{counted(len(plan.skipped), 'task')} changed again and again meanwhile: run it again", True)
         self.summary()
-        return not self.refusals and not plan.skipped
+        is_whole = not self.refusals and not plan.skipped and not self.not_taken
+        if is_whole and mark and plan.is_empty():
+            self.seen.keep(mark, self.boards, self.board)
+        return is_whole
+
+    def look_elsewhere(self):
+        """Ends a first run where the other side is in step with another board already, but where that is wanted."""
+        place = self.right.identity()
+        if self.state.is_new and not self.options.another:
+            for about in self.state.others(place):
+                raise Fault(f"{self.right.place()} is in step with board {about['board']} at {about['address']}. Nothing was changed. "
+                            f"To have the tasks of both on board {self.board} and there, say --another")
+        self.state.more["place"] = place
 
     def summary(self):
         """Tells how much was done."""
@@ -80,13 +103,15 @@ class Sync:
     def dry_run(self):
         """Says what a run would do, and changes nothing, the state neither."""
         plan = self.plan()
+        for template in plan.templates.values():
+            self.say(f"board: add {template.name()}, which repeats, and delete it {self.right.where}", True)
         for task in plan.adds:
             self.say(f"board: add {self.label(plan, task)}", True)
         for task, merged in plan.merges.items():
             for call in self.calls(plan, task, merged):
-                self.say(f"board: {call.word} {self.label(plan, task)}{named(call.keys)}", True)
+                self.say(f"board: {call.word} {self.label(plan, task)}{self.named(plan, call.keys)}", True)
         for change in plan.changes.values():
-            self.say(f"{self.right.name}: {'add' if change.is_new else 'change'} {self.label(plan, change.task)}{'' if change.is_new else named(change.keys)}", True)
+            self.say(f"{self.right.name}: {'add' if change.is_new else 'change'} {self.label(plan, change.task)}{'' if change.is_new else self.named(plan, change.keys)}", True)
 
     # What a stopped run left.
 
@@ -144,9 +169,11 @@ class Sync:
         """Reads both sides and merges them. Nothing is changed."""
         plan = Plan()
         plan.lefts = {task["uuid"]: task for task in self.boards.tasks(self.board)}
-        plan.rights = self.right.read(self, plan.lefts)
+        plan.places = {task: at for at, task in enumerate(plan.lefts, 1)}
+        plan.rights, plan.templates = self.right.read(self, plan.lefts)
         self.look_first(plan)
-        plan.linkable = {task for task in {*plan.lefts, *plan.rights} if self.is_shared(plan, task)}
+        handed_over = {it.raw["uuid"] for template in plan.templates.values() for it in template.made}
+        plan.linkable = {task for task in {*plan.lefts, *plan.rights} - handed_over if self.is_shared(plan, task)}
         for task in [*plan.lefts, *(it for it in plan.rights if it not in plan.lefts)]:
             if task in plan.linkable:
                 self.plan_task(plan, task)
@@ -284,6 +311,8 @@ class Sync:
     def act(self, plan):
         """Does what is planned. The plan is kept before, and what both sides have is kept after."""
         self.keep_plan(plan)
+        for template in plan.templates.values():
+            self.hand_over(plan, template)
         for task in plan.adds:
             self.add(plan, task)
         done = {task: self.change(plan, task, merged) for task, merged in plan.merges.items()}
@@ -293,7 +322,7 @@ class Sync:
             self.refuse(plan, task, self.right.name, why)
         for task in written:
             self.counts["made" if changes[task].is_new else "written"] += 1
-            self.say(f"{self.right.name}: {'add' if changes[task].is_new else 'change'} {self.label(plan, task)}{'' if changes[task].is_new else named(changes[task].keys)}")
+            self.say(f"{self.right.name}: {'add' if changes[task].is_new else 'change'} {self.label(plan, task)}{'' if changes[task].is_new else self.named(plan, changes[task].keys)}")
         plan.skipped |= set(changes) - written - set(refused)
         self.keep_bases(plan, plan.bases, done, written)
         for task in plan.adds:
@@ -355,18 +384,18 @@ class Sync:
         entry = self.state.entry(task)
         digest = self.digest(plan, task, call)
         if digest in entry["refused"] and not self.options.again:
-            self.refuse(plan, task, told(call), f"{entry['refused'][digest]}, as before (--again tries it anew)")
+            self.refuse(plan, task, self.told(plan, call), f"{entry['refused'][digest]}, as before (--again tries it anew)")
             return False
         answer = self.boards.call(self.identifier(task, call), call.target(self.board, task), call.bytes())
         if answer.is_accepted():
             entry["refused"].pop(digest, None)
-            self.say(f"board: {call.word} {self.label(plan, task)}{told(call).removeprefix(call.word)}")
+            self.say(f"board: {call.word} {self.label(plan, task)}{self.told(plan, call).removeprefix(call.word)}")
             return True
         if call.word == "modify" and len(call.keys) > 1:
             return None
         entry["refused"][digest] = answer.name()
         why = answer.name()
-        self.refuse(plan, task, told(call), f"{why} ({REASONS[why]})" if why in REASONS else why)
+        self.refuse(plan, task, self.told(plan, call), f"{why} ({REASONS[why]})" if why in REASONS else why)
         return False
 
     def refuse(self, plan, task, what, why):
@@ -388,6 +417,32 @@ class Sync:
         kept = {key: value for key, value in plan.adds[task].items() if key[0] != LINK or key in view}
         plan.bases[task] = (view, kept)
         return board_tasks.added(task, view, right.moments())
+
+    def hand_over(self, plan, template):
+        """Brings a template to the board with what it made, and then ends it on the other side: from then on the board alone repeats it.
+        A run that was stopped between is gone on with by the next, since an import brings nothing twice."""
+        why = None if template.task in plan.lefts else self.import_template(template)
+        if why:
+            # What it made comes as plain tasks, by the next pass.
+            self.state.entry(template.task)["refused"]["template"] = why
+            self.refuse(plan, template.task, "to repeat it", why)
+        elif self.right.end(template):
+            self.counts["added"] += 1
+            self.say(f"handed over: {template.name()} repeats on the board from now on; {self.right.where} it is deleted, and what it made stays", True)
+        else:
+            self.refuse(plan, template.task, f"to delete it {self.right.where}", "the board repeats it too, so each comes twice: delete it there")
+            return
+        plan.skipped.add(template.task)
+
+    def import_template(self, template):
+        """Brings a template to the board with what it made; why that was refused, or None."""
+        for tasks in template.parts():
+            data = json.dumps(tasks, ensure_ascii=False, sort_keys=True).encode("utf-8", "replace")
+            name = uuid.uuid4() if self.options.again else uuid.uuid5(uuid.UUID(self.state.replica), hashlib.sha256(data).hexdigest())
+            answer = self.boards.call(str(name), f"/boards/{self.board}/import", data)
+            if not answer.is_accepted():
+                return answer.name()
+        return None
 
     def add(self, plan, task):
         """Adds a task to the board. Where a task that it waits for couldn't be added it comes without that link."""
@@ -411,7 +466,8 @@ class Sync:
         if self.boards.task(self.board, task) != plan.lefts[task]:
             plan.skipped.add(task)
             return set()
-        done, failed, made, calls = set(), set(), [], list(plan.calls[task])
+        done, failed, calls = set(), set(), list(plan.calls[task])
+        made: list[Call] = []
         if task in self.state.reopened and merged.left.get(STATUS) == "open" == view_of(plan.lefts[task])[STATUS]:
             # It stays as a stopped run opened it.
             done.add(STATUS)
@@ -441,7 +497,7 @@ class Sync:
         if entry and entry["refused"] and not self.options.again:
             missing = set(merged.left) - {key for call in calls for key in call.keys}
             for why in sorted(set(entry["refused"].values())) if missing else ():
-                self.refuse(plan, task, f"change{named(sorted(missing))}", f"{why}, as before (--again tries it anew)")
+                self.refuse(plan, task, f"change{self.named(plan, sorted(missing))}", f"{why}, as before (--again tries it anew)")
 
     def keep_bases(self, plan, bases, done, written):
         """Takes what both sides have now of some tasks as what they have in common."""
@@ -477,13 +533,29 @@ class Sync:
         """A task as it is told to the user."""
         left, right = plan.lefts.get(task, {}), plan.rights.get(task)
         text = left.get("description") or (right.view.get(VALUE + "description") if right else "")
-        return f"{task[:8]} {json.dumps(str(text)[:60], ensure_ascii=False)}"
+        place = f"{plan.places[task]} " if task in plan.places else ""
+        return place + json.dumps(str(text)[:60], ensure_ascii=False)
+
+    def named(self, plan, keys):
+        """The keys as a user knows them."""
+        names = []
+        for key in keys:
+            rest = key[1:81]
+            if key[0] == LINK:
+                names.append(f"waits for {self.label(plan, key[1:])}")
+            else:
+                names.append({VALUE: rest, TAG: f"tag {rest}", NOTE: f"note {json.dumps(rest[:40], ensure_ascii=False)}"}.get(key[0], key))
+        return " " + ", ".join(names) if names else ""
+
+    def told(self, plan, call):
+        """A call as it is told: a new task's is told by its word."""
+        return call.word + ("" if call.word == "add" else self.named(plan, call.keys))
 
     def tell_unfit(self, plan, task, key, is_by_board):
         """Tells once, ever, that a value stays on one side; the state keeps that it was told."""
         if self.state.tell_once(f"{task} {key}"):
             lacking, keeping = ("on the board", self.right.where) if is_by_board else (self.right.where, "on the board")
-            self.say(f"not taken: {self.label(plan, task)}:{named([key])} can't be kept {lacking}, and stays {keeping}", True)
+            self.say(f"not taken: {self.label(plan, task)}:{self.named(plan, [key])} can't be kept {lacking}, and stays {keeping}", True)
 
 
 def comes_again(entry, view):
@@ -514,23 +586,9 @@ def counted(number, what):
     return f"{number} {what}{'' if number == 1 else 's'}"
 
 
-def told(call):
-    """A call as it is told: a new task's is told by its word."""
-    return call.word + ("" if call.word == "add" else named(call.keys))
-
-
-def named(keys):
-    """The keys as a user knows them."""
-    names = []
-    for key in keys:
-        kind, rest = key[0], key[1:81]
-        names.append({VALUE: rest, "#": f"tag {rest}", ">": f"waits for {rest[:8]}", "!": f"note {json.dumps(rest[:40], ensure_ascii=False)}"}.get(kind, key))
-    return " " + ", ".join(names) if names else ""
-
-
 def split(call):
     """The calls that set one attribute each, in place of one that sets all and was refused."""
-    parts = []
+    parts: list[Call] = []
     for key in call.keys:
         name = key[1:] if key[0] == VALUE else "tags"
         part = Call(call.word, {name: call.body[name]}, [key])

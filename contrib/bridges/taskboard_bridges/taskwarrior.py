@@ -1,13 +1,15 @@
 """Taskwarrior's side of a bridge: its tasks by `task export`, and its changes by `task import`. Nothing is kept here."""
 import json
+import os
 import re
 import subprocess
 
 from taskboard_bridges.fault import Fault
 from taskboard_bridges.forms import Either, fits
-from taskboard_bridges.board_tasks import MOST_BYTES, SETTABLE, now, view_of
+from taskboard_bridges.board_tasks import MOST_BYTES, SETTABLE, added, is_template, now, view_of
 from taskboard_bridges.days import MIDNIGHT, day_alone, day_of, midnight
 from taskboard_bridges.merging import LINK, NOTE, STARTED, STATUS, TAG, UNFIT, VALUE, number_of, plain
+from taskboard_bridges.steps import respelled as respelled_step
 
 # No hook runs, nothing is asked, no recurring task makes instances, and no number of a task changes under its user's hands.
 SETTINGS = ("rc.hooks=off", "rc.confirmation=off", "rc.verbose=nothing", "rc.json.array=on", "rc.json.depends.array=on", "rc.gc=off", "rc.recurrence=off",
@@ -21,6 +23,11 @@ TASK = {
     **dict.fromkeys(("modified?", "due?", "wait?", "scheduled?", "until?", "end?", "start?", "project?", "priority?", "recur?", "parent?"), str),
     "tags?": [str], "depends?": Either(str, [str]), "annotations?": [{"entry": str, "description": str}],
 }
+# Where Taskwarrior has its tasks, and words of a filter that has the same tasks as long as none changes.
+DATA = ("pending.data", "completed.data")
+TIMELESS = re.compile(r"pro(ject)?:[^ ]+|[+-][a-z][^ ]*")
+# How many tasks an import brings at once.
+MOST_AT_ONCE = 500
 # How many tasks are asked for by their names.
 FEW = 20
 DATES = ("due", "wait", "scheduled", "until")
@@ -48,6 +55,38 @@ class Task:
         return {**kept, "annotations": notes} if notes else kept
 
 
+class Template:
+    """A task that repeats, and what it made that the board lacks."""
+
+    def __init__(self, task, it, made, right):
+        self.task, self.it, self.made, self.right = task, it, made, right
+        self.step = respelled_step(it.raw.get("recur", ""))
+
+    def name(self):
+        """Its description, as it is told."""
+        return json.dumps(self.it.raw["description"][:60], ensure_ascii=False)
+
+    def why_not(self, left):
+        """Why the board can't take it over; None where it can. `left` is the board's task of this uuid."""
+        if left:
+            return None if is_template(left) or left["status"] == "deleted" else "the board has its uuid for another task, so make another one on the board"
+        if not self.step:
+            return f"boards know no step {json.dumps(self.it.raw.get('recur', ''), ensure_ascii=False)}, so make it on the board in another way"
+        return None if "due" in self.it.raw else "it has no due date"
+
+    def parts(self):
+        """It and what it made, as an import takes it, in parts: it goes first, and the board makes none anew that its mask has."""
+        first = {**self.body(self.it), "recur": self.step, "status": "recurring", "mask": self.it.raw.get("mask", "")}
+        made = [{**self.body(it), "recur": self.step, "parent": self.task, "imask": int(number)} for it in self.made if (number := number_of(it.raw.get("imask"))) is not None]
+        all_of_it = [first, *made]
+        return [all_of_it[at : at + MOST_AT_ONCE] for at in range(0, len(all_of_it), MOST_AT_ONCE)]
+
+    def body(self, it):
+        """A task as the board holds it, without its links."""
+        view = {key: self.right.to_left(key, value, None) for key, value in it.view.items() if key[0] != LINK}
+        return added(it.raw["uuid"], {key: value for key, value in view.items() if value is not None and value is not UNFIT}, it.moments()).body
+
+
 class Taskwarrior:
     """The Taskwarrior of this user, as its own settings have it, and the tasks that a filter has."""
 
@@ -55,7 +94,7 @@ class Taskwarrior:
 
     def __init__(self, words, marks, program="task"):
         self.words, self.marks, self.program = words, marks, program
-        self.types = {}
+        self.types, self.folder = {}, ""
 
     @staticmethod
     def place():
@@ -83,24 +122,46 @@ class Taskwarrior:
             raise Fault(f"task {' '.join(words)} export: {fault}") from None
         return tasks
 
-    def prepare(self, _run):
-        """The types of the user's attributes: one of another type than a value breaks Taskwarrior's own export."""
+    def begin(self):
+        """Where the tasks are, and the types of the user's attributes: one of another type than a value breaks Taskwarrior's own export."""
         shown = self.ask("_show").stdout.decode("utf-8", "replace")
         self.types = dict(re.findall(r"(?m)^uda\.([^=\n]+)\.type=(\w+)$", shown))
+        found = re.search(r"(?m)^data\.location=(.*)$", shown)
+        self.folder = os.path.realpath(os.path.expanduser(os.environ.get("TASKDATA") or (found[1] if found else "~/.task")))
+
+    def prepare(self, _run):
+        """Nothing has to be done before it is read."""
+
+    def identity(self):
+        """What tells this Taskwarrior from others."""
+        return self.folder
+
+    def files(self):
+        """The files in which all stands; none where the filter may have other tasks tomorrow though no task changed."""
+        settings = os.path.expanduser(os.environ.get("TASKRC") or "~/.taskrc")
+        return [settings, *(os.path.join(self.folder, name) for name in DATA)] if all(map(TIMELESS.fullmatch, self.words)) else []
 
     def read(self, run, lefts):
-        """The tasks by their uuids; templates are told once, and left. `lefts` are the board's tasks."""
-        if not self.types:
-            self.prepare(run)
+        """The tasks by their uuids, and the templates that the board can take over. `lefts` are the board's tasks."""
         wanted = {task["uuid"] for task in self.exported(*self.words)} if self.words else None
-        tasks = {}
-        for raw in self.exported():
-            if raw["status"] != "recurring":
-                tasks[raw["uuid"]] = Task(raw, wanted is None or raw["uuid"] in wanted)
-            elif (wanted is None or raw["uuid"] in wanted) and run.state.tell_once(f"{raw['uuid']} template"):
-                advice = "the board has it too, so each instance comes twice: delete it here" if raw["uuid"] in lefts else "make recurring tasks on the board"
-                run.say(f"not taken: {raw['uuid'][:8]} {json.dumps(raw['description'], ensure_ascii=False)} is a template of Taskwarrior's: {advice}", True)
-        return tasks
+        found = {raw["uuid"]: Task(raw, wanted is None or raw["uuid"] in wanted) for raw in self.exported()}
+        tasks = {task: it for task, it in found.items() if it.raw["status"] != "recurring"}
+        templates = {}
+        for task, it in found.items():
+            if task not in tasks and it.is_wanted:
+                template = Template(task, it, [other for other in tasks.values() if other.raw.get("parent") == task and other.raw["uuid"] not in lefts], self)
+                refused = {} if run.options.again else run.state.tasks.get(task, {}).get("refused", {})
+                why = template.why_not(lefts.get(task)) or refused.get("template")
+                if why is None:
+                    templates[task] = template
+                elif run.state.tell_once(f"{task} template"):
+                    run.say(f"not taken: {template.name()} is a template of Taskwarrior's: {why}", True)
+        return tasks, templates
+
+    def end(self, template):
+        """Deletes a template; whether Taskwarrior did it. It makes nothing from then on, and what it made stays."""
+        raw = {**without_reckoned(template.it.raw), "status": "deleted", "end": now()}
+        return bool(self.bring({template.task: json.dumps(raw, ensure_ascii=False)})[0])
 
     @staticmethod
     def takes(left):

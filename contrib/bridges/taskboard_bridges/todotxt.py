@@ -79,6 +79,17 @@ class TodoTxt:
         """Where the tasks are, for the user."""
         return self.path
 
+    def identity(self):
+        """What tells the file from others, whatever it is called."""
+        return os.path.realpath(self.path)
+
+    def files(self):
+        """The files in which all stands."""
+        return [os.path.realpath(self.path), os.path.realpath(self.archive)]
+
+    def begin(self):
+        """Nothing has to be known before."""
+
     # Reading.
 
     def prepare(self, run):
@@ -88,7 +99,8 @@ class TodoTxt:
         known = {task["uuid"] for task in run.boards.tasks(run.board)} if self.is_first else set()
         for _ in range(MOST_TRIES):
             file = File(self.path, False)
-            lines, before, taken = list(file.lines), collections.Counter(), {Line(text).uuid for _, text in file.read()}
+            before: collections.Counter[str] = collections.Counter()
+            lines, taken = list(file.lines), {Line(text).uuid for _, text in file.read()}
             for at, text in file.read():
                 if Line(text).uuid is None:
                     task = made_by_import(run.board, text, before[text])
@@ -102,7 +114,7 @@ class TodoTxt:
         raise Fault(f"{self.path} is changed again and again by others: run it again")
 
     def read(self, run, _lefts):
-        """The tasks of both files, by their identifiers. What stands in the file itself counts before what was archived."""
+        """The tasks of both files, by their identifiers, and no templates. What stands in the file itself counts before what was archived."""
         tasks = {}
         archive = File(self.archive, True)
         for _, text in archive.read():
@@ -113,12 +125,13 @@ class TodoTxt:
         for at, text in file.read():
             line = Line(text)
             if line.uuid in seen:
+                run.not_taken += 1
                 run.say(f"not taken: line {at + 1} has the identifier of a line before it; without the word uuid:.. it is a task of its own: {json.dumps(text[:80], ensure_ascii=False)}", True)
             else:
                 task = line.uuid or str(uuid.uuid4())
                 seen.add(task)
                 tasks[task] = Task(file, text, line)
-        return tasks
+        return tasks, {}
 
     # What a line can hold.
 
