@@ -50,8 +50,8 @@ class Line:
     def __init__(self, server):
         self.server, self.run, self.at, self.stop, self.count, self.posts = server, None, None, None, 0, 0
         self.edit, self.edits = None, 0
-        # Which message's answer is cut within its head, once.
-        self.cuts = None
+        # After how many bytes the answer to a message is cut; None where it isn't.
+        self.cuts = lambda _message, _answer: None
         # How often a run looked at both sides, whether one has the board's tasks and did nothing since, and the looks of runs that were killed.
         self.looks, self.asked, self.cut, self.before = 0, False, set(), 0
         self.listener = socket.create_server(("127.0.0.1", 0))
@@ -120,10 +120,7 @@ class Line:
                 self.server.start()
                 return None
             self.asked = asks
-            if self.cuts and self.cuts(message):
-                self.cuts = None
-                return answer[: answer.index(b"\n") + 1]
-            return answer
+            return answer[: self.cuts(message, answer)]
 
 
 def is_whole(got):

@@ -51,6 +51,7 @@ else
     echo "Taskwarrior: skipped, since task 2.6 isn't there"
 fi
 part sync_answers.py
+part sync_units.py
 part sync_lines.py
 part sync_words.py
 if is_there todo-txt || is_there todo.sh; then

@@ -99,8 +99,13 @@ class Scenes(Week):
     def cut(self):
         """A run is stopped once its call was made, a colleague takes it back, and the answer that says that it was made is cut within its
         head: it isn't made again."""
-        def answers_whether_made(message):
-            return b"/denotate " in message.partition(b"\r")[0]
+        cut = []
+
+        def whether_made(message, answer):
+            if cut or b"/denotate " not in message.partition(b"\r")[0]:
+                return None
+            cut.append(message)
+            return answer.index(b"\n") + 1
 
         for words, back, body in ((("done",), "reopen", {}), (("annotate", "Noted once"), "denotate", {"description": "Noted once"}), (("modify", "+once"), "modify", {"tags": []})):
             self.user.task(D, *words)
@@ -108,11 +113,35 @@ class Scenes(Week):
             expect("the fifth message", True, self.runs.stop(5, "run after"))
             self.editor.change(D, back, body)
             calls = self.calls(D)
-            self.line.cuts = answers_whether_made
-            self.runs.complete()
-            expect(f"{words}: the answer was cut", None, self.line.cuts)
+            self.cut_by(whether_made)
+            expect(f"{words}: the answer was cut", 1, len(cut))
+            cut.clear()
             expect(f"{words}: the calls on the task", calls, self.calls(D))
             expect_alike(f"{words}, taken back", *({D: side[D]} for side in (self.editor.tasks(), self.user.tasks())))
+
+    def cut_by(self, cuts):
+        """A whole run, some of whose answers are cut."""
+        self.line.cuts = cuts
+        self.runs.complete()
+        self.line.cuts = lambda _message, _answer: None
+
+    def cut_anywhere(self):
+        """Whichever answers are cut after whichever byte, each call is made once."""
+        draw, cut = random.Random(7), []
+
+        def some(_message, answer):
+            if draw.random() < 0.6:
+                return None
+            cut.append(answer)
+            return draw.randrange(len(answer))
+
+        for number in range(8):
+            self.user.task(D, "annotate", f"cut {number}")
+            self.user.task(D, "modify", f"project:C{number}")
+            before = self.calls(D)
+            self.cut_by(some)
+            expect(f"the calls of run {number}", ["annotate", "modify"], sorted(self.calls(D)[len(before) :]))
+        return len(cut)
 
     def calls(self, task):
         """The calls on a task of the board, in their order."""
@@ -366,6 +395,7 @@ if __name__ == "__main__":
         scenes.refused()
         scenes.stopped()
         scenes.cut()
+        cut = scenes.cut_anywhere()
         stops = scenes.conflicts() + scenes.closed()
         scenes.taken_over()
         scenes.met_first()
@@ -375,7 +405,7 @@ if __name__ == "__main__":
         scenes.purged()
         scenes.strangers()
         scenes.hook()
-        print(f"filters, unfit values, refusals, templates, purged tasks, strangers, a hook; conflicts and edits of a completed task stopped at {stops} messages in turn, templates handed over at {handed}; {scenes.lines()} lines read and written as the server does")
+        print(f"filters, unfit values, refusals, templates, purged tasks, strangers, a hook; conflicts and edits of a completed task stopped at {stops} messages in turn, templates handed over at {handed}, {cut} answers cut anywhere; {scenes.lines()} lines read and written as the server does")
     except BaseException:
         print("after:\n" + "\n".join(scenes.runs.said[-15:]), file=sys.stderr)
         raise

@@ -23,8 +23,6 @@ TIMEOUT = 60
 MOST_PORTS = 16
 # Words that ask no server: it isn't looked for before they run.
 ALONE = ("--help", "-h", "help", "--version", "--check")
-# The shortest beginning of an address that is held until it is known how it goes on.
-LEAST_HELD = 4
 
 
 class Tunnel:
@@ -168,7 +166,7 @@ class Rewriter:
     @staticmethod
     def begun(text: bytes, old: bytes) -> int:
         """How many bytes at the end of a text may be the beginning of what is replaced."""
-        return next((size for size in range(min(len(text), len(old) - 1), LEAST_HELD - 1, -1) if text.endswith(old[:size])), 0)
+        return next((size for size in range(min(len(text), len(old) - 1), 0, -1) if text.endswith(old[:size])), 0)
 
 
 def write_all(data: bytes) -> None:
