@@ -231,6 +231,14 @@ def lost(nginx, watched):
     expect("it acts once", [task["description"] for task in tasks].count("Sow peas") == 1)
 
 
+def silent(nginx, watched):
+    """A command that gives up while the server is silent ends at once."""
+    held = Held(watched, "send", "--for", "1", nginx.address(), "ann", "-", "list", "1")
+    out, errors = held.process.communicate(timeout=50)
+    expect(f"a silent server: {out}, {errors}", held.process.returncode == 1 and "NoAnswer" in errors)
+    held.go()
+
+
 def listeners(process):
     """Where a process listens."""
     sockets = {os.readlink(path) for path in glob.glob(f"/proc/{process.pid}/fd/*") if os.path.lexists(path)}
@@ -326,6 +334,7 @@ def main():
             untrusted(nginx, watched)
             setup(nginx)
             lost(nginx, watched)
+            silent(nginx, watched)
             shut(watched)
     print(f"tb over TLS in {time.monotonic() - begun:.0f} s")
 

@@ -4,11 +4,13 @@ import errno
 import hashlib
 import os
 import re
+import select
 import signal
 import socket
 import ssl
 import sys
 import threading
+import time
 from collections.abc import Callable, Sequence
 
 from taskboard_bridges.fault import Fault
@@ -19,6 +21,8 @@ SETTING = re.compile(r"(?m)^[ \t]*server[ \t]*=[ \t]*(.*?)\s*$")
 TARGET = re.compile(rb"[A-Z]+ [!-~]+ HTTP/1\.1")
 # How many seconds nothing may come of an answer, or of a message.
 TIMEOUT = 60
+# How many seconds go by between two looks at what other commands wait for.
+PAUSE = 0.01
 # How many ports are tried where other users listen.
 MOST_PORTS = 16
 # Words that ask no server: it isn't looked for before they run.
@@ -34,7 +38,7 @@ class Tunnel:
         host, port = self.listener.getsockname()
         self.address = f"{host}:{port}"
         self.wires: list[Wire] = []
-        self.is_looked_for = False
+        self.clients: set[socket.socket] = set()
 
     def look_for_server(self) -> None:
         """Connects to the server before anything is asked, and ends the program where it isn't there or isn't trusted."""
@@ -54,7 +58,8 @@ class Tunnel:
                 client, _ = self.listener.accept()
             except OSError:
                 return
-            threading.Thread(target=self.serve, args=(client,)).start()
+            self.clients.add(client)
+            threading.Thread(target=self.serve, args=(client,), daemon=True).start()
 
     def serve(self, client: socket.socket) -> None:
         """Passes on the message of a connection of this user's, and its answer; where no whole one came the connection ends without."""
@@ -65,6 +70,13 @@ class Tunnel:
                     client.sendall(self.answer_to(self.with_host(taken(client))))
             except (OSError, NoAnswer):
                 pass
+            self.clients.discard(client)
+
+    def finish(self) -> None:
+        """Accepts no more once the program has ended; other commands of this user's whose messages came here get their answers."""
+        self.listener.shutdown(socket.SHUT_RDWR)
+        while any(is_open(client) for client in list(self.clients)):
+            time.sleep(PAUSE)
 
     def with_host(self, message: bytes) -> bytes:
         """A message as the server takes it: it names the server, and leaves the connection open."""
@@ -114,6 +126,14 @@ def is_of_this_user(client: socket.socket) -> bool:
     with open("/proc/net/tcp", encoding="ascii") as file:
         rows = (line.split() for line in file)
         return any(row[1:3] == ends and row[7] == str(os.geteuid()) for row in rows)
+
+
+def is_open(client: socket.socket) -> bool:
+    """Whether the other end of a connection waits for its answer."""
+    try:
+        return not select.select([client], [], [], 0)[0] or client.recv(1, socket.MSG_PEEK) != b""
+    except (OSError, ValueError):
+        return False
 
 
 def as_listed(host: str, port: int) -> str:
@@ -191,7 +211,8 @@ def run(program: str, words: Sequence[str], environment: dict[str, str], tunnel:
     threading.Thread(target=tunnel.accept, daemon=True).start()
     Rewriter(pairs, write_all).copy(reading)
     _, status = os.waitpid(child, 0)
-    tunnel.listener.close()
+    if not os.WIFSIGNALED(status):
+        tunnel.finish()
     return os.waitstatus_to_exitcode(status)
 
 
