@@ -259,6 +259,8 @@ class Reminding:
         os.chmod("open", 0o644)
         wrong = {"key = open": ("key = key", "chmod 600"), "member = nobody": ("member = reminder", "doesn't know"), "zone = Mars": (f"zone = {NAME}", "no time zone"),
                  "[people]\nbob = b\n[cats]": ("[people]", "[cats]"), "tlx = none": ("tls = starttls" if self.certificate else "tls = none", "tlx"),
+                 "bob = bob@example.org\n and more": ("bob = bob@example.org", "an address of mail on one line"), "from = Bücher": ("from = Boards", "an address of mail on one line"),
+                 "smtp = 127.0.0.1:x": (f"smtp = 127.0.0.1:{self.mails.port}", "smtp has to be HOST:PORT"), "cacert = lacking": ("cacert = tls.pem" if self.certificate else "tls = none", "lacking"),
                  "address = http://10.0.0.1": (f"address = 127.0.0.1:{PORT}", "in the open")}
         self.config("good", {"bob": "bob@example.org"})
         with open("good.conf") as file:
@@ -330,7 +332,7 @@ class Reminding:
         expect("the new path", (False, True), (os.path.exists(paths["person bob"]), paths["person bob"] not in told))
         self.editor.call("roles", {"member": "bob", "role": None})
         self.run(*words, "calendar")
-        expect("bob has left", 4, len(os.listdir("calendars")))
+        expect("bob has left", 5, len(os.listdir("calendars")))
         return count
 
     def stopped_calendars(self):

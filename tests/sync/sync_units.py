@@ -1,5 +1,6 @@
 """Parts of the bridges and of the tunnel by themselves: sync_units.py, in a folder of its own."""
 import copy
+import io
 import json
 import os
 import random
@@ -17,6 +18,7 @@ from taskboard_bridges.forms import Either, Values, fits
 from taskboard_bridges.keeping import State
 from taskboard_bridges.places import place_of
 from taskboard_bridges.reminding import Kept
+from taskboard_bridges.saying import say
 from taskboard_bridges.seen import Seen
 from taskboard_bridges.taskwarrior import TIMELESS
 from taskboard_bridges.wire import NoAnswer
@@ -168,6 +170,14 @@ def words():
         expect(word, wanted, bool(TIMELESS.fullmatch(word)))
 
 
+def said():
+    """What the encoding of the terminal lacks is a question mark."""
+    for encoding, wanted in (("utf-8", "Call 東京 ?\n"), ("latin-1", "Call ?? ?\n"), ("ascii", "Call ?? ?\n")):
+        file = io.TextIOWrapper(io.BytesIO(), encoding=encoding)
+        say("Call 東京 \ud800", file)
+        expect(encoding, wanted, file.buffer.getvalue().decode(encoding))
+
+
 def main():
     counts = states()
     forms()
@@ -175,6 +185,7 @@ def main():
     rewritten()
     taken()
     words()
+    said()
     print(f"{counts['state']} damaged states and {counts['mails']} files of mails refused in words; forms, places, the tunnel's messages and what is shown of its address")
 
 

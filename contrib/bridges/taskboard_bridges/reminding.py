@@ -214,7 +214,7 @@ class Reminder:
     def trouble(self, text):
         """Tells what went wrong; the run's status is 1."""
         self.is_whole = False
-        print(f"taskboard-remind: {text}", file=sys.stderr)
+        say(f"taskboard-remind: {text}", sys.stderr)
 
     def mail(self, boards, person):
         """Sends a person her mail of this day, unless `kept` says that it went, or may have gone. Where there was nothing to say it is looked

@@ -1,11 +1,13 @@
 """The configuration of taskboard-remind, which is read once. Nothing is kept here."""
 import configparser
 import os
+import re
 
 from taskboard_bridges.asking import Boards, read_key
 from taskboard_bridges.days import zone_named
 from taskboard_bridges.fault import Fault
 
+ADDRESS = re.compile(r"[ -~]+")
 KNOWN = {
     "boards": ("address", "member", "key", "page", "boards", "zone", "state", "cacert"),
     "mail": ("from", "sendmail", "smtp", "tls", "user", "password", "cacert"),
@@ -33,6 +35,7 @@ class Settings:
         self.chosen = self.numbers(boards["boards"]) if "boards" in boards else None
         self.people = dict(parser["people"]) if parser.has_section("people") else {}
         self.mail = dict(parser["mail"]) if parser.has_section("mail") else {}
+        self.check_addresses()
         self.calendar = dict(parser["calendar"]) if parser.has_section("calendar") else {}
 
     def fault(self, text):
@@ -50,6 +53,12 @@ class Settings:
                     raise self.fault(f"{name} isn't known in [{section}]: there are {', '.join(known)}")
         if not self.parser.has_section("boards"):
             raise self.fault("[boards] is missing")
+
+    def check_addresses(self):
+        """Refuses addresses of mail that no mail can have."""
+        for name, address in {**self.people, **({"from": self.mail["from"]} if "from" in self.mail else {})}.items():
+            if not ADDRESS.fullmatch(address):
+                raise self.fault(f"{name} has to be an address of mail on one line, and is {address}")
 
     def need(self, section, name):
         """A setting that has to be there."""
