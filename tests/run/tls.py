@@ -178,6 +178,8 @@ def setup(nginx):
     expect(f"a wrong key: {status}, {shown}", status == 1 and "doesn't know this name with this key" in shown and not os.path.exists(config))
     status, shown = typed([nginx.address("expired"), "ann", KEY], home)
     expect(f"an expired certificate: {status}, {shown}", status == 1 and "isn't trusted" in shown and not os.path.exists(config))
+    status, shown = typed([nginx.address(), "ann", "\x03"], home)
+    expect(f"an interruption: {status}, {shown}", status == 1 and "nothing was written" in shown and not os.path.exists(config))
     status, shown = typed([nginx.address(), "ann", KEY, "Nowhere"], home)
     expect(f"no such board: {status}, {shown}", status == 1 and "none of your boards has the title Nowhere" in shown and not os.path.exists(config))
     status, shown = typed([nginx.address(), "ann", KEY, "board"], home)

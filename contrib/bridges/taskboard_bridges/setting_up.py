@@ -4,6 +4,7 @@ from __future__ import annotations
 import getpass
 import os
 import re
+import signal
 import stat
 import sys
 
@@ -121,7 +122,8 @@ def set_up() -> None:
 
 
 def main(_words: list[str]) -> None:
-    """Ends with 1 where nothing was written."""
+    """Ends with 1 where nothing was written. Where it is interrupted the terminal shows again what is typed."""
+    signal.signal(signal.SIGINT, signal.default_int_handler)
     try:
         set_up()
     except Fault as fault:

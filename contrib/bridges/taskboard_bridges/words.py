@@ -82,6 +82,3 @@ def bridge(options, path, more, make_right):
     except OSError as fault:
         tell(f"{sys.argv[0].rpartition('/')[2]}: {fault.filename or 'the system'}: {fault.strerror}. Nothing is lost: mend that, and run it again", sys.stderr)
         return 1
-    except KeyboardInterrupt:
-        tell("stopped. Nothing is lost: run it again", sys.stderr)
-        return 1
