@@ -4,6 +4,7 @@ import glob
 import json
 import os
 import pty
+import random
 import shlex
 import signal
 import socket
@@ -78,11 +79,15 @@ class Nginx:
         self.process.wait()
 
 
+def never():
+    return False
+
+
 class Watched:
     """What comes by on the way from nginx to the server, and which processes there are meanwhile."""
 
     def __init__(self, port):
-        self.server_port, self.heard, self.processes, self.holds, self.loses = port, [], set(), None, False
+        self.server_port, self.heard, self.processes, self.holds, self.loses = port, [], set(), None, never
         self.listener = socket.create_server(("127.0.0.1", 0))
         self.port = self.listener.getsockname()[1]
         threading.Thread(target=self.listen, daemon=True).start()
@@ -106,7 +111,7 @@ class Watched:
     def pass_back(self, server, client):
         with contextlib.suppress(OSError):
             while answered := server.recv(65536):
-                if self.loses:
+                if self.loses():
                     client.shutdown(socket.SHUT_RDWR)
                     return
                 client.sendall(answered)
@@ -222,15 +227,27 @@ def untrusted(nginx, watched):
 
 def lost(nginx, watched):
     """A call that gets no answer says how to send it again by TLS, and acts once."""
-    watched.loses = True
+    watched.loses = lambda: True
     ran = tb("send", "--for", "1", nginx.address(), "ann", "-", "add", "1", "Sow", "peas")
-    watched.loses = False
+    watched.loses = never
     line = ran.stderr.splitlines()[-1]
     expect(f"no answer: {ran}", ran.returncode == 1 and line.startswith("tb send --id ") and nginx.address() in line and "127." not in ran.stderr)
     again = tb(*shlex.split(line.replace("KEY", "-"))[1:])
     expect(f"{line}: {again}", again.returncode == 0)
     tasks = json.loads(tb("send", nginx.address(), "ann", "-", "export", "1").stdout)
     expect("it acts once", [task["description"] for task in tasks].count("Sow peas") == 1)
+
+
+def cut(watched):
+    """Half of all answers are lost on their way: each task is added once."""
+    draw = random.Random(11)
+    watched.loses = lambda: draw.random() < 0.5
+    for number in range(10):
+        ran = tb("add", "cut", str(number))
+        expect(f"a line that cuts: {ran}", ran.returncode == 0)
+    watched.loses = never
+    tasks = json.loads(tb("export").stdout)
+    expect("each once", sorted(task["description"] for task in tasks if task["description"].startswith("cut ")) == [f"cut {number}" for number in range(10)])
 
 
 def silent(nginx, watched):
@@ -336,6 +353,7 @@ def main():
             untrusted(nginx, watched)
             setup(nginx)
             lost(nginx, watched)
+            cut(watched)
             silent(nginx, watched)
             shut(watched)
     print(f"tb over TLS in {time.monotonic() - begun:.0f} s")
