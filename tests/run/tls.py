@@ -61,7 +61,7 @@ class Nginx:
         self.ports = {name: free_port() for name in ("good", "expired", "foreign", "misnamed", "page")}
         passes = f"proxy_pass http://127.0.0.1:{upstream}; proxy_http_version 1.1; proxy_read_timeout 60s;"
         servers = "".join(SECURE.format(port=self.ports[name], here=HERE, name=name, location=passes) for name in ("good", "expired", "foreign", "misnamed"))
-        servers += SECURE.format(port=self.ports["page"], here=HERE, name="good", location="return 200 '<html>Welcome</html>';")
+        servers += SECURE.format(port=self.ports["page"], here=HERE, name="good", location="default_type text/html; return 200 '<html>Welcome</html>';")
         servers += OTHERS.format(port=self.ports["good"], here=HERE)
         with open("nginx.conf", "w") as file:
             file.write(MAIN.format(here=HERE, servers=servers))
@@ -219,8 +219,9 @@ def untrusted(nginx, watched):
     expect(f"no server: {ran}", ran.returncode == 1 and "can't be reached: Connection refused. Nothing was sent" in ran.stderr)
     ran = tb("list", TASKBOARD_SERVER="https://no.such.host.invalid")
     expect(f"no such name: {ran}", ran.returncode == 1 and "https://no.such.host.invalid can't be reached" in ran.stderr)
-    ran = tb("list", TASKBOARD_SERVER=nginx.address("page"))
-    expect(f"no server of boards: {ran}", ran.returncode != 0 and "<html>" not in ran.stdout)
+    for words in (("list",), ("export",), ("add", "Buy", "milk"), ("send", nginx.address("page"), "ann", "-", "me")):
+        ran = tb(*words, TASKBOARD_SERVER=nginx.address("page"))
+        expect(f"no server of boards: {ran}", ran.returncode == 1 and not ran.stdout and "answers 200 with something that no server of boards says" in ran.stderr)
     ran = tb("--help", TASKBOARD_SERVER=nginx.address("expired"))
     expect(f"help asks no server: {ran}", ran.returncode == 0 and not ran.stderr)
 

@@ -1,5 +1,7 @@
 """Runs `taskboard` against a server behind TLS: a port of this machine takes the messages of the program, and what they are answered comes
 by TLS. The program's own listener is that port's: no other user can listen there as long as the program runs. Nothing is kept here."""
+from __future__ import annotations
+
 import errno
 import hashlib
 import os
@@ -15,10 +17,14 @@ from collections.abc import Callable, Sequence
 
 from taskboard_bridges.fault import Fault
 from taskboard_bridges.places import Place, place_of, trusting
-from taskboard_bridges.wire import MOST_HEAD, PART, NoAnswer, Wire
+from taskboard_bridges.wire import MOST_HEAD, PART, Head, NoAnswer, Wire
 
 SETTING = re.compile(r"(?m)^[ \t]*server[ \t]*=[ \t]*(.*?)\s*$")
 TARGET = re.compile(rb"[A-Z]+ [!-~]+ HTTP/1\.1")
+# What a server of boards answers in; a proxy in front of it that lets the program try again answers otherwise.
+TYPES = (b"application/json", b"text/plain")
+AWAY = (500, 502, 503, 504)
+TOO_OFTEN = 429
 # How many seconds nothing may come of an answer, or of a message.
 TIMEOUT = 60
 # How many seconds go by between two looks at what other commands wait for.
@@ -39,6 +45,8 @@ class Tunnel:
         self.address = f"{host}:{port}"
         self.wires: list[Wire] = []
         self.clients: set[socket.socket] = set()
+        self.child = 0
+        self.fault: Fault | None = None
 
     def look_for_server(self) -> None:
         """Connects to the server before anything is asked, and ends the program where it isn't there or isn't trusted."""
@@ -68,6 +76,9 @@ class Tunnel:
                 client.settimeout(TIMEOUT)
                 if is_of_this_user(client):
                     client.sendall(self.answer_to(self.with_host(taken(client))))
+            except Fault as fault:
+                self.fault = fault
+                os.kill(self.child, signal.SIGKILL)
             except (OSError, NoAnswer):
                 pass
             self.clients.discard(client)
@@ -94,8 +105,20 @@ class Tunnel:
         head, body = wire.ask(message)
         if wire.is_open:
             self.wires.append(wire)
+        self.look_at(head)
         fields = [b"%s: %s" % field for field in head.fields.items() if field[0] != b"connection"]
         return b"\r\n".join([head.first, *fields, b"connection: close", b"", b""]) + body
+
+
+    def look_at(self, head: Head) -> None:
+        """Ends the program where another server answers, before it takes that for an answer."""
+        if head.status == TOO_OFTEN:
+            # The program tries again, as where no answer came.
+            raise NoAnswer
+        kind = head.fields.get(b"content-type", b"")
+        if head.status not in AWAY and not kind.startswith(TYPES):
+            raise Fault(f"https://{self.place.name} answers {head.status} with something that no server of boards says ({kind.decode('ascii', 'replace') or 'of no type'}): "
+                        "look at the address, and at what is in front of the server")
 
 
 def listening(place: Place) -> socket.socket:
@@ -203,6 +226,7 @@ def run(program: str, words: Sequence[str], environment: dict[str, str], tunnel:
     reading, writing = os.pipe()
     child = os.posix_spawn(program, [program, *words], environment, file_actions=[(os.POSIX_SPAWN_DUP2, writing, 2)], setsigdef=[signal.SIGPIPE, signal.SIGXFSZ])
     os.close(writing)
+    tunnel.child = child
     for number in (signal.SIGINT, signal.SIGQUIT):
         # The terminal tells both.
         signal.signal(number, lambda *_: None)
@@ -211,6 +235,8 @@ def run(program: str, words: Sequence[str], environment: dict[str, str], tunnel:
     threading.Thread(target=tunnel.accept, daemon=True).start()
     Rewriter(pairs, write_all).copy(reading)
     _, status = os.waitpid(child, 0)
+    if tunnel.fault:
+        raise tunnel.fault
     if not os.WIFSIGNALED(status):
         tunnel.finish()
     return os.waitstatus_to_exitcode(status)
