@@ -32,7 +32,7 @@ seen() {
 # A clone of a later version: another program, page, unit and document; a new man page and a new file of the page, and one script less.
 make_later_clone() {
     mkdir later
-    cp -R "$contrib" "$top/page" "$top/docs" "$top/README.md" later
+    cp -R "$contrib" "$top/page" "$top/docs" "$top/README.md" "$top/CHANGELOG.md" "$top/SECURITY.md" "$top/LICENSE" later
     printf '#!/bin/sh\necho later\n' >later/program
     printf '#!/bin/sh\necho "%s"\n' "$folder/later/program" >later/taskboard
     chmod 755 later/program later/taskboard
@@ -50,8 +50,12 @@ installs_twice() {
     "$prefix/bin/tb" --help | grep -q "^taskboard my " || fail "tb isn't taskboard my"
     cmp -s "$prefix/share/taskboard/page/index.html" "$top/page/index.html" || fail "another page was installed"
     grep -q "systemctl link $prefix/lib/systemd/system/taskboard\*" said || fail "it doesn't say how systemd finds the units: $(cat said)"
-    grep -q "^ExecStart=$prefix/bin/taskboard serve .* --page $prefix/share/taskboard/page " "$prefix/lib/systemd/system/taskboard.service" ||
+    grep -q "^ExecStart=/usr/bin/env .* $prefix/bin/taskboard serve .* --page $prefix/share/taskboard/page " "$prefix/lib/systemd/system/taskboard.service" ||
         fail "the unit runs another program"
+    grep -q "^ExecStart=$prefix/lib/taskboard/current/lib/taskboard/report-failure %i" "$prefix/lib/systemd/system/taskboard-failed@.service" &&
+        [ -x "$prefix/lib/taskboard/current/lib/taskboard/report-failure" ] || fail "the unit that reports runs another program"
+    release=$(sed -n 's/^## \([0-9][0-9.]* (.*)\)$/\1/p' "$top/CHANGELOG.md" | head -n 1)
+    grep -q ", release $release$" said || fail "it doesn't say which release it is: $(cat said)"
     seen >first
     install_from "$top" || fail "it wasn't installed again: $(cat said)"
     seen | cmp -s - first || fail "installed again it is another"
@@ -109,7 +113,20 @@ adopts() {
 # Both versions, of which the earlier one is in use.
 removes() {
     echo "of another" >"$prefix/bin/another"
-    install_from "$top" --uninstall || fail "it wasn't removed: $(cat said)"
+    mkdir programs
+    cat >programs/systemctl <<SYSTEMCTL
+#!/bin/sh
+case \$1 in
+list-units) echo "taskboard.service loaded active running Boards"; echo "taskboard@north.service loaded active running North"; echo "taskboard-other.service loaded active running Other" ;;
+list-unit-files) echo "taskboard@.service enabled enabled"; echo "taskboard-backup.timer enabled enabled" ;;
+show) case \$4 in taskboard-other*) echo /etc/systemd/system/taskboard-other.service ;; *) echo "$prefix/lib/systemd/system/any" ;; esac ;;
+disable) echo "\$*" >>"$folder/disabled" ;;
+esac
+SYSTEMCTL
+    chmod 755 programs/systemctl
+    PATH=$folder/programs:$PATH install_from "$top" --uninstall || fail "it wasn't removed: $(cat said)"
+    [ "$(sort disabled | tr '\n' ';')" = "disable --now taskboard-backup.timer;disable --now taskboard.service;disable --now taskboard@north.service;" ] ||
+        fail "it didn't stop and disable what it removed: $(cat disabled)"
     [ "$(find "$prefix" ! -type d)" = "$prefix/bin/another" ] || fail "this stayed: $(find "$prefix" ! -type d)"
     [ ! -e "$prefix/lib/taskboard" ] && [ ! -e "$prefix/share/taskboard" ] || fail "folders stayed"
 }
