@@ -144,15 +144,19 @@ systemd_finds_units() {
     systemctl --root="$root" enable taskboard.service 2>said || fail "a linked unit isn't enabled: $(cat said)"
 }
 
+# A template is looked at by an instance of it.
 units_are_right() {
     units=$prefix/lib/systemd/system
-    for instance in taskboard@office.service taskboard-failed@taskboard.service.service; do
-        cp "$units/${instance%%@*}@.service" "$units/$instance"
+    instances="taskboard@office.service taskboard-failed@taskboard.service.service taskboard-again@taskboard.service.service"
+    instances="$instances taskboard-ship@office.service taskboard-watch@office.service taskboard-watch@office.timer"
+    for instance in $instances; do
+        cp "$units/${instance%%@*}@.${instance##*.}" "$units/$instance"
     done
-    MANPATH="$prefix/share/man:" systemd-analyze verify "$units/taskboard.service" "$units/taskboard@office.service" \
-        "$units/taskboard-failed@taskboard.service.service" "$units"/taskboard-*.service "$units"/taskboard-*.timer 2>said || fail "the units: $(cat said)"
+    find "$units" -name 'taskboard*' ! -name '*@.*' -exec env MANPATH="$prefix/share/man:" systemd-analyze verify {} + 2>said || fail "the units: $(cat said)"
     [ ! -s said ] || fail "the units: $(cat said)"
-    rm "$units/taskboard@office.service" "$units/taskboard-failed@taskboard.service.service"
+    for instance in $instances; do
+        rm "$units/$instance"
+    done
 }
 
 # The man page has each fault and each refusal by its name.
