@@ -209,13 +209,22 @@ if is_there systemctl; then
     systemd_finds_units
 fi
 if is_there shellcheck; then
-    for script in "$contrib"/install.sh "$contrib"/bin/*; do
+    for script in "$contrib"/*.sh "$contrib"/*/*; do
         [ -f "$script" ] || continue
         case $(head -n 1 "$script") in
         '#!/bin/sh') shellcheck "$script" ;;
         esac
     done
     shellcheck "$contrib/completion/taskboard.bash"
+fi
+if is_there pyflakes3; then
+    for script in "$contrib"/*/*; do
+        [ -f "$script" ] || continue
+        case $(head -n 1 "$script") in
+        '#!/usr/bin/env python3') pyflakes3 "$script" ;;
+        esac
+    done
+    pyflakes3 "$contrib"/*/taskboard_*/*.py
 fi
 if is_there groff; then
     groff -man -Tutf8 -ww "$contrib"/man/*.1 >page 2>warnings

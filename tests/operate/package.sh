@@ -91,7 +91,8 @@ expect_version "installed 99.0"
 
 inside dpkg --remove taskboard >said 2>&1 || fail "it isn't removed: $(cat said)"
 expect_version "config-files 99.0"
-[ ! -e "$root/usr/bin/taskboard" ] && [ ! -e "$root/usr/lib/taskboard" ] || fail "programs stay"
+stays=$(find "$root/usr/bin/taskboard" "$root/usr/lib/taskboard" "$root/usr/share/taskboard" 2>/dev/null || true)
+[ -z "$stays" ] || fail "this stays: $stays"
 
 installs "${first##*/}"
 mkdir -p "$root/etc/taskboard"
