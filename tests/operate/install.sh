@@ -55,6 +55,7 @@ installs_twice() {
     grep -q "^ExecStart=$prefix/lib/taskboard/current/lib/taskboard/report-failure %i" "$prefix/lib/systemd/system/taskboard-failed@.service" &&
         [ -x "$prefix/lib/taskboard/current/lib/taskboard/report-failure" ] || fail "the unit that reports runs another program"
     release=$(sed -n 's/^## \([0-9][0-9.]* (.*)\)$/\1/p' "$top/CHANGELOG.md" | head -n 1)
+    grep -qF ">Release $release<" "$prefix/share/taskboard/page/index.html" || fail "the page names another release than $release"
     grep -q ", release $release$" said || fail "it doesn't say which release it is: $(cat said)"
     seen >first
     install_from "$top" || fail "it wasn't installed again: $(cat said)"
