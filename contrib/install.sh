@@ -3,7 +3,8 @@
 #
 #   contrib/install.sh [--prefix FOLDER]              installs below FOLDER, /usr/local if none is given
 #   contrib/install.sh [--prefix FOLDER] --back       goes back to the version before, whole; once more, and it goes forward again
-#   contrib/install.sh [--prefix FOLDER] --uninstall  removes all versions
+#   contrib/install.sh [--prefix FOLDER] --uninstall  stops and disables the units, and removes all versions
+#   contrib/install.sh [--prefix FOLDER] --plain      puts the files themselves there, without versions, for contrib/package.sh
 #
 # Each version has a folder lib/taskboard/versions/VERSION of its own, and the link lib/taskboard/current leads to the one in use. Programs,
 # page, man pages and documents are links that lead there; units are copies, since systemd enables no links.
@@ -25,7 +26,7 @@ fail() {
 }
 
 usage() {
-    echo "usage: install.sh [--prefix FOLDER] [--back | --uninstall], with DESTDIR for a package" >&2
+    echo "usage: install.sh [--prefix FOLDER] [--back | --uninstall | --plain], with DESTDIR for a package" >&2
     exit 2
 }
 
@@ -37,6 +38,9 @@ parts() {
 644 share/bash-completion/completions/tb contrib/completion/taskboard.bash
 644 share/doc/taskboard/nginx.conf contrib/nginx/nginx.conf
 644 share/doc/taskboard/README.md README.md
+644 share/doc/taskboard/CHANGELOG.md CHANGELOG.md
+644 share/doc/taskboard/SECURITY.md SECURITY.md
+644 share/doc/taskboard/LICENSE LICENSE
 PARTS
     for path in "$contrib"/*/* "$contrib"/*/taskboard_*/*.py "$top"/page/* "$top"/docs/*; do
         [ -f "$path" ] || continue
@@ -46,8 +50,10 @@ PARTS
         page/*) echo "644 share/taskboard/page/$name $source" ;;
         docs/*) echo "644 share/doc/taskboard/docs/$name $source" ;;
         contrib/*/taskboard_*/*.py) echo "644 lib/taskboard/${source#contrib/*/} $source" ;;
+        contrib/debian/*) ;;
         contrib/man/*) echo "644 share/man/man1/$name $source" ;;
         contrib/systemd/*) echo "644 $units/$name $source" ;;
+        contrib/lib/*) echo "755 lib/taskboard/$name $source" ;;
         contrib/bin/* | contrib/bridges/* | contrib/ship/*) echo "755 bin/$name $source" ;;
         esac
     done
@@ -94,19 +100,24 @@ is_real_folder() {
     [ -d "$root/$1" ] && [ ! -L "$root/$1" ]
 }
 
+# Puts all files below a folder.
+put_parts() {
+    program=$("$top/taskboard" --where)
+    parts | while read -r mode place source; do
+        case $source in
+        PROGRAM) install -D -m "$mode" "$program" "$1/$place" ;;
+        *) install -D -m "$mode" "$top/$source" "$1/$place" ;;
+        esac
+    done
+}
+
 # Makes the folder of a version, whole or not at all; its name is made of what it holds. Units name the program where it is.
 make_version() {
-    program=$("$top/taskboard" --where)
     mkdir -p "$versions"
     new=$(mktemp -d "$versions/.new.XXXXXX")
     chmod 755 "$new"
-    parts | while read -r mode place source; do
-        case $source in
-        PROGRAM) install -D -m "$mode" "$program" "$new/$place" ;;
-        *) install -D -m "$mode" "$top/$source" "$new/$place" ;;
-        esac
-    done
-    sed -i "s|/usr/local/|$prefix/|g" "$new/$units"/*.service
+    put_parts "$new"
+    sed -i "s|/usr/local/lib/taskboard/|&current/lib/taskboard/|; s|/usr/local/|$prefix/|g" "$new/$units"/*.service
     version=$(cd "$new" && find . -type f -exec sha256sum {} + | LC_ALL=C sort | sha256sum | cut -c 1-12)
     if [ -d "$versions/$version" ]; then
         rm -r "$new"
@@ -177,8 +188,18 @@ use_version() {
         done
         ln -sfn "$before" "$home/previous"
     fi
-    echo "the version in use is $versions/$1"
+    echo "the version in use is $versions/$1$(release_of "$versions/$1")"
     tell_units
+}
+
+# The number and the date of the release that a version is.
+release_of() {
+    sed -n 's/^## \([0-9][0-9.]* (.*)\)$/, release \1/p' "$1/share/doc/taskboard/CHANGELOG.md" 2>/dev/null | head -n 1
+}
+
+install_plain() {
+    put_parts "$root"
+    sed -i "s|/usr/local/|$prefix/|g" "$root/$units"/*.service
 }
 
 install_all() {
@@ -208,7 +229,19 @@ remove() {
     fi
 }
 
+# Stops and disables the units that are removed, where systemd runs.
+stop_units() {
+    [ -z "${DESTDIR-}" ] && systemctl list-units >/dev/null 2>&1 || return 0
+    { systemctl list-units --all --plain --no-legend 'taskboard*' && systemctl list-unit-files --plain --no-legend --state=enabled 'taskboard*'; } |
+        cut -d ' ' -f 1 | grep -v '@\.' | LC_ALL=C sort -u | while read -r unit; do
+        case $(systemctl show --value --property=FragmentPath "$unit") in
+        "$root/$units"/*) systemctl disable --now "$unit" && echo "stopped and disabled $unit" ;;
+        esac
+    done
+}
+
 remove_all() {
+    stop_units
     for version in "$versions"/*; do
         [ -d "$version" ] || continue
         places "$version" | while read -r place; do
@@ -226,6 +259,7 @@ remove_all() {
     for folder in "$home" "$root/share/taskboard" "$root/share/doc/taskboard"; do
         find "$folder" -depth -type d -exec rmdir {} + 2>/dev/null || true
     done
+    [ -n "${DESTDIR-}" ] || systemctl daemon-reload 2>/dev/null || true
 }
 
 while [ $# -gt 0 ]; do
@@ -241,6 +275,7 @@ while [ $# -gt 0 ]; do
         ;;
     --back) action=back ;;
     --uninstall) action=remove ;;
+    --plain) action=plain ;;
     *) usage ;;
     esac
     shift
@@ -261,4 +296,5 @@ case $action in
 install) install_all ;;
 back) go_back ;;
 remove) remove_all ;;
+plain) install_plain ;;
 esac

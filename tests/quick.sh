@@ -87,6 +87,7 @@ of_machines() {
     attempt page/firefox.sh python3
     attempt hostile/crowd.sh python3
     attempt hostile/rates.sh python3
+    attempt hostile/attacks.sh python3 curl
     attempt hostile/rooms.sh python3
     attempt serve/clients.sh python3
     attempt operate/backup.sh python3
@@ -94,6 +95,7 @@ of_machines() {
     attempt operate/watch.sh python3
     attempt operate/proxy.sh python3
     attempt operate/install.sh sh
+    attempt operate/package.sh dpkg-deb
     attempt operate/ship.sh python3
     attempt crash/faults.sh python3
     attempt crash/power.sh python3 strace

@@ -7,6 +7,8 @@ program=$(./taskboard --where)
 mkdir -p dist
 gzip -9nc "$program" >dist/taskboard.gz
 {
+    # (as the newest release of the changes is headed)
+    sed -n 's/^## \([0-9][0-9.]*\) (\([0-9-]*\))$/release \1\ndate \2/p' CHANGELOG.md | head -n 2
     echo "program $(sha256sum "$program" | cut -d ' ' -f 1)"
     echo "sources $(./taskboard --sources)"
     echo "logic $(rt version | sed -n 's/.* logic //p')"

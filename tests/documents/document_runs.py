@@ -48,7 +48,7 @@ def blocks_of(name):
 
 def run(script):
     """What a shell prints of a script, in which the program is the one that is tried, and the port another."""
-    script = script.replace("127.0.0.1:8080", f"127.0.0.1:{PORT}").replace("--port 8080", f"--port {PORT}")
+    script = script.replace("127.0.0.1:920", "127.0.0.1:8080").replace("127.0.0.1:8080", f"127.0.0.1:{PORT}").replace("--port 8080", f"--port {PORT}")
     before = f"task() {{ printf '%s' '{EXPORTED}'; }}\n"
     done = subprocess.run(["sh", "-c", before + script], capture_output=True, text=True, timeout=60)
     if done.returncode:

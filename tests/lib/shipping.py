@@ -186,6 +186,16 @@ def now():
     return time.strftime("%Y%m%dT%H%M%S", time.gmtime(seconds)) + f".{int(seconds * 1000) % 1000:03d}Z"
 
 
+def cut_log(path):
+    """Cuts the last committed frame off a log, as a disk may lose it."""
+    sys.path.insert(0, str(pathlib.Path(__file__).resolve().parent.parent.parent / "contrib/ship"))
+    from taskboard_ship import log
+
+    with open(path, "r+b") as file:
+        place = log.look(file.fileno(), log.Place(log.header_in(file.fileno()))).place
+        file.truncate(place.offset(place.frames - 1))
+
+
 class Place:
     """The programs, and the port that the server has."""
 

@@ -32,7 +32,7 @@ seen() {
 # A clone of a later version: another program, page, unit and document; a new man page and a new file of the page, and one script less.
 make_later_clone() {
     mkdir later
-    cp -R "$contrib" "$top/page" "$top/docs" "$top/README.md" later
+    cp -R "$contrib" "$top/page" "$top/docs" "$top/README.md" "$top/CHANGELOG.md" "$top/SECURITY.md" "$top/LICENSE" later
     printf '#!/bin/sh\necho later\n' >later/program
     printf '#!/bin/sh\necho "%s"\n' "$folder/later/program" >later/taskboard
     chmod 755 later/program later/taskboard
@@ -50,8 +50,13 @@ installs_twice() {
     "$prefix/bin/tb" --help | grep -q "^taskboard my " || fail "tb isn't taskboard my"
     cmp -s "$prefix/share/taskboard/page/index.html" "$top/page/index.html" || fail "another page was installed"
     grep -q "systemctl link $prefix/lib/systemd/system/taskboard\*" said || fail "it doesn't say how systemd finds the units: $(cat said)"
-    grep -q "^ExecStart=$prefix/bin/taskboard serve .* --page $prefix/share/taskboard/page " "$prefix/lib/systemd/system/taskboard.service" ||
+    grep -q "^ExecStart=/usr/bin/env .* $prefix/bin/taskboard serve .* --page $prefix/share/taskboard/page " "$prefix/lib/systemd/system/taskboard.service" ||
         fail "the unit runs another program"
+    grep -q "^ExecStart=$prefix/lib/taskboard/current/lib/taskboard/report-failure %i" "$prefix/lib/systemd/system/taskboard-failed@.service" &&
+        [ -x "$prefix/lib/taskboard/current/lib/taskboard/report-failure" ] || fail "the unit that reports runs another program"
+    release=$(sed -n 's/^## \([0-9][0-9.]* (.*)\)$/\1/p' "$top/CHANGELOG.md" | head -n 1)
+    grep -qF ">Release $release<" "$prefix/share/taskboard/page/index.html" || fail "the page names another release than $release"
+    grep -q ", release $release$" said || fail "it doesn't say which release it is: $(cat said)"
     seen >first
     install_from "$top" || fail "it wasn't installed again: $(cat said)"
     seen | cmp -s - first || fail "installed again it is another"
@@ -109,7 +114,20 @@ adopts() {
 # Both versions, of which the earlier one is in use.
 removes() {
     echo "of another" >"$prefix/bin/another"
-    install_from "$top" --uninstall || fail "it wasn't removed: $(cat said)"
+    mkdir programs
+    cat >programs/systemctl <<SYSTEMCTL
+#!/bin/sh
+case \$1 in
+list-units) echo "taskboard.service loaded active running Boards"; echo "taskboard@north.service loaded active running North"; echo "taskboard-other.service loaded active running Other" ;;
+list-unit-files) echo "taskboard@.service enabled enabled"; echo "taskboard-backup.timer enabled enabled" ;;
+show) case \$4 in taskboard-other*) echo /etc/systemd/system/taskboard-other.service ;; *) echo "$prefix/lib/systemd/system/any" ;; esac ;;
+disable) echo "\$*" >>"$folder/disabled" ;;
+esac
+SYSTEMCTL
+    chmod 755 programs/systemctl
+    PATH=$folder/programs:$PATH install_from "$top" --uninstall || fail "it wasn't removed: $(cat said)"
+    [ "$(sort disabled | tr '\n' ';')" = "disable --now taskboard-backup.timer;disable --now taskboard.service;disable --now taskboard@north.service;" ] ||
+        fail "it didn't stop and disable what it removed: $(cat disabled)"
     [ "$(find "$prefix" ! -type d)" = "$prefix/bin/another" ] || fail "this stayed: $(find "$prefix" ! -type d)"
     [ ! -e "$prefix/lib/taskboard" ] && [ ! -e "$prefix/share/taskboard" ] || fail "folders stayed"
 }
@@ -127,15 +145,19 @@ systemd_finds_units() {
     systemctl --root="$root" enable taskboard.service 2>said || fail "a linked unit isn't enabled: $(cat said)"
 }
 
+# A template is looked at by an instance of it.
 units_are_right() {
     units=$prefix/lib/systemd/system
-    for instance in taskboard@office.service taskboard-failed@taskboard.service.service; do
-        cp "$units/${instance%%@*}@.service" "$units/$instance"
+    instances="taskboard@office.service taskboard-failed@taskboard.service.service taskboard-again@taskboard.service.service"
+    instances="$instances taskboard-ship@office.service taskboard-watch@office.service taskboard-watch@office.timer"
+    for instance in $instances; do
+        cp "$units/${instance%%@*}@.${instance##*.}" "$units/$instance"
     done
-    MANPATH="$prefix/share/man:" systemd-analyze verify "$units/taskboard.service" "$units/taskboard@office.service" \
-        "$units/taskboard-failed@taskboard.service.service" "$units"/taskboard-*.service "$units"/taskboard-*.timer 2>said || fail "the units: $(cat said)"
+    find "$units" -name 'taskboard*' ! -name '*@.*' -exec env MANPATH="$prefix/share/man:" systemd-analyze verify {} + 2>said || fail "the units: $(cat said)"
     [ ! -s said ] || fail "the units: $(cat said)"
-    rm "$units/taskboard@office.service" "$units/taskboard-failed@taskboard.service.service"
+    for instance in $instances; do
+        rm "$units/$instance"
+    done
 }
 
 # The man page has each fault and each refusal by its name.
@@ -188,13 +210,22 @@ if is_there systemctl; then
     systemd_finds_units
 fi
 if is_there shellcheck; then
-    for script in "$contrib"/install.sh "$contrib"/bin/*; do
+    for script in "$contrib"/*.sh "$contrib"/*/*; do
         [ -f "$script" ] || continue
         case $(head -n 1 "$script") in
         '#!/bin/sh') shellcheck "$script" ;;
         esac
     done
     shellcheck "$contrib/completion/taskboard.bash"
+fi
+if is_there pyflakes3; then
+    for script in "$contrib"/*/*; do
+        [ -f "$script" ] || continue
+        case $(head -n 1 "$script") in
+        '#!/usr/bin/env python3') pyflakes3 "$script" ;;
+        esac
+    done
+    pyflakes3 "$contrib"/*/taskboard_*/*.py
 fi
 if is_there groff; then
     groff -man -Tutf8 -ww "$contrib"/man/*.1 >page 2>warnings

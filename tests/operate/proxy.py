@@ -9,6 +9,7 @@ import socket
 import ssl
 import subprocess
 import sys
+import threading
 import time
 
 from connecting import connected, free_port
@@ -18,8 +19,9 @@ from talking import Server, make_file
 PROGRAM, PORT, CONFIGURATION, PAGE = sys.argv[1], int(sys.argv[2]), pathlib.Path(sys.argv[3]), sys.argv[4]
 NAME = "boards.example.org"
 HERE = pathlib.Path.cwd()
-# How many different wrong keys an address may try.
-TRIES = int(re.search(r">= (\d+) then", CONFIGURATION.read_text())[1])
+# How many different wrong keys an address may try for a name, and for all names; how many whole boards it may read at once.
+TRIES, ALL_TRIES = map(int, re.search(r">= (\d+) or .* >= (\d+) then", CONFIGURATION.read_text()).groups())
+AT_ONCE = int(re.search(r"limit_conn taskboard_whole_of_address (\d+);", CONFIGURATION.read_text())[1])
 MAIN = """pid {here}/nginx.pid;
 error_log {here}/errors;
 {modules}
@@ -56,7 +58,7 @@ class Recorder(Relay):
 
 def write_configuration(upstream, port):
     """The configuration with other ports, and the certificate of this folder; IPv6 where the machine has it."""
-    text = CONFIGURATION.read_text().replace("127.0.0.1:8080", f"127.0.0.1:{upstream}").replace("/etc/ssl/taskboard/", f"{HERE}/")
+    text = CONFIGURATION.read_text().replace("127.0.0.1:920", f"127.0.0.1:{upstream}").replace("/etc/ssl/taskboard/", f"{HERE}/")
     text = text.replace("listen 443 ", f"listen {port} ").replace("listen [::]:443 ", f"listen [::]:{port} ")
     if not os.path.exists("/proc/net/if_inet6"):
         text = re.sub(r".*listen \[::\].*\n", "", text)
@@ -78,6 +80,11 @@ def begin(upstream):
     return process, port
 
 
+def end(process):
+    process.terminate()
+    process.wait()
+
+
 class Caller:
     """Asks by TLS, from an address of the loopback."""
 
@@ -85,18 +92,22 @@ class Caller:
         self.port, self.address = port, address
         self.context = ssl.create_default_context(cafile="certificate.pem")
 
-    def ask(self, method, target, body=None, fields=(), key="ann-key-1"):
-        """The status, the fields and the body of an answer. Fields may be given more than once."""
+    def send(self, method, target, body=None, fields=(), key="ann-key-1", member="ann"):
+        """A connection on which a message was sent. Fields may be given more than once."""
         raw = socket.create_connection(("127.0.0.1", self.port), timeout=20, source_address=(self.address, 0))
         connection = http.client.HTTPConnection(NAME)
         connection.sock = self.context.wrap_socket(raw, server_hostname=NAME)
         connection.putrequest(method, target)
         content = b"" if body is None else json.dumps(body).encode()
-        known = (("x-member", "ann"), ("x-key", key)) if key else ()
+        known = (("x-member", member), ("x-key", key)) if key else ()
         for name, value in (*known, *fields, ("content-length", str(len(content)))):
             connection.putheader(name, value)
         connection.endheaders(content)
-        answer = connection.getresponse()
+        return connection
+
+    def ask(self, *message, **more):
+        """The status, the fields and the body of an answer."""
+        answer = self.send(*message, **more).getresponse()
         return answer.status, answer.headers, answer.read()
 
 
@@ -135,15 +146,47 @@ def looks_at_identifiers(ann, recorder):
 
 
 def looks_at_wrong_keys(port):
-    """An address that tries many keys is locked out, but for the page; one that tries a wrong one often, and others, aren't."""
+    """Who tries many keys for a name is locked out for it, but not from the page; who works there, tries one wrong key often, or has another
+    address isn't. Who tries many names is locked out for all but those who work there."""
     guesser, stale, other = (Caller(port, f"127.0.0.{number}") for number in (2, 3, 4))
+    ann = guesser.ask("GET", "/me")[0]
     statuses = [guesser.ask("GET", "/me", key=f"guess-{number:04}")[0] for number in range(TRIES + 5)]
     expect(f"guesses: {statuses}", statuses == [401] * TRIES + [429] * 5)
-    expect("the right one is locked out too", guesser.ask("GET", "/me")[0] == 429)
-    expect("the page isn't", guesser.ask("GET", "/", key=None)[0] == 200)
+    expect("who works there isn't locked out", (ann, guesser.ask("GET", "/me")[0]) == (200, 200))
+    expect("nor for another name", guesser.ask("GET", "/me", member="bob", key="guess-0001")[0] == 401)
+    expect("nor is the page", guesser.ask("GET", "/", key=None)[0] == 200)
+    statuses = [guesser.ask("GET", "/me", member=f"name{number}")[0] for number in range(ALL_TRIES)]
+    expect(f"many names: {statuses}", statuses == [401] * (ALL_TRIES - TRIES - 1) + [429] * (TRIES + 1))
+    expect("who works there isn't locked out even then", guesser.ask("GET", "/me")[0] == 200)
     statuses = [stale.ask("GET", "/me", key="old-key-1")[0] for _ in range(TRIES + 5)]
     expect(f"one wrong key, often: {set(statuses)}", set(statuses) == {401} and stale.ask("GET", "/me")[0] == 200)
-    expect("another address isn't", other.ask("GET", "/me")[0] == 200)
+    expect("another address isn't", other.ask("GET", "/me", key="guess-0001")[0] == 401)
+
+
+class Silent(Relay):
+    """Takes messages, and lets none come to the server until it's told."""
+
+    def __init__(self, port):
+        self.goes_on = threading.Event()
+        super().__init__(port)
+
+    def pass_on(self, client, server, state):
+        self.goes_on.wait()
+        super().pass_on(client, server, state)
+
+
+def looks_at_whole_boards(port, silent):
+    """So many boards as a whole are read at once from one address, and no more; smaller views and other addresses aren't held up."""
+    reader, other, held = Caller(port, "127.0.0.5"), Caller(port, "127.0.0.6"), []
+    for number in range(AT_ONCE):
+        connection = reader.send("GET", f"/boards/{number + 1}/export")
+        held.append(connection)
+    refused = reader.ask("GET", "/boards/1/export")
+    silent.goes_on.set()
+    expect(f"one more: {refused[0]}", refused[0] == 429)
+    expect("those before are answered", [connection.getresponse().status for connection in held] == [200] + [404] * (AT_ONCE - 1))
+    expect("and then one more", reader.ask("GET", "/boards/1/export")[0] == 200)
+    expect("another address", other.ask("GET", "/boards/1/export")[0] == 200)
 
 
 def main():
@@ -160,8 +203,13 @@ def main():
             looks_at_identifiers(ann, recorder)
             looks_at_wrong_keys(port)
         finally:
-            process.terminate()
-            process.wait()
+            end(process)
+        silent = Silent(PORT)
+        process, port = begin(silent.port)
+        try:
+            looks_at_whole_boards(port, silent)
+        finally:
+            end(process)
     return print(f"behind nginx in {time.monotonic() - begun:.0f} s")
 
 

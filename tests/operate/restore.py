@@ -1,4 +1,5 @@
-"""Restores copies by the script taskboard-restore: python3 restore.py PROGRAM PORT, in a folder that has it and taskboard-backup."""
+"""Restores copies by the script taskboard-restore: python3 restore.py PROGRAM PORT, in a folder that has it and taskboard-backup in bin, and
+spare-numbers in lib."""
 import datetime
 import json
 import os
@@ -8,9 +9,10 @@ import resource
 import shutil
 import subprocess
 import sys
+import threading
 import time
 
-from talking import KNOWN, Server, adding, answer_to, body_of, expect_each_once, identified, make_file, message, status_of
+from talking import KNOWN, Server, adding, answer_to, body_of, description, identified, make_file, message, status_of
 
 PROGRAM, PORT = sys.argv[1], int(sys.argv[2])
 # How many tasks the copy has, and how many the file has when it's put aside.
@@ -27,6 +29,14 @@ if [ "$(wc -l <{count})" -eq {number} ]; then
 fi
 exec {mv} "$@"
 """
+# What closed tasks are called that keep the numbers of tasks that are gone.
+GONE = "Gone when the boards were restored"
+# What systemctl is here: it ends the process that was started as a unit, and notes what it's asked.
+SYSTEMCTL = """#!/bin/sh
+echo "$@" >>{here}/asked
+[ "$1" != stop ] || kill $(cat {here}/shipper)
+"""
+CGROUPS = [path for path in map(pathlib.Path, ("/sys/fs/cgroup/systemd", "/sys/fs/cgroup/unified", "/sys/fs/cgroup")) if (path / "cgroup.procs").exists()]
 HERE = pathlib.Path.cwd()
 COPIES = pathlib.Path("copies")
 ENVIRONMENT = {**os.environ, "TASKBOARD": PROGRAM}
@@ -42,17 +52,21 @@ def ran(*words, **more):
 
 
 def backed_up():
-    done = ran("taskboard-backup", "b.db", COPIES)
+    done = ran("bin/taskboard-backup", "b.db", COPIES)
     expect(f"a copy was made: {done.stderr}", done.returncode == 0)
     return pathlib.Path(done.stdout.split(" ", 1)[0])
 
 
-def restored(copy, file="b.db", script="taskboard-restore", **more):
-    return ran(script, copy, file, **more)
+def restored(copy, file="b.db", words=(), **more):
+    return ran("bin/taskboard-restore", *words, copy, file, **more)
 
 
 def tasks_in(file):
-    """How many tasks a file and its log have, looked at in another place."""
+    """How many tasks a file and its log have, but for those that keep numbers, looked at in another place."""
+    return len([each for each in descriptions_in(file) if each != GONE])
+
+
+def descriptions_in(file):
     place = pathlib.Path("looked-at")
     place.mkdir()
     for end in ("", "-wal"):
@@ -60,7 +74,7 @@ def tasks_in(file):
             shutil.copy(f"{file}{end}", place / f"it.db{end}")
     exported = subprocess.run([PROGRAM, "export", place / "it.db", "ann", "ann-key-1", "1"], check=True, stdout=subprocess.PIPE)
     shutil.rmtree(place)
-    return len(json.loads(exported.stdout))
+    return [task["description"] for task in json.loads(exported.stdout)]
 
 
 def all_there():
@@ -131,7 +145,7 @@ def refuses(copy):
     refused("a folder that isn't there", "can't be restored from", copy, "nowhere/at/all/b.db")
     refused("a folder", "can't be restored from", copy, "copies")
     refused("a full disk", "can't be copied", copy, preexec_fn=lambda: resource.setrlimit(resource.RLIMIT_FSIZE, (8192, 8192)))
-    expect("three words are none", ran("taskboard-restore", copy, "b.db", "b.db").returncode == 2)
+    expect("three words are none", ran("bin/taskboard-restore", copy, "b.db", "b.db").returncode == 2)
 
 
 def moment_of(text):
@@ -152,7 +166,8 @@ def restores(copy):
     expect(f"it is restored: {done.stderr}", done.returncode == 0 and not done.stderr)
     expect("no log is beside it", not os.path.exists("b.db-wal"))
     expect("it is its owner's alone", os.stat("b.db").st_mode & 0o777 == 0o600 and os.stat("b.db").st_uid == owner)
-    expect("it is the copy", tasks_in("b.db") == COPIED and f"tasks {COPIED} faults 0" in done.stdout)
+    expect("it is the copy", tasks_in("b.db") == COPIED)
+    expect("and keeps the numbers that are gone", f"tasks {ADDED} faults 0" in done.stdout and f"board 1: {ADDED - COPIED} closed tasks keep" in done.stdout)
     expect("the old file has all", [tasks_in(path) for path in aside()] == [ADDED])
     since, until = map(moment_of, re.search(r"Answers since (.*) UTC are gone .* up to (.*) UTC", done.stdout).groups())
     expect(f"since when: {done.stdout}", since.strftime("b-%Y%m%dT%H%M%SZ.db") == copy.name)
@@ -205,7 +220,7 @@ def doing(number, uuid):
 
 
 def clients_go_on(copy):
-    """Calls that are sent again act once; who names tasks by uuids of his own meets no other task, and who doesn't may."""
+    """Calls that are sent again act once; who names a task that is gone meets no other one, whoever gave it its uuid."""
     mine = "aaaaaaaa-aaaa-4aaa-8aaa-aaaaaaaaaaaa"
     with Server(PROGRAM, PORT, errors=subprocess.DEVNULL) as server, server.connect() as client:
         named = answer_to(client, adding_one(501, description="Mine", uuid=mine))
@@ -214,7 +229,9 @@ def clients_go_on(copy):
     expect("it is restored again", restored(copy).returncode == 0)
     with Server(PROGRAM, PORT, errors=subprocess.DEVNULL) as server, server.connect() as client:
         other = json.loads(body_of(answer_to(client, adding_one(503, description="Another"))))["uuid"]
-        expect("a uuid that the server made comes again for another task", other == made)
+        expect("no other task gets a uuid that the server made", other != made)
+        refused = answer_to(client, doing(506, made))
+        expect(f"a call about the task that is gone is refused: {refused}", status_of(refused) == 409 and b"WrongStatus" in refused)
         expect("one of a client's own doesn't", status_of(answer_to(client, doing(504, mine))) == 404)
         expect("the call that is sent again acts", status_of(answer_to(client, adding_one(501, description="Mine", uuid=mine))) == 200)
         expect("and names its task", status_of(answer_to(client, doing(505, mine))) == 200)
@@ -223,7 +240,53 @@ def clients_go_on(copy):
     expect("it is restored a third time", restored(copy).returncode == 0)
     with Server(PROGRAM, PORT, errors=subprocess.DEVNULL) as server, server.connect() as client:
         add(client, range(1, ADDED + 1))
-    expect_each_once(PROGRAM, range(1, ADDED + 1))
+    found = sorted(each for each in descriptions_in("b.db") if each != GONE)
+    expect(f"each is there once: {found}", found == sorted(map(description, range(1, ADDED + 1))))
+    checked = subprocess.run([PROGRAM, "check", "b.db"], check=True, stdout=subprocess.PIPE, text=True).stdout
+    expect(f"it's whole: {checked}", checked.rstrip().endswith("faults 0"))
+
+
+def spares_numbers(copy):
+    """Without an old file the next numbers of each board are kept, as many as it's told; a damaged old file is told."""
+    new = pathlib.Path("spared.db")
+    done = restored(copy, new, ("--spare", "7"))
+    expect(f"numbers are kept: {done}", done.returncode == 0 and "board 1: 7 closed tasks keep" in done.stdout and tasks_in(new) == COPIED)
+    expect("so many", descriptions_in(new).count(GONE) == 7)
+    new.write_bytes(b"no database")
+    done = restored(copy, new)
+    expect(f"an old file that can't be read: {done}", done.returncode == 0 and "go to new tasks, since they can't be read" in done.stdout)
+    expect("no number is kept", descriptions_in(new).count(GONE) == 0)
+    for path in pathlib.Path(".").glob("spared.db*"):
+        path.unlink()
+    expect("a count that is none", restored(copy, new, ("--spare", "x")).returncode == 2)
+
+
+def stops_shipping(copy):
+    """A unit that ships the file is stopped, and started again; another unit that has it open is named."""
+    if os.geteuid() or not CGROUPS:
+        return "skipped, since it needs root and cgroups"
+    programs = HERE / "programs"
+    programs.mkdir()
+    (programs / "systemctl").write_text(SYSTEMCTL.format(here=HERE))
+    (programs / "systemctl").chmod(0o755)
+    path = {"PATH": f"{programs}:{os.environ['PATH']}"}
+    for unit in ("taskboard-ship@tried.service", "taskboard@tried.service"):
+        group = CGROUPS[0] / unit
+        group.mkdir(exist_ok=True)
+        with open("b.db", "rb") as file, subprocess.Popen(["sleep", "1000"], stdin=file) as shipper:
+            (group / "cgroup.procs").write_text(str(shipper.pid))
+            (HERE / "shipper").write_text(str(shipper.pid))
+            threading.Thread(target=shipper.wait, daemon=True).start()
+            file.close()
+            done = restored(copy, env=path)
+            is_shipping = unit.startswith("taskboard-ship@")
+            expect(f"{unit}: {done}", done.returncode == (0 if is_shipping else 1))
+            expect(f"{unit} is named: {done}", is_shipping or f"(sleep) of {unit}. Stop it first: systemctl stop {unit}. Nothing has changed" in done.stderr)
+            shipper.kill()
+        group.rmdir()
+    asked = (HERE / "asked").read_text().splitlines()
+    expect(f"it is stopped and started: {asked}", asked == ["stop taskboard-ship@tried.service", "start taskboard-ship@tried.service"])
+    return "stopped and started again"
 
 
 def stays_when_thinned(copy):
@@ -250,9 +313,11 @@ def main():
     restores(copy)
     tells_of_other_copies(copy)
     clients_go_on(copy)
+    spares_numbers(copy)
+    shipping = stops_shipping(copy)
     killed = kills(copy, pair)
     stays_when_thinned(copy)
-    print(f"a process of another user: {unseen}; killed {killed} times and run again; restored in {time.monotonic() - begun:.0f} s")
+    print(f"a process of another user: {unseen}; shipping: {shipping}; killed {killed} times and run again; restored in {time.monotonic() - begun:.0f} s")
 
 
 main()

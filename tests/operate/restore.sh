@@ -6,9 +6,11 @@ set -eu
 
 . "$(dirname "$0")/../lib/prepare.sh"
 cp "$program" taskboard
-cp "$top/contrib/bin/taskboard-backup" "$top/contrib/bin/taskboard-restore" .
+mkdir bin lib
+cp "$top/contrib/bin/taskboard-backup" "$top/contrib/bin/taskboard-restore" bin
+cp "$top/contrib/lib/spare-numbers" lib
 
 if command -v shellcheck >/dev/null 2>&1; then
-    shellcheck taskboard-restore
+    shellcheck bin/taskboard-restore
 fi
 python3 "$top/tests/operate/restore.py" "$folder/taskboard" "$port"

@@ -21,7 +21,7 @@ run_in() {
 }
 
 running=
-for scenes in follows "goes_back thins" "stays_behind_faults full_disk real_ssh"; do
+for scenes in follows "goes_back thins finds_cuts" "stays_behind_faults full_disk real_ssh"; do
     (run_in "${scenes%% *}" "$top/tests/operate/ship_scenes.py" "$program" "$(python3 "$top/tests/lib/connecting.py")" "$ship" $scenes) &
     running="$running $!"
 done

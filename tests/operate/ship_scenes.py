@@ -11,7 +11,7 @@ import subprocess
 import sys
 import time
 
-from shipping import PATIENCE, TO, Place, Shipper, clear, clear_other_place, expect, now, send_all, series, wait_until
+from shipping import PATIENCE, TO, Place, Shipper, clear, clear_other_place, cut_log, expect, now, send_all, series, wait_until
 from talking import answer_to, is_whole, make_file, message, identified, status_of
 
 place = Place(*sys.argv[1:4])
@@ -155,16 +155,25 @@ def refuses():
     expect("nothing else was made", not os.path.exists("x.db") and not list(pathlib.Path(".").glob(".[bx].*")))
 
 
+def verifies(what, status, said):
+    done = place.run_ship("--verify", str(TO), "--late", "1d")
+    expect(f"{what} is verified: {done}", done.returncode == status and said in done.stdout)
+
+
 def damaged(moment):
     """A series that was damaged behind a moment is restored up to there alone, and isn't gone on with."""
     path = series()[0]
     whole = path.read_bytes()
     path.write_bytes(whole + b"P1\x10\x27\0\0" + b"\0" * 100)
     place.expect_same("a torn end")
+    verifies("a torn end", 0, "restored, boards 1 ")
     path.write_bytes(whole[:-100] + bytes([whole[-100] ^ 1]) + whole[-99:])
     clear("restored.db")
     done = place.run_ship("--restore", str(TO), "restored.db")
     expect(f"damage is told: {done}", done.returncode == 1 and "damaged" in done.stderr and not os.path.exists("restored.db"))
+    listed = place.run_ship("--list", str(TO), "--late", "1d")
+    expect(f"a list tells it: {listed}", listed.returncode == 1 and f"DAMAGED: {path} from byte" in listed.stdout)
+    verifies("a damaged series", 1, "NOT RESTORED")
     place.restore("restored.db", "--at", moment)
     expect("the state before the damage", len(place.tasks_in("restored.db")) == 1)
     with place.server() as server, Shipper(place.ship) as shipper:
@@ -172,6 +181,25 @@ def damaged(moment):
         wait_until("a series in the place of the damaged one", lambda: len(series()) == 2)
         ships(shipper, "a series behind a damaged one", 2)
     return "damage is told"
+
+
+def finds_cuts():
+    """A log that was cut in the middle is told, with the moment up to which the series has what it lost."""
+    make_file(place.program)
+    clear_other_place()
+    with place.server() as server, Shipper(place.ship) as shipper:
+        add(server, 5)
+        shipper.wait_whole()
+        tasks, moment = sorted(place.tasks_in("b.db")), now()
+        server.end()
+        cut_log("b.db-wal")
+        wait_until("the cut is told", lambda: json.loads(pathlib.Path("status").read_text())["gone"])
+        gone = json.loads(pathlib.Path("status").read_text())["gone"]
+    expect(f"what is gone: {gone}", "was cut" in gone and gone.split()[-3] <= moment)
+    expect("the file lacks tasks, and no check tells", len(place.tasks_in("b.db")) < len(tasks))
+    place.restore("restored.db", "--at", gone.split()[-3])
+    expect("the series has them", sorted(place.tasks_in("restored.db")) == tasks)
+    return "a cut log is told"
 
 
 def full_disk():
@@ -228,7 +256,7 @@ def real_ssh():
 
 def main():
     begun, said = time.monotonic(), []
-    scenes = {scene.__name__: scene for scene in (follows, goes_back, thins, stays_behind_faults, full_disk, real_ssh)}
+    scenes = {scene.__name__: scene for scene in (follows, goes_back, thins, finds_cuts, stays_behind_faults, full_disk, real_ssh)}
     for name in sys.argv[4:] or scenes:
         at = time.monotonic()
         said.append(scenes[name]())

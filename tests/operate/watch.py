@@ -12,12 +12,15 @@ import pathlib
 import re
 import shlex
 import shutil
+import sqlite3
+import ssl
 import subprocess
 import sys
 import threading
 import time
 import uuid
 
+from shipping import cut_log
 from talking import KNOWN, Server, answer_to, make_file, message, status_of
 
 PROGRAM, PORT, CONTRIB = sys.argv[1], int(sys.argv[2]), pathlib.Path(sys.argv[3])
@@ -28,7 +31,8 @@ loader = importlib.machinery.SourceFileLoader("watch", str(WATCH))
 the_watch = importlib.util.module_from_spec(importlib.util.spec_from_loader("watch", loader))
 loader.exec_module(the_watch)
 OK, WARNING, CRITICAL, UNKNOWN = range(4)
-DAY, MIB = 86400, 2**20
+DAY, MIB, GIB = 86400, 2**20, 2**30
+Disk = collections.namedtuple("Disk", "total used free")
 # For how long another level than the expected one is tried for again.
 PATIENCE = float(os.environ.get("PATIENCE", 60))
 LINE = re.compile(r"TASKBOARD (OK|WARNING|CRITICAL) - [^|\n]+ \| ('\w+'=-?[\d.]+(s|B|c)?;[\d.:]*;[\d.:]*( |$))+\n?")
@@ -38,6 +42,7 @@ COPIES, STATE, LOG = pathlib.Path("copies"), pathlib.Path("state.json"), pathlib
 SYSTEMCTL = """#!/bin/sh
 case $1 in
 show) echo {memory} ;;
+is-failed) exit 1 ;;
 list-units) printf '%s' '{failed}' ;;
 esac
 """
@@ -101,15 +106,16 @@ def stamp(seconds_ago):
 
 
 def looks_at_the_server(server):
-    line = finds(OK, "a view took", looks=watch_by_itself)
+    line = finds(OK, "a view took")
     expect(f"the sizes are told: {line}", f"'file_bytes'={os.stat('b.db').st_size}B" in line)
     finds(CRITICAL, "answered 401", headers="wrong.headers")
     finds(WARNING, "chmod 600", headers="open.headers")
     finds(UNKNOWN, "needs the lines", headers="none.headers")
     finds(CRITICAL, "no answer from", server=PORT + 1, looks=watch_by_itself)
+    expect("by itself it says so too", watch_by_itself()[1].startswith("TASKBOARD "))
     with server.connect() as client:
         post(client, b"/boards/1/roles", {"member": "watch", "role": "reader"})
-        finds(WARNING, "watch has a role on board 1")
+        finds(WARNING, "watch has a role on a board")
         post(client, b"/boards/1/roles", {"member": "watch", "role": None})
     finds(OK, "a view took")
 
@@ -132,7 +138,8 @@ class Other(http.server.BaseHTTPRequestHandler):
 def looks_at_other_servers():
     other = http.server.HTTPServer(("127.0.0.1", 0), Other)
     threading.Thread(target=other.serve_forever, daemon=True).start()
-    finds(CRITICAL, "is no server of boards", server=other.server_port)
+    said = finds(CRITICAL, "is no server of boards", server=other.server_port)
+    expect(f"nothing that another server says is repeated: {said}", "Hello" not in said)
     Other.answer, Other.seconds = b'{"boards":[],"name":"watch"}', 1.1
     finds(WARNING, "a view took", server=other.server_port)
     other.shutdown()
@@ -172,7 +179,7 @@ def looks_at_large_boards():
 def looks_at_growth():
     """Made-up sizes of seven days ago, of a file that grew, and of disks that are full in 20 and in 3 days."""
     held = sum(os.stat(name).st_size for name in ("b.db", "b.db-wal"))
-    disk = shutil.disk_usage(".")
+    disk = roomy(".")
     for days, level in ((1000, OK), (20, WARNING), (3, CRITICAL)):
         used = disk.used - disk.free * 7 / days
         STATE.write_text(json.dumps({"samples": [[time.time() - 7 * DAY, held - 14 * MIB, used, used]]}))
@@ -184,6 +191,86 @@ def looks_at_growth():
     STATE.write_text("{")
     finds(UNKNOWN, "remove it", "--state", STATE)
     STATE.unlink()
+
+
+def roomy(_):
+    """A disk that has room, whatever this machine's has."""
+    return disk_with(900 * GIB)
+
+
+def disk_with(free, total=1000 * GIB):
+    return Disk(total, total - free, free)
+
+
+def looks_at_room():
+    """Less than a tenth or than 1 GiB is a warning, and less than the file takes critical."""
+    for free, total, level, said in (
+        (101 * GIB, 1000 * GIB, OK, "a view took"),
+        (99 * GIB, 1000 * GIB, WARNING, "the disk of the file has 101376.0 MiB free of 1024000.0 MiB"),
+        (GIB + MIB, 5 * GIB, OK, "a view took"),
+        (GIB - MIB, 5 * GIB, WARNING, "the disk of the file has 1023.0 MiB free of 5120.0 MiB"),
+        (1000, 5 * GIB, CRITICAL, "less than the file and its log take"),
+    ):
+        the_watch.shutil.disk_usage = lambda _: disk_with(free, total)
+        finds(level, said)
+    the_watch.shutil.disk_usage = roomy
+
+
+def looks_at_rows():
+    """So many rows that an opening takes long, in a copy that has them."""
+    COPIES.mkdir()
+    for rows, level, said in ((999_000, OK, "a view took"), (1_000_001, WARNING, "takes some 10 s"), (6_000_001, CRITICAL, "takes some 60 s")):
+        copy = COPIES / f"b-{stamp(60)}.db"
+        with contextlib.closing(sqlite3.connect(copy)) as made, made:
+            made.executescript("CREATE TABLE board(id INTEGER PRIMARY KEY); CREATE TABLE task(board, place); CREATE TABLE link(board, place)")
+            made.execute("INSERT INTO link(rowid) VALUES (?)", (rows,))
+        finds(level, said, "--copies", COPIES)
+        copy.unlink()
+    COPIES.rmdir()
+
+
+def looks_at_the_log(server):
+    """A log that was cut since the last look, and one that went on or was begun anew."""
+    place = pathlib.Path("cut.db")
+    words = ["--server", f"127.0.0.1:{PORT}", "--headers", "watch.headers", "--file", place, "--state", STATE]
+
+    def look(level, said):
+        printed = io.StringIO()
+        with contextlib.redirect_stdout(printed):
+            status = the_watch.main(list(map(str, words)))
+        expect(f"{level} with {said} of a log: {printed.getvalue()}", status == level and said in printed.getvalue())
+
+    with server.connect() as client:
+        for number in (1, 2):
+            post(client, b"/boards/1/tasks", {"description": f"Task {number}"})
+            for end in ("", "-wal"):
+                shutil.copy(f"b.db{end}", f"{place}{end}")
+            look(OK, "a view took")
+    cut_log(f"{place}-wal")
+    for _ in range(2):
+        look(CRITICAL, "cut.db-wal was cut: commits are gone")
+    subprocess.run([PROGRAM, "check", place], check=True, stdout=subprocess.DEVNULL)
+    look(OK, "a view took")
+    STATE.unlink()
+    place.unlink()
+
+
+def looks_at_certificates():
+    """Certificates that end in 30, 10 and 2 days, as a proxy shows them."""
+    if not shutil.which("openssl"):
+        return print("certificates: skipped, since openssl isn't there")
+    for days, level, said in ((30, OK, "a view took"), (10, WARNING, "ends in 10 days"), (2, CRITICAL, "ends in 2 days")):
+        made = ["openssl", "req", "-x509", "-newkey", "rsa:2048", "-nodes", "-days", str(days), "-subj", "/CN=boards.example.org", "-keyout", "key.pem", "-out", "certificate.pem"]
+        subprocess.run(made, check=True, stderr=subprocess.DEVNULL)
+        context = ssl.SSLContext(ssl.PROTOCOL_TLS_SERVER)
+        context.load_cert_chain("certificate.pem", "key.pem")
+        proxy = http.server.ThreadingHTTPServer(("127.0.0.1", 0), Other)
+        proxy.socket = context.wrap_socket(proxy.socket, server_side=True)
+        threading.Thread(target=proxy.serve_forever, daemon=True).start()
+        finds(level, said, "--tls", f"boards.example.org:{proxy.server_port}")
+        proxy.shutdown()
+        proxy.server_close()
+    return finds(CRITICAL, "no certificate of", "--tls", f"boards.example.org:{proxy.server_port}")
 
 
 def looks_at_memory():
@@ -199,6 +286,7 @@ def looks_at_shipped():
         ({"whole": stamp(5)[:-1] + ".123Z"}, OK, "the shipped log is"),
         ({"whole": stamp(120)[:-1] + ".123Z", "fault": "no line"}, WARNING, "s old: no line"),
         ({"whole": stamp(7200)}, CRITICAL, "the shipped log is 2.0 h old"),
+        ({"whole": stamp(5), "gone": "the log was cut"}, CRITICAL, "the log was cut"),
         ({"whole": None, "fault": "no line"}, CRITICAL, "nothing is shipped yet: no line"),
         ({}, CRITICAL, "doesn't say how far"),
     ):
@@ -215,9 +303,11 @@ def write_program(name, text):
 
 
 def looks_at_units(wanted):
-    """What systemd tells: units that failed, and how much memory the unit may have."""
+    """What systemd tells: units that failed, and how much memory the unit may have; and whether anybody may take the port of a unit."""
     words = ("--unit", "taskboard.service")
     write_program("systemctl", SYSTEMCTL.format(memory="infinity", failed=""))
+    finds(WARNING, f"any user may listen on port {PORT}", *words)
+    the_watch.first_port_of_users = lambda: PORT + 1
     finds(OK, "a view took", *words)
     write_program("systemctl", SYSTEMCTL.format(memory="infinity", failed="taskboard-watch.service loaded failed failed Watch\\n"))
     finds(OK, "a view took", *words)
@@ -232,14 +322,16 @@ def looks_at_units(wanted):
 def command_of(unit, name, setting):
     """A command of a unit, as systemd runs it for the unit of this name, but in this folder."""
     line = re.search(rf"(?m)^{setting}=\+?(.*)$", (CONTRIB / "systemd" / unit).read_text())[1]
-    here = line.replace("/etc/taskboard/", "./").replace("/run/", "./")
+    here = line.replace("/usr/local/lib/taskboard/report-failure", "sh ./report-failure")
     return shlex.split(here.replace("$$", "$").replace("%n", name).replace("%i", name))
 
 
 def tells_failures():
     """What the units run when a server ends, and how often a failure is told."""
-    write_program("systemctl", '#!/bin/sh\necho "$@" >>asked_of_systemd\n')
-    write_program("journalctl", '#!/bin/sh\necho "the last lines of $4"\n')
+    write_program("systemctl", '#!/bin/sh\n[ "$1" = is-failed ] && exec test -e is-failed\necho "$@" >>asked_of_systemd\n')
+    write_program("journalctl", '#!/bin/sh\ncase "$*" in *_PID=1*) echo "$5 failed" ;; esac\n')
+    script = (CONTRIB / "lib/report-failure").read_text()
+    pathlib.Path("report-failure").write_text(script.replace("/etc/taskboard/", "./").replace("/run/", "./"))
     pathlib.Path("tell").write_text('#!/bin/sh\necho "$1: $(cat)" >>told\n')
     pathlib.Path("tell").chmod(0o755)
     asked = pathlib.Path("asked_of_systemd")
@@ -249,15 +341,20 @@ def tells_failures():
             subprocess.run(command_of(unit, name, "ExecStopPost"), env={**os.environ, "SERVICE_RESULT": result}, check=True)
             wanted = "" if result == "success" else f"start --no-block taskboard-failed@{name}.service\n"
             expect(f"{name} ended with {result}: {asked.read_text()}", asked.read_text() == wanted)
-    for ago, is_due in ((0, True), (0, False), (59, False), (61, True)):
+    for ago, is_failed, is_due in ((0, False, True), (0, False, False), (59, False, False), (61, False, True), (0, True, True), (0, True, False)):
         told, before = pathlib.Path("taskboard-told-a.service"), time.time() - 60 * ago
         if told.exists():
             os.utime(told, (before, before))
+        if is_failed:
+            pathlib.Path("is-failed").touch()
         condition, start = (command_of("taskboard-failed@.service", "a.service", f"Exec{word}") for word in ("Condition", "Start"))
         expect(f"{ago} min after it was told", (subprocess.run(condition).returncode == 0) == is_due)
         if is_due:
             subprocess.run(start, check=True)
-    expect("what is told", pathlib.Path("told").read_text() == "a.service: the last lines of --unit=a.service\n" * 2)
+    expect("what is told", pathlib.Path("told").read_text() == "a.service: UNIT=a.service failed\nTo read more: journalctl -u a.service\n" * 3)
+    names = re.findall(r'Fault::\w+ => "(\w+)"', (CONTRIB.parent / "crates/tb_program/src/fault.rt").read_text())
+    known = re.search(r"(?m)^faults='(.*)'$", script)[1].split("|")
+    expect(f"the names of faults: {names}", len(names) > 10 and set(names) == set(known))
 
 
 def metrics_of(text):
@@ -327,6 +424,7 @@ def counts_in_the_journal():
 def main():
     begun = time.monotonic()
     os.environ["PATH"] = f"{pathlib.Path('programs').resolve()}:{os.environ['PATH']}"
+    the_watch.shutil.disk_usage = roomy
     make_file(PROGRAM)
     write_headers("watch", "watch-key-1")
     write_headers("wrong", "watch-key-2")
@@ -339,6 +437,10 @@ def main():
         looks_at_other_servers()
         looks_at_copies()
         looks_at_large_boards()
+        looks_at_room()
+        looks_at_rows()
+        looks_at_the_log(server)
+        looks_at_certificates()
         looks_at_growth()
         wanted = looks_at_memory()
         looks_at_shipped()

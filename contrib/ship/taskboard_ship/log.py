@@ -18,6 +18,10 @@ class Lost(Exception):
     """What was committed can't be followed from here: the file has to be copied anew."""
 
 
+class WasCut(Lost):
+    """Commits that were read before aren't in the log any more, though it wasn't begun anew."""
+
+
 class Header:
     """A log's header."""
 
@@ -183,6 +187,8 @@ def look(file, place):
         raw = os.pread(file, HEADER, 0)
         found.add(read_behind(file, found.place))
         if not found.place.is_there(file):
+            if found.place.frames == place.frames and raw == place.header.raw == os.pread(file, HEADER, 0):
+                raise WasCut("the log was cut, and commits are gone from it that were shipped")
             raise Lost("the log was written over or cut before its end was read")
         if raw == place.header.raw == os.pread(file, HEADER, 0):
             return found

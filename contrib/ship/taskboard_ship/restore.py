@@ -85,15 +85,37 @@ def restore(folder, file, at):
 
 
 def show(folder, late):
-    """Prints a line for each name; whether none is further behind than so many seconds."""
-    names = series.names_in(folder)
-    if not names:
-        raise Refused(f"{folder} has no series")
-    behind = []
-    for name in names:
+    """Prints a line for each name, and one for each series that is damaged; whether none is, or further behind than so many seconds."""
+    behind, damaged = [], []
+    for name in names_of(folder):
         paths = series.all_of(folder, name)
         whole = series.sign_of_life(folder, name).get("whole", series.moment_in(paths[-1]))
         behind.append(time.time() - records.seconds_of(whole))
         size = sum(path.stat().st_size for path in paths)
         print(f"{name}: nothing missing until {whole}, {behind[-1]:.0f} s ago; back to {series.moment_in(paths[0])}; {len(paths)} series, {size / 1e6:.1f} MB")
-    return max(behind) <= late
+        damaged += [why for path in paths if (why := series.damage_of(folder, name, path))]
+    for why in damaged:
+        print(f"DAMAGED: {why}")
+    return max(behind) <= late and not damaged
+
+
+def names_of(folder):
+    names = series.names_in(folder)
+    if not names:
+        raise Refused(f"{folder} has no series")
+    return names
+
+
+def verify(folder):
+    """Restores the newest state of each name into a folder that is gone afterwards; whether each passes the check."""
+    is_good = True
+    with tempfile.TemporaryDirectory(prefix="taskboard-verify.") as room:
+        for name in names_of(folder):
+            file = os.path.join(room, f"{name}.db")
+            try:
+                print(f"{name}: restored, {put_together(*choose(folder, name, None), file)}")
+                os.remove(file)
+            except (Refused, OSError) as fault:
+                print(f"{name}: NOT RESTORED: {fault}")
+                is_good = False
+    return is_good

@@ -38,7 +38,7 @@ class Sender:
         self.flying, self.expected = None, collections.deque()
         self.taken, self.whole, self.newest, self.since, self.bytes = None, None, "", None, 0
         self.next_try = self.next_batch = self.next_alive = self.next_look = self.next_status = self.next_anew = 0.0
-        self.wait, self.said, self.shown, self.is_late, self.fault = 0.1, None, None, False, ""
+        self.wait, self.said, self.shown, self.is_late, self.fault, self.gone = 0.1, None, None, False, "", None
 
     def say(self, what):
         if what != self.said:
@@ -65,14 +65,17 @@ class Sender:
                 self.source.follows = False
                 raise log.Lost("too much waits while there is no line")
         except log.Lost as lost:
-            self.lose(str(lost))
+            self.lose(lost)
         except Missing as missing:
             self.miss(missing)
         busy = self.source.frames
         self.next_look = begun + (min(LOOK, LOOK * FRAMES / busy) if busy else LOOK)
 
     def lose(self, reason):
-        """The series that is there ends: what is still on its way for it tells nothing of what comes behind."""
+        """The series that is there ends: what is still on its way for it tells nothing of what comes behind. It has what a cut log has lost."""
+        if isinstance(reason, log.WasCut):
+            self.gone = f"{reason}: --restore --at {self.newest} has them"
+            self.say(self.gone)
         self.has_series, self.copying, self.taken, self.flying, self.source.follows = False, None, None, None, False
         self.expected = collections.deque((where, looked, None) for where, looked, _ in self.expected)
         self.say(f"{reason}: the whole file is copied anew")
@@ -245,7 +248,7 @@ class Sender:
             self.write_status(behind)
 
     def write_status(self, behind):
-        what = {"file": self.options.file, "to": self.options.to, "whole": self.whole, "behind": behind, "fault": self.fault}
+        what = {"file": self.options.file, "to": self.options.to, "whole": self.whole, "behind": behind, "fault": self.fault, "gone": self.gone}
         try:
             with open(self.options.status + ".new", "w") as file:
                 file.write(json.dumps(what) + "\n")
@@ -274,7 +277,7 @@ class Sender:
             except Cut as cut:
                 self.cut(str(cut))
             except log.Lost as lost:
-                self.lose(str(lost))
+                self.lose(lost)
             except Missing as missing:
                 self.miss(missing)
 

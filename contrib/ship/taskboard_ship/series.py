@@ -80,6 +80,27 @@ def is_cut(folder, name, path, whole):
     return alive.get("series") == path.name and whole < alive.get("size", 0)
 
 
+def damage_of(folder, name, path):
+    """What is wrong with a series, or None. After a crash the newest one may end in a part of a record, which was never promised."""
+    size = path.stat().st_size
+    commit, whole = last_commit(path)
+    is_newest = path == all_of(folder, name)[-1]
+    if commit is None or is_cut(folder, name, path, whole) or whole < size and not (is_newest and is_torn(path, whole)):
+        return f"{path} from byte {whole} on, of {size}"
+    return None
+
+
+def is_torn(path, whole):
+    """Whether what is after the whole records is the begin of one, which lacks its end."""
+    with open(path, "rb") as file:
+        file.seek(whole)
+        rest = file.read(records.LONGEST + records.HEAD.size + records.DIGEST)
+    try:
+        return records.next_record(rest) is None
+    except records.Damaged:
+        return False
+
+
 def write_pages(path, target, end):
     """Writes the pages of a series into a file, up to a commit, and sets its length."""
     with open(path, "rb") as file:
