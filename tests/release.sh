@@ -1,5 +1,6 @@
 #!/bin/sh
 # Makes dist/ anew: the program of these sources, compressed, and a manifest that says what it is made of. Builds it where it isn't built.
+# docs/times.txt gets the processor minutes of each crate, where the last run of the test command passed these sources.
 set -eu
 cd "$(dirname "$0")/.."
 
@@ -16,3 +17,9 @@ gzip -9nc "$program" >dist/taskboard.gz
     echo "glibc $(grep -ao 'GLIBC_[0-9.]*' "$program" | cut -d _ -f 2 | sort -Vu | tail -n 1)"
 } >dist/manifest
 cat dist/manifest
+
+if grep -q "sources $(./taskboard --sources)" out/times.txt 2>/dev/null; then
+    cp out/times.txt docs/times.txt
+else
+    echo "docs/times.txt stays: out/times.txt isn't of a run that passed these sources" >&2
+fi

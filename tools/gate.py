@@ -123,10 +123,12 @@ def main():
         else:
             build.copy_crates(room, names, left_out=("out",))
             is_well, lines, sums = prove(room, wanted, lambda name: None)
-    proving.write_times(f"{TOP}/out/times.txt", sums, began)
+    is_whole, told = demands.compare(wants, lines)
+    # (a release takes the times of its own sources, where all passed)
+    heading = f"Processor minutes of each crate. sources {wanted}, kit {kit()}\n" if is_well and is_whole else "Not all passed.\n"
+    proving.write_times(f"{TOP}/out/times.txt", sums, began, heading)
     with open(f"{TOP}/out/times.txt") as it:
         print(it.read(), end="")
-    is_whole, told = demands.compare(wants, lines)
     print("\n".join(told))
     sys.exit(0 if is_well and is_whole else 1)
 

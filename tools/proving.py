@@ -220,9 +220,9 @@ def prove(top, log, heard=lambda name: None):
         raise
 
 
-def write_times(file, sums, began):
+def write_times(file, sums, began, heading=""):
     with open(file, "w") as it:
-        it.write(table_of(sums, time.time() - began))
+        it.write(heading + table_of(sums, time.time() - began))
 
 
 def failures(lines):

@@ -10,6 +10,7 @@ prints only what a rule names and isn't there, and ends with 1 if there is any. 
 import collections
 import pathlib
 import re
+import signal
 import sys
 
 TOP = pathlib.Path(__file__).resolve().parent.parent
@@ -165,4 +166,6 @@ def main():
 
 
 if __name__ == "__main__":
+    # (whoever reads the output may have enough of it, as `head` does)
+    signal.signal(signal.SIGPIPE, signal.SIG_DFL)
     main()
