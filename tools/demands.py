@@ -24,14 +24,14 @@ def has_tests(folder):
 
 
 def wanted(top):
-    """What has to be heard of a repository, by kind. A program is built by two compilers, and runs twice."""
+    """What has to be heard of a repository, by kind. The second compiler may refuse a program, so of each one run is wanted."""
     folders = {name: pathlib.Path(top, "crates", name) for name in proving.crates_of(top)}
     programs = [name for name, folder in folders.items() if (folder / "src/main.rt").exists()]
     edits = [(name, path.name) for name, folder in folders.items() for path in folder.glob("must-fail/*") if path.suffix != ".md"]
     return {
         PROVED: set(folders),
         PASSED: {name for name, folder in folders.items() if has_tests(folder)},
-        RAN: {f"{name} ran{by}" for name in programs for by in ("", " (built by Rattle's own compiler)")},
+        RAN: {f"{name} ran" for name in programs},
         REFUSED: {f"{crate}/{edit}" for crate, edit in edits},
     }
 
