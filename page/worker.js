@@ -4,7 +4,7 @@
 // A browser asks for the worker at each start, and a page that stays open every few minutes; it is installed anew where a byte of it differs. The
 // next line, made by tests/page/page_content.py, differs with every other file, so a new version is found then, also where its files are as long as
 // before.
-// Content of the other files: b0653bafcd6c2438169cb843fb9f603b419a27b0c4491c5c1f50df50841d834b
+// Content of the other files: 16683feb184fc8f73ae12c4071952c886270740c0795f6059ea84664e79a9522
 
 const VERSION = "taskboard ";
 const FILE = /^\/(?:[a-z0-9_.-]+\.(?:html|css|js|svg|png|ico))?$/;
