@@ -205,7 +205,7 @@ def prove(top, log, heard=lambda name: None):
     progress = Progress(top)
 
     def hear(line):
-        proved = re.fullmatch(r"rt: (\w+) proved", line)
+        proved = re.fullmatch(r"rt: (\w+) (?:proved|is kept: .*)", line)
         if proved:
             progress.tell(proved[1])
             heard(proved[1])
