@@ -1,4 +1,3 @@
-pub mod Answering
 pub mod Arrivals
 pub mod Connection
 pub mod Deeds
@@ -8,13 +7,11 @@ pub mod EventLoop
 pub mod Farewell
 pub mod Guesses
 pub mod Head
-pub mod Heard
 pub mod Hearing
 pub mod History
 pub mod Journal
 pub mod Laps
 pub mod Logging
-pub mod Noting
 pub mod Places
 pub mod RequestLine
 pub mod Rounds

@@ -9,4 +9,3 @@ mod Stopped
 mod InTurn
 mod InLine
 mod Texts
-mod FilesInTurn

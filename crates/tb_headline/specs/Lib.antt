@@ -1,4 +1,3 @@
 pub mod Headline
 pub mod ImportAgain
 pub mod Refusals
-pub mod Files

@@ -1,3 +1,4 @@
+pub mod Auditing
 pub mod Cutting
 pub mod Doing
 pub mod Faults

@@ -14,7 +14,7 @@ pub enum Ending {
     Refused,
 }
 
-pub fn ending_of(reply: &Reply) -> Ending
+pub(crate) fn ending_of(reply: &Reply) -> Ending
     ensures { result ≡ ending_of reply.now }
 {
     if reply.number == 0 {

@@ -1,4 +1,4 @@
-//! Plays scenes, each over lists of its own, in every way.
+//! Plays scenes, each over boards of its own: over lists in every way, and over a keeper as they are.
 
 use crate::at_once::play_in_all_orders;
 use crate::ends::{Narrow, Pieces};
@@ -6,7 +6,8 @@ use crate::lines::compare;
 use crate::owner::Owner;
 use crate::scene::{Connection, Way};
 use std::io;
-use tb_desk::{Desk, ListKeep};
+use tb_calls::Keep;
+use tb_desk::Desk;
 use tb_serve::{ListClock, ServeEnd, serve_reader};
 use tb_site::Paths;
 
@@ -25,11 +26,24 @@ pub fn play_over_lists(owner: &Owner, scene: &[Connection<'_>]) -> io::Result<us
     Ok(0)
 }
 
+/// Plays a scene over a keeper, with bytes that all come at once.
+pub fn play_whole<K: Keep + Drop>(
+    owner: &Owner,
+    scene: &[Connection<'_>],
+    keep: K,
+) -> io::Result<()> {
+    let [first, ..] = scene else {
+        return Ok(());
+    };
+    let paths = first.paths(owner.alloc)?;
+    play(owner, &paths, &mut Desk::new(keep), scene, first.whole()?)
+}
+
 /// Plays the connections of a scene, the first in this way.
-fn play(
+fn play<K: Keep>(
     owner: &Owner,
     paths: &Paths,
-    desk: &mut Desk<ListKeep>,
+    desk: &mut Desk<K>,
     scene: &[Connection<'_>],
     way: Way,
 ) -> io::Result<()> {
@@ -43,11 +57,11 @@ fn play(
 
 impl Connection<'_> {
     /// Serves it at its moments.
-    fn play(
+    fn play<K: Keep>(
         &self,
         owner: &Owner,
         paths: &Paths,
-        desk: &mut Desk<ListKeep>,
+        desk: &mut Desk<K>,
         way: Way,
     ) -> io::Result<()> {
         let bytes = self.sent.get(..way.len).unwrap_or(b"");
