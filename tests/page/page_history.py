@@ -173,6 +173,14 @@ def named(office):
     press(browser, "Dismiss", "#notices .already")
 
 
+def asked_at_least(office, path, times):
+    """Wait until the page has asked for a path that often, for 12 s at most."""
+    end = time.monotonic() + 12
+    while times_asked(office, path) < times and time.monotonic() < end:
+        time.sleep(0.1)
+    expect("asked for what is next, at least", times, min(times, times_asked(office, path)))
+
+
 def asked_little(office):
     """The history is asked every 3 s in sight, and the board only where something has happened, or a wait is over; a hidden page asks every 60 s."""
     browser, board = office.browser, new_board("Little", bob="member")
@@ -181,11 +189,10 @@ def asked_little(office):
     browser.wait(IS_SHOWN, "to-history")
     export = f"/boards/{board}/export"
     last = json.loads(ask(f"/boards/{board}/history"))["last"]
+    following = f"/boards/{board}/history/{last + 1}"
+    asked_at_least(office, following, 2)
     before = times_asked(office, export)
-    end = time.monotonic() + 12
-    while times_asked(office, f"/boards/{board}/history/{last + 1}") < 3 and time.monotonic() < end:
-        time.sleep(0.1)
-    expect("asked for what is next, at least", 3, min(3, times_asked(office, f"/boards/{board}/history/{last + 1}")))
+    asked_at_least(office, following, 4)
     expect("the board, while nothing happens", before, times_asked(office, export))
     tell(f"/boards/{board}/tasks/{task}/modify", "bob", description="Paint the long fence")
     browser.wait(IS_LISTED, "Paint the long fence")
