@@ -15,7 +15,7 @@ import { options } from "./fields.js";
 import { beginFiles } from "./files.js";
 import { beginFilters } from "./filterbar.js";
 import { beginFocus } from "./focus.js";
-import { beginLooking, lookAgain, lookAtBoards } from "./fresh.js";
+import { beginLooking, lookAgain, lookAtBoards, lookWhereMissing } from "./fresh.js";
 import { beginHistory } from "./history.js";
 import { beginKeys } from "./keys.js";
 import { beginNotices, tellFault, toast } from "./notices.js";
@@ -95,7 +95,7 @@ async function showRoute() {
     if (!state.who) return;
     if (state.boards.length > 0) drawBoards();
     announce("route");
-    if (state.number && state.board?.number !== state.number) lookAgain();
+    lookWhereMissing();
 }
 
 // The board that this tab made is shown once its number is there. Where that took a broken line its person does something else by then, and is

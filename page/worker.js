@@ -4,7 +4,7 @@
 // A browser asks for the worker at each start, and a page that stays open every few minutes; it is installed anew where a byte of it differs. The
 // next line, made by tests/page/page_content.py, differs with every other file, so a new version is found then, also where its files are as long as
 // before.
-// Content of the other files: 16683feb184fc8f73ae12c4071952c886270740c0795f6059ea84664e79a9522
+// Content of the other files: 15663c95ca9f5f80c38a4238d91e253dab5950143d9cbcac40d5b4e12be240ea
 
 const VERSION = "taskboard ";
 const FILE = /^\/(?:[a-z0-9_.-]+\.(?:html|css|js|svg|png|ico))?$/;

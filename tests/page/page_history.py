@@ -182,7 +182,7 @@ def asked_at_least(office, path, times):
 
 
 def asked_little(office):
-    """The history is asked every 3 s in sight, and the board only where something has happened, or a wait is over; a hidden page asks every 60 s."""
+    """The history is asked every 3 s in sight, and the board only as it opens, where something has happened, or a wait is over; a hidden page asks every 60 s."""
     browser, board = office.browser, new_board("Little", bob="member")
     task = add(board, description="Paint the fence")
     office.begin(board)
@@ -190,13 +190,11 @@ def asked_little(office):
     export = f"/boards/{board}/export"
     last = json.loads(ask(f"/boards/{board}/history"))["last"]
     following = f"/boards/{board}/history/{last + 1}"
-    asked_at_least(office, following, 2)
-    before = times_asked(office, export)
-    asked_at_least(office, following, 4)
-    expect("the board, while nothing happens", before, times_asked(office, export))
+    asked_at_least(office, following, 3)
+    expect("the board, as it opens and while nothing happens", 1, times_asked(office, export))
     tell(f"/boards/{board}/tasks/{task}/modify", "bob", description="Paint the long fence")
     browser.wait(IS_LISTED, "Paint the long fence")
-    expect("the board, once something happened", before + 1, times_asked(office, export))
+    expect("the board, once something happened", 2, times_asked(office, export))
     browser.run("document.querySelector('#list .tick').click()")
     browser.wait(ALL_ANSWERED)
     browser.wait("return document.getElementById('count').textContent.startsWith('0 of')")
@@ -205,7 +203,7 @@ def asked_little(office):
     while not times_asked(office, f"/boards/{board}/history/{number}"):
         browser.run(PASS, 1, True)
         time.sleep(0.2)
-    expect("the board, after one's own change", before + 2, times_asked(office, export))
+    expect("the board, after one's own change", 3, times_asked(office, export))
     tell(f"/boards/{board}/tasks/{task}/reopen")
     tell(f"/boards/{board}/tasks/{task}/modify", wait=at(5))
     browser.wait("return document.querySelector('#list .chip.waiting')")
